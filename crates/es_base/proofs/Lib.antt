@@ -1,0 +1,4 @@
+pub mod Conformity
+pub mod NumberedLemmas
+pub mod OrderLemmas
+pub mod Spelled

@@ -1,0 +1,6 @@
+use Rattle.std.proofs.Common.{rules}
+use Rattle.es_base.proofs.Spelled.{encode_utf8_all-chars}
+use Rattle.es_base.proofs.name.NamePartialEq.eq.Goals as goal
+
+pub returns : goal.returns
+returns c = rw (encode_utf8_all-chars c.self.inside.text c.args.self.now c.self.view_is, encode_utf8_all-chars c.other.inside.text c.args.other.now c.other.view_is) (search rules)

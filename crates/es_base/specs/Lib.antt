@@ -1,0 +1,10 @@
+pub mod Conforms
+pub mod Marks
+pub mod Numbered
+pub mod Order
+pub mod Refilled
+pub mod Shape
+pub mod Table
+pub mod Tree
+pub mod Words
+pub mod formers

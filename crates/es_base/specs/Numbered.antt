@@ -1,0 +1,36 @@
+-- What it is for a tree to be numbered (our own): the numbers of its nodes, and which of them are new.
+use Rattle.std.specs.Prelude.{◌≡◌, ℕ, ◌+◌, nat_eq, nat_le, List, [], ◌∷◌, map, filter, Bool, not}
+use Rattle.std.specs.List.{IsDistinct}
+use Rattle.es_base.specs.Tree.{Tree}
+use Rattle.es_base.specs.Order.{in_order, number_of}
+
+-- the numbers of the nodes in reading order
+abbrev pub numbers : Tree → List ℕ
+numbers t = map number_of (in_order t)
+
+-- a number is new if it is at least `first`
+abbrev pub is_new : ℕ → ℕ → Bool
+is_new first number = nat_le first number
+
+abbrev pub is_old : ℕ → ℕ → Bool
+is_old first number = not (is_new first number)
+
+abbrev pub new_numbers : ℕ → Tree → List ℕ
+new_numbers first t = filter (is_new first) (numbers t)
+
+abbrev pub old_numbers : ℕ → Tree → List ℕ
+old_numbers first t = filter (is_old first) (numbers t)
+
+-- the list is n, n + 1, ..
+abbrev pub InTurn : ℕ → List ℕ → Type 0
+InTurn n [] = Unit
+InTurn n (k ∷ ks) = (k ≡ n) × InTurn (n + 1) ks
+
+-- no number stands twice
+abbrev pub EachOnce : List ℕ → Type 0
+EachOnce ks = IsDistinct nat_eq ks
+
+-- no number stands twice, and the new ones are first, first + 1, .. in reading order
+pub record IsNumbered (first : ℕ) (t : Tree) : Type 0 where
+  pub once : EachOnce (numbers t)
+  pub in_turn : InTurn first (new_numbers first t)

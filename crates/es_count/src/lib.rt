@@ -1,0 +1,4 @@
+// A walk over typed trees that counts nodes.
+#![tactic(auto)]
+
+pub mod count;

@@ -1,0 +1,9 @@
+// The syntax tree of ES2022, whole: the program, and the modules of the crates below.
+#![tactic(auto)]
+
+pub mod program;
+
+pub use es_base::{
+    boxed, diagnostic, ids, kind, ledger, list, literal, name, operator, shape, table,
+};
+pub use es_syntax::{class, expression, foreign, identifier, module, node, pattern, statement};
