@@ -23,6 +23,13 @@ impl<T> Boxed<T> {
     ghost use Rattle.std.specs.Borrow.{Lends, sem};
     ghost use Rattle.es_base.specs.contracts.boxed.Boxed.{the_row};
 
+    /// The value of a `Box`, in its place. Takes no memory.
+    pub fn from_box(inner: Box<T>) -> Boxed<T>
+        ensures { result ≡ inner.value }
+    {
+        Boxed { inner }
+    }
+
     /// The value.
     pub fn get(&self) -> &T
         ensures { result.now ≡ self.now }

@@ -3,13 +3,15 @@
 ghost use Rattle.std.specs.Prelude.{◌≡◌, map, option_map};
 ghost use Rattle.es_base.specs.Tree.{maybe, maybe_trees, trees};
 ghost use Rattle.es_count.specs.Counted.{counted, counted_part, counted_parts, one_more};
-ghost use Rattle.es_syntax.specs.View.{assignment_target_tree, break_statement_node, catch_clause_tree, class_element_tree, class_key_node, class_keys_of, class_tree, continue_statement_node, export_all_declaration_node, export_specifier_node, expression_or_spread_node, expression_or_spreads_of, expression_or_super_node, expression_or_supers_of, expression_tree, function_tree, import_declaration_node, import_default_specifier_node, import_member_node, import_namespace_specifier_node, import_specifier_node, maybe_expression_or_spreads_of, maybe_pattern_or_rests_of, maybe_target_or_rests_of, meta_property_node, object_member_node, object_members_of, pattern_member_tree, pattern_or_rest_node, pattern_or_rests_of, pattern_tree, statement_tree, switch_case_tree, target_member_tree, target_or_rest_node, template_element_node, variable_declarator_tree};
+ghost use Rattle.es_syntax.specs.View.{arrow_body_tree, assignment_target_tree, binding_identifier_node, break_statement_node, catch_clause_tree, class_element_tree, class_key_node, class_tree, continue_statement_node, export_all_declaration_node, export_default_tree, export_specifier_node, expression_or_spread_node, expression_or_super_node, expression_tree, for_init_tree, for_left_tree, function_tree, identifier_name_node, import_declaration_node, import_default_specifier_node, import_member_node, import_namespace_specifier_node, import_specifier_node, literal_node, member_property_node, meta_property_node, module_name_node, object_member_node, pattern_member_tree, pattern_or_rest_node, pattern_tree, property_key_node, statement_tree, switch_case_tree, target_member_tree, target_or_rest_node, template_element_node, try_statement_tree, variable_declarator_tree};
 
+use es_base::literal::Literal;
 use es_syntax::class::ClassKey;
 use es_syntax::expression::{
     ExpressionOrSpread, ExpressionOrSuper, MemberProperty, MetaProperty, ObjectMember, PropertyKey,
     TemplateElement,
 };
+use es_syntax::identifier::{BindingIdentifier, IdentifierName};
 use es_syntax::module::{
     ExportAllDeclaration, ExportLocal, ExportSpecifier, ImportDeclaration, ImportDefaultSpecifier,
     ImportMember, ImportNamespaceSpecifier, ImportSpecifier, ModuleName,
@@ -17,10 +19,24 @@ use es_syntax::module::{
 use es_syntax::node::{
     ArrowBody, AssignmentTarget, CatchClause, Class, ClassElement, ExportDefault, Expression,
     ForInit, ForLeft, Function, Pattern, PatternMember, Statement, SwitchCase, TargetMember,
-    VariableDeclarator,
+    TryStatement, VariableDeclarator,
 };
 use es_syntax::pattern::{PatternOrRest, TargetOrRest};
 use es_syntax::statement::{BreakStatement, ContinueStatement};
+
+#[cycle(count)]
+fn count_arrow_body(x: &ArrowBody, n: u32) -> u32
+    ensures { result ≡ counted n (arrow_body_tree x.now) }
+{
+    match x {
+        ArrowBody::BlockStatement(x) => {
+            let x = x.get();
+            let n = count_one(n);
+            count_statements(x.body.as_slice(), n)
+        }
+        ArrowBody::Expression(x) => count_expression(x.get(), n),
+    }
+}
 
 #[cycle(count)]
 fn count_assignment_target(x: &AssignmentTarget, n: u32) -> u32
@@ -32,10 +48,7 @@ fn count_assignment_target(x: &AssignmentTarget, n: u32) -> u32
             let x = x.get();
             let n = count_one(n);
             let n = count_expression_or_super(&x.object, n);
-            match &x.property {
-                MemberProperty::IdentifierName(_) => count_one(n),
-                MemberProperty::Computed(x) => count_expression(x, n),
-            }
+            count_member_property(&x.property, n)
         }
         AssignmentTarget::PrivateField(x) => {
             let x = x.get();
@@ -88,6 +101,17 @@ fn count_class_element(x: &ClassElement, n: u32) -> u32
 }
 
 #[cycle(count)]
+fn count_export_default(x: &ExportDefault, n: u32) -> u32
+    ensures { result ≡ counted n (export_default_tree x.now) }
+{
+    match x {
+        ExportDefault::FunctionDeclaration(x) => count_function(x.get(), n),
+        ExportDefault::ClassDeclaration(x) => count_class(x.get(), n),
+        ExportDefault::Expression(x) => count_expression(x.get(), n),
+    }
+}
+
+#[cycle(count)]
 fn count_expression(x: &Expression, n: u32) -> u32
     ensures { result ≡ counted n (expression_tree x.now) }
 {
@@ -110,14 +134,7 @@ fn count_expression(x: &Expression, n: u32) -> u32
             let x = x.get();
             let n = count_one(n);
             let n = count_pattern_or_rests(x.params.as_slice(), n);
-            match &x.body {
-                ArrowBody::BlockStatement(x) => {
-                    let x = x.get();
-                    let n = count_one(n);
-                    count_statements(x.body.as_slice(), n)
-                }
-                ArrowBody::Expression(x) => count_expression(x.get(), n),
-            }
+            count_arrow_body(&x.body, n)
         }
         Expression::ClassExpression(x) => count_class(x.get(), n),
         Expression::TemplateLiteral(x) => {
@@ -138,10 +155,7 @@ fn count_expression(x: &Expression, n: u32) -> u32
             let x = x.get();
             let n = count_one(n);
             let n = count_expression_or_super(&x.object, n);
-            match &x.property {
-                MemberProperty::IdentifierName(_) => count_one(n),
-                MemberProperty::Computed(x) => count_expression(x, n),
-            }
+            count_member_property(&x.property, n)
         }
         Expression::PrivateField(x) => {
             let x = x.get();
@@ -232,6 +246,34 @@ fn count_expression(x: &Expression, n: u32) -> u32
 }
 
 #[cycle(count)]
+fn count_for_init(x: &ForInit, n: u32) -> u32
+    ensures { result ≡ counted n (for_init_tree x.now) }
+{
+    match x {
+        ForInit::VariableDeclaration(x) => {
+            let x = x.get();
+            let n = count_one(n);
+            count_variable_declarators(x.declarations.as_slice(), n)
+        }
+        ForInit::Expression(x) => count_expression(x.get(), n),
+    }
+}
+
+#[cycle(count)]
+fn count_for_left(x: &ForLeft, n: u32) -> u32
+    ensures { result ≡ counted n (for_left_tree x.now) }
+{
+    match x {
+        ForLeft::VariableDeclaration(x) => {
+            let x = x.get();
+            let n = count_one(n);
+            count_variable_declarators(x.declarations.as_slice(), n)
+        }
+        ForLeft::AssignmentTarget(x) => count_assignment_target(x.get(), n),
+    }
+}
+
+#[cycle(count)]
 fn count_pattern(x: &Pattern, n: u32) -> u32
     ensures { result ≡ counted n (pattern_tree x.now) }
 {
@@ -263,11 +305,7 @@ fn count_pattern_member(x: &PatternMember, n: u32) -> u32
     match x {
         PatternMember::BindingProperty { key, value, .. } => {
             let n = count_one(n);
-            let n = match key {
-                PropertyKey::IdentifierName(_) => count_one(n),
-                PropertyKey::Literal(_) => count_one(n),
-                PropertyKey::Computed(x) => count_expression(x, n),
-            };
+            let n = count_property_key(key, n);
             count_pattern(value.get(), n)
         }
         PatternMember::RestElement(x) => {
@@ -323,10 +361,7 @@ fn count_statement(x: &Statement, n: u32) -> u32
             let n = count_one(n);
             let n = count_expression(&x.test, n);
             let n = count_statement(&x.consequent, n);
-            match &x.alternate {
-                None => n,
-                Some(x) => count_statement(x, n),
-            }
+            count_maybe_statement(&x.alternate, n)
         }
         Statement::SwitchStatement(x) => {
             let x = x.get();
@@ -334,23 +369,7 @@ fn count_statement(x: &Statement, n: u32) -> u32
             let n = count_expression(&x.discriminant, n);
             count_switch_cases(x.cases.as_slice(), n)
         }
-        Statement::TryStatement(x) => {
-            let x = x.get();
-            let n = count_one(n);
-            let n = count_one(n);
-            let n = count_statements(x.block.body.as_slice(), n);
-            let n = match &x.handler {
-                None => n,
-                Some(x) => count_catch_clause(x, n),
-            };
-            match &x.finalizer {
-                None => n,
-                Some(x) => {
-                    let n = count_one(n);
-                    count_statements(x.body.as_slice(), n)
-                },
-            }
-        }
+        Statement::TryStatement(x) => count_try_statement(x.get(), n),
         Statement::WhileStatement { test, body, .. } => {
             let n = count_one(n);
             let n = count_expression(test.get(), n);
@@ -364,17 +383,7 @@ fn count_statement(x: &Statement, n: u32) -> u32
         Statement::ForStatement(x) => {
             let x = x.get();
             let n = count_one(n);
-            let n = match &x.init {
-                None => n,
-                Some(x) => match x {
-                    ForInit::VariableDeclaration(x) => {
-                        let x = x.get();
-                        let n = count_one(n);
-                        count_variable_declarators(x.declarations.as_slice(), n)
-                    }
-                    ForInit::Expression(x) => count_expression(x.get(), n),
-                },
-            };
+            let n = count_maybe_for_init(&x.init, n);
             let n = count_maybe_expression(&x.test, n);
             let n = count_maybe_expression(&x.update, n);
             count_statement(&x.body, n)
@@ -382,28 +391,14 @@ fn count_statement(x: &Statement, n: u32) -> u32
         Statement::ForInStatement(x) => {
             let x = x.get();
             let n = count_one(n);
-            let n = match &x.left {
-                ForLeft::VariableDeclaration(x) => {
-                    let x = x.get();
-                    let n = count_one(n);
-                    count_variable_declarators(x.declarations.as_slice(), n)
-                }
-                ForLeft::AssignmentTarget(x) => count_assignment_target(x.get(), n),
-            };
+            let n = count_for_left(&x.left, n);
             let n = count_expression(&x.right, n);
             count_statement(&x.body, n)
         }
         Statement::ForOfStatement(x) => {
             let x = x.get();
             let n = count_one(n);
-            let n = match &x.left {
-                ForLeft::VariableDeclaration(x) => {
-                    let x = x.get();
-                    let n = count_one(n);
-                    count_variable_declarators(x.declarations.as_slice(), n)
-                }
-                ForLeft::AssignmentTarget(x) => count_assignment_target(x.get(), n),
-            };
+            let n = count_for_left(&x.left, n);
             let n = count_expression(&x.right, n);
             count_statement(&x.body, n)
         }
@@ -418,24 +413,14 @@ fn count_statement(x: &Statement, n: u32) -> u32
         Statement::ExportNamedDeclaration(x) => {
             let x = x.get();
             let n = count_one(n);
-            let n = match &x.declaration {
-                None => n,
-                Some(x) => count_statement(x, n),
-            };
+            let n = count_maybe_statement(&x.declaration, n);
             let n = count_export_specifiers(x.specifiers.as_slice(), n);
-            match &x.source {
-                None => n,
-                Some(x) => count_one(n),
-            }
+            count_maybe_literal(&x.source, n)
         }
         Statement::ExportDefaultDeclaration(x) => {
             let x = x.get();
             let n = count_one(n);
-            match &x.declaration {
-                ExportDefault::FunctionDeclaration(x) => count_function(x.get(), n),
-                ExportDefault::ClassDeclaration(x) => count_class(x.get(), n),
-                ExportDefault::Expression(x) => count_expression(x.get(), n),
-            }
+            count_export_default(&x.declaration, n)
         }
         Statement::ExportAllDeclaration(x) => count_export_all_declaration(x, n),
         Statement::Foreign(_) => count_one(n),
@@ -449,11 +434,7 @@ fn count_target_member(x: &TargetMember, n: u32) -> u32
     match x {
         TargetMember::AssignmentTargetProperty { key, value, .. } => {
             let n = count_one(n);
-            let n = match key {
-                PropertyKey::IdentifierName(_) => count_one(n),
-                PropertyKey::Literal(_) => count_one(n),
-                PropertyKey::Computed(x) => count_expression(x, n),
-            };
+            let n = count_property_key(key, n);
             count_assignment_target(value.get(), n)
         }
         TargetMember::AssignmentTargetRest(x) => {
@@ -469,10 +450,7 @@ fn count_catch_clause(x: &CatchClause, n: u32) -> u32
     ensures { result ≡ counted n (catch_clause_tree x.now) }
 {
     let n = count_one(n);
-    let n = match &x.param {
-        None => n,
-        Some(x) => count_pattern(x, n),
-    };
+    let n = count_maybe_pattern(&x.param, n);
     let n = count_one(n);
     count_statements(x.body.body.as_slice(), n)
 }
@@ -482,10 +460,7 @@ fn count_class(x: &Class, n: u32) -> u32
     ensures { result ≡ counted n (class_tree x.now) }
 {
     let n = count_one(n);
-    let n = match &x.id {
-        None => n,
-        Some(x) => count_one(n),
-    };
+    let n = count_maybe_binding_identifier(&x.id, n);
     let n = count_maybe_expression(&x.super_class, n);
     let n = count_one(n);
     count_class_elements(x.body.body.as_slice(), n)
@@ -496,10 +471,7 @@ fn count_function(x: &Function, n: u32) -> u32
     ensures { result ≡ counted n (function_tree x.now) }
 {
     let n = count_one(n);
-    let n = match &x.id {
-        None => n,
-        Some(x) => count_one(n),
-    };
+    let n = count_maybe_binding_identifier(&x.id, n);
     let n = count_pattern_or_rests(x.params.as_slice(), n);
     let n = count_one(n);
     count_statements(x.body.body.as_slice(), n)
@@ -512,6 +484,23 @@ fn count_switch_case(x: &SwitchCase, n: u32) -> u32
     let n = count_one(n);
     let n = count_maybe_expression(&x.test, n);
     count_statements(x.consequent.as_slice(), n)
+}
+
+#[cycle(count)]
+fn count_try_statement(x: &TryStatement, n: u32) -> u32
+    ensures { result ≡ counted n (try_statement_tree x.now) }
+{
+    let n = count_one(n);
+    let n = count_one(n);
+    let n = count_statements(x.block.body.as_slice(), n);
+    let n = count_maybe_catch_clause(&x.handler, n);
+    match &x.finalizer {
+        None => n,
+        Some(x) => {
+            let n = count_one(n);
+            count_statements(x.body.as_slice(), n)
+        },
+    }
 }
 
 #[cycle(count)]
@@ -534,8 +523,66 @@ fn count_maybe_expression(x: &Option<Expression>, n: u32) -> u32
 }
 
 #[cycle(count)]
+fn count_maybe_statement(x: &Option<Statement>, n: u32) -> u32
+    ensures { result ≡ counted_part n (maybe (option_map statement_tree x.now)) }
+{
+    match x {
+        None => n,
+        Some(x) => count_statement(x, n),
+    }
+}
+
+#[cycle(count)]
+fn count_maybe_for_init(x: &Option<ForInit>, n: u32) -> u32
+    ensures { result ≡ counted_part n (maybe (option_map for_init_tree x.now)) }
+{
+    match x {
+        None => n,
+        Some(x) => count_for_init(x, n),
+    }
+}
+
+fn count_maybe_literal(x: &Option<Literal>, n: u32) -> u32
+    ensures { result ≡ counted_part n (maybe (option_map literal_node x.now)) }
+{
+    match x {
+        None => n,
+        Some(x) => count_one(n),
+    }
+}
+
+#[cycle(count)]
+fn count_maybe_pattern(x: &Option<Pattern>, n: u32) -> u32
+    ensures { result ≡ counted_part n (maybe (option_map pattern_tree x.now)) }
+{
+    match x {
+        None => n,
+        Some(x) => count_pattern(x, n),
+    }
+}
+
+fn count_maybe_binding_identifier(x: &Option<BindingIdentifier>, n: u32) -> u32
+    ensures { result ≡ counted_part n (maybe (option_map binding_identifier_node x.now)) }
+{
+    match x {
+        None => n,
+        Some(x) => count_one(n),
+    }
+}
+
+#[cycle(count)]
+fn count_maybe_catch_clause(x: &Option<CatchClause>, n: u32) -> u32
+    ensures { result ≡ counted_part n (maybe (option_map catch_clause_tree x.now)) }
+{
+    match x {
+        None => n,
+        Some(x) => count_catch_clause(x, n),
+    }
+}
+
+#[cycle(count)]
 fn count_expression_or_super(x: &ExpressionOrSuper<Expression>, n: u32) -> u32
-    ensures { result ≡ counted n (expression_or_super_node (expression_or_supers_of x.now)) }
+    ensures { result ≡ counted n (expression_or_super_node expression_tree x.now) }
 {
     match x {
         ExpressionOrSuper::Super(_) => count_one(n),
@@ -544,8 +591,18 @@ fn count_expression_or_super(x: &ExpressionOrSuper<Expression>, n: u32) -> u32
 }
 
 #[cycle(count)]
+fn count_member_property(x: &MemberProperty<Expression>, n: u32) -> u32
+    ensures { result ≡ counted n (member_property_node expression_tree x.now) }
+{
+    match x {
+        MemberProperty::IdentifierName(_) => count_one(n),
+        MemberProperty::Computed(x) => count_expression(x, n),
+    }
+}
+
+#[cycle(count)]
 fn count_class_key(x: &ClassKey<Expression>, n: u32) -> u32
-    ensures { result ≡ counted n (class_key_node (class_keys_of x.now)) }
+    ensures { result ≡ counted n (class_key_node expression_tree x.now) }
 {
     match x {
         ClassKey::IdentifierName(_) => count_one(n),
@@ -555,37 +612,36 @@ fn count_class_key(x: &ClassKey<Expression>, n: u32) -> u32
     }
 }
 
+#[cycle(count)]
+fn count_property_key(x: &PropertyKey<Expression>, n: u32) -> u32
+    ensures { result ≡ counted n (property_key_node expression_tree x.now) }
+{
+    match x {
+        PropertyKey::IdentifierName(_) => count_one(n),
+        PropertyKey::Literal(_) => count_one(n),
+        PropertyKey::Computed(x) => count_expression(x, n),
+    }
+}
+
 fn count_break_statement(x: &BreakStatement, n: u32) -> u32
     ensures { result ≡ counted n (break_statement_node x.now) }
 {
     let n = count_one(n);
-    match &x.label {
-        None => n,
-        Some(x) => count_one(n),
-    }
+    count_maybe_identifier_name(&x.label, n)
 }
 
 fn count_continue_statement(x: &ContinueStatement, n: u32) -> u32
     ensures { result ≡ counted n (continue_statement_node x.now) }
 {
     let n = count_one(n);
-    match &x.label {
-        None => n,
-        Some(x) => count_one(n),
-    }
+    count_maybe_identifier_name(&x.label, n)
 }
 
 fn count_export_all_declaration(x: &ExportAllDeclaration, n: u32) -> u32
     ensures { result ≡ counted n (export_all_declaration_node x.now) }
 {
     let n = count_one(n);
-    let n = match &x.exported {
-        None => n,
-        Some(x) => match x {
-            ModuleName::IdentifierName(_) => count_one(n),
-            ModuleName::Literal(_) => count_one(n),
-        },
-    };
+    let n = count_maybe_module_name(&x.exported, n);
     count_one(n)
 }
 
@@ -628,7 +684,7 @@ fn count_export_specifiers(all: &[ExportSpecifier], first: u32) -> u32
 
 #[cycle(count)]
 fn count_expression_or_spreads(all: &[ExpressionOrSpread<Expression>], first: u32) -> u32
-    ensures { result ≡ counted_parts first (trees (map expression_or_spread_node (map expression_or_spreads_of all.now))) }
+    ensures { result ≡ counted_parts first (trees (map (expression_or_spread_node expression_tree) all.now)) }
 {
     let mut n = first;
     for x in all {
@@ -673,7 +729,7 @@ fn count_maybe_expression_or_spreads(
     all: &[Option<ExpressionOrSpread<Expression>>],
     first: u32,
 ) -> u32
-    ensures { result ≡ counted_parts first (maybe_trees (map (option_map expression_or_spread_node) (map maybe_expression_or_spreads_of all.now))) }
+    ensures { result ≡ counted_parts first (maybe_trees (map (option_map (expression_or_spread_node expression_tree)) all.now)) }
 {
     let mut n = first;
     for x in all {
@@ -691,7 +747,7 @@ fn count_maybe_expression_or_spreads(
 
 #[cycle(count)]
 fn count_maybe_pattern_or_rests(all: &[Option<PatternOrRest<Pattern>>], first: u32) -> u32
-    ensures { result ≡ counted_parts first (maybe_trees (map (option_map pattern_or_rest_node) (map maybe_pattern_or_rests_of all.now))) }
+    ensures { result ≡ counted_parts first (maybe_trees (map (option_map (pattern_or_rest_node pattern_tree)) all.now)) }
 {
     let mut n = first;
     for x in all {
@@ -709,7 +765,7 @@ fn count_maybe_pattern_or_rests(all: &[Option<PatternOrRest<Pattern>>], first: u
 
 #[cycle(count)]
 fn count_maybe_target_or_rests(all: &[Option<TargetOrRest<AssignmentTarget>>], first: u32) -> u32
-    ensures { result ≡ counted_parts first (maybe_trees (map (option_map target_or_rest_node) (map maybe_target_or_rests_of all.now))) }
+    ensures { result ≡ counted_parts first (maybe_trees (map (option_map (target_or_rest_node assignment_target_tree)) all.now)) }
 {
     let mut n = first;
     for x in all {
@@ -727,7 +783,7 @@ fn count_maybe_target_or_rests(all: &[Option<TargetOrRest<AssignmentTarget>>], f
 
 #[cycle(count)]
 fn count_object_members(all: &[ObjectMember<Expression>], first: u32) -> u32
-    ensures { result ≡ counted_parts first (trees (map object_member_node (map object_members_of all.now))) }
+    ensures { result ≡ counted_parts first (trees (map (object_member_node expression_tree) all.now)) }
 {
     let mut n = first;
     for x in all {
@@ -763,7 +819,7 @@ fn count_pattern_members(all: &[PatternMember], first: u32) -> u32
 
 #[cycle(count)]
 fn count_pattern_or_rests(all: &[PatternOrRest<Pattern>], first: u32) -> u32
-    ensures { result ≡ counted_parts first (trees (map pattern_or_rest_node (map pattern_or_rests_of all.now))) }
+    ensures { result ≡ counted_parts first (trees (map (pattern_or_rest_node pattern_tree) all.now)) }
 {
     let mut n = first;
     for x in all {
@@ -831,6 +887,27 @@ fn count_variable_declarators(all: &[VariableDeclarator], first: u32) -> u32
         n = count_variable_declarator(x, n);
     }
     n
+}
+
+fn count_maybe_identifier_name(x: &Option<IdentifierName>, n: u32) -> u32
+    ensures { result ≡ counted_part n (maybe (option_map identifier_name_node x.now)) }
+{
+    match x {
+        None => n,
+        Some(x) => count_one(n),
+    }
+}
+
+fn count_maybe_module_name(x: &Option<ModuleName>, n: u32) -> u32
+    ensures { result ≡ counted_part n (maybe (option_map module_name_node x.now)) }
+{
+    match x {
+        None => n,
+        Some(x) => match x {
+            ModuleName::IdentifierName(_) => count_one(n),
+            ModuleName::Literal(_) => count_one(n),
+        },
+    }
 }
 
 fn count_export_specifier(x: &ExportSpecifier, n: u32) -> u32

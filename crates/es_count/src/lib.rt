@@ -1,4 +1,4 @@
 // A walk over typed trees that counts nodes.
-#![tactic(auto)]
+#![tactic(auto, using(es_syntax::proofs::Views::views))]
 
 pub mod count;

@@ -1,14 +1,18 @@
 // The root of a tree.
 
-ghost use Rattle.std.specs.Prelude.{◌≡◌, ◌^◌, ◌<◌};
-ghost use Rattle.es_base.specs.Order.{nodes};
+ghost use Rattle.std.specs.Prelude.{◌≡◌, ◌+◌, ◌^◌, ◌<◌, []};
+ghost use Rattle.es_base.specs.Order.{nodes, news, numbered_from, renumbered};
+ghost use Rattle.es_base.specs.Numbered.{EachOnce, IsNumbered, old_numbers};
 ghost use Rattle.es_count.specs.Counted.{counted};
+ghost use Rattle.es_number.specs.Given.{given};
 ghost use Rattle.es_tree.specs.Program.{program_tree};
 
 use es_base::ids::{NodeId, ScopeId, Span};
 use es_base::list::List;
 use es_base::operator::SourceType;
 use es_count::count::{count_one, count_statements};
+use es_number::number::Numbering;
+use es_renumber::number::number_statements;
 use es_syntax::node::Statement;
 
 /// A script or a module (ECMA-262, 16).
@@ -31,10 +35,42 @@ impl Program {
     {
         count_program(self, 0)
     }
+
+    /// Gives the nodes the numbers 0, 1, .. in reading order. Takes no memory.
+    ///
+    /// `foreign` is empty, since its numbers would become those of other nodes.
+    pub fn number(&mut self)
+        requires fits { nodes (program_tree self.old) < 2 ^ 32 }
+        requires no_foreign { self.old.foreign ≡ [] }
+        ensures tree { program_tree self.new ≡ numbered_from 0 (program_tree self.old) }
+        ensures numbered { IsNumbered 0 (program_tree self.new) }
+        ensures foreign { self.new.foreign ≡ [] }
+    {
+        self.renumber_from(0);
+    }
+
+    /// Gives the nodes whose number is at least `first` the numbers `first`, `first` + 1, .. in reading
+    /// order. The others keep theirs, and `foreign` stays. Takes no memory.
+    pub fn renumber_from(&mut self, first: u32)
+        requires { first + news first (program_tree self.old) < 2 ^ 32 }
+        ensures tree { program_tree self.new ≡ renumbered first first (program_tree self.old) }
+        ensures numbered { EachOnce (old_numbers first (program_tree self.old)) → IsNumbered first (program_tree self.new) }
+        ensures foreign { self.new.foreign ≡ self.old.foreign }
+    {
+        number_program(self, Numbering { first, next: first });
+    }
 }
 
 fn count_program(program: &Program, n: u32) -> u32
     ensures { result ≡ counted n (program_tree program.now) }
 {
     count_statements(program.body.as_slice(), count_one(n))
+}
+
+fn number_program(program: &mut Program, numbers: Numbering)
+    ensures tree { program_tree program.new ≡ given numbers (program_tree program.old) }
+    ensures foreign { program.new.foreign ≡ program.old.foreign }
+{
+    let numbers = numbers.give(&mut program.node_id);
+    let _after = number_statements(&mut program.body, numbers);
 }

@@ -1,0 +1,4 @@
+// Numbers the nodes of typed trees.
+#![tactic(auto, using(es_syntax::proofs::Views::views))]
+
+pub mod number;

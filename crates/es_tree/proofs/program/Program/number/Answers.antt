@@ -1,0 +1,14 @@
+use Rattle.std.proofs.Common.{◌∙◌}
+use Rattle.es_base.proofs.NumberedLemmas.{EachOnce-old_zero}
+use Rattle.es_base.proofs.OrderLemmas.{fits-zero, renumbered-zero}
+use Rattle.es_tree.specs.Program.{program_tree}
+use Rattle.es_tree.proofs.program.Program.number.Goals as goal
+
+pub renumber_from-requires : goal.renumber_from-requires
+renumber_from-requires c = fits-zero (program_tree c.args.self.now) c.requires.fits
+
+pub returns-clause-tree : goal.returns-clause-tree
+returns-clause-tree c = c.renumber_from.ensures.tree ∙ renumbered-zero 0 (program_tree c.args.self.now)
+
+pub returns-clause-numbered : goal.returns-clause-numbered
+returns-clause-numbered c = c.renumber_from.ensures.numbered (EachOnce-old_zero (program_tree c.args.self.now))

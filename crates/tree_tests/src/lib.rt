@@ -1,0 +1,7 @@
+// Calls each public call of `es_tree`.
+#![tactic(auto)]
+
+#[cfg(test)]
+mod build;
+#[cfg(test)]
+mod program;
