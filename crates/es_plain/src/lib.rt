@@ -2,7 +2,10 @@
 // functions each.
 #![tactic(auto)]
 
+pub mod conforms;
 pub mod count;
 pub mod number;
 pub mod parts;
 pub mod plain;
+mod rules;
+mod texts;

@@ -1,5 +1,7 @@
-// Tests of the plain tree: each public call once, on the tree of the script `a;`.
+// Tests of the plain tree: each public call once, on the tree of the script `a;` and on others.
 #![tactic(auto)]
 
+#[cfg(test)]
+mod conforms;
 #[cfg(test)]
 mod plain;

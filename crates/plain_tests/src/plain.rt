@@ -16,7 +16,8 @@ use es_plain::plain::{
 use std::alloc::{AllocError, Global};
 use std::test::Fail;
 
-fn reference(alloc: Global) -> Result<Plain, AllocError>
+/// `a`, read.
+pub fn reference(alloc: Global) -> Result<Plain, AllocError>
     ensures { IfOk result (λ t. nodes (plain_tree t) ≡ 1) }
 {
     let mut parts = List::new(alloc);
@@ -39,7 +40,8 @@ fn statement(alloc: Global) -> Result<Plain, AllocError>
     Ok(plain_node(Kind::ExpressionStatement, NodeId::DUMMY, None, None, parts))
 }
 
-fn program(alloc: Global) -> Result<Plain, AllocError>
+/// The script `a;`.
+pub fn program(alloc: Global) -> Result<Plain, AllocError>
     ensures { IfOk result (λ t. nodes (plain_tree t) ≡ 3) }
 {
     let mut body = List::new(alloc);
