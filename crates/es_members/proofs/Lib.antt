@@ -1,0 +1,6 @@
+pub mod And
+pub mod Fitting
+pub mod OfKind
+pub mod Sorts
+pub mod Stood
+pub mod Views
