@@ -6,7 +6,7 @@ import sys
 from kinds import *
 
 CRATES = sys.argv[1]
-BASE, SYNTAX, COUNT, NUMBER, RENUMBER = 'es_base', 'es_syntax', 'es_count', 'es_number', 'es_renumber'
+BASE, SYNTAX, COUNT, NUMBER, RENUMBER, PLAIN = 'es_base', 'es_syntax', 'es_count', 'es_number', 'es_renumber', 'es_to_plain'
 
 
 def snake(k): return re.sub(r'(?<!^)(?=[A-Z])', '_', k).lower()

@@ -9,12 +9,15 @@ CRATES is the folder of the crates. Written are
   it is at each kind (proofs/Views.antt);
 - in `es_count` the walk that counts (src/count.rt), with the invariants and answers of its proof;
 - in `es_renumber` the walk that numbers (src/number.rt), the lemmas that put each kind together
-  (proofs/Assembly.antt), and the invariants and answers of its proof.
+  (proofs/Assembly.antt), and the invariants and answers of its proof;
+- in `es_to_plain` the walk to the plain tree (src/tree.rt), the copies of the kinds that hold no node of the
+  cycle (src/leaf.rt) and of words (src/words.rt), with the invariants and answers of their proofs.
 `rt fmt` lays them out; the gate proves them.
 """
 from model import MEMBERS
 from print_count import write_count, count_answers
 from print_number import write_assembly, write_number
+from print_plain import write_plain
 from print_table import KINDS, write_table
 from print_types import write_types
 from print_view import write_view
@@ -28,4 +31,5 @@ write_count()
 count_answers()
 write_assembly()
 write_number()
+write_plain()
 print(len(MEMBERS), 'members in the cycle,', len(KINDS), 'kinds')

@@ -1,19 +1,29 @@
 // The root of a tree.
 
-ghost use Rattle.std.specs.Prelude.{◌≡◌, ◌+◌, ◌^◌, ◌<◌, []};
+ghost use Rattle.std.specs.Prelude.{◌≡◌, ◌+◌, ◌^◌, ◌<◌, [], IfOk};
+ghost use Rattle.es_base.specs.Tree.{child};
 ghost use Rattle.es_base.specs.Order.{nodes, news, numbered_from, renumbered};
 ghost use Rattle.es_base.specs.Numbered.{EachOnce, IsNumbered, old_numbers};
 ghost use Rattle.es_count.specs.Counted.{counted};
 ghost use Rattle.es_number.specs.Given.{given};
+ghost use Rattle.es_plain.specs.View.{plain_tree};
+ghost use Rattle.es_to_plain.specs.Copied.{Copied};
 ghost use Rattle.es_tree.specs.Program.{program_tree};
 
 use es_base::ids::{NodeId, ScopeId, Span};
+use es_base::kind::Kind;
 use es_base::list::List;
 use es_base::operator::SourceType;
 use es_count::count::{count_one, count_statements};
 use es_number::number::Numbering;
+use es_plain::plain::{Part, Plain};
 use es_renumber::number::number_statements;
 use es_syntax::node::Statement;
+use es_to_plain::copied::{Head, Mark, node_2};
+use es_to_plain::to_plain::tree_of;
+use es_to_plain::tree::plain_statements;
+use es_to_plain::words::plain_source_type;
+use std::alloc::{AllocError, Global};
 
 /// A script or a module (ECMA-262, 16).
 #[derive(Drop)]
@@ -59,6 +69,14 @@ impl Program {
     {
         number_program(self, Numbering { first, next: first });
     }
+
+    /// The plain tree, with equal numbers, spans and marks. `foreign` has no place in it. Fails for want
+    /// of memory alone.
+    pub fn to_plain(&self, alloc: Global) -> Result<Plain, AllocError>
+        ensures { IfOk result (λ p. plain_tree p ≡ program_tree self.now) }
+    {
+        tree_of(plain_program(alloc, self))
+    }
 }
 
 fn count_program(program: &Program, n: u32) -> u32
@@ -73,4 +91,20 @@ fn number_program(program: &mut Program, numbers: Numbering)
 {
     let numbers = numbers.give(&mut program.node_id);
     let _after = number_statements(&mut program.body, numbers);
+}
+
+fn plain_program(alloc: Global, program: &Program) -> Result<Part, AllocError>
+    ensures { Copied result (child (program_tree program.now)) }
+{
+    node_2(
+        alloc,
+        Head {
+            kind: Kind::Program,
+            node_id: program.node_id,
+            span: program.span,
+            mark: Mark::Scope(program.scope),
+        },
+        plain_source_type(alloc, program.source_type),
+        plain_statements(alloc, program.body.as_slice()),
+    )
 }
