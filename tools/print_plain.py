@@ -122,8 +122,8 @@ def word_text(u, maybe):
 def leaf(u): return u not in CYCLIC
 
 
-def function(name, args, clause, body, cyclic, doc=''):
-    return (f'/// {doc}\n' if doc else '') + ('#[cycle(plain)]\n' if cyclic else '') + f'fn {name}(alloc: Global, {args}) -> Result<Part, AllocError>\n    ensures {{ {clause} }}\n{{\n{body}\n}}\n'
+def function(name, args, clause, body, cyclic):
+    return ('#[cycle(plain)]\n' if cyclic else '') + f'fn {name}(alloc: Global, {args}) -> Result<Part, AllocError>\n    ensures {{ {clause} }}\n{{\n{body}\n}}\n'
 
 
 def args_of(k): return f'x: &{k}' + (', kind: Kind' if k in DECLARED else '')
@@ -274,7 +274,7 @@ def list_function(w, f, u, maybe, answers):
         item = re.sub(r'\bx\b(?!\.)', 'c.x-item.result', p)
         end = f'\n    let copied : Copied c.match-x.part ({item}) = elim c.match-x.branch [ {cases} ] in\n    {end}'
     answers.append(f'\npub {pre}loop-x-preserved : goal.{pre}loop-x-preserved\n{pre}loop-x-preserved{t} c = {end}\n')
-    body = f'let mut parts = Ok(List::new(alloc));\nfor x in all {{\n{step}\n}}\nlist_of(parts)'
+    body = f'let mut parts = with_room(alloc, all.len());\nfor x in all {{\n{step}\n}}\nlist_of(parts)'
     return function(f, f'all: &[{ty}]', f'Copied result (list ({put(P, "all.now")}))', body, cyclic)
 
 
@@ -337,7 +337,7 @@ def needed(code, path, names):
 
 
 TEXTS = ['plain_literal_value', 'plain_maybe_text', 'plain_text']
-HELPERS = ['Head', 'Mark', 'absent', 'flag', 'list_of'] + [f'node_{n}' for n in range(7)] + ['with']
+HELPERS = ['Head', 'Mark', 'absent', 'flag', 'list_of'] + [f'node_{n}' for n in range(7)] + ['with', 'with_room']
 
 
 def split(body):

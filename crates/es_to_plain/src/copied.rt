@@ -60,6 +60,13 @@ pub fn flag(value: bool) -> Result<Part, AllocError>
     Ok(truth_part(value))
 }
 
+/// No parts yet, and room for so many. Fails for want of memory alone.
+pub fn with_room(alloc: Global, count: usize) -> Result<List<Part>, AllocError>
+    ensures { PartsCopied result end }
+{
+    Ok(List::from_vec(Vec::with_capacity(alloc, count)?))
+}
+
 /// The parts, and then this one. Fails for want of memory alone.
 pub fn with(
     parts: Result<List<Part>, AllocError>,
@@ -115,7 +122,7 @@ pub fn node_1(
 ) -> Result<Part, AllocError>
     ensures { (ps : Parts) → AllCopied (first ∷ []) ps → Copied result (child (Node head.kind head.node_id.0 (span_of head.span) (mark_of head.mark) ps)) }
 {
-    let parts = Ok(List::new(alloc));
+    let parts = with_room(alloc, 1);
     let parts = with(parts, first);
     node_of(head, parts)
 }
@@ -129,7 +136,7 @@ pub fn node_2(
 ) -> Result<Part, AllocError>
     ensures { (ps : Parts) → AllCopied (first ∷ second ∷ []) ps → Copied result (child (Node head.kind head.node_id.0 (span_of head.span) (mark_of head.mark) ps)) }
 {
-    let parts = Ok(List::new(alloc));
+    let parts = with_room(alloc, 2);
     let parts = with(parts, first);
     let parts = with(parts, second);
     node_of(head, parts)
@@ -145,7 +152,7 @@ pub fn node_3(
 ) -> Result<Part, AllocError>
     ensures { (ps : Parts) → AllCopied (first ∷ second ∷ third ∷ []) ps → Copied result (child (Node head.kind head.node_id.0 (span_of head.span) (mark_of head.mark) ps)) }
 {
-    let parts = Ok(List::new(alloc));
+    let parts = with_room(alloc, 3);
     let parts = with(parts, first);
     let parts = with(parts, second);
     let parts = with(parts, third);
@@ -163,7 +170,7 @@ pub fn node_4(
 ) -> Result<Part, AllocError>
     ensures { (ps : Parts) → AllCopied (first ∷ second ∷ third ∷ fourth ∷ []) ps → Copied result (child (Node head.kind head.node_id.0 (span_of head.span) (mark_of head.mark) ps)) }
 {
-    let parts = Ok(List::new(alloc));
+    let parts = with_room(alloc, 4);
     let parts = with(parts, first);
     let parts = with(parts, second);
     let parts = with(parts, third);
@@ -183,7 +190,7 @@ pub fn node_5(
 ) -> Result<Part, AllocError>
     ensures { (ps : Parts) → AllCopied (first ∷ second ∷ third ∷ fourth ∷ fifth ∷ []) ps → Copied result (child (Node head.kind head.node_id.0 (span_of head.span) (mark_of head.mark) ps)) }
 {
-    let parts = Ok(List::new(alloc));
+    let parts = with_room(alloc, 5);
     let parts = with(parts, first);
     let parts = with(parts, second);
     let parts = with(parts, third);
@@ -205,7 +212,7 @@ pub fn node_6(
 ) -> Result<Part, AllocError>
     ensures { (ps : Parts) → AllCopied (first ∷ second ∷ third ∷ fourth ∷ fifth ∷ sixth ∷ []) ps → Copied result (child (Node head.kind head.node_id.0 (span_of head.span) (mark_of head.mark) ps)) }
 {
-    let parts = Ok(List::new(alloc));
+    let parts = with_room(alloc, 6);
     let parts = with(parts, first);
     let parts = with(parts, second);
     let parts = with(parts, third);

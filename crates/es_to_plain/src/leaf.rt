@@ -5,10 +5,11 @@ ghost use Rattle.es_base.specs.Tree.{child, list, maybe, trees};
 ghost use Rattle.es_to_plain.specs.Copied.{Copied};
 ghost use Rattle.es_syntax.specs.View.{binding_identifier_node, break_statement_node, continue_statement_node, debugger_statement_node, empty_statement_node, export_all_declaration_node, export_local_node, export_specifier_node, foreign_node, identifier_name_node, identifier_reference_node, import_declaration_node, import_default_specifier_node, import_member_node, import_namespace_specifier_node, import_specifier_node, literal_node, meta_property_node, module_name_node, private_identifier_node, super_node, template_element_node, this_expression_node};
 
-use crate::copied::{Head, Mark, absent, flag, list_of, node_0, node_1, node_2, node_3, with};
+use crate::copied::{
+    Head, Mark, absent, flag, list_of, node_0, node_1, node_2, node_3, with, with_room,
+};
 use crate::texts::{plain_literal_value, plain_maybe_text, plain_text};
 use es_base::kind::Kind;
-use es_base::list::List;
 use es_base::literal::Literal;
 use es_plain::plain::Part;
 use es_syntax::expression::{MetaProperty, Super, TemplateElement, ThisExpression};
@@ -50,7 +51,7 @@ pub fn plain_maybe_binding_identifier(
 pub fn plain_template_elements(alloc: Global, all: &[TemplateElement]) -> Result<Part, AllocError>
     ensures { Copied result (list (trees (map template_element_node all.now))) }
 {
-    let mut parts = Ok(List::new(alloc));
+    let mut parts = with_room(alloc, all.len());
     for x in all {
         parts = with(parts, plain_template_element(alloc, x));
     }
@@ -61,7 +62,7 @@ pub fn plain_template_elements(alloc: Global, all: &[TemplateElement]) -> Result
 pub fn plain_export_specifiers(alloc: Global, all: &[ExportSpecifier]) -> Result<Part, AllocError>
     ensures { Copied result (list (trees (map export_specifier_node all.now))) }
 {
-    let mut parts = Ok(List::new(alloc));
+    let mut parts = with_room(alloc, all.len());
     for x in all {
         parts = with(parts, plain_export_specifier(alloc, x));
     }
@@ -360,7 +361,7 @@ pub fn plain_maybe_module_name(alloc: Global, x: &Option<ModuleName>) -> Result<
 pub fn plain_import_members(alloc: Global, all: &[ImportMember]) -> Result<Part, AllocError>
     ensures { Copied result (list (trees (map import_member_node all.now))) }
 {
-    let mut parts = Ok(List::new(alloc));
+    let mut parts = with_room(alloc, all.len());
     for x in all {
         parts = with(parts, plain_import_member(alloc, x));
     }

@@ -7,6 +7,7 @@ ghost use Rattle.es_syntax.specs.View.{arrow_body_tree, assignment_target_tree, 
 
 use crate::copied::{
     Head, Mark, absent, flag, list_of, node_1, node_2, node_3, node_4, node_5, node_6, with,
+    with_room,
 };
 use crate::leaf::{
     plain_binding_identifier, plain_break_statement, plain_continue_statement,
@@ -23,7 +24,6 @@ use crate::words::{
     plain_variable_declaration_kind,
 };
 use es_base::kind::Kind;
-use es_base::list::List;
 use es_plain::plain::Part;
 use es_syntax::class::ClassKey;
 use es_syntax::expression::{
@@ -1261,7 +1261,7 @@ fn plain_property_key(alloc: Global, x: &PropertyKey<Expression>) -> Result<Part
 pub fn plain_statements(alloc: Global, all: &[Statement]) -> Result<Part, AllocError>
     ensures { Copied result (list (trees (map statement_tree all.now))) }
 {
-    let mut parts = Ok(List::new(alloc));
+    let mut parts = with_room(alloc, all.len());
     for x in all {
         parts = with(parts, plain_statement(alloc, x));
     }
@@ -1272,7 +1272,7 @@ pub fn plain_statements(alloc: Global, all: &[Statement]) -> Result<Part, AllocE
 fn plain_target_members(alloc: Global, all: &[TargetMember]) -> Result<Part, AllocError>
     ensures { Copied result (list (trees (map target_member_tree all.now))) }
 {
-    let mut parts = Ok(List::new(alloc));
+    let mut parts = with_room(alloc, all.len());
     for x in all {
         parts = with(parts, plain_target_member(alloc, x));
     }
@@ -1286,7 +1286,7 @@ fn plain_maybe_target_or_rests(
 ) -> Result<Part, AllocError>
     ensures { Copied result (list (maybe_trees (map (option_map (target_or_rest_node assignment_target_tree)) all.now))) }
 {
-    let mut parts = Ok(List::new(alloc));
+    let mut parts = with_room(alloc, all.len());
     for x in all {
         let part = match x {
             None => absent(),
@@ -1314,7 +1314,7 @@ fn plain_maybe_expression_or_spreads(
 ) -> Result<Part, AllocError>
     ensures { Copied result (list (maybe_trees (map (option_map (expression_or_spread_node expression_tree)) all.now))) }
 {
-    let mut parts = Ok(List::new(alloc));
+    let mut parts = with_room(alloc, all.len());
     for x in all {
         let part = match x {
             None => absent(),
@@ -1339,7 +1339,7 @@ fn plain_maybe_expression_or_spreads(
 fn plain_object_members(alloc: Global, all: &[ObjectMember<Expression>]) -> Result<Part, AllocError>
     ensures { Copied result (list (trees (map (object_member_node expression_tree) all.now))) }
 {
-    let mut parts = Ok(List::new(alloc));
+    let mut parts = with_room(alloc, all.len());
     for x in all {
         let part = match x {
             ObjectMember::Property(x) => {
@@ -1384,7 +1384,7 @@ fn plain_object_members(alloc: Global, all: &[ObjectMember<Expression>]) -> Resu
 fn plain_pattern_or_rests(alloc: Global, all: &[PatternOrRest<Pattern>]) -> Result<Part, AllocError>
     ensures { Copied result (list (trees (map (pattern_or_rest_node pattern_tree) all.now))) }
 {
-    let mut parts = Ok(List::new(alloc));
+    let mut parts = with_room(alloc, all.len());
     for x in all {
         let part = match x {
             PatternOrRest::RestElement(x) => node_1(
@@ -1408,7 +1408,7 @@ fn plain_pattern_or_rests(alloc: Global, all: &[PatternOrRest<Pattern>]) -> Resu
 fn plain_expressions(alloc: Global, all: &[Expression]) -> Result<Part, AllocError>
     ensures { Copied result (list (trees (map expression_tree all.now))) }
 {
-    let mut parts = Ok(List::new(alloc));
+    let mut parts = with_room(alloc, all.len());
     for x in all {
         parts = with(parts, plain_expression(alloc, x));
     }
@@ -1422,7 +1422,7 @@ fn plain_expression_or_spreads(
 ) -> Result<Part, AllocError>
     ensures { Copied result (list (trees (map (expression_or_spread_node expression_tree) all.now))) }
 {
-    let mut parts = Ok(List::new(alloc));
+    let mut parts = with_room(alloc, all.len());
     for x in all {
         let part = match x {
             ExpressionOrSpread::SpreadElement(x) => node_1(
@@ -1446,7 +1446,7 @@ fn plain_expression_or_spreads(
 fn plain_variable_declarators(alloc: Global, all: &[VariableDeclarator]) -> Result<Part, AllocError>
     ensures { Copied result (list (trees (map variable_declarator_tree all.now))) }
 {
-    let mut parts = Ok(List::new(alloc));
+    let mut parts = with_room(alloc, all.len());
     for x in all {
         parts = with(parts, plain_variable_declarator(alloc, x));
     }
@@ -1457,7 +1457,7 @@ fn plain_variable_declarators(alloc: Global, all: &[VariableDeclarator]) -> Resu
 fn plain_pattern_members(alloc: Global, all: &[PatternMember]) -> Result<Part, AllocError>
     ensures { Copied result (list (trees (map pattern_member_tree all.now))) }
 {
-    let mut parts = Ok(List::new(alloc));
+    let mut parts = with_room(alloc, all.len());
     for x in all {
         parts = with(parts, plain_pattern_member(alloc, x));
     }
@@ -1471,7 +1471,7 @@ fn plain_maybe_pattern_or_rests(
 ) -> Result<Part, AllocError>
     ensures { Copied result (list (maybe_trees (map (option_map (pattern_or_rest_node pattern_tree)) all.now))) }
 {
-    let mut parts = Ok(List::new(alloc));
+    let mut parts = with_room(alloc, all.len());
     for x in all {
         let part = match x {
             None => absent(),
@@ -1496,7 +1496,7 @@ fn plain_maybe_pattern_or_rests(
 fn plain_switch_cases(alloc: Global, all: &[SwitchCase]) -> Result<Part, AllocError>
     ensures { Copied result (list (trees (map switch_case_tree all.now))) }
 {
-    let mut parts = Ok(List::new(alloc));
+    let mut parts = with_room(alloc, all.len());
     for x in all {
         parts = with(parts, plain_switch_case(alloc, x));
     }
@@ -1507,7 +1507,7 @@ fn plain_switch_cases(alloc: Global, all: &[SwitchCase]) -> Result<Part, AllocEr
 fn plain_class_elements(alloc: Global, all: &[ClassElement]) -> Result<Part, AllocError>
     ensures { Copied result (list (trees (map class_element_tree all.now))) }
 {
-    let mut parts = Ok(List::new(alloc));
+    let mut parts = with_room(alloc, all.len());
     for x in all {
         parts = with(parts, plain_class_element(alloc, x));
     }
