@@ -7,6 +7,7 @@ from kinds import *
 
 CRATES = sys.argv[1]
 BASE, SYNTAX, COUNT, NUMBER, RENUMBER, PLAIN = 'es_base', 'es_syntax', 'es_count', 'es_number', 'es_renumber', 'es_to_plain'
+BUILDER, FROM = 'es_builder', 'es_from_plain'
 
 
 def snake(k): return re.sub(r'(?<!^)(?=[A-Z])', '_', k).lower()

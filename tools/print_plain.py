@@ -17,18 +17,7 @@ class At:
     def copy(self, f): return f'{self.prefix}.{f}' if self.prefix else f'*{f}'
 
 
-class Calls:
-    """the names that the toolchain gives to the calls of a function: the bare name where it is free"""
-
-    def __init__(self): self.taken = set()
-
-    def name(self, callee, where):
-        n, candidate = 1, callee
-        while candidate in self.taken:
-            candidate = callee + where + (f'-{n}' if n > 1 else '')
-            n += 1
-        self.taken.add(candidate)
-        return 'c.' + candidate
+def called(calls, callee, where): return f'c.{calls.name(callee, where)}'
 
 
 class Copying:
@@ -51,13 +40,13 @@ class Copying:
         parts = [self.part(f, s, at, calls, where) for _, f, s in STRUCTS[k][4]]
         n = len(parts)
         code = f'node_{n}({", ".join(["alloc", self.head(k, at, kind)] + [p[0] for p in parts])})'
-        name = calls.name(f'node_{n}{last}', where)
+        name = called(calls, f'node_{n}{last}', where)
         if n == 0: return code, f'{name}.ensures'
         facts = 'tt'
         for p in reversed(parts): facts = f'({p[1]}, {facts})'
         return code, f'{name}.ensures _ {facts}'
 
-    def call(self, f, args, calls, where): return f'{f}({args})', calls.name(f, where) + '.ensures'
+    def call(self, f, args, calls, where): return f'{f}({args})', called(calls, f, where) + '.ensures'
 
     def part(self, f, s, at, calls, where):
         tag = s[0]
@@ -78,7 +67,7 @@ class Copying:
             g = f'plain_{"maybe_" if maybe else ""}{plural(u)}'
             self.lists[g] = (u, maybe)
             if leaf(u): self.want(self.leaves, u)
-            opened = calls.name('as_slice', where)
+            opened = called(calls, 'as_slice', where)
             code, fact = self.call(g, f'alloc, {at.place(f)}.as_slice()', calls, where)
             return code, f'(at_list {word_text(u, maybe)} _ _ _ {opened}.ensures {fact})'
         if tag == 'Maybe':
@@ -93,7 +82,7 @@ class Copying:
         for name, held in ENUMS[u][2]:
             if leaf(held): self.want(self.leaves, held)
             arms += f'{u}::{name}(x) => plain_{snake(held)}(alloc, x),\n'
-            fact = calls.name(f'plain_{snake(held)}-key', f'-in-{name}').replace('c.', 'v.') + '.ensures'
+            fact = called(calls, f'plain_{snake(held)}-key', f'-in-{name}').replace('c.', 'v.') + '.ensures'
             cases.append(f'GOAL-in-{name} v ↦ in_branch _ _ _ _ v.key-is (ap (λ x. child ({word} x)) v.in-{name}.is) {fact}')
         self.inside = (f'let key = match {lent} {{\n{arms}}};\n', f'let key : Copied w.match-x-2.key (child ({word} w.in-Property.x.key)) = elim w.match-x-2.branch [ {" | ".join(cases)} ] in ')
         return 'key', 'key'
@@ -104,7 +93,7 @@ class Copying:
         opened = None
         if named and boxed(u) != u:
             lent = f'{place}.get()'
-            opened = calls.name('get', where)
+            opened = called(calls, 'get', where)
         kind = f', Kind::{DECLARED[u]}' if u in DECLARED else ''
         if leaf(u): self.want(self.leaves, u)
         if generic(u) and self.inside is not None: return self.matched(u, lent, calls, where)
@@ -145,12 +134,12 @@ def place_arms(w, k, answers):
         elif t in CYCLIC:
             kind = f', Kind::{name}' if t in DECLARED else ''
             if t in OWN or t not in STRUCTS:
-                opened = calls.name('get', where)
+                opened = called(calls, 'get', where)
                 _, fact = w.call(f'plain_{snake(t)}', '', calls, where)
                 arms += f'{k}::{name}(x) => plain_{snake(t)}(alloc, x.get(){kind}),\n'
                 if kind and DECLARED[t] == name: fact = f'({snake(t)}_as_expression _ _ {fact})'
             else:
-                opened = calls.name('get-x', where)
+                opened = called(calls, 'get-x', where)
                 code, fact = w.node(t, At('x'), calls, where)
                 arms += f'{k}::{name}(x) => {{ let x = x.get();\n{code} }}\n'
             views = f'(λ x. {view} x ∙ {snake(t)}_tree-is x)' if t in MEMBERS and t not in OWN else view
@@ -186,7 +175,7 @@ def try_function(w, answers):
         if case == 'None': parts.append(w.call('absent', '', calls, where))
         else: parts.append(w.node('BlockStatement', At('finalizer'), calls, where))
         code = f'node_3(alloc, {w.head(k, At("x"))}, {", ".join(p[0] for p in parts)})'
-        name = calls.name('node_3', where)
+        name = called(calls, 'node_3', where)
         facts = 'tt'
         for p in reversed(parts): facts = f'({p[1]}, {facts})'
         arms += f'{case if case == "None" else "Some(finalizer)"} => {code},\n'
@@ -254,7 +243,7 @@ def list_function(w, f, u, maybe, answers):
                 (before, key), w.inside = w.inside, None
                 if before: code = f'{{\n{before}{code}\n}}'
                 key = key.replace('GOAL', f)
-            else: code, done = f'plain_{snake(held)}(alloc, x)', calls.name(f'plain_{snake(held)}-part', where) + '.ensures'
+            else: code, done = f'plain_{snake(held)}(alloc, x)', called(calls, f'plain_{snake(held)}-part', where) + '.ensures'
             done = done.replace('c.', 'w.')
             pattern = f'{u}::{name}(x)'
             arms += f'{f"Some({pattern})" if maybe else pattern} => {code},\n'

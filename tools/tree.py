@@ -11,11 +11,18 @@ CRATES is the folder of the crates. Written are
 - in `es_renumber` the walk that numbers (src/number.rt), the lemmas that put each kind together
   (proofs/Assembly.antt), and the invariants and answers of its proof;
 - in `es_to_plain` the walk to the plain tree (src/tree.rt), the copies of the kinds that hold no node of the
-  cycle (src/leaf.rt) and of words (src/words.rt), with the invariants and answers of their proofs.
+  cycle (src/leaf.rt) and of words (src/words.rt), with the invariants and answers of their proofs;
+- in `es_builder` the makers of typed nodes (all of src but head.rt, list.rt, whole.rt and lib.rt), and the answers
+  of their proofs;
+- in `es_from_plain` the walk from the plain tree (src/tree.rt), what it makes that holds no node of the cycle
+  (src/leaf.rt) and words (src/words.rt), which kinds stand where (proofs/AtPlaces.antt), and the invariants and
+  answers of their proofs.
 `rt fmt` lays them out; the gate proves them.
 """
 from model import MEMBERS
+from print_builder import write_builder
 from print_count import write_count, count_answers
+from print_from_plain import write_from_plain
 from print_number import write_assembly, write_number
 from print_plain import write_plain
 from print_table import KINDS, write_table
@@ -32,4 +39,6 @@ count_answers()
 write_assembly()
 write_number()
 write_plain()
+write_builder()
+write_from_plain()
 print(len(MEMBERS), 'members in the cycle,', len(KINDS), 'kinds')

@@ -1,6 +1,20 @@
 """A walk over typed trees: its functions, one for each member of the cycle and for what would be a match in an arm."""
 from print_view import *
 
+class Calls:
+    """the names that the toolchain gives to the calls of a function: the bare name where it is free"""
+
+    def __init__(self): self.taken, self.suffixes = set(), {}
+
+    def name(self, callee, where=''):
+        """a call of this callee in this arm: where its name is taken, the arm is added, and then a number"""
+        suffixes = [''] + ([where] if where else []) + [f'{where}-{n}' for n in range(2, 9)]
+        suffix = next(x for x in suffixes if callee + x not in self.taken)
+        self.taken.add(callee + suffix)
+        self.suffixes[callee + suffix] = suffix
+        return callee + suffix
+
+
 class Walk:
     """what a walk does at a node, and how its functions and words are called"""
 

@@ -46,3 +46,7 @@ read_as place k t ps h e f = subst (λ (qs : List Part). PartsOf k (plain_parts 
 pub item_as : (holes : Bool) (place : Place) (x : Part) (t : Plain) → x ≡ part.Child t → (conforms place (plain_tree t) && marks_fit (plain_tree t)) ≡ true → FitsIn holes place (plain_part x)
 unfolding FitsIn
 item_as holes place x t e h = subst (λ (p : tree_part). (item_conforms holes place p && marks_fit_in p) ≡ true) (sym (ap plain_part e ∙ child_is t)) h
+
+-- its mark may stand there
+pub mark_here : (place : Place) (t : Plain) → Fits place (plain_tree t) → mark_fits t.kind t.mark ≡ true
+mark_here place t h = left_of (mark_fits t.kind t.mark) _ (right_of (conforms place (Node t.kind t.node_id.0 (span_of t.span) t.mark (plain_parts t.parts))) _ (as_node place t h))

@@ -6,6 +6,7 @@ pub mod program;
 pub use es_base::{
     boxed, diagnostic, ids, kind, ledger, list, literal, name, operator, shape, table,
 };
+pub use es_members::marks;
 pub use es_plain::{parts, plain};
 pub use es_syntax::{class, expression, foreign, identifier, module, node, pattern, statement};
 pub use es_to_plain::to_plain;

@@ -6,6 +6,8 @@ ghost use Rattle.es_base.specs.Order.{nodes, news, numbered_from, renumbered};
 ghost use Rattle.es_base.specs.Numbered.{EachOnce, IsNumbered, old_numbers};
 ghost use Rattle.es_count.specs.Counted.{counted};
 ghost use Rattle.es_number.specs.Given.{given};
+ghost use Rattle.es_base.specs.declared.table.Place.{Place};
+ghost use Rattle.es_members.specs.Standing.{Fits};
 ghost use Rattle.es_plain.specs.View.{plain_tree};
 ghost use Rattle.es_to_plain.specs.Copied.{Copied};
 ghost use Rattle.es_tree.specs.Program.{program_tree};
@@ -14,7 +16,10 @@ use es_base::ids::{NodeId, ScopeId, Span};
 use es_base::kind::Kind;
 use es_base::list::List;
 use es_base::operator::SourceType;
+use es_builder::head::scope_of;
 use es_count::count::{count_one, count_statements};
+use es_from_plain::tree::statements_at;
+use es_from_plain::words::source_type_at;
 use es_number::number::Numbering;
 use es_plain::plain::{Part, Plain};
 use es_renumber::number::number_statements;
@@ -76,6 +81,32 @@ impl Program {
         ensures { IfOk result (λ p. plain_tree p ≡ program_tree self.now) }
     {
         tree_of(plain_program(alloc, self))
+    }
+
+    /// The program that a plain tree is, with equal numbers, spans and marks; `foreign` is empty. Fails for
+    /// want of memory alone, and then the memory of what was made so far is lost (docs/DECISIONS.md,
+    /// "Dropping typed nodes").
+    ///
+    /// What it asks, `fits_at` of `es_members` tests, and the lemma `as_fits` leads from the test to it: the
+    /// tree is a program of the table's grammar, and no node has a mark that its kind does not bear.
+    pub fn from_plain(alloc: Global, plain: &Plain) -> Result<Program, AllocError>
+        requires { Fits Place.Program (plain_tree plain.now) }
+        ensures tree { IfOk result (λ p. program_tree p ≡ plain_tree plain.now) }
+        ensures foreign { IfOk result (λ p. p.foreign ≡ []) }
+    {
+        let parts = plain.parts.as_slice();
+        let source_type = source_type_at(parts, 0);
+        match statements_at(alloc, parts, 1) {
+            Ok(body) => Ok(Program {
+                node_id: plain.node_id,
+                span: plain.span,
+                scope: scope_of(plain.mark),
+                source_type,
+                body,
+                foreign: List::new(alloc),
+            }),
+            Err(error) => Err(error),
+        }
     }
 }
 

@@ -1,0 +1,10 @@
+use Rattle.std.proofs.Common.{◌∙◌, ap, refl}
+use Rattle.es_base.specs.declared.kind.Kind.{Kind}
+use Rattle.es_builder.specs.Made.{one}
+use Rattle.es_builder.proofs.Makers.{held, more_same, same_node}
+use Rattle.es_syntax.specs.View.{expression_tree, unary_expression_node}
+use Rattle.es_syntax.proofs.Views.{expression_tree-UnaryExpression}
+use Rattle.es_builder.proofs.expression.unary_expression.Goals as goal
+
+pub returns : goal.returns
+returns c = λ p hp q hq. expression_tree-UnaryExpression _ ∙ ap (unary_expression_node expression_tree) c.in_ok-in_box.ensures ∙ same_node Kind.UnaryExpression c.args.head refl (more_same hp (more_same (held (one expression_tree) c.in_ok-argument.was hq) refl))

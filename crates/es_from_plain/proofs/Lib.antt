@@ -1,0 +1,5 @@
+pub mod AtPlaces
+pub mod Lists
+pub mod Sizes
+pub mod Spelling
+pub mod Walk

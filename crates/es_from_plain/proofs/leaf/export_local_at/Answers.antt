@@ -1,0 +1,34 @@
+use Rattle.std.proofs.Common.{refl}
+use Rattle.es_base.specs.declared.kind.Kind.{Kind}
+use Rattle.es_base.specs.declared.table.Place.{Place}
+use Rattle.es_base.specs.declared.table.Sort.{Sort}
+use Rattle.es_members.proofs.OfKind.{member, whole}
+use Rattle.es_members.proofs.Placed.{kind_here, parts_here}
+use Rattle.es_syntax.specs.View.{export_local_node}
+use Rattle.es_from_plain.proofs.Walk.{marked, unmarked}
+use Rattle.es_from_plain.proofs.AtPlaces.{export_local-only}
+use Rattle.es_from_plain.proofs.leaf.export_local_at.Goals as goal
+
+pub child_at-tree-requires : goal.child_at-tree-requires
+child_at-tree-requires c = (Place.ExportLocal, c.requires)
+
+pub name_at-requires : goal.name_at-requires
+name_at-requires c = (Sort.Name, (refl, member Kind.IdentifierReference _ 0 Sort.Name (parts_here Place.ExportLocal Kind.IdentifierReference _ _ _ _ c.requires c.child_at-tree.ensures c.as_slice-members.ensures c.in-IdentifierReference.is) refl))
+
+pub returns-in-IdentifierReference : goal.returns-in-IdentifierReference
+returns-in-IdentifierReference c = marked export_local_node Place.ExportLocal Kind.IdentifierReference _ _ _ _ _ _ _ c.requires c.child_at-tree.ensures c.head_of-head.ensures c.as_slice-members.ensures c.in-IdentifierReference.is (whole Kind.IdentifierReference _ (parts_here Place.ExportLocal Kind.IdentifierReference _ _ _ _ c.requires c.child_at-tree.ensures c.as_slice-members.ensures c.in-IdentifierReference.is)) (c.export_local_identifier_reference.ensures _ (c.identifier_reference.ensures _ c.name_at.ensures))
+
+pub name_at-requires-in-IdentifierName : goal.name_at-requires-in-IdentifierName
+name_at-requires-in-IdentifierName c = (Sort.Name, (refl, member Kind.IdentifierName _ 0 Sort.Name (parts_here Place.ExportLocal Kind.IdentifierName _ _ _ _ c.requires c.child_at-tree.ensures c.as_slice-members.ensures c.in-IdentifierName.is) refl))
+
+pub returns-in-IdentifierName : goal.returns-in-IdentifierName
+returns-in-IdentifierName c = unmarked export_local_node Place.ExportLocal Kind.IdentifierName _ _ _ _ _ _ _ refl c.requires c.child_at-tree.ensures c.head_of-head.ensures c.as_slice-members.ensures c.in-IdentifierName.is (whole Kind.IdentifierName _ (parts_here Place.ExportLocal Kind.IdentifierName _ _ _ _ c.requires c.child_at-tree.ensures c.as_slice-members.ensures c.in-IdentifierName.is)) (c.export_local_identifier_name.ensures _ (c.identifier_name.ensures _ c.name_at-in-IdentifierName.ensures))
+
+pub literal_value_at-requires : goal.literal_value_at-requires
+literal_value_at-requires c = member Kind.Literal _ 0 Sort.Literal (parts_here Place.ExportLocal Kind.Literal _ _ _ _ c.requires c.child_at-tree.ensures c.as_slice-members.ensures c.in-Literal.is) refl
+
+pub returns-in-Literal : goal.returns-in-Literal
+returns-in-Literal c = unmarked export_local_node Place.ExportLocal Kind.Literal _ _ _ _ _ _ _ refl c.requires c.child_at-tree.ensures c.head_of-head.ensures c.as_slice-members.ensures c.in-Literal.is (whole Kind.Literal _ (parts_here Place.ExportLocal Kind.Literal _ _ _ _ c.requires c.child_at-tree.ensures c.as_slice-members.ensures c.in-Literal.is)) (c.export_local_literal.ensures _ (c.literal.ensures _ c.literal_value_at.ensures))
+
+pub unreachable-requires : goal.unreachable-requires
+unreachable-requires c = export_local-only _ (kind_here Place.ExportLocal _ _ _ c.requires c.child_at-tree.ensures) c.in_default.not-IdentifierReference c.in_default.not-IdentifierName c.in_default.not-Literal

@@ -1,0 +1,20 @@
+use Rattle.std.proofs.Common.{refl}
+use Rattle.std.specs.Str.{chars}
+use Rattle.es_base.specs.declared.table.Sort.{Sort}
+use Rattle.es_base.specs.declared.table.Words.{Words}
+use Rattle.es_from_plain.proofs.Spelling.{word_is, no_word}
+use Rattle.es_from_plain.proofs.words.update_operator_at.Goals as goal
+
+pub text_at-requires : goal.text_at-requires
+text_at-requires c = (Sort.Word Words.UpdateOperator, (refl, c.requires))
+
+pub returns-in-text : goal.returns-in-text
+unfolding chars
+returns-in-text c = word_is _ _ _ _ refl c.in-text.is c.as_str.ensures c.text_at.ensures
+
+pub returns-in-text-2 : goal.returns-in-text-2
+unfolding chars
+returns-in-text-2 c = word_is _ _ _ _ refl c.in-text-2.is c.as_str.ensures c.text_at.ensures
+
+pub unreachable-requires : goal.unreachable-requires
+unreachable-requires c = no_word Words.UpdateOperator _ _ _ _ c.requires c.as_str.utf8 c.as_str.ensures c.text_at.ensures (c.in_default.not-text, (c.in_default.not-text-2, tt))
