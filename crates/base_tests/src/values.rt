@@ -4,6 +4,7 @@ use es_base::boxed::Boxed;
 use es_base::ids::NodeId;
 use es_base::kind::Kind;
 use es_base::list::List;
+use es_base::literal::LiteralValue;
 use es_base::name::Name;
 use es_base::shape::Shape;
 use es_base::table::{Place, Sort, Words, all_kinds, estree_name, fits, members, words_in};
@@ -52,6 +53,26 @@ fn a_name_is_its_characters(rt: HostRuntime) -> Result<(), Fail> {
         Name::new(alloc, "z")?.cmp(&Name::new(alloc, "é")?),
         Ordering::Less
     );
+    Ok(())
+}
+
+/// Whether two values are strings of the same texts.
+fn same_string(a: &LiteralValue, b: &LiteralValue) -> bool {
+    match (a, b) {
+        (LiteralValue::Text { text, raw }, LiteralValue::Text { text: t, raw: r }) => {
+            text == t && raw == r
+        }
+        _ => false,
+    }
+}
+
+#[test]
+fn the_value_of_a_literal_is_copied(rt: HostRuntime) -> Result<(), Fail> {
+    let alloc = rt.alloc();
+    let text = Name::new(alloc, "a")?;
+    let raw = Some(Name::new(alloc, "'a'")?);
+    let value = LiteralValue::Text { text, raw };
+    assert!(rt; same_string(&value.try_clone(alloc)?, &value));
     Ok(())
 }
 

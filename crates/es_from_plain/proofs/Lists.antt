@@ -5,6 +5,7 @@ use Rattle.std.specs.declared.result.Result.TheVariants.{Ok, Err}
 use Rattle.es_base.specs.Tree.{Tree, Part as tree_part, Parts, end, more, list, trees, maybe_trees}
 use Rattle.std.specs.declared.vec.Vec.{Vec}
 use Rattle.es_builder.specs.Made.{Made, Kept, Listed, one, perhaps, all_of, all_with_holes}
+use Rattle.es_builder.proofs.Makers.{held}
 use Rattle.es_plain.specs.View.{plain_part, plain_parts}
 use Rattle.es_plain.specs.declared.plain.Part.{Part}
 use Rattle.es_members.specs.Standing.{part_at}
@@ -31,21 +32,18 @@ appended : {T : Type 0} (view : T → tree_part) (xs : List T) (x : T) (ps : Par
 appended view [] x ps = refl
 appended view (y ∷ xs) x ps = ap (more (view y)) (appended view xs x ps)
 
-held_part : {T E : Type 0} (view : T → tree_part) {r : Result T E} {x : T} → r ≡ Ok x → {p : tree_part} → Made view r p → view x ≡ p
-held_part {T} {E} view e {p} h = subst (λ (z : Result T E). IfOk z (λ y. view y ≡ p)) e h
-
-one_more : {T A E : Type 0} (view : T → tree_part) (all : Result (Vec T A) E) (next : Result T E) (result : Result (Vec T A) E) (rest whole : Parts) (p : tree_part) → IfOk all (λ xs. parts_by view xs.items (more p rest) ≡ whole) → Made view next p → Listed all next result → IfOk result (λ zs. parts_by view zs.items rest ≡ whole)
-one_more view all next (Err e) rest whole p h m l = tt
-one_more {T} {A} {E} view all next (Ok zs) rest whole p h m l =
+next_item : {T A E : Type 0} (view : T → tree_part) (all : Result (Vec T A) E) (next : Result T E) (result : Result (Vec T A) E) (rest whole : Parts) (p : tree_part) → IfOk all (λ xs. parts_by view xs.items (more p rest) ≡ whole) → Made view next p → Listed all next result → IfOk result (λ zs. parts_by view zs.items rest ≡ whole)
+next_item view all next (Err e) rest whole p h m l = tt
+next_item {T} {A} {E} view all next (Ok zs) rest whole p h m l =
     ap (λ (ys : List T). parts_by view ys rest) l.4
     ∙ appended view l.0.items l.1 rest
-    ∙ ap (λ q. parts_by view l.0.items (more q rest)) (held_part view l.3 m)
+    ∙ ap (λ q. parts_by view l.0.items (more q rest)) (held view l.3 m)
     ∙ subst (λ (z : Result (Vec T A) E). IfOk z (λ xs. parts_by view xs.items (more p rest) ≡ whole)) l.2 h
 
 -- one item more
 pub further : {T A E : Type 0} (view : T → tree_part) (n : ℕ) (items : List Part) (all : Result (Vec T A) E) (next : Result T E) (result : Result (Vec T A) E) → n < length items → IfOk all (λ xs. parts_by view xs.items (plain_parts (drop n items)) ≡ plain_parts items) → Made view next (part_at n (plain_parts items)) → Listed all next result → IfOk result (λ xs. parts_by view xs.items (plain_parts (drop (n + 1) items)) ≡ plain_parts items)
 further {T} {A} {E} view n items all next result l h m more_of =
-    one_more view all next result (plain_parts (drop (n + 1) items)) (plain_parts items) (part_at n (plain_parts items))
+    next_item view all next result (plain_parts (drop (n + 1) items)) (plain_parts items) (part_at n (plain_parts items))
     (subst (λ (z : Parts). IfOk all (λ xs. parts_by view xs.items z ≡ plain_parts items)) (next_dropped n items l) h) m more_of
 
 none_left : (n : ℕ) (xs : List Part) → length xs ≤ n → plain_parts (drop n xs) ≡ end

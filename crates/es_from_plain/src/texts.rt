@@ -12,7 +12,6 @@ use es_base::name::Name;
 use es_builder::head::Head;
 use es_members::members::{literal_at, maybe_text_at, text_at};
 use es_plain::plain::{Part, Plain};
-use es_to_plain::texts::plain_literal_value;
 use std::alloc::{AllocError, Global};
 
 /// The number, the place and the mark of a node.
@@ -54,8 +53,5 @@ pub fn literal_value_at(
     requires { Stands Sort.Literal at (plain_parts parts.now) }
     ensures { Made literal result (part_at at (plain_parts parts.now)) }
 {
-    match plain_literal_value(alloc, literal_at(parts, at))?.into_literal() {
-        Some(value) => Ok(value),
-        None => unreachable!(),
-    }
+    literal_at(parts, at).try_clone(alloc)
 }

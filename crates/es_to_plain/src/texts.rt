@@ -1,6 +1,5 @@
 // Copies of texts and of the values of literals.
 
-ghost use Rattle.std.specs.Prelude.{◌≡◌, IfOk};
 ghost use Rattle.std.specs.Str.{chars};
 ghost use Rattle.es_base.specs.Tree.{text, maybe_text, literal};
 ghost use Rattle.es_to_plain.specs.Copied.{Copied};
@@ -31,45 +30,7 @@ pub fn plain_maybe_text(alloc: Global, name: &Option<Name>) -> Result<Part, Allo
 pub fn plain_literal_value(alloc: Global, value: &LiteralValue) -> Result<Part, AllocError>
     ensures { Copied result (literal value.now) }
 {
-    Ok(literal_part(copied(alloc, value)?))
-}
-
-fn copied_text(alloc: Global, name: &Option<Name>) -> Result<Option<Name>, AllocError>
-    ensures { IfOk result (λ n. n ≡ name.now) }
-{
-    match name {
-        None => Ok(None),
-        Some(name) => Ok(Some(name.try_clone(alloc)?)),
-    }
-}
-
-fn copied(alloc: Global, value: &LiteralValue) -> Result<LiteralValue, AllocError>
-    ensures { IfOk result (λ v. v ≡ value.now) }
-{
-    Ok(match value {
-        LiteralValue::Text { text, raw } => {
-            let text = text.try_clone(alloc)?;
-            LiteralValue::Text {
-                text,
-                raw: copied_text(alloc, raw)?,
-            }
-        }
-        LiteralValue::Number { raw } => LiteralValue::Number {
-            raw: raw.try_clone(alloc)?,
-        },
-        LiteralValue::BigInt { text } => LiteralValue::BigInt {
-            text: text.try_clone(alloc)?,
-        },
-        LiteralValue::RegExp { pattern, flags } => {
-            let pattern = pattern.try_clone(alloc)?;
-            LiteralValue::RegExp {
-                pattern,
-                flags: flags.try_clone(alloc)?,
-            }
-        }
-        LiteralValue::Bool(value) => LiteralValue::Bool(*value),
-        LiteralValue::Null => LiteralValue::Null,
-    })
+    Ok(literal_part(value.try_clone(alloc)?))
 }
 
 /// A copy of a word. Fails for want of memory alone.

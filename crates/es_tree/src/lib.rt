@@ -2,6 +2,8 @@
 #![tactic(auto)]
 
 pub mod program;
+#[cfg(test)]
+mod tests;
 
 pub use es_base::{
     boxed, diagnostic, ids, kind, ledger, list, literal, name, operator, shape, table,
