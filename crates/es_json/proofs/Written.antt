@@ -1,0 +1,57 @@
+-- What is known of the value of a tree.
+use Rattle.std.proofs.Common.{◌≡◌, refl, sym, ap, ◌∙◌, subst, List, [], Result, Ok, Err, IfOk, true, false}
+use Rattle.serde_json.specs.Data.{Data}
+use Rattle.serde_json.specs.View.{view}
+use Rattle.serde_json.specs.Written.{has_float}
+use Rattle.serde_json.specs.declared.value.Value.{Value}
+use Rattle.es_base.specs.Conforms.{conforms}
+use Rattle.es_base.specs.Tree.{Tree}
+use Rattle.es_base.specs.declared.table.Place.{Place}
+use Rattle.es_json_law.proofs.Floats.{no_floats}
+use Rattle.es_json_law.proofs.Law.{program_law}
+use Rattle.es_json_law.proofs.Lowered.{lowered_law, lowered_no_float}
+use Rattle.es_base.specs.declared.diagnostic.Diagnostic.{Diagnostic}
+use Rattle.es_base.specs.declared.ledger.LedgerEntry.{LedgerEntry}
+use Rattle.es_base.specs.declared.shape.Shape.{Shape}
+use Rattle.es_lowered.specs.Lowered.{Writes}
+use Rattle.es_reading.specs.Fault.{Fault, Read}
+use Rattle.es_reading.specs.Reading.{read, root}
+use Rattle.es_reading.specs.declared.numbers.Numbers.{Numbers}
+use Rattle.es_writing.specs.Kept.{IsKept, unmarked}
+use Rattle.es_writing.specs.Writing.{write}
+
+pub written_no_float : {E : Type 0} (r : Result Value E) (s : Tree) → IfOk r (λ v. view v ≡ write s) → IfOk r (λ v. has_float (view v) ≡ false)
+written_no_float (Ok v) s is = ap has_float is ∙ no_floats s
+written_no_float (Err e) s is = tt
+
+pub written_back : {E : Type 0} (r : Result Value E) (s t : Tree) → IfOk r (λ v. view v ≡ write s) → IfOk r (λ v. IsKept s) → s ≡ t
+    → IfOk r (λ v. conforms Place.Program t ≡ true → read Numbers.Given (view v) root 0 ≡ Ok (record { value = unmarked t; foreign = [] }))
+written_back (Ok v) s t is kept same = λ fits.
+    ap (λ e. read Numbers.Given e root 0) is
+    ∙ program_law s (ap (conforms Place.Program) same ∙ fits) kept
+    ∙ ap (λ u. Ok (record { value = unmarked u; foreign = [] })) same
+written_back (Err e) s t is kept same = tt
+
+abbrev value_in : Result (Read Tree) Fault → Tree → Tree
+value_in (Ok x) other = x.value
+value_in (Err e) other = other
+
+-- the value fixes the tree, but for its marks
+pub one_tree : (s t : Tree) → conforms Place.Program s ≡ true → conforms Place.Program t ≡ true → IsKept s → IsKept t → write s ≡ write t → unmarked s ≡ unmarked t
+one_tree s t fits others kept well same =
+    ap (λ r. value_in r (unmarked t)) (sym (program_law s fits kept) ∙ ap (λ d. read Numbers.Given d root 0) same ∙ program_law t others well)
+
+pub lowered_written : {E : Type 0} (r : Result Value E) (s t : Tree) (names : List LedgerEntry) (warnings : List Diagnostic) (shapes : List Shape) → IfOk r (λ v. Writes v s names warnings shapes) → s ≡ t → IfOk r (λ v. Writes v t names warnings shapes)
+lowered_written r s t names warnings shapes w same = subst (λ (u : Tree). IfOk r (λ v. Writes v u names warnings shapes)) same w
+
+pub lowered_float : {E : Type 0} (r : Result Value E) (t : Tree) (names : List LedgerEntry) (warnings : List Diagnostic) (shapes : List Shape) → IfOk r (λ v. Writes v t names warnings shapes) → IfOk r (λ v. has_float (view v) ≡ false)
+lowered_float (Ok v) t names warnings shapes w = ap has_float w.written ∙ lowered_no_float t w.names w.told shapes
+lowered_float (Err e) t names warnings shapes w = tt
+
+pub lowered_back : {E : Type 0} (r : Result Value E) (s t : Tree) (names : List LedgerEntry) (warnings : List Diagnostic) (shapes : List Shape) → IfOk r (λ v. Writes v s names warnings shapes) → IfOk r (λ v. IsKept s) → s ≡ t
+    → IfOk r (λ v. conforms Place.Program t ≡ true → read Numbers.Given (view v) root 0 ≡ Ok (record { value = unmarked t; foreign = [] }))
+lowered_back (Ok v) s t names warnings shapes w kept same = λ fits.
+    ap (λ e. read Numbers.Given e root 0) w.written
+    ∙ lowered_law s w.names w.told shapes (ap (conforms Place.Program) same ∙ fits) kept
+    ∙ ap (λ u. Ok (record { value = unmarked u; foreign = [] })) same
+lowered_back (Err e) s t names warnings shapes w kept same = tt

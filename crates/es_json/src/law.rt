@@ -1,0 +1,27 @@
+// What the value of a program fixes: laws, which do nothing.
+
+ghost use Rattle.std.specs.Prelude.{◌≡◌, List, true};
+ghost use Rattle.es_base.specs.Conforms.{conforms};
+ghost use Rattle.es_base.specs.Tree.{Tree};
+ghost use Rattle.es_base.specs.declared.diagnostic.Diagnostic.{Diagnostic};
+ghost use Rattle.es_base.specs.declared.ledger.LedgerEntry.{LedgerEntry};
+ghost use Rattle.es_base.specs.declared.shape.Shape.{Shape};
+ghost use Rattle.es_base.specs.declared.table.Place.{Place};
+ghost use Rattle.es_json_law.specs.Named.{NamesAreTexts};
+ghost use Rattle.es_lowered.specs.Lowered.{write_lowered};
+ghost use Rattle.es_writing.specs.Kept.{IsKept, unmarked};
+ghost use Rattle.es_writing.specs.Writing.{write};
+
+/// The value of a program fixes its tree, but for its marks.
+pub fn value_fixes_tree()
+    ensures { (s t : Tree) → conforms Place.Program s ≡ true → conforms Place.Program t ≡ true → IsKept s → IsKept t → write s ≡ write t → unmarked s ≡ unmarked t }
+{}
+
+/// The value of a lowered program fixes its tree, but for its marks, the names that were made, the
+/// warnings and the shapes, each list in its order.
+pub fn lowered_value_fixes_all()
+    ensures tree { (s t : Tree) (names others : List LedgerEntry) (told said : List Diagnostic) (shapes forms : List Shape) → conforms Place.Program s ≡ true → conforms Place.Program t ≡ true → IsKept s → IsKept t → write_lowered s names told shapes ≡ write_lowered t others said forms → unmarked s ≡ unmarked t }
+    ensures names { (s t : Tree) (names others : List LedgerEntry) (told said : List Diagnostic) (shapes forms : List Shape) → NamesAreTexts names → NamesAreTexts others → write_lowered s names told shapes ≡ write_lowered t others said forms → names ≡ others }
+    ensures warnings { (s t : Tree) (names others : List LedgerEntry) (told said : List Diagnostic) (shapes forms : List Shape) → write_lowered s names told shapes ≡ write_lowered t others said forms → told ≡ said }
+    ensures shapes { (s t : Tree) (names others : List LedgerEntry) (told said : List Diagnostic) (shapes forms : List Shape) → write_lowered s names told shapes ≡ write_lowered t others said forms → shapes ≡ forms }
+{}

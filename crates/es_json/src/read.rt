@@ -1,0 +1,54 @@
+// Reading programs.
+
+ghost use Rattle.std.specs.Prelude.{◌≡◌, ◌+◌, ◌<◌, ◌^◌, IfOk, IfErr, Ok};
+ghost use Rattle.es_base.specs.Numbered.{IsNumbered};
+ghost use Rattle.es_reading.specs.Reading.{read, root};
+ghost use Rattle.es_reading.specs.Told.{Tells, ids, values};
+ghost use Rattle.es_reading.specs.declared.numbers.Numbers.{Numbers};
+ghost use Rattle.es_tree.specs.Program.{program_tree};
+ghost use Rattle.serde_json.specs.View.{view};
+
+use es_reading::fault::ReadError;
+use es_reading::numbers::Numbers;
+use es_reading::tree::read_tree;
+use es_tree::program::Program;
+use serde_json::Value;
+use std::alloc::Global;
+
+/// The program that a value is, with its nodes numbered 0, 1, .. in reading order. (ESTree;
+/// docs/JSON.md)
+///
+/// Where the value is no program, the error is its first fault in reading order; beside that it fails for
+/// want of memory alone. The value holds fewer than 2^32 - 1 values, itself and those at every depth
+/// counted, as `is_countable` tests.
+pub fn read_program(alloc: Global, value: &Value) -> Result<Program, ReadError>
+    requires { values (view value.now) + 1 < 2 ^ 32 }
+    ensures ok { IfOk result (λ p. read Numbers.InOrder (view value.now) root 0 ≡ Ok (record { value = program_tree p; foreign = ids p.foreign })) }
+    ensures numbered { IfOk result (λ p. IsNumbered 0 (program_tree p)) }
+    ensures err { IfErr result (λ e. Tells e (read Numbers.InOrder (view value.now) root 0)) }
+{
+    read_as(alloc, value, Numbers::InOrder)
+}
+
+/// The program that a value is, with the numbers of the members `node`. (docs/JSON.md)
+///
+/// A node without a whole `node` of u32 is refused as a bad member; else as `read_program`.
+pub fn read_numbered(alloc: Global, value: &Value) -> Result<Program, ReadError>
+    requires { values (view value.now) + 1 < 2 ^ 32 }
+    ensures ok { IfOk result (λ p. read Numbers.Given (view value.now) root 0 ≡ Ok (record { value = program_tree p; foreign = ids p.foreign })) }
+    ensures err { IfErr result (λ e. Tells e (read Numbers.Given (view value.now) root 0)) }
+{
+    read_as(alloc, value, Numbers::Given)
+}
+
+fn read_as(alloc: Global, value: &Value, numbers: Numbers) -> Result<Program, ReadError>
+    requires { values (view value.now) + 1 < 2 ^ 32 }
+    ensures ok { IfOk result (λ p. read numbers (view value.now) root 0 ≡ Ok (record { value = program_tree p; foreign = ids p.foreign })) }
+    ensures numbered { IfOk result (λ p. numbers ≡ Numbers.InOrder → IsNumbered 0 (program_tree p)) }
+    ensures err { IfErr result (λ e. Tells e (read numbers (view value.now) root 0)) }
+{
+    let (tree, foreign) = read_tree(alloc, value, numbers)?;
+    let mut program = Program::from_plain(alloc, &tree)?;
+    program.foreign = foreign;
+    Ok(program)
+}

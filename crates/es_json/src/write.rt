@@ -1,0 +1,60 @@
+// Writing programs.
+
+ghost use Rattle.std.specs.Prelude.{◌≡◌, [], IfOk, Ok, true, false};
+ghost use Rattle.es_base.specs.Conforms.{conforms};
+ghost use Rattle.es_base.specs.declared.table.Place.{Place};
+ghost use Rattle.es_lowered.specs.Lowered.{Writes};
+ghost use Rattle.es_reading.specs.Reading.{read, root};
+ghost use Rattle.es_reading.specs.declared.numbers.Numbers.{Numbers};
+ghost use Rattle.es_tree.specs.Program.{program_tree};
+ghost use Rattle.es_writing.specs.Kept.{unmarked};
+ghost use Rattle.es_writing.specs.Writing.{write};
+ghost use Rattle.serde_json.specs.View.{view};
+ghost use Rattle.serde_json.specs.Written.{has_float};
+
+use es_base::diagnostic::Diagnostic;
+use es_base::ledger::Ledger;
+use es_base::shape::Shape;
+use es_lowered::lowered;
+use es_tree::program::Program;
+use es_writing::node;
+use serde_json::Value;
+use std::alloc::{AllocError, Global};
+
+/// The value of a program: each node as an object with its `type`, its number as `node`, its members, and
+/// `start` and `end` where it has a span (ESTree; docs/JSON.md). Its marks and its `foreign` are not
+/// written. Fails for want of memory alone.
+///
+/// The value has no float, so its text is `compact_text` of it. What was written is read again, by
+/// `read_numbered`, as the same program without its marks.
+pub fn write_program(alloc: Global, program: &Program) -> Result<Value, AllocError>
+    ensures value { IfOk result (λ v. view v ≡ write (program_tree program.now)) }
+    ensures no_float { IfOk result (λ v. has_float (view v) ≡ false) }
+    ensures reads_back { IfOk result (λ v. conforms Place.Program (program_tree program.now) ≡ true → read Numbers.Given (view v) root 0 ≡ Ok (record { value = unmarked (program_tree program.now); foreign = [] })) }
+{
+    let plain = program.to_plain(alloc)?;
+    node::write(alloc, &plain)
+}
+
+/// The value of a lowered program: that of `write_program` with three members more (our own;
+/// docs/JSON.md). `generated` has the names that were made, in the order of the bytes of their text and
+/// then of their numbers; `warnings` has the warnings, in the order of the numbers of their nodes; and
+/// `outside` has the numbers of the shapes that put the program outside the theorem on the order of its
+/// events, as they are given. Fails for want of memory alone.
+///
+/// As with `write_program`, the value has no float, and `read_numbered` reads it as the same program
+/// without its marks.
+pub fn write_lowered(
+    alloc: Global,
+    program: &Program,
+    ledger: &Ledger,
+    warnings: &[Diagnostic],
+    outside: &[Shape],
+) -> Result<Value, AllocError>
+    ensures value { IfOk result (λ v. Writes v (program_tree program.now) ledger.now.entries warnings.now outside.now) }
+    ensures no_float { IfOk result (λ v. has_float (view v) ≡ false) }
+    ensures reads_back { IfOk result (λ v. conforms Place.Program (program_tree program.now) ≡ true → read Numbers.Given (view v) root 0 ≡ Ok (record { value = unmarked (program_tree program.now); foreign = [] })) }
+{
+    let plain = program.to_plain(alloc)?;
+    lowered::write_lowered(alloc, &plain, ledger, warnings, outside)
+}

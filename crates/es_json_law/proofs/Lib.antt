@@ -1,0 +1,15 @@
+pub mod Choice
+pub mod Fits
+pub mod Fixed
+pub mod Floats
+pub mod Found
+pub mod Good
+pub mod Law
+pub mod Looks
+pub mod Lowered
+pub mod Members
+pub mod Parts
+pub mod Rows
+pub mod Stands
+pub mod Tests
+pub mod Texts

@@ -1,0 +1,2 @@
+// What was written is read again: lemmas alone.
+#![tactic(auto)]

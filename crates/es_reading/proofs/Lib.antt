@@ -1,0 +1,15 @@
+pub mod Below
+pub mod Chosen
+pub mod Conforming
+pub mod Counts
+pub mod Depths
+pub mod Given
+pub mod Named
+pub mod Ordered
+pub mod Parted
+pub mod Ruled
+pub mod Spelling
+pub mod Standing
+pub mod Values
+pub mod Walk
+pub mod Wording

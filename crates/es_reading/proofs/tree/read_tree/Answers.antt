@@ -1,0 +1,10 @@
+use Rattle.serde_json.specs.View.{view}
+use Rattle.es_reading.proofs.Given.{given_fits, given_in_order}
+use Rattle.es_reading.specs.Reading.{root}
+use Rattle.es_reading.proofs.tree.read_tree.Goals as goal
+
+pub returns-clause-fits : goal.returns-clause-fits
+returns-clause-fits c = given_fits c.args.numbers (view c.args.value.now) root 0 _ _ _ c.in_ok-tree.ensures.tree
+
+pub returns-clause-in_order : goal.returns-clause-in_order
+returns-clause-in_order c is = given_in_order c.args.numbers (view c.args.value.now) root 0 _ _ _ c.in_ok-tree.ensures.tree is

@@ -1,0 +1,9 @@
+pub mod Fault
+pub mod Forms
+pub mod Kinds
+pub mod Literals
+pub mod Look
+pub mod Members
+pub mod Reading
+pub mod Told
+pub mod Unlisted

@@ -1,0 +1,59 @@
+-- What the calls of the reader say.
+use Rattle.std.specs.Prelude.{◌≡◌, ◌+◌, ℕ, List, [], ◌∷◌, ◌++◌, map, Result, Ok, Err, Option, Some, None}
+use Rattle.serde_json.specs.Data.{Data, null, boolean, number, string, array, object, Items, no_items, item, Members, no_members, member}
+use Rattle.serde_json.specs.Find.{get}
+use Rattle.es_base.specs.Table.{Field}
+use Rattle.es_base.specs.declared.ids.NodeId.{NodeId}
+use Rattle.es_reading.specs.Fault.{Fault, not_a_tree, float_at, Read}
+use Rattle.es_base.specs.Tree.{Part}
+use Rattle.es_reading.specs.Reading.{reader_of, slot, is_last}
+use Rattle.es_reading.specs.declared.fault.ReadError.{ReadError}
+use Rattle.es_reading.specs.declared.numbers.Numbers.{Numbers}
+use Rattle.es_reading.specs.declared.spot.Slots.{Slots}
+use Rattle.serde_json.specs.View.{view}
+use Rattle.serde_json.specs.declared.value.Value.{Value}
+
+-- an error is the fault, unless memory ran out
+abbrev pub Tells : {T : Type 0} → ReadError → Result T Fault → Type 0
+Tells ReadError.NoMemory r = Unit
+Tells (ReadError.NotATree at what) r = r ≡ Err (not_a_tree at what)
+Tells (ReadError.Float at) r = r ≡ Err (float_at at)
+
+abbrev pub ids : List NodeId → List ℕ
+ids = map (λ i. i.0)
+
+-- what was read, and the numbers that came to those of before
+pub record Gives {T : Type 0} (r : Result (Read T) Fault) (x : T) (before after : List ℕ) : Type 0 where
+  pub added : List ℕ
+  pub reads : r ≡ Ok (record { value = x; foreign = added })
+  pub adds : after ≡ before ++ added
+
+-- an item of a list, with those that follow it
+abbrev pub item_in : Numbers → Slots → Value → List Value → ℕ → Result (Read Part) Fault
+item_in numbers slots v rest = (reader_of numbers (view v)).item slots.holes (slot slots (is_last rest))
+
+-- how many values there are, itself and those below (JSON, RFC 8259)
+abbrev mutual
+  pub values : Data → ℕ
+  values null = 1
+  values (boolean b) = 1
+  values (number n) = 1
+  values (string s) = 1
+  values (array ds) = 1 + values_of_items ds
+  values (object ms) = 1 + values_of_members ms
+
+  pub values_of_items : Items → ℕ
+  values_of_items no_items = 0
+  values_of_items (item d ds) = values d + values_of_items ds
+
+  pub values_of_members : Members → ℕ
+  values_of_members no_members = 0
+  values_of_members (member k d ms) = values d + values_of_members ms
+
+abbrev pub values_there : Option Data → ℕ
+values_there None = 0
+values_there (Some d) = values d
+
+abbrev pub values_at : Data → List Field → ℕ
+values_at d [] = 0
+values_at d (f ∷ fs) = values_there (get f.name d) + values_at d fs

@@ -1,0 +1,19 @@
+// Reading JSON as a tree (ESTree), by the table of kinds.
+#![tactic(auto)]
+
+pub mod count;
+pub mod fault;
+mod kinds;
+mod leaf;
+mod lengths;
+mod literal;
+mod look;
+mod members;
+pub mod numbers;
+mod read;
+pub mod spot;
+#[cfg(test)]
+mod tests;
+mod texts;
+pub mod tree;
+mod unlisted;

@@ -1,0 +1,176 @@
+// The value of a literal.
+
+ghost use Rattle.std.specs.Prelude.{◌≡◌, IfOk, codes, option_map};
+ghost use Rattle.es_reading.specs.Forms.{form_of};
+ghost use Rattle.es_reading.specs.Literals.{regexp_in, bigint_in, string_in, truth_in, by_raw, by_value, null_or_number_in, is_whole_or_absent, form_in, value_of, may_be_key, is_key_form};
+ghost use Rattle.serde_json.specs.Find.{get};
+ghost use Rattle.serde_json.specs.View.{view};
+
+use crate::look::{string_at, truth_at};
+use crate::texts::{is_number_text, maybe_name};
+use es_base::literal::LiteralValue;
+use es_base::name::Name;
+use serde_json::Value;
+use std::alloc::{AllocError, Global};
+
+/// The form of a literal, with the texts that its value has.
+#[derive(Clone, Copy)]
+pub enum Form<'a> {
+    /// `regex` is an object with texts `pattern` and `flags`.
+    RegExp { pattern: &'a str, flags: &'a str },
+    /// `bigint` is a text.
+    BigInt(&'a str),
+    /// `value` is a text, and so is `raw` where it is there.
+    Text { text: &'a str, raw: Option<&'a str> },
+    /// `value` is a truth value.
+    Bool(bool),
+    /// `raw` is the text `null`, or `value` is null.
+    Null,
+    /// `raw` is the text of a number.
+    Number(&'a str),
+    /// `value` is a whole number, and there is no `raw`.
+    Whole(u64),
+}
+
+/// The first form that fits, if one does (ESTree).
+pub fn form_in<'a>(value: &'a Value) -> Option<Form<'a>>
+    ensures { option_map form_of result ≡ form_in (view value.now) }
+{
+    if let Some(form) = regexp_in(value) {
+        return Some(form);
+    }
+    if let Some(digits) = string_at(value, "bigint") {
+        return Some(Form::BigInt(digits));
+    }
+    if let Some(text) = string_at(value, "value") {
+        return Some(Form::Text {
+            text,
+            raw: string_at(value, "raw"),
+        });
+    }
+    if let Some(truth) = truth_at(value, "value") {
+        return Some(Form::Bool(truth));
+    }
+    null_or_number_in(value)
+}
+
+fn regexp_in<'a>(value: &'a Value) -> Option<Form<'a>>
+    ensures { option_map form_of result ≡ regexp_in (view value.now) }
+{
+    match value.get("regex") {
+        None => None,
+        Some(regex) => match string_at(regex, "pattern") {
+            None => None,
+            Some(pattern) => match string_at(regex, "flags") {
+                None => None,
+                Some(flags) => Some(Form::RegExp { pattern, flags }),
+            },
+        },
+    }
+}
+
+fn null_or_number_in<'a>(value: &'a Value) -> Option<Form<'a>>
+    ensures { option_map form_of result ≡ null_or_number_in (view value.now) }
+{
+    if value.get("raw").is_some() {
+        by_raw(string_at(value, "raw"), value)
+    } else {
+        by_value(value)
+    }
+}
+
+fn by_raw<'a>(raw: Option<&'a str>, value: &'a Value) -> Option<Form<'a>>
+    ensures { option_map form_of result ≡ by_raw (option_map (λ s. s.now) raw.entry) (get (codes "value") (view value.now)) }
+{
+    match raw {
+        None => None,
+        Some(raw) => {
+            if raw == "null" {
+                Some(Form::Null)
+            } else if is_number_text(raw) && is_whole_or_absent(value) {
+                Some(Form::Number(raw))
+            } else {
+                None
+            }
+        }
+    }
+}
+
+fn is_whole_or_absent(value: &Value) -> bool
+    ensures { result ≡ is_whole_or_absent (get (codes "value") (view value.now)) }
+{
+    match value.get("value") {
+        None => true,
+        Some(found) => found.is_null() || found.is_u64() || found.is_i64(),
+    }
+}
+
+fn by_value<'a>(value: &'a Value) -> Option<Form<'a>>
+    ensures { option_map form_of result ≡ by_value (get (codes "value") (view value.now)) }
+{
+    match value.get("value") {
+        None => None,
+        Some(found) => {
+            if found.is_null() {
+                Some(Form::Null)
+            } else {
+                match found.as_u64() {
+                    None => None,
+                    Some(n) => Some(Form::Whole(n)),
+                }
+            }
+        }
+    }
+}
+
+/// Whether what stands there may be a key that is not computed, as far as it is a literal.
+pub fn may_be_key(value: &Value) -> bool
+    ensures { result ≡ may_be_key (form_in (view value.now)) }
+{
+    match form_in(value) {
+        None => true,
+        Some(form) => is_key_form(form),
+    }
+}
+
+fn is_key_form(form: Form) -> bool
+    ensures { result ≡ is_key_form (form_of form.entry) }
+{
+    matches!(
+        form,
+        Form::Text { .. } | Form::Number(_) | Form::Whole(_) | Form::BigInt(_)
+    )
+}
+
+/// The value that a form stands for. Fails for want of memory alone.
+pub fn value_of(alloc: Global, form: Form) -> Result<LiteralValue, AllocError>
+    ensures { IfOk result (λ v. v ≡ value_of (form_of form.entry)) }
+{
+    Ok(match form {
+        Form::RegExp { pattern, flags } => {
+            let pattern = Name::new(alloc, pattern)?;
+            LiteralValue::RegExp {
+                pattern,
+                flags: Name::new(alloc, flags)?,
+            }
+        }
+        Form::BigInt(digits) => LiteralValue::BigInt {
+            text: Name::new(alloc, digits)?,
+        },
+        Form::Text { text, raw } => {
+            let text = Name::new(alloc, text)?;
+            LiteralValue::Text {
+                text,
+                raw: maybe_name(alloc, raw)?,
+            }
+        }
+        Form::Bool(truth) => LiteralValue::Bool(truth),
+        Form::Null => LiteralValue::Null,
+        Form::Number(raw) => LiteralValue::Number {
+            raw: Name::new(alloc, raw)?,
+        },
+        Form::Whole(n) => LiteralValue::Number {
+            raw: Name::new(alloc, itoa::Buffer::new().format(n))?,
+        },
+    })
+}

@@ -1,0 +1,106 @@
+// What stands at the members of an object.
+
+ghost use Rattle.std.specs.Prelude.{◌≡◌, option_map};
+ghost use Rattle.es_base.specs.Marks.{span_of};
+ghost use Rattle.es_reading.specs.Look.{string_at, truth_at, array_at, is_this, is_text_at, type_at, is_node_at, is_true_at, is_null, is_there, u32_at, span_at};
+ghost use Rattle.serde_json.specs.Find.{get};
+ghost use Rattle.serde_json.specs.View.{view, items_view};
+
+use es_base::ids::Span;
+use serde_json::Value;
+
+/// The text at a member.
+pub fn string_at<'a>(value: &'a Value, name: &str) -> Option<&'a str>
+    ensures { option_map (λ s. s.now) result ≡ string_at name.now (view value.now) }
+{
+    match value.get(name) {
+        None => None,
+        Some(found) => found.as_str(),
+    }
+}
+
+/// The truth value at a member.
+pub fn truth_at(value: &Value, name: &str) -> Option<bool>
+    ensures { result ≡ truth_at name.now (view value.now) }
+{
+    match value.get(name) {
+        None => None,
+        Some(found) => found.as_bool(),
+    }
+}
+
+/// The list at a member.
+pub fn array_at<'a>(value: &'a Value, name: &str) -> Option<&'a Vec<Value>>
+    ensures { option_map (λ v. items_view v.now.items) result ≡ array_at name.now (view value.now) }
+{
+    match value.get(name) {
+        None => None,
+        Some(found) => found.as_array(),
+    }
+}
+
+/// Whether a member is true.
+pub fn is_true_at(value: &Value, name: &str) -> bool
+    ensures { result ≡ is_true_at name.now (view value.now) }
+{
+    match truth_at(value, name) {
+        None => false,
+        Some(truth) => truth,
+    }
+}
+
+/// Whether a member is this text.
+pub fn is_text_at(value: &Value, name: &str, word: &str) -> bool
+    ensures { result ≡ is_text_at name.now word.now (view value.now) }
+{
+    match string_at(value, name) {
+        None => false,
+        Some(text) => word == text,
+    }
+}
+
+/// Whether a member is a node of this type.
+pub fn is_node_at(value: &Value, name: &str, kind: &str) -> bool
+    ensures { result ≡ is_node_at name.now kind.now (view value.now) }
+{
+    match value.get(name) {
+        None => false,
+        Some(found) => is_text_at(found, "type", kind),
+    }
+}
+
+/// Whether a member is neither absent nor null.
+pub fn is_there(value: &Value, name: &str) -> bool
+    ensures { result ≡ is_there (get name.now (view value.now)) }
+{
+    match value.get(name) {
+        None => false,
+        Some(found) => !found.is_null(),
+    }
+}
+
+/// The whole number of u32 at a member.
+pub fn u32_at(value: &Value, name: &str) -> Option<u32>
+    ensures { result ≡ u32_at name.now (view value.now) }
+{
+    match value.get(name) {
+        None => None,
+        Some(found) => match found.as_u64() {
+            None => None,
+            Some(n) => { if n < 4294967296 { Some(n as u32) } else { None } }
+        },
+    }
+}
+
+/// Where a node stands in its source (ESTree's `start` and `end`), if both are whole numbers of u32.
+pub fn span_at(value: &Value) -> Option<Span>
+    ensures { span_of result ≡ span_at (view value.now) }
+{
+    match u32_at(value, "start") {
+        None => None,
+        Some(start) => match u32_at(value, "end") {
+            None => None,
+            Some(end) => Some(Span { start, end }),
+        },
+    }
+}

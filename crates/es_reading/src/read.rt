@@ -1,0 +1,382 @@
+// Reading a value as a node.
+
+ghost use Rattle.std.specs.Prelude.{◌≡◌, ◌+◌, ◌<◌, ◌≤◌, ◌++◌, ◌^◌, IfOk, IfErr, OnOk, Ok, option_map, codes};
+ghost use Rattle.es_base.specs.Order.{nodes, nodes_of, nodes_of_part};
+ghost use Rattle.es_base.specs.Conforms.{key_place};
+ghost use Rattle.es_base.specs.Table.{members_of};
+ghost use Rattle.es_plain.specs.View.{plain_tree, plain_part, plain_parts};
+ghost use Rattle.es_reading.specs.Reading.{kind_of, number_in, number_of, own_number, place_below, parent_of, below, slots_below, slot, member_of, members_in, read, read_by, reader_of, finds, each};
+ghost use Rattle.es_reading.specs.Look.{is_true_at};
+ghost use Rattle.es_reading.specs.Unlisted.{is_foreign_node};
+ghost use Rattle.es_reading.specs.Told.{Tells, Gives, ids, item_in, values, values_of_items, values_there, values_at};
+ghost use Rattle.serde_json.specs.Find.{get};
+ghost use Rattle.serde_json.specs.View.{view, items_view};
+
+use crate::fault::{ReadError, What};
+use crate::kinds::kind_in;
+use crate::leaf::leaf_of;
+use crate::look::{is_text_at, is_there, is_true_at, span_at, string_at, u32_at};
+use crate::members::are_good;
+use crate::numbers::Numbers;
+use crate::spot::{Parent, Slots, Spot};
+use crate::unlisted::{floats_of, is_foreign_node};
+use es_base::ids::NodeId;
+use es_base::kind::Kind;
+use es_base::list::List;
+use es_base::table::{Member, Place, Sort, members};
+use es_plain::plain::{Part, Plain, absent_part, child_part, list_part, plain_node};
+use serde_json::Value;
+use std::alloc::{AllocError, Global};
+
+/// What the reading of each node needs.
+#[derive(Clone, Copy)]
+pub struct Reader {
+    pub alloc: Global,
+    pub numbers: Numbers,
+}
+
+/// The kind of a value that stands at a spot, by its `type`, its place and its members.
+fn kind_of(value: &Value, spot: Spot, at: u32) -> Result<Kind, ReadError>
+    ensures ok { IfOk result (λ k. kind_of (view value.now) spot at ≡ Ok k) }
+    ensures err { IfErr result (λ e. Tells e (kind_of (view value.now) spot at)) }
+{
+    match string_at(value, "type") {
+        None => Err(ReadError::NotATree {
+            at,
+            what: What::NotANode,
+        }),
+        Some(name) => match kind_in(name, spot, value) {
+            Ok(kind) => Ok(kind),
+            Err(what) => Err(ReadError::NotATree { at, what }),
+        },
+    }
+}
+
+/// The number of a node of this kind, where no member is a float or a bad one.
+fn number_of(numbers: Numbers, value: &Value, kind: Kind, at: u32) -> Result<NodeId, ReadError>
+    ensures ok { IfOk result (λ i. number_of numbers (view value.now) kind at ≡ Ok i.0) }
+    ensures err { IfErr result (λ e. Tells e (number_of numbers (view value.now) kind at)) }
+{
+    if floats_of(members(kind), value) {
+        return Err(ReadError::Float { at });
+    }
+    if !are_good(kind, value) {
+        return Err(ReadError::NotATree {
+            at,
+            what: What::BadMember,
+        });
+    }
+    match number_in(numbers, value, at) {
+        Some(id) => Ok(NodeId(id)),
+        None => Err(ReadError::NotATree {
+            at,
+            what: What::BadMember,
+        }),
+    }
+}
+
+fn number_in(numbers: Numbers, value: &Value, at: u32) -> Option<u32>
+    ensures { result ≡ number_in numbers (view value.now) at }
+{
+    match numbers {
+        Numbers::InOrder => Some(at),
+        Numbers::Given => u32_at(value, "node"),
+    }
+}
+
+/// The place of a child: a pattern is assigned by `=` alone.
+fn place_below(kind: Kind, value: &Value, place: Place) -> Place
+    ensures { result ≡ place_below kind (view value.now) place }
+{
+    match (kind, place) {
+        (Kind::AssignmentExpression, Place::AssignmentTarget) => {
+            if is_text_at(value, "operator", "=") {
+                Place::AssignmentTarget
+            } else {
+                Place::SimpleAssignmentTarget
+            }
+        }
+        _ => place,
+    }
+}
+
+/// The place of a key: an expression where it is computed.
+fn key_place(value: &Value, place: Place) -> Place
+    ensures { result ≡ key_place (is_true_at (codes "computed") (view value.now)) place }
+{
+    if is_true_at(value, "computed") {
+        Place::Expression
+    } else {
+        place
+    }
+}
+
+fn parent_of(kind: Kind, spot: Spot, value: &Value) -> Parent
+    ensures { result ≡ parent_of kind spot (view value.now) }
+{
+    let sourced = match kind {
+        Kind::ExportNamedDeclaration => is_there(value, "source"),
+        Kind::ExportSpecifier => spot.sourced,
+        _ => false,
+    };
+    Parent { kind, sourced }
+}
+
+fn below(parent: Parent, place: Place) -> Spot
+    ensures { result ≡ below parent place }
+{
+    Spot {
+        place,
+        last: true,
+        sourced: parent.sourced,
+    }
+}
+
+fn slots_below(parent: Parent, holes: bool, place: Place) -> Slots
+    ensures { result ≡ slots_below parent holes place }
+{
+    Slots {
+        place,
+        holes,
+        sourced: parent.sourced,
+    }
+}
+
+fn slot(slots: Slots, last: bool) -> Spot
+    ensures { result ≡ slot slots last }
+{
+    Spot {
+        place: slots.place,
+        last,
+        sourced: slots.sourced,
+    }
+}
+
+/// Adds the number of a node, where it is foreign.
+fn note(
+    foreign: &mut List<NodeId>,
+    kind: Kind,
+    value: &Value,
+    node_id: NodeId,
+) -> Result<(), AllocError>
+    ensures { OnOk result (ids foreign.new ≡ ids foreign.old ++ own_number (is_foreign_node kind (view value.now)) node_id.0) }
+{
+    if is_foreign_node(kind, value) {
+        foreign.push(node_id)?;
+    }
+    Ok(())
+}
+
+/// Reads a node, which has the number `at` in reading order; gives the number of what follows too, and
+/// adds the numbers of foreign nodes.
+#[cycle(read)]
+pub fn read_node(
+    reader: Reader,
+    value: &Value,
+    spot: Spot,
+    at: u32,
+    foreign: &mut List<NodeId>,
+) -> Result<(Plain, u32), ReadError>
+    requires { at + values (view value.now) < 2 ^ 32 }
+    ensures tree { IfOk result (λ r. Gives (read reader.numbers (view value.now) spot at) (plain_tree r.0) (ids foreign.old) (ids foreign.new)) }
+    ensures next { IfOk result (λ r. r.1 ≡ at + nodes (plain_tree r.0)) }
+    ensures bound { IfOk result (λ r. r.1 ≤ at + values (view value.now)) }
+    ensures err { IfErr result (λ e. Tells e (read reader.numbers (view value.now) spot at)) }
+{
+    let kind = kind_of(value, spot, at)?;
+    let node_id = number_of(reader.numbers, value, kind, at)?;
+    note(foreign, kind, value, node_id)?;
+    let parent = parent_of(kind, spot, value);
+    let (parts, next) = read_members(reader, value, parent, at + 1, foreign)?;
+    Ok((plain_node(kind, node_id, span_at(value), None, parts), next))
+}
+
+/// Reads the members of a node.
+#[cycle(read)]
+fn read_members(
+    reader: Reader,
+    value: &Value,
+    parent: Parent,
+    at: u32,
+    foreign: &mut List<NodeId>,
+) -> Result<(List<Part>, u32), ReadError>
+    requires { at + values_at (view value.now) (members_of parent.kind) < 2 ^ 32 }
+    ensures parts { IfOk result (λ r. Gives (members_in (finds reader.numbers (view value.now)) (view value.now) parent (members_of parent.kind) at) (plain_parts r.0) (ids foreign.old) (ids foreign.new)) }
+    ensures next { IfOk result (λ r. r.1 ≡ at + nodes_of (plain_parts r.0)) }
+    ensures bound { IfOk result (λ r. r.1 ≤ at + values_at (view value.now) (members_of parent.kind)) }
+    ensures err { IfErr result (λ e. Tells e (members_in (finds reader.numbers (view value.now)) (view value.now) parent (members_of parent.kind) at)) }
+{
+    let members = members(parent.kind);
+    let mut parts = List::new(reader.alloc);
+    let mut next = at;
+    for member in members {
+        let (part, after) = read_member(reader, value, parent, *member, next, foreign)?;
+        parts.push(part)?;
+        next = after;
+    }
+    Ok((parts, next))
+}
+
+/// Reads what stands at a member.
+#[cycle(read)]
+fn read_member(
+    reader: Reader,
+    value: &Value,
+    parent: Parent,
+    member: Member,
+    at: u32,
+    foreign: &mut List<NodeId>,
+) -> Result<(Part, u32), ReadError>
+    requires { at + values_there (get member.name.now (view value.now)) < 2 ^ 32 }
+    ensures part { IfOk result (λ r. Gives (member_of (finds reader.numbers (view value.now)) (view value.now) parent member.name.now member.sort at) (plain_part r.0) (ids foreign.old) (ids foreign.new)) }
+    ensures next { IfOk result (λ r. r.1 ≡ at + nodes_of_part (plain_part r.0)) }
+    ensures bound { IfOk result (λ r. r.1 ≤ at + values_there (get member.name.now (view value.now))) }
+    ensures err { IfErr result (λ e. Tells e (member_of (finds reader.numbers (view value.now)) (view value.now) parent member.name.now member.sort at)) }
+{
+    let name = member.name;
+    match member.sort {
+        Sort::Child(place) => {
+            let spot = below(parent, place_below(parent.kind, value, place));
+            read_child(reader, value.get(name), false, spot, at, foreign)
+        }
+        Sort::Maybe(place) => {
+            read_child(
+                reader,
+                value.get(name),
+                true,
+                below(parent, place),
+                at,
+                foreign,
+            )
+        }
+        Sort::Key(place) => {
+            let spot = below(parent, key_place(value, place));
+            read_child(reader, value.get(name), false, spot, at, foreign)
+        }
+        Sort::List(place) | Sort::Some(place) => {
+            let slots = slots_below(parent, false, place);
+            read_list(reader, value.get(name), slots, at, foreign)
+        }
+        Sort::Holes(place) => {
+            let slots = slots_below(parent, true, place);
+            read_list(reader, value.get(name), slots, at, foreign)
+        }
+        sort => Ok((leaf_of(reader.alloc, value, name, sort)?, at)),
+    }
+}
+
+/// Reads a child; none, where there is no value.
+#[cycle(read)]
+fn read_child(
+    reader: Reader,
+    found: Option<&Value>,
+    nulls: bool,
+    spot: Spot,
+    at: u32,
+    foreign: &mut List<NodeId>,
+) -> Result<(Part, u32), ReadError>
+    requires { at + values_there (option_map (λ v. view v.now) found) < 2 ^ 32 }
+    ensures part { IfOk result (λ r. Gives (read_by (option_map (reader_of reader.numbers) (option_map (λ v. view v.now) found.entry)) (λ k. k.item nulls spot at)) (plain_part r.0) (ids foreign.old) (ids foreign.new)) }
+    ensures next { IfOk result (λ r. r.1 ≡ at + nodes_of_part (plain_part r.0)) }
+    ensures bound { IfOk result (λ r. r.1 ≤ at + values_there (option_map (λ v. view v.now) found.entry)) }
+    ensures err { IfErr result (λ e. Tells e (read_by (option_map (reader_of reader.numbers) (option_map (λ v. view v.now) found.entry)) (λ k. k.item nulls spot at))) }
+{
+    match found {
+        None => Ok((absent_part(), at)),
+        Some(value) => read_item(reader, value, nulls, spot, at, foreign),
+    }
+}
+
+/// Reads a node, or none where the value is null and may be.
+#[cycle(read)]
+fn read_item(
+    reader: Reader,
+    value: &Value,
+    nulls: bool,
+    spot: Spot,
+    at: u32,
+    foreign: &mut List<NodeId>,
+) -> Result<(Part, u32), ReadError>
+    requires { at + values (view value.now) < 2 ^ 32 }
+    ensures part { IfOk result (λ r. Gives ((reader_of reader.numbers (view value.now)).item nulls spot at) (plain_part r.0) (ids foreign.old) (ids foreign.new)) }
+    ensures next { IfOk result (λ r. r.1 ≡ at + nodes_of_part (plain_part r.0)) }
+    ensures bound { IfOk result (λ r. r.1 ≤ at + values (view value.now)) }
+    ensures err { IfErr result (λ e. Tells e ((reader_of reader.numbers (view value.now)).item nulls spot at)) }
+{
+    if nulls && value.is_null() {
+        return Ok((absent_part(), at));
+    }
+    let (tree, next) = read_node(reader, value, spot, at, foreign)?;
+    Ok((child_part(tree), next))
+}
+
+/// Reads a list; none, where there is no value.
+#[cycle(read)]
+fn read_list(
+    reader: Reader,
+    found: Option<&Value>,
+    slots: Slots,
+    at: u32,
+    foreign: &mut List<NodeId>,
+) -> Result<(Part, u32), ReadError>
+    requires { at + values_there (option_map (λ v. view v.now) found) < 2 ^ 32 }
+    ensures part { IfOk result (λ r. Gives (read_by (option_map (reader_of reader.numbers) (option_map (λ v. view v.now) found.entry)) (λ k. k.items slots at)) (plain_part r.0) (ids foreign.old) (ids foreign.new)) }
+    ensures next { IfOk result (λ r. r.1 ≡ at + nodes_of_part (plain_part r.0)) }
+    ensures bound { IfOk result (λ r. r.1 ≤ at + values_there (option_map (λ v. view v.now) found.entry)) }
+    ensures err { IfErr result (λ e. Tells e (read_by (option_map (reader_of reader.numbers) (option_map (λ v. view v.now) found.entry)) (λ k. k.items slots at))) }
+{
+    match found {
+        None => Ok((absent_part(), at)),
+        Some(value) => read_array(reader, value, slots, at, foreign),
+    }
+}
+
+/// Reads the items of an array; of any other value, no items.
+#[cycle(read)]
+fn read_array(
+    reader: Reader,
+    value: &Value,
+    slots: Slots,
+    at: u32,
+    foreign: &mut List<NodeId>,
+) -> Result<(Part, u32), ReadError>
+    requires { at + values (view value.now) < 2 ^ 32 }
+    ensures part { IfOk result (λ r. Gives ((reader_of reader.numbers (view value.now)).items slots at) (plain_part r.0) (ids foreign.old) (ids foreign.new)) }
+    ensures next { IfOk result (λ r. r.1 ≡ at + nodes_of_part (plain_part r.0)) }
+    ensures bound { IfOk result (λ r. r.1 ≤ at + values (view value.now)) }
+    ensures err { IfErr result (λ e. Tells e ((reader_of reader.numbers (view value.now)).items slots at)) }
+{
+    match value.as_array() {
+        None => Ok((list_part(List::new(reader.alloc)), at)),
+        Some(items) => {
+            let (parts, next) = read_items(reader, items.as_slice(), slots, at, foreign)?;
+            Ok((list_part(parts), next))
+        }
+    }
+}
+
+/// Reads the items of a list.
+#[cycle(read)]
+fn read_items(
+    reader: Reader,
+    items: &[Value],
+    slots: Slots,
+    at: u32,
+    foreign: &mut List<NodeId>,
+) -> Result<(List<Part>, u32), ReadError>
+    requires { at + values_of_items (items_view items.now) < 2 ^ 32 }
+    ensures parts { IfOk result (λ r. Gives (each (item_in reader.numbers slots) items.now at) (plain_parts r.0) (ids foreign.old) (ids foreign.new)) }
+    ensures next { IfOk result (λ r. r.1 ≡ at + nodes_of (plain_parts r.0)) }
+    ensures bound { IfOk result (λ r. r.1 ≤ at + values_of_items (items_view items.now)) }
+    ensures err { IfErr result (λ e. Tells e (each (item_in reader.numbers slots) items.now at)) }
+{
+    let mut parts = List::new(reader.alloc);
+    let mut next = at;
+    for (i, item) in items.iter().enumerate() {
+        let spot = slot(slots, i + 1 == items.len());
+        let (part, after) = read_item(reader, item, slots.holes, spot, next, foreign)?;
+        parts.push(part)?;
+        next = after;
+    }
+    Ok((parts, next))
+}

@@ -1,0 +1,6 @@
+pub mod InOrder
+pub mod Keeping
+pub mod Parts
+pub mod Sizes
+pub mod Views
+pub mod Whole

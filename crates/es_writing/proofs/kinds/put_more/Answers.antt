@@ -1,0 +1,11 @@
+use Rattle.std.proofs.Common.{◌≡◌, OnOk, List, subst}
+use Rattle.serde_json.specs.View.{members_view}
+use Rattle.es_plain.specs.View.{plain_parts}
+use Rattle.es_writing.specs.Writing.{Entry, put_all}
+use Rattle.es_writing.proofs.Parts.{arrow_entries}
+use Rattle.es_writing.proofs.kinds.put_more.Goals as goal
+
+pub returns-in-ArrowFunctionExpression : goal.returns-in-ArrowFunctionExpression
+returns-in-ArrowFunctionExpression c =
+    subst (λ (es : List Entry). OnOk c.put_truth-in-ArrowFunctionExpression.result (members_view c.put_truth-in-ArrowFunctionExpression.new.object.entries ≡ put_all (members_view c.args.object.now.entries) es))
+    (arrow_entries c.args.kind (plain_parts c.args.parts.now) c.is_block.result c.in-ArrowFunctionExpression.is c.is_block.ensures) c.put_truth-in-ArrowFunctionExpression.ensures

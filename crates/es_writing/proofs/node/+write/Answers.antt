@@ -1,0 +1,70 @@
+use Rattle.std.proofs.Common.{rules, ◌≡◌, subst, ap, ◌∙◌, OnOk, map, length, length-append, List, arith}
+use Rattle.std.proofs.lemmas.Slice.Zip.{zip_turn, zip_end}
+use Rattle.serde_json.specs.Data.{array}
+use Rattle.serde_json.specs.View.{members_view}
+use Rattle.es_base.specs.Table.{field_of}
+use Rattle.es_plain.specs.View.{plain_parts}
+use Rattle.es_writing.specs.Writing.{Entry, put_all}
+use Rattle.es_writing.proofs.InOrder.{row_on, row_done, items_on, items_done}
+use Rattle.es_writing.proofs.Parts.{short_row}
+use Rattle.es_writing.proofs.Sizes.{parts_size, size_of_tree, size_of_child, size_of_list, size_of_item}
+use Rattle.es_writing.proofs.Whole.{node_written}
+use Rattle.es_writing.proofs.node.+write.Goals as goal
+
+-- ---- each step is to something smaller
+
+pub write_tree-put_row-requires : goal.write_tree-put_row-requires
+write_tree-put_row-requires t c = omega (arith, size_of_tree c.args.tree.now, ap (λ xs. parts_size (plain_parts xs)) c.as_slice-parts.ensures)
+
+pub put_fields-put_part-requires : goal.put_fields-put_part-requires
+put_fields-put_part-requires t c =
+    let turn = zip_turn c.args.members.now c.args.parts.now c.loop-member.yielded _ _ c.next.new.self _ (search rules) (search rules) c.loop-member.yielded_by (c.in-Some.member, c.in-Some.part) c.in-Some.is c.next.ensures.steps in
+    let small = size_of_item c.args.parts.now (length c.loop-member.yielded) c.in-Some.part.now turn.1 (turn.3 c.in-Some.part.now) in
+    omega (arith, small)
+
+pub put_part-write_tree-requires : goal.put_part-write_tree-requires
+put_part-write_tree-requires t c = omega (arith, size_of_child c.args.part.now c.in-Child.tree c.in-Child.is)
+
+pub put_part-write_items-requires : goal.put_part-write_items-requires
+put_part-write_items-requires t c = omega (arith, size_of_list c.args.part.now c.in-List.all c.in-List.is, ap (λ xs. parts_size (plain_parts xs)) c.as_slice.ensures)
+
+pub write_items-write_item-requires : goal.write_items-write_item-requires
+write_items-write_item-requires t c =
+    let small = size_of_item c.args.parts.now c.loop-part.part-index c.part-item.result c.loop-part-test.true (search rules) in
+    omega (arith, small)
+
+-- ---- a node
+
+pub write_tree-returns : goal.write_tree-returns
+write_tree-returns t c =
+    c.from.ensures
+    ∙ node_written c.args.tree.now _ _ _ _ _ _ _ _ _ (ap plain_parts c.as_slice-parts.ensures) (ap members_view c.new-object.ensures.empty) c.in_ok-type_of.ensures c.in_ok-put_value.ensures c.number_of.ensures c.in_ok-put_value-2.ensures
+    c.in_ok-put_row.ensures c.in_ok-put_more.ensures c.in_ok-put_span.ensures
+
+pub put_row-returns-in_default-parts : goal.put_row-returns-in_default-parts
+put_row-returns-in_default-parts t c =
+    subst (λ (es : List Entry). OnOk c.put_fields.result (members_view c.put_fields.new.object.entries ≡ put_all (members_view c.args.object.now.entries) es))
+    (short_row c.args.kind c.args.parts.now (map field_of c.members.result.now) c.in-TemplateElement.is c.in_default-parts.len_below c.members.ensures) c.put_fields.ensures
+
+-- ---- the members of a row
+
+pub put_fields-loop-member-preserved : goal.put_fields-loop-member-preserved
+put_fields-loop-member-preserved t c =
+    let turn = zip_turn c.args.members.now c.args.parts.now c.loop-member.yielded _ _ c.next.new.self _ (search rules) (search rules) c.loop-member.yielded_by (c.in-Some.member, c.in-Some.part) c.in-Some.is c.next.ensures.steps in
+    let n = length c.loop-member.yielded in
+    ((tt, tt), tt, row_on _ _ c.args.members.now c.args.parts.now n _ c.in-Some.member.now c.in-Some.part.now turn.0 turn.1 (turn.2 c.in-Some.member.now) (turn.3 c.in-Some.part.now) (length-append c.loop-member.yielded _) c.in_ok-put_part.ensures ∙ c.loop-member.invariant.2)
+
+pub put_fields-returns : goal.put_fields-returns
+put_fields-returns t c =
+    let ended = zip_end c.args.members.now c.args.parts.now c.loop-member.yielded _ _ c.next.new.self _ (search rules) (search rules) c.loop-member.yielded_by c.in-None.is c.next.ensures.steps in
+    row_done _ c.args.members.now c.args.parts.now _ ended ∙ c.loop-member.invariant.2
+
+-- ---- lists
+
+pub write_items-loop-part-preserved : goal.write_items-loop-part-preserved
+write_items-loop-part-preserved t c =
+    items_on c.loop-part.items.items c.push.new.self.items c.in_ok-write_item.field-0 c.args.parts.now c.loop-part.part-index c.part-item.result c.loop-part-test.true (search rules) c.in_ok-push.ensures.items c.in_ok-write_item.ensures
+    ∙ c.loop-part.invariant
+
+pub write_items-returns : goal.write_items-returns
+write_items-returns t c = c.from.ensures ∙ ap array (items_done c.loop-part.items.items c.args.parts.now c.loop-part.part-index _ (omega (arith, c.loop-part-test.false)) c.loop-part.invariant)

@@ -1,0 +1,114 @@
+// Values, and entries of an object.
+
+ghost use Rattle.std.specs.Prelude.{◌≡◌, [], IfOk, OnOk};
+ghost use Rattle.es_base.specs.Marks.{span_of};
+ghost use Rattle.es_writing.specs.Writing.{entry, put_all, string_of, number_of, span_entries};
+ghost use Rattle.serde_json.specs.Data.{null, boolean, string};
+ghost use Rattle.serde_json.specs.View.{view, members_view};
+
+use es_base::ids::Span;
+use es_base::name::Name;
+use serde_json::{Map, Value};
+use std::alloc::{AllocError, Global};
+
+/// The value of a text of a tree. Fails for want of memory alone.
+#[tactic(auto, using(crate::proofs::Keeping::encodes))]
+pub fn string_of(alloc: Global, text: &Name) -> Result<Value, AllocError>
+    ensures { IfOk result (λ v. view v ≡ string_of text.now) }
+{
+    Value::try_from_str(alloc, text.as_str())
+}
+
+/// The value of a number of a tree.
+pub fn number_of(number: u32) -> Value
+    ensures { view result ≡ number_of number }
+{
+    Value::from(number)
+}
+
+/// Puts a value at this name. Fails for want of memory alone.
+pub fn put_value(
+    object: &mut Map<String, Value>,
+    alloc: Global,
+    name: &str,
+    value: Value,
+) -> Result<(), AllocError>
+    ensures { OnOk result (members_view object.new.entries ≡ put_all (members_view object.old.entries) (entry name.now (view value) [])) }
+{
+    serde_json::put(object, alloc, name, value)
+}
+
+/// Puts null at this name. Fails for want of memory alone.
+pub fn put_null(
+    object: &mut Map<String, Value>,
+    alloc: Global,
+    name: &str,
+) -> Result<(), AllocError>
+    ensures { OnOk result (members_view object.new.entries ≡ put_all (members_view object.old.entries) (entry name.now null [])) }
+{
+    put_value(object, alloc, name, Value::Null)
+}
+
+/// Puts a truth value at this name. Fails for want of memory alone.
+pub fn put_truth(
+    object: &mut Map<String, Value>,
+    alloc: Global,
+    name: &str,
+    truth: bool,
+) -> Result<(), AllocError>
+    ensures { OnOk result (members_view object.new.entries ≡ put_all (members_view object.old.entries) (entry name.now (boolean truth) [])) }
+{
+    put_value(object, alloc, name, Value::from(truth))
+}
+
+/// Puts a number at this name. Fails for want of memory alone.
+pub fn put_number(
+    object: &mut Map<String, Value>,
+    alloc: Global,
+    name: &str,
+    number: u32,
+) -> Result<(), AllocError>
+    ensures { OnOk result (members_view object.new.entries ≡ put_all (members_view object.old.entries) (entry name.now (number_of number) [])) }
+{
+    put_value(object, alloc, name, number_of(number))
+}
+
+/// Puts a text of a tree at this name. Fails for want of memory alone.
+pub fn put_text(
+    object: &mut Map<String, Value>,
+    alloc: Global,
+    name: &str,
+    text: &Name,
+) -> Result<(), AllocError>
+    ensures { OnOk result (members_view object.new.entries ≡ put_all (members_view object.old.entries) (entry name.now (string_of text.now) [])) }
+{
+    put_value(object, alloc, name, string_of(alloc, text)?)
+}
+
+/// Puts a word at this name. Fails for want of memory alone.
+pub fn put_word(
+    object: &mut Map<String, Value>,
+    alloc: Global,
+    name: &str,
+    word: &str,
+) -> Result<(), AllocError>
+    ensures { OnOk result (members_view object.new.entries ≡ put_all (members_view object.old.entries) (entry name.now (string word.now) [])) }
+{
+    put_value(object, alloc, name, Value::try_from_str(alloc, word)?)
+}
+
+/// Puts in where a node stands in its source, if it stands there (ESTree, `start` and `end`). Fails for
+/// want of memory alone.
+pub fn put_span(
+    object: &mut Map<String, Value>,
+    alloc: Global,
+    span: Option<Span>,
+) -> Result<(), AllocError>
+    ensures { OnOk result (members_view object.new.entries ≡ put_all (members_view object.old.entries) (span_entries (span_of span))) }
+{
+    if let Some(span) = span {
+        put_number(object, alloc, "start", span.start)?;
+        put_number(object, alloc, "end", span.end)?;
+    }
+    Ok(())
+}

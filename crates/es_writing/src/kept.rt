@@ -1,0 +1,81 @@
+// A walk through a tree for what its types say of it: its numbers are below 2^32, and its texts are such
+// as UTF-8 holds.
+
+ghost use Rattle.es_base.specs.Marks.{span_of};
+ghost use Rattle.es_plain.specs.View.{plain_tree, plain_part, plain_parts};
+ghost use Rattle.es_writing.specs.Kept.{IsKept, PartIsKept, AreKept, SpanFits, IsText, IsMaybeText, AreTexts};
+
+use es_base::ids::Span;
+use es_base::literal::LiteralValue;
+use es_base::name::Name;
+use es_plain::plain::{Part, Plain};
+
+/// Visits each number and each text of a tree: JSON can hold them all. Takes no memory.
+#[cycle(kept)]
+pub fn visit_tree(tree: &Plain)
+    ensures { IsKept (plain_tree tree.now) }
+{
+    let _number = tree.node_id.0;
+    visit_span(tree.span);
+    visit_parts(tree.parts.as_slice());
+}
+
+#[cycle(kept)]
+fn visit_parts(parts: &[Part])
+    ensures { AreKept (plain_parts parts.now) }
+{
+    for part in parts {
+        visit_part(part);
+    }
+}
+
+#[cycle(kept)]
+fn visit_part(part: &Part)
+    ensures { PartIsKept (plain_part part.now) }
+{
+    match part {
+        Part::Child(tree) => visit_tree(tree),
+        Part::List(all) => visit_parts(all.as_slice()),
+        Part::Text(text) => visit_text(text),
+        Part::Literal(value) => visit_literal(value),
+        Part::Absent | Part::NoText | Part::Truth(_) => {}
+    }
+}
+
+fn visit_span(_span: Option<Span>)
+    ensures { SpanFits (span_of _span) }
+{}
+
+fn visit_literal(value: &LiteralValue)
+    ensures { AreTexts value.now }
+{
+    match value {
+        LiteralValue::Text { text, raw } => {
+            visit_text(text);
+            visit_maybe_text(raw);
+        }
+        LiteralValue::Number { raw } => visit_text(raw),
+        LiteralValue::BigInt { text } => visit_text(text),
+        LiteralValue::RegExp { pattern, flags } => {
+            visit_text(pattern);
+            visit_text(flags);
+        }
+        LiteralValue::Bool(_) | LiteralValue::Null => {}
+    }
+}
+
+fn visit_maybe_text(text: &Option<Name>)
+    ensures { IsMaybeText text.now }
+{
+    match text {
+        None => {}
+        Some(text) => visit_text(text),
+    }
+}
+
+#[tactic(auto, using(crate::proofs::Keeping::text_kept))]
+fn visit_text(text: &Name)
+    ensures { IsText text.now }
+{
+    let _text = text.as_str();
+}

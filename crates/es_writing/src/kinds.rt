@@ -1,0 +1,117 @@
+// What a node has beside the members of its row, by its kind (ESTree).
+
+ghost use Rattle.std.specs.Prelude.{◌≡◌, IfOk, OnOk, codes};
+ghost use Rattle.es_base.specs.declared.kind.Kind.{Kind};
+ghost use Rattle.es_base.specs.Tree.{absent, end, more};
+ghost use Rattle.es_plain.specs.View.{plain_part, plain_parts};
+ghost use Rattle.es_writing.specs.Writing.{put_all, type_of, is_block, more_entries, raw_of, cooked_of, texts_of, tail_entries, entry};
+ghost use Rattle.serde_json.specs.View.{view, members_view};
+
+use crate::entries::{put_truth, put_value, string_of};
+use es_base::kind::Kind;
+use es_base::table::estree_name;
+use es_plain::plain::{Part, Plain};
+use serde_json::{Map, Value};
+use std::alloc::{AllocError, Global};
+
+/// The value of `type`: the name of the kind, or the name that a foreign node keeps. Fails for want of
+/// memory alone.
+pub fn type_of(alloc: Global, kind: Kind, parts: &[Part]) -> Result<Value, AllocError>
+    ensures { IfOk result (λ v. view v ≡ type_of kind (plain_parts parts.now)) }
+{
+    match kind {
+        Kind::Foreign => foreign_type(alloc, parts),
+        _ => Value::try_from_str(alloc, estree_name(kind)),
+    }
+}
+
+fn foreign_type(alloc: Global, parts: &[Part]) -> Result<Value, AllocError>
+    ensures { IfOk result (λ v. view v ≡ type_of Kind.Foreign (plain_parts parts.now)) }
+{
+    match parts {
+        [Part::Text(name), ..] => string_of(alloc, name),
+        _ => Value::try_from_str(alloc, estree_name(Kind::Foreign)),
+    }
+}
+
+/// Puts in the members that follow from the others: `prefix` of a unary expression, and `expression` of
+/// an arrow. Fails for want of memory alone.
+pub fn put_more(
+    object: &mut Map<String, Value>,
+    alloc: Global,
+    kind: Kind,
+    parts: &[Part],
+) -> Result<(), AllocError>
+    ensures { OnOk result (members_view object.new.entries ≡ put_all (members_view object.old.entries) (more_entries kind (plain_parts parts.now))) }
+{
+    match kind {
+        Kind::UnaryExpression => put_truth(object, alloc, "prefix", true),
+        Kind::ArrowFunctionExpression => put_truth(object, alloc, "expression", !is_block(parts)),
+        _ => Ok(()),
+    }
+}
+
+/// Whether the body of an arrow, its second part, is a block.
+#[tactic(auto, using(crate::proofs::Parts::block_short, crate::proofs::Parts::block_long))]
+fn is_block(parts: &[Part]) -> bool
+    ensures { result ≡ is_block (plain_parts parts.now) }
+{
+    match parts {
+        [_, body, ..] => is_block_statement(body),
+        _ => false,
+    }
+}
+
+fn is_block_statement(body: &Part) -> bool
+    ensures { result ≡ is_block (more absent (more (plain_part body.now) end)) }
+{
+    match body {
+        Part::Child(tree) => matches!(tree.kind, Kind::BlockStatement),
+        _ => false,
+    }
+}
+
+/// Puts in the members of a template element: `value`, the object of its texts, and `tail`. Fails for
+/// want of memory alone.
+pub fn put_template(
+    object: &mut Map<String, Value>,
+    alloc: Global,
+    raw: &Part,
+    cooked: &Part,
+    tail: &[Part],
+) -> Result<(), AllocError>
+    ensures { OnOk result (members_view object.new.entries ≡ put_all (members_view object.old.entries) (entry (codes "value") (texts_of (plain_part raw.now) (plain_part cooked.now)) (tail_entries (plain_parts tail.now)))) }
+{
+    put_value(object, alloc, "value", texts_of(alloc, raw, cooked)?)?;
+    put_tail(object, alloc, tail)
+}
+
+fn put_tail(object: &mut Map<String, Value>, alloc: Global, tail: &[Part]) -> Result<(), AllocError>
+    ensures { OnOk result (members_view object.new.entries ≡ put_all (members_view object.old.entries) (tail_entries (plain_parts tail.now))) }
+{
+    match tail {
+        [Part::Truth(last), ..] => put_truth(object, alloc, "tail", *last),
+        _ => Ok(()),
+    }
+}
+
+/// The texts of a template element.
+fn texts_of(alloc: Global, raw: &Part, cooked: &Part) -> Result<Value, AllocError>
+    ensures { IfOk result (λ v. view v ≡ texts_of (plain_part raw.now) (plain_part cooked.now)) }
+{
+    let mut object = Map::new(alloc);
+    put_value(&mut object, alloc, "raw", text_or_null(alloc, raw)?)?;
+    put_value(&mut object, alloc, "cooked", text_or_null(alloc, cooked)?)?;
+    Ok(Value::from(object))
+}
+
+/// The text at a part; null, where there is none.
+fn text_or_null(alloc: Global, part: &Part) -> Result<Value, AllocError>
+    ensures raw { IfOk result (λ v. view v ≡ raw_of (plain_part part.now)) }
+    ensures cooked { IfOk result (λ v. view v ≡ cooked_of (plain_part part.now)) }
+{
+    match part {
+        Part::Text(text) => string_of(alloc, text),
+        _ => Ok(Value::Null),
+    }
+}
