@@ -14,7 +14,6 @@ use Rattle.es_base.specs.declared.diagnostic.Diagnostic.{Diagnostic}
 use Rattle.es_base.specs.declared.ledger.LedgerEntry.{LedgerEntry}
 use Rattle.es_base.specs.declared.shape.Shape.{Shape}
 use Rattle.es_lowered.specs.Lowered.{Writes}
-use Rattle.es_reading.specs.Fault.{Fault, Read}
 use Rattle.es_reading.specs.Reading.{read, root}
 use Rattle.es_reading.specs.declared.numbers.Numbers.{Numbers}
 use Rattle.es_writing.specs.Kept.{IsKept, unmarked}
@@ -31,15 +30,6 @@ written_back (Ok v) s t is kept same = λ fits.
     ∙ program_law s (ap (conforms Place.Program) same ∙ fits) kept
     ∙ ap (λ u. Ok (record { value = unmarked u; foreign = [] })) same
 written_back (Err e) s t is kept same = tt
-
-abbrev value_in : Result (Read Tree) Fault → Tree → Tree
-value_in (Ok x) other = x.value
-value_in (Err e) other = other
-
--- the value fixes the tree, but for its marks
-pub one_tree : (s t : Tree) → conforms Place.Program s ≡ true → conforms Place.Program t ≡ true → IsKept s → IsKept t → write s ≡ write t → unmarked s ≡ unmarked t
-one_tree s t fits others kept well same =
-    ap (λ r. value_in r (unmarked t)) (sym (program_law s fits kept) ∙ ap (λ d. read Numbers.Given d root 0) same ∙ program_law t others well)
 
 pub lowered_written : {E : Type 0} (r : Result Value E) (s t : Tree) (names : List LedgerEntry) (warnings : List Diagnostic) (shapes : List Shape) → IfOk r (λ v. Writes v s names warnings shapes) → s ≡ t → IfOk r (λ v. Writes v t names warnings shapes)
 lowered_written r s t names warnings shapes w same = subst (λ (u : Tree). IfOk r (λ v. Writes v u names warnings shapes)) same w

@@ -12,4 +12,7 @@ pub mod Parts
 pub mod Rows
 pub mod Stands
 pub mod Tests
+pub mod Texted
 pub mod Texts
+pub mod Told
+pub mod Well

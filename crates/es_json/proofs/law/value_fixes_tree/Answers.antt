@@ -1,5 +1,5 @@
-use Rattle.es_json.proofs.Written.{one_tree}
+use Rattle.es_json_law.proofs.Texted.{value_fixes_tree}
 use Rattle.es_json.proofs.law.value_fixes_tree.Goals as goal
 
 pub returns : goal.returns
-returns c = one_tree
+returns c = value_fixes_tree
