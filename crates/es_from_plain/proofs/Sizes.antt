@@ -4,7 +4,7 @@ use Rattle.es_base.specs.Tree.{Tree, Part as tree_part, Parts, end, more, child,
 use Rattle.es_plain.specs.View.{plain_tree, plain_parts}
 use Rattle.es_plain.specs.declared.plain.Part.{Part}
 use Rattle.es_plain.specs.declared.plain.Plain.{Plain}
-use Rattle.es_members.proofs.Views.{tree_is}
+use Rattle.es_plain.proofs.Views.{tree_is}
 use Rattle.es_members.specs.Standing.{part_at}
 use Rattle.es_from_plain.specs.Size.{tree_size, part_size, parts_size}
 

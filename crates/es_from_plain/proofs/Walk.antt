@@ -13,10 +13,10 @@ use Rattle.es_builder.specs.declared.head.Head.{Head}
 use Rattle.es_plain.specs.View.{plain_tree, plain_parts}
 use Rattle.es_plain.specs.declared.plain.Part.{Part}
 use Rattle.es_plain.specs.declared.plain.Plain.{Plain}
+use Rattle.es_plain.proofs.Views.{tree_is}
 use Rattle.es_members.proofs.Fitting.{mark_here, parts_of}
 use Rattle.es_members.proofs.Placed.{maybe_there}
 use Rattle.es_members.proofs.Stood.{child_fits, standing}
-use Rattle.es_members.proofs.Views.{tree_is}
 use Rattle.es_members.specs.Marked.{bears_mark, mark_fits, marks_fit_in}
 use Rattle.es_members.specs.Standing.{part_at, Stands, Fits, PartsOf}
 

@@ -10,10 +10,10 @@ use Rattle.es_plain.specs.View.{plain_tree, plain_part, plain_parts}
 use Rattle.es_plain.specs.declared.plain.Part.{Part}
 use Rattle.es_plain.specs.declared.plain.Part.TheVariants as part
 use Rattle.es_plain.specs.declared.plain.Plain.{Plain}
+use Rattle.es_plain.proofs.Views.{tree_is, child_is}
 use Rattle.es_members.proofs.And.{left_of, right_of, both}
 use Rattle.es_members.specs.Marked.{mark_fits, marks_fit, marks_fit_in, marks_fit_all}
 use Rattle.es_members.specs.Standing.{Fits, FitsIn, PartsOf, is_computed}
-use Rattle.es_members.proofs.Views.{tree_is, child_is}
 
 as_node : (place : Place) (t : Plain) → Fits place (plain_tree t) → (conforms place (Node t.kind t.node_id.0 (span_of t.span) t.mark (plain_parts t.parts)) && marks_fit (Node t.kind t.node_id.0 (span_of t.span) t.mark (plain_parts t.parts))) ≡ true
 unfolding Fits

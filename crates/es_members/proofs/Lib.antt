@@ -4,4 +4,3 @@ pub mod OfKind
 pub mod Placed
 pub mod Sorts
 pub mod Stood
-pub mod Views

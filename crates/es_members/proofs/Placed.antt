@@ -13,11 +13,11 @@ use Rattle.es_base.specs.declared.table.Words.{Words}
 use Rattle.es_plain.specs.View.{plain_tree, plain_part, plain_parts}
 use Rattle.es_plain.specs.declared.plain.Part.{Part}
 use Rattle.es_plain.specs.declared.plain.Plain.{Plain}
+use Rattle.es_plain.proofs.Views.{tree_is}
 use Rattle.es_members.proofs.And.{left_of, right_of, both}
 use Rattle.es_members.proofs.Fitting.{kind_fits, parts_of}
 use Rattle.es_members.proofs.Sorts.{wrong}
 use Rattle.es_members.proofs.Stood.{standing, child_fits, first_fits, rest_fits}
-use Rattle.es_members.proofs.Views.{tree_is}
 use Rattle.es_members.specs.Marked.{marks_fit, marks_fit_in, marks_fit_all, mark_fits}
 use Rattle.es_members.specs.Standing.{part_at, stands_at, Stands, Fits, FitsIn, FitAll, PartsOf, is_computed}
 

@@ -6,7 +6,7 @@ use Rattle.es_plain.specs.View.{plain_tree, plain_part, plain_parts}
 use Rattle.es_plain.specs.declared.plain.Part.{Part}
 use Rattle.es_plain.specs.declared.plain.Plain.{Plain}
 use Rattle.es_plain.specs.declared.plain.Part.TheVariants as part
-use Rattle.es_members.proofs.Views.{by_sort, child_is, absent_is, list_is, text_is, no_text_is, truth_is, literal_is}
+use Rattle.es_plain.proofs.Views.{by_sort, child_is, absent_is, list_is, text_is, no_text_is, truth_is, literal_is}
 
 pub any : (f : tree_part → Bool) (x : Part) → f (plain_part x) ≡ true
     → ((t : Plain) → f (child (plain_tree t)) ≡ true → x ≡ part.Child t → ⊥)

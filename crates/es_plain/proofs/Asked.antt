@@ -1,27 +1,21 @@
 -- What kinds ask of their parts, at lists of each length.
-use Rattle.std.proofs.Common.{◌≡◌, refl, sym, ap, ◌∙◌, ℕ, ◌+◌, ◌<◌, ◌≤◌, List, [], ◌∷◌, length, get_or, nat_eq, bytes_eq, codes, Bool, true, false, not, ◌||◌, arith, rules}
+use Rattle.std.proofs.Common.{◌≡◌, refl, sym, ap, ◌∙◌, ℕ, ◌+◌, ◌<◌, ◌≤◌, List, [], ◌∷◌, length, get_or, nat_eq, bytes_eq, codes, Bool, true, false, not, ◌||◌, arith}
 use Rattle.es_base.specs.Tree.{Part, Parts, end, more, list, text}
 use Rattle.es_base.specs.Conforms.{kind_rule, item_count, is_pattern_child}
 use Rattle.es_base.specs.declared.kind.Kind.{Kind}
 use Rattle.es_plain.specs.View.{plain_part, plain_parts}
 use Rattle.es_plain.specs.declared.plain.Part as code
-use Rattle.es_plain.specs.declared.plain.Part.TheFolds.{the_lemmas}
+use Rattle.es_plain.proofs.Views.{list_is, text_is}
 
 pub item_count_is : (ps : List code.Part) → item_count (plain_parts ps) ≡ length ps
 item_count_is [] = refl
 item_count_is (p ∷ ps) = omega (arith, item_count_is ps)
 
-plain_part-list : (ps : List code.Part) → plain_part (code.List ps) ≡ list (plain_parts ps)
-plain_part-list ps = search (rules, the_lemmas)
-
-plain_part-text : (s : List ℕ) → plain_part (code.Text s) ≡ text s
-plain_part-text s = search (rules, the_lemmas)
-
 list_seen : (p : code.Part) (ps : List code.Part) → p ≡ code.List ps → list (plain_parts ps) ≡ plain_part p
-list_seen p ps is = sym (ap plain_part is ∙ plain_part-list ps)
+list_seen p ps is = sym (ap plain_part is ∙ list_is ps)
 
 text_seen : (p : code.Part) (s : List ℕ) → p ≡ code.Text s → text s ≡ plain_part p
-text_seen p s is = sym (ap plain_part is ∙ plain_part-text s)
+text_seen p s is = sym (ap plain_part is ∙ text_is s)
 
 -- a template has one text more than expressions
 pub is_longer : (q e : code.Part) (qs es : List code.Part) → q ≡ code.List qs → e ≡ code.List es

@@ -139,8 +139,8 @@ fn text_conforms(name: &Name, sort: Sort) -> bool
     match sort {
         Sort::Name => !name.as_str().is_empty(),
         Sort::MaybeText | Sort::Raw | Sort::Cooked => true,
-        Sort::Word(words) => is_word_of(name, words),
-        Sort::Type => is_foreign_name(name),
+        Sort::Word(words) => is_word_of(name.as_str(), words),
+        Sort::Type => is_foreign_name(name.as_str()),
         _ => false,
     }
 }

@@ -7,5 +7,5 @@ pub mod count;
 pub mod number;
 pub mod parts;
 pub mod plain;
-mod rules;
-mod texts;
+pub mod rules;
+pub mod texts;

@@ -36,7 +36,7 @@ fn is_true_at(name: &str, member: &Member, part: &Part) -> bool
 }
 
 /// Whether what stands in the place is assigned to.
-fn is_target_place(place: Place) -> bool
+pub fn is_target_place(place: Place) -> bool
     ensures { result ≡ is_target_place place }
 {
     matches!(
@@ -85,7 +85,7 @@ pub fn literal_conforms(value: &LiteralValue) -> bool
     ensures { result ≡ literal_conforms value.now }
 {
     match value {
-        LiteralValue::Number { raw } => is_number_text(raw),
+        LiteralValue::Number { raw } => is_number_text(raw.as_str()),
         _ => true,
     }
 }
@@ -167,7 +167,7 @@ fn may_assign(operator: &Part, left: &Part) -> bool
     ensures { result ≡ kind_rule Kind.AssignmentExpression (more (plain_part operator.now) (more (plain_part left.now) end)) }
 {
     match operator {
-        Part::Text(name) => is_word(name, "=") || !is_pattern_child(left),
+        Part::Text(name) => is_word(name.as_str(), "=") || !is_pattern_child(left),
         _ => true,
     }
 }

@@ -8,7 +8,6 @@ pub mod Named
 pub mod Ordered
 pub mod Parted
 pub mod Ruled
-pub mod Spelling
 pub mod Standing
 pub mod Values
 pub mod Walk

@@ -1,7 +1,6 @@
 // Which kind a value is.
 
 ghost use Rattle.std.specs.Prelude.{◌≡◌};
-ghost use Rattle.es_base.specs.Conforms.{is_target_place};
 ghost use Rattle.es_reading.specs.Kinds.{is_named, has_private_property, is_private_in, may_be_target, may_be_literal, may_be_reference, may_be_name, suits, may_stand, kind_in, kind_among};
 ghost use Rattle.serde_json.specs.View.{view};
 
@@ -10,9 +9,10 @@ use crate::lengths::kinds_of_length;
 use crate::literal::may_be_key;
 use crate::look::{is_node_at, is_text_at, is_true_at};
 use crate::spot::Spot;
-use crate::texts::is_foreign_name;
 use es_base::kind::Kind;
 use es_base::table::{Place, estree_name, fits};
+use es_plain::rules::is_target_place;
+use es_plain::texts::is_foreign_name;
 use serde_json::Value;
 
 /// The kind of a value whose `type` is this name: the first that has the name and may stand there.
@@ -118,18 +118,4 @@ fn may_be_name(spot: Spot) -> bool
         Place::ExportLocal => spot.sourced,
         _ => true,
     }
-}
-
-/// Whether what stands in the place is assigned to.
-fn is_target_place(place: Place) -> bool
-    ensures { result ≡ is_target_place place }
-{
-    matches!(
-        place,
-        Place::SimpleAssignmentTarget
-            | Place::AssignmentTarget
-            | Place::AssignmentTargetMaybeDefault
-            | Place::TargetOrRest
-            | Place::ForLeft
-    )
 }

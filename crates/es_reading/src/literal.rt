@@ -7,9 +7,10 @@ ghost use Rattle.serde_json.specs.Find.{get};
 ghost use Rattle.serde_json.specs.View.{view};
 
 use crate::look::{string_at, truth_at};
-use crate::texts::{is_number_text, maybe_name};
+use crate::texts::maybe_name;
 use es_base::literal::LiteralValue;
 use es_base::name::Name;
+use es_plain::texts::is_number_text;
 use serde_json::Value;
 use std::alloc::{AllocError, Global};
 

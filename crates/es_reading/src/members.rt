@@ -9,9 +9,10 @@ ghost use Rattle.serde_json.specs.View.{view};
 
 use crate::literal::form_in;
 use crate::look::{array_at, string_at, truth_at};
-use crate::texts::{is_empty_text, is_word_of};
+use crate::texts::is_empty_text;
 use es_base::kind::Kind;
 use es_base::table::{Member, Sort, Words, members};
+use es_plain::texts::is_word_of;
 use serde_json::Value;
 
 /// Whether the members of a value are those of its kind, but for the nodes below.

@@ -9,9 +9,9 @@ ghost use Rattle.serde_json.specs.View.{view, items_view, members_view};
 ghost use Rattle.serde_json.specs.Written.{has_float, items_have_float, members_have_float};
 
 use crate::look::is_there;
-use crate::texts::{begins_with, is_among};
 use es_base::kind::Kind;
 use es_base::table::{Member, Sort, members};
+use es_plain::texts::{begins_with, is_among};
 use serde_json::{Map, Value};
 
 /// Whether a number below is held as a float, in a member that holds no nodes.

@@ -2,5 +2,4 @@ pub mod InOrder
 pub mod Keeping
 pub mod Parts
 pub mod Sizes
-pub mod Views
 pub mod Whole

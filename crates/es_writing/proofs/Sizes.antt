@@ -1,12 +1,11 @@
 -- How large a tree is: the measure of the walk. Each step into a tree leaves room for the steps that stay at it.
-use Rattle.std.proofs.Common.{◌≡◌, ap, ◌∙◌, ℕ, zero, suc, ◌+◌, ◌<◌, ◌≤◌, List, [], ◌∷◌, length, get_or, arith, rules}
+use Rattle.std.proofs.Common.{◌≡◌, ap, ◌∙◌, ℕ, zero, suc, ◌+◌, ◌<◌, ◌≤◌, List, [], ◌∷◌, length, get_or, arith}
 use Rattle.es_base.specs.Tree.{Tree, Part as tree_part, Parts, Node, end, more, child, list}
 use Rattle.es_plain.specs.View.{plain_tree, plain_part, plain_parts}
 use Rattle.es_plain.specs.declared.plain.Part.{Part}
 use Rattle.es_plain.specs.declared.plain.Plain.{Plain}
 use Rattle.es_plain.specs.declared.plain.Part.TheVariants as code
-use Rattle.es_plain.specs.declared.plain.Part.TheFolds.{the_lemmas}
-use Rattle.es_writing.proofs.Views.{tree_is}
+use Rattle.es_plain.proofs.Views.{tree_is, child_is, list_is}
 
 abbrev mutual
   pub tree_size : Tree → ℕ
@@ -23,12 +22,6 @@ abbrev mutual
 
 pub size_of_tree : (t : Plain) → tree_size (plain_tree t) ≡ parts_size (plain_parts t.parts) + 4
 size_of_tree t = ap tree_size (tree_is t)
-
-child_is : (t : Plain) → plain_part (code.Child t) ≡ child (plain_tree t)
-child_is t = search (rules, the_lemmas)
-
-list_is : (ps : List Part) → plain_part (code.List ps) ≡ list (plain_parts ps)
-list_is ps = search (rules, the_lemmas)
 
 pub size_of_child : (p : Part) (t : Plain) → p ≡ code.Child t → part_size (plain_part p) ≡ tree_size (plain_tree t)
 size_of_child p t is = ap part_size (ap plain_part is ∙ child_is t)

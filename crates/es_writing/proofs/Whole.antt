@@ -7,9 +7,9 @@ use Rattle.es_base.specs.Table.{members_of}
 use Rattle.es_base.specs.declared.kind.Kind.{Kind}
 use Rattle.es_plain.specs.View.{plain_tree, plain_parts}
 use Rattle.es_plain.specs.declared.plain.Plain.{Plain}
+use Rattle.es_plain.proofs.Views.{tree_is}
 use Rattle.es_writing.specs.Writing.{entry, put_all, type_of, number_of, kind_entries, more_entries, span_entries, write, write_fields}
 use Rattle.es_writing.proofs.InOrder.{put_all_append}
-use Rattle.es_writing.proofs.Views.{tree_is}
 
 one_more : (name : List ℕ) (d e : Data) (before now later : Members) → before ≡ now → d ≡ e → later ≡ put_all before (entry name d []) → later ≡ put_all now (entry name e [])
 one_more name d e before now later same is made = made ∙ ap₂ (λ (ms : Members) x. put_all ms (entry name x [])) same is

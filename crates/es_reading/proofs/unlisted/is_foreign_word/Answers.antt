@@ -1,6 +1,6 @@
-use Rattle.std.proofs.Common.{◌∙◌}
-use Rattle.es_reading.proofs.Spelling.{foreign_words}
+use Rattle.std.specs.Str.{chars}
 use Rattle.es_reading.proofs.unlisted.is_foreign_word.Goals as goal
 
 pub returns : goal.returns
-returns c = c.is_among.ensures ∙ foreign_words c.args.name.now c.utf8.name
+unfolding chars
+returns c = c.is_among.ensures.by_chars
