@@ -1,5 +1,6 @@
 -- What nodes carry beside their parts, as the plain tree has it: spans as pairs, marks as numbers.
 use Rattle.std.specs.Prelude.{ℕ, Option, Some, None}
+use Rattle.es_base.specs.Tree.{Tree, Part, Parts, Node, end, more, child, absent, list, text, no_text, truth, literal}
 use Rattle.es_base.specs.declared.ids.Span.{Span}
 use Rattle.es_base.specs.declared.ids.ScopeId.{ScopeId}
 use Rattle.es_base.specs.declared.ids.SymbolId.{SymbolId}
@@ -20,3 +21,21 @@ symbol_mark (Some s) = Some s.0
 abbrev pub reference_mark : Option ReferenceId → Option ℕ
 reference_mark None = None
 reference_mark (Some r) = Some r.0
+
+-- the tree without its marks
+abbrev mutual
+  pub unmarked : Tree → Tree
+  unmarked (Node kind id span mark ps) = Node kind id span None (unmarked_parts ps)
+
+  pub unmarked_part : Part → Part
+  unmarked_part (child t) = child (unmarked t)
+  unmarked_part absent = absent
+  unmarked_part (list ps) = list (unmarked_parts ps)
+  unmarked_part (text s) = text s
+  unmarked_part no_text = no_text
+  unmarked_part (truth b) = truth b
+  unmarked_part (literal v) = literal v
+
+  pub unmarked_parts : Parts → Parts
+  unmarked_parts end = end
+  unmarked_parts (more p ps) = more (unmarked_part p) (unmarked_parts ps)

@@ -16,7 +16,8 @@ use Rattle.es_base.specs.declared.shape.Shape.{Shape}
 use Rattle.es_lowered.specs.Lowered.{Writes}
 use Rattle.es_reading.specs.Reading.{read, root}
 use Rattle.es_reading.specs.declared.numbers.Numbers.{Numbers}
-use Rattle.es_writing.specs.Kept.{IsKept, unmarked}
+use Rattle.es_base.specs.Marks.{unmarked}
+use Rattle.es_writing.specs.Kept.{IsKept}
 use Rattle.es_writing.specs.Writing.{write}
 
 pub written_no_float : {E : Type 0} (r : Result Value E) (s : Tree) → IfOk r (λ v. view v ≡ write s) → IfOk r (λ v. has_float (view v) ≡ false)
@@ -30,6 +31,9 @@ written_back (Ok v) s t is kept same = λ fits.
     ∙ program_law s (ap (conforms Place.Program) same ∙ fits) kept
     ∙ ap (λ u. Ok (record { value = unmarked u; foreign = [] })) same
 written_back (Err e) s t is kept same = tt
+
+pub written_kept : {E : Type 0} (r : Result Value E) (s t : Tree) → IfOk r (λ v. IsKept s) → s ≡ t → IfOk r (λ v. IsKept t)
+written_kept r s t kept same = subst (λ (u : Tree). IfOk r (λ v. IsKept u)) same kept
 
 pub lowered_written : {E : Type 0} (r : Result Value E) (s t : Tree) (names : List LedgerEntry) (warnings : List Diagnostic) (shapes : List Shape) → IfOk r (λ v. Writes v s names warnings shapes) → s ≡ t → IfOk r (λ v. Writes v t names warnings shapes)
 lowered_written r s t names warnings shapes w same = subst (λ (u : Tree). IfOk r (λ v. Writes v u names warnings shapes)) same w

@@ -9,7 +9,8 @@ ghost use Rattle.es_base.specs.declared.shape.Shape.{Shape};
 ghost use Rattle.es_base.specs.declared.table.Place.{Place};
 ghost use Rattle.es_json_law.specs.Named.{NamesAreTexts, NumbersFit, WarningsFit};
 ghost use Rattle.es_lowered.specs.Lowered.{write_lowered};
-ghost use Rattle.es_writing.specs.Kept.{IsKept, unmarked};
+ghost use Rattle.es_base.specs.Marks.{unmarked};
+ghost use Rattle.es_writing.specs.Kept.{IsKept};
 ghost use Rattle.es_writing.specs.Writing.{write};
 ghost use Rattle.serde_json.specs.Written.{compact_text};
 

@@ -7,7 +7,8 @@ ghost use Rattle.es_lowered.specs.Lowered.{Writes};
 ghost use Rattle.es_reading.specs.Reading.{read, root};
 ghost use Rattle.es_reading.specs.declared.numbers.Numbers.{Numbers};
 ghost use Rattle.es_tree.specs.Program.{program_tree};
-ghost use Rattle.es_writing.specs.Kept.{unmarked};
+ghost use Rattle.es_base.specs.Marks.{unmarked};
+ghost use Rattle.es_writing.specs.Kept.{IsKept};
 ghost use Rattle.es_writing.specs.Writing.{write};
 ghost use Rattle.serde_json.specs.View.{view};
 ghost use Rattle.serde_json.specs.Written.{has_float};
@@ -25,10 +26,12 @@ use std::alloc::{AllocError, Global};
 /// `start` and `end` where it has a span (ESTree; docs/JSON.md). Its marks and its `foreign` are not
 /// written. Fails for want of memory alone.
 ///
-/// The value has no float, so its text is `compact_text` of it. What was written is read again, by
+/// The value has no float, so its text is `compact_text` of it; and the program's numbers and texts are such
+/// as JSON holds (`IsKept`), which the laws of `law` ask for. What was written is read again, by
 /// `read_numbered`, as the same program without its marks.
 pub fn write_program(alloc: Global, program: &Program) -> Result<Value, AllocError>
     ensures value { IfOk result (λ v. view v ≡ write (program_tree program.now)) }
+    ensures kept { IfOk result (λ v. IsKept (program_tree program.now)) }
     ensures no_float { IfOk result (λ v. has_float (view v) ≡ false) }
     ensures reads_back { IfOk result (λ v. conforms Place.Program (program_tree program.now) ≡ true → read Numbers.Given (view v) root 0 ≡ Ok (record { value = unmarked (program_tree program.now); foreign = [] })) }
 {
@@ -52,6 +55,7 @@ pub fn write_lowered(
     outside: &[Shape],
 ) -> Result<Value, AllocError>
     ensures value { IfOk result (λ v. Writes v (program_tree program.now) ledger.now.entries warnings.now outside.now) }
+    ensures kept { IfOk result (λ v. IsKept (program_tree program.now)) }
     ensures no_float { IfOk result (λ v. has_float (view v) ≡ false) }
     ensures reads_back { IfOk result (λ v. conforms Place.Program (program_tree program.now) ≡ true → read Numbers.Given (view v) root 0 ≡ Ok (record { value = unmarked (program_tree program.now); foreign = [] })) }
 {

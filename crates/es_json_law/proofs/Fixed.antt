@@ -21,20 +21,17 @@ use Rattle.es_reading.specs.Fault.{Fault, Read}
 use Rattle.es_reading.specs.Reading.{read, root}
 use Rattle.es_reading.specs.declared.numbers.Numbers.{Numbers}
 use Rattle.es_writing.specs.Writing.{put_all, number_of, write_fields}
-use Rattle.es_writing.specs.Kept.{IsText, IsKept, unmarked}
+use Rattle.es_base.specs.Marks.{unmarked}
+use Rattle.es_writing.specs.Kept.{IsText, IsKept}
 use Rattle.es_json_law.specs.Named.{NamesAreTexts}
 use Rattle.es_json_law.proofs.Found.{found, get_all, node_entries}
 use Rattle.es_json_law.proofs.Lowered.{more_members, lowered_law}
+use Rattle.es_json_law.proofs.Texted.{tree_read}
 
 -- ---- the tree
 
-value_in : Tree → Result (Read Tree) Fault → Tree
-value_in t (Ok r) = r.value
-value_in t (Err fault) = t
-
 read_alike : (s t : Tree) (r : Result (Read Tree) Fault) → r ≡ Ok (record { value = s; foreign = [] }) → r ≡ Ok (record { value = t; foreign = [] }) → s ≡ t
-unfolding value_in
-read_alike s t r a b = ap (value_in s) (sym a ∙ b)
+read_alike s t r a b = ap (tree_read s) (sym a ∙ b)
 
 pub lowered_fixes_tree : (s t : Tree) (names names' : List LedgerEntry) (told told' : List Diagnostic) (shapes shapes' : List Shape)
     → conforms Place.Program s ≡ true → conforms Place.Program t ≡ true → IsKept s → IsKept t

@@ -22,7 +22,8 @@ use Rattle.es_reading.specs.declared.spot.Slots.{Slots}
 use Rattle.es_reading.specs.declared.spot.Spot.{Spot}
 use Rattle.es_reading.proofs.Walk.{read_is}
 use Rattle.es_writing.specs.Writing.{write, write_items, write_item}
-use Rattle.es_writing.specs.Kept.{IsText, unmarked, unmarked_part, unmarked_parts, IsKept, PartIsKept, AreKept}
+use Rattle.es_base.specs.Marks.{unmarked, unmarked_part, unmarked_parts}
+use Rattle.es_writing.specs.Kept.{IsText, IsKept, PartIsKept, AreKept}
 use Rattle.es_json_law.specs.Suits.{kind_suits, local_suits, Suits}
 use Rattle.es_json_law.proofs.Choice.{kind_chosen}
 use Rattle.es_json_law.proofs.Fits.{ItemFits, ItemsFit, Fits, AllFit, all_fit}

@@ -1,4 +1,5 @@
 pub mod Choice
+pub mod Counted
 pub mod Fits
 pub mod Fixed
 pub mod Floats
@@ -8,11 +9,13 @@ pub mod Law
 pub mod Looks
 pub mod Lowered
 pub mod Members
+pub mod Parsed
 pub mod Parts
 pub mod Rows
 pub mod Stands
 pub mod Tests
 pub mod Texted
 pub mod Texts
+pub mod Tokens
 pub mod Told
 pub mod Well

@@ -24,7 +24,8 @@ use Rattle.es_reading.specs.Reading.{read, root, parent_of}
 use Rattle.es_reading.specs.Unlisted.{is_foreign_object, is_foreign_node, any_foreign}
 use Rattle.es_reading.specs.declared.numbers.Numbers.{Numbers}
 use Rattle.es_writing.specs.Writing.{Entry, entry, put_all, number_of, write, write_fields}
-use Rattle.es_writing.specs.Kept.{IsKept, unmarked, unmarked_parts}
+use Rattle.es_base.specs.Marks.{unmarked, unmarked_parts}
+use Rattle.es_writing.specs.Kept.{IsKept}
 use Rattle.es_json_law.proofs.Choice.{kind_chosen}
 use Rattle.es_json_law.proofs.Fits.{all_fit}
 use Rattle.es_json_law.proofs.Floats.{is_float_member, floats_are, no_floats}

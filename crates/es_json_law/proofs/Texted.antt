@@ -21,7 +21,8 @@ use Rattle.es_reading.specs.Fault.{Fault, Read}
 use Rattle.es_reading.specs.Reading.{read, root}
 use Rattle.es_reading.specs.declared.numbers.Numbers.{Numbers}
 use Rattle.es_writing.specs.Writing.{write}
-use Rattle.es_writing.specs.Kept.{unmarked, IsKept}
+use Rattle.es_base.specs.Marks.{unmarked}
+use Rattle.es_writing.specs.Kept.{IsKept}
 use Rattle.es_json_law.specs.Printed.{NumberIsWell, IsPrintedWell, ItemsAreWell, MembersAreWell}
 use Rattle.es_json_law.proofs.Law.{program_law}
 use Rattle.es_json_law.proofs.Well.{written_well}
@@ -127,7 +128,7 @@ one_text d e d_well e_well same =
 -- ---- the text of a program fixes the program, but for its marks
 
 -- what was read, or else this tree
-abbrev tree_read : Tree → Result (Read Tree) Fault → Tree
+abbrev pub tree_read : Tree → Result (Read Tree) Fault → Tree
 tree_read t (Ok r) = r.value
 tree_read t (Err e) = t
 

@@ -6,6 +6,7 @@ pub mod conforms;
 pub mod count;
 pub mod number;
 pub mod parts;
+pub mod places;
 pub mod plain;
-pub mod rules;
+mod rules;
 pub mod texts;

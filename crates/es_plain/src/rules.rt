@@ -7,6 +7,7 @@ ghost use Rattle.es_base.specs.Table.{field_of};
 ghost use Rattle.es_base.specs.declared.kind.Kind.{Kind};
 ghost use Rattle.es_plain.specs.View.{plain_part, plain_parts};
 
+use crate::places::is_target_place;
 use crate::plain::{Part, Plain};
 use crate::texts::{is_number_text, is_word};
 use es_base::kind::Kind;
@@ -33,20 +34,6 @@ fn is_true_at(name: &str, member: &Member, part: &Part) -> bool
         Part::Truth(value) => member.name == name && *value,
         _ => false,
     }
-}
-
-/// Whether what stands in the place is assigned to.
-pub fn is_target_place(place: Place) -> bool
-    ensures { result ≡ is_target_place place }
-{
-    matches!(
-        place,
-        Place::SimpleAssignmentTarget
-            | Place::AssignmentTarget
-            | Place::AssignmentTargetMaybeDefault
-            | Place::TargetOrRest
-            | Place::ForLeft
-    )
 }
 
 /// Whether these are the parts of a string, a number or a bigint.

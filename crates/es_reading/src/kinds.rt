@@ -11,7 +11,7 @@ use crate::look::{is_node_at, is_text_at, is_true_at};
 use crate::spot::Spot;
 use es_base::kind::Kind;
 use es_base::table::{Place, estree_name, fits};
-use es_plain::rules::is_target_place;
+use es_plain::places::is_target_place;
 use es_plain::texts::is_foreign_name;
 use serde_json::Value;
 

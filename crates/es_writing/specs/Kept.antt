@@ -5,24 +5,6 @@ use Rattle.es_base.specs.Tree.{Tree, Part, Parts, Node, end, more, child, absent
 use Rattle.es_base.specs.declared.literal.LiteralValue.{LiteralValue}
 use Rattle.es_base.specs.declared.literal.LiteralValue.TheVariants as value
 
--- the tree without its marks
-abbrev mutual
-  pub unmarked : Tree → Tree
-  unmarked (Node kind id span mark ps) = Node kind id span None (unmarked_parts ps)
-
-  pub unmarked_part : Part → Part
-  unmarked_part (child t) = child (unmarked t)
-  unmarked_part absent = absent
-  unmarked_part (list ps) = list (unmarked_parts ps)
-  unmarked_part (text s) = text s
-  unmarked_part no_text = no_text
-  unmarked_part (truth b) = truth b
-  unmarked_part (literal v) = literal v
-
-  pub unmarked_parts : Parts → Parts
-  unmarked_parts end = end
-  unmarked_parts (more p ps) = more (unmarked_part p) (unmarked_parts ps)
-
 -- a list of characters is one that UTF-8 keeps
 abbrev pub IsText : List ℕ → Type 0
 IsText s = chars (encode_utf8_all s) ≡ s

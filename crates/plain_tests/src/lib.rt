@@ -5,3 +5,5 @@
 mod conforms;
 #[cfg(test)]
 mod plain;
+#[cfg(test)]
+mod texts;

@@ -1,0 +1,60 @@
+-- Members, items and texts of parts stand where they stood under other numbers; what is chosen or put together is mapped part by part.
+use Rattle.std.specs.Prelude.{◌≡◌, ℕ, zero, suc, List, ◌++◌, map, Bool, true, false, cond}
+use Rattle.std.proofs.Common.{refl, sym, ap, ◌∙◌}
+use Rattle.std.proofs.lemmas.List.{map-append}
+use Rattle.es_base.specs.Tree.{Part, Parts, Node, end, more, child, absent, list, text, truth}
+use Rattle.es_steps.specs.Parts.{at, items, block_items, text_of, is_true, is_present}
+use Rattle.es_steps.proofs.Mapped.{mapped_part, mapped_parts}
+
+-- ---- choices and lists
+
+pub cond-mapped : {A B : Type 0} (g : A → B) (b : Bool) (x y : A) {v w : B} → v ≡ g x → w ≡ g y → cond b v w ≡ g (cond b x y)
+cond-mapped g true x y p q = p
+cond-mapped g false x y p q = q
+
+pub append-mapped : {A B : Type 0} (g : A → B) (xs ys : List A) {vs ws : List B} → vs ≡ map g xs → ws ≡ map g ys → vs ++ ws ≡ map g (xs ++ ys)
+append-mapped g xs ys p q = rw (p, q) (sym (map-append g xs ys))
+
+-- ---- parts
+
+module _ (f : ℕ → ℕ) where
+  pub at-mapped : (i : ℕ) (ps : Parts) → at i (mapped_parts f ps) ≡ mapped_part f (at i ps)
+  at-mapped i end = refl
+  at-mapped zero (more p ps) = refl
+  at-mapped (suc i) (more p ps) = at-mapped i ps
+
+  pub items-mapped : (p : Part) → items (mapped_part f p) ≡ mapped_parts f (items p)
+  items-mapped (list ps) = refl
+  items-mapped p = refl
+
+  pub block_items-mapped : (p : Part) → block_items (mapped_part f p) ≡ mapped_parts f (block_items p)
+  block_items-mapped (child (Node kind m span mark (more p ps))) = items-mapped p
+  block_items-mapped p = refl
+
+  pub text_of-mapped : (p : Part) → text_of (mapped_part f p) ≡ text_of p
+  text_of-mapped (text s) = refl
+  text_of-mapped p = refl
+
+  pub is_true-mapped : (p : Part) → is_true (mapped_part f p) ≡ is_true p
+  is_true-mapped (truth b) = refl
+  is_true-mapped p = refl
+
+  pub is_present-mapped : (p : Part) → is_present (mapped_part f p) ≡ is_present p
+  is_present-mapped absent = refl
+  is_present-mapped p = refl
+
+  -- the same at the i-th member
+  pub items_at-mapped : (i : ℕ) (ps : Parts) → items (at i (mapped_parts f ps)) ≡ mapped_parts f (items (at i ps))
+  items_at-mapped i ps = ap items (at-mapped i ps) ∙ items-mapped (at i ps)
+
+  pub block_items_at-mapped : (i : ℕ) (ps : Parts) → block_items (at i (mapped_parts f ps)) ≡ mapped_parts f (block_items (at i ps))
+  block_items_at-mapped i ps = ap block_items (at-mapped i ps) ∙ block_items-mapped (at i ps)
+
+  pub text_at-mapped : (i : ℕ) (ps : Parts) → text_of (at i (mapped_parts f ps)) ≡ text_of (at i ps)
+  text_at-mapped i ps = ap text_of (at-mapped i ps) ∙ text_of-mapped (at i ps)
+
+  pub is_true_at-mapped : (i : ℕ) (ps : Parts) → is_true (at i (mapped_parts f ps)) ≡ is_true (at i ps)
+  is_true_at-mapped i ps = ap is_true (at-mapped i ps) ∙ is_true-mapped (at i ps)
+
+  pub is_present_at-mapped : (i : ℕ) (ps : Parts) → is_present (at i (mapped_parts f ps)) ≡ is_present (at i ps)
+  is_present_at-mapped i ps = ap is_present (at-mapped i ps) ∙ is_present-mapped (at i ps)

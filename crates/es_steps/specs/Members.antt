@@ -1,0 +1,99 @@
+-- The members of a node with the codes of its children: what the rule of its kind reads.
+use Rattle.std.specs.Prelude.{ℕ, zero, suc, List, [], ◌∷◌, ◌++◌, Bool, true, false, Option, Some, None}
+use Rattle.es_base.specs.declared.literal.LiteralValue.{LiteralValue}
+use Rattle.es_steps.specs.Code.{Code, Codes, piece, spelled, template_text, steps, done, and, joined}
+use Rattle.es_steps.specs.Events.{Mark, Operand, Empty, Word, Flag, Opens, Closes}
+use Rattle.es_steps.specs.Values.{Text}
+
+mutual
+  pub data Member : Type 0 where
+    code : (c : Code) → Member
+    absent : Member
+    list : (all : Members) → Member
+    text : (s : Text) → Member
+    no_text : Member
+    truth : (b : Bool) → Member
+    literal : (v : LiteralValue) → Member
+
+  pub data Members : Type 0 where
+    end : Members
+    more : (first : Member) (rest : Members) → Members
+
+-- the i-th member, and the members from the i-th on
+abbrev pub at : ℕ → Members → Member
+at i end = absent
+at zero (more p ps) = p
+at (suc i) (more p ps) = at i ps
+
+abbrev pub from : ℕ → Members → Members
+from zero ps = ps
+from (suc i) end = end
+from (suc i) (more p ps) = from i ps
+
+-- the first i members
+abbrev pub before : ℕ → Members → Members
+before zero ps = end
+before (suc i) end = end
+before (suc i) (more p ps) = more p (before i ps)
+
+-- what a code that is no operand itself adds to the operation around it
+abbrev pub inner_operands : Code → Codes
+inner_operands (piece marks cs) = cs
+inner_operands (spelled s) = done
+inner_operands (template_text raw cooked) = done
+inner_operands c = and c done
+
+abbrev pub marks_of_text : Option Text → List Mark
+marks_of_text None = Empty ∷ []
+marks_of_text (Some s) = Word s ∷ []
+
+abbrev pub inner_marks : Code → List Mark
+inner_marks (piece marks cs) = marks
+inner_marks (spelled s) = Word s ∷ []
+inner_marks (template_text raw cooked) = Word raw ∷ marks_of_text cooked
+inner_marks c = Operand ∷ []
+
+-- the operands in order
+abbrev mutual
+  pub operands : Members → Codes
+  operands end = done
+  operands (more p ps) = joined (operands_of p) (operands ps)
+
+  pub operands_of : Member → Codes
+  operands_of (code c) = inner_operands c
+  operands_of (list ps) = operands ps
+  operands_of p = done
+
+-- what stands beside them
+abbrev mutual
+  pub marks : Members → List Mark
+  marks end = []
+  marks (more p ps) = marks_of p ++ marks ps
+
+  pub marks_of : Member → List Mark
+  marks_of (code c) = inner_marks c
+  marks_of absent = Empty ∷ []
+  marks_of (list ps) = Opens ∷ marks ps ++ Closes ∷ []
+  marks_of (text s) = Word s ∷ []
+  marks_of no_text = Empty ∷ []
+  marks_of (truth b) = Flag b ∷ []
+  marks_of (literal v) = []
+
+-- all codes in order
+abbrev mutual
+  pub codes_in : Members → Codes
+  codes_in end = done
+  codes_in (more p ps) = joined (codes_of p) (codes_in ps)
+
+  pub codes_of : Member → Codes
+  codes_of (code c) = and c done
+  codes_of (list ps) = codes_in ps
+  codes_of p = done
+
+abbrev pub word_of : Member → Text
+word_of (text s) = s
+word_of p = []
+
+abbrev pub flag_of : Member → Bool
+flag_of (truth b) = b
+flag_of p = false

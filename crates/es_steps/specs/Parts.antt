@@ -1,0 +1,30 @@
+-- The members of a node by their places in the table.
+use Rattle.std.specs.Prelude.{ℕ, zero, suc, List, [], Bool, true, false, bytes_eq, codes}
+use Rattle.es_base.specs.Tree.{Tree, Part, Parts, Node, end, more, child, absent, list, text, no_text, truth, literal}
+
+-- the i-th member
+abbrev pub at : ℕ → Parts → Part
+at i end = absent
+at zero (more p ps) = p
+at (suc i) (more p ps) = at i ps
+
+-- the items of a list, and of the block that is a body
+abbrev pub items : Part → Parts
+items (list ps) = ps
+items p = end
+
+abbrev pub block_items : Part → Parts
+block_items (child (Node kind m span mark (more p ps))) = items p
+block_items p = end
+
+abbrev pub text_of : Part → List ℕ
+text_of (text s) = s
+text_of p = []
+
+abbrev pub is_true : Part → Bool
+is_true (truth b) = b
+is_true p = false
+
+abbrev pub is_present : Part → Bool
+is_present absent = false
+is_present p = true

@@ -1,0 +1,109 @@
+-- Resolution: what each reference of a tree refers to, and which bindings are written. (ECMA-262, 9.1: environment
+-- records; a reference means the nearest scope that holds its spelling.)
+use Rattle.std.specs.Prelude.{ℕ, suc, List, [], ◌∷◌, ◌++◌, map, Bool, true, false, cond, ◌||◌, nat_eq, bytes_eq, Option, Some, None}
+use Rattle.es_base.specs.Tree.{Tree, Part, Parts, Node, end, more, child, absent, list, text, no_text, truth, literal}
+use Rattle.es_base.specs.Table.{Field, members_of}
+use Rattle.es_base.specs.Conforms.{is_target_place}
+use Rattle.es_base.specs.Order.{in_order}
+use Rattle.es_base.specs.declared.kind.Kind.{Kind}
+use Rattle.es_base.specs.declared.table.Place.{Place}
+use Rattle.es_base.specs.declared.table.Sort.{Sort}
+use Rattle.es_steps.specs.Parts.{at, text_of}
+use Rattle.es_steps.specs.Scopes.{Declaration, names_at, scope_form, scope_names, var_part}
+use Rattle.es_steps.specs.Values.{Text, Referent, Bound, Free}
+
+-- the first of this spelling: of the nearest scope, and there of the first declaring identifier
+abbrev pub declared : Text → List Declaration → Option Declaration
+declared s [] = None
+declared s (d ∷ ds) = cond (bytes_eq s d.spelling) (Some d) (declared s ds)
+
+abbrev pub referent : Text → Option Declaration → Referent
+referent s None = Free s
+referent s (Some d) = Bound d.number
+
+-- a reference that stands where something is assigned to writes
+pub record Reference : Type 0 where
+  pub number : ℕ
+  pub spelling : Text
+  pub to : Referent
+  pub writes : Bool
+
+abbrev pub is_target : Sort → Bool
+is_target (Sort.Child place) = is_target_place place
+is_target (Sort.Maybe place) = is_target_place place
+is_target (Sort.List place) = is_target_place place
+is_target (Sort.Some place) = is_target_place place
+is_target (Sort.Holes place) = is_target_place place
+is_target sort = false
+
+abbrev pub is_reference : Kind → Bool
+is_reference Kind.IdentifierReference = true
+is_reference kind = false
+
+abbrev pub reference : List Declaration → Bool → ℕ → Text → List Reference
+reference names target m s = record { number = m; spelling = s; to = referent s (declared s names); writes = target } ∷ []
+
+-- the references of a tree in reading order, where these names are seen
+abbrev mutual
+  pub references : List Declaration → Bool → Tree → List Reference
+  references names target (Node kind m span mark ps) = cond (is_reference kind) (reference names target m (text_of (at 0 ps))) (references_in (λ i. names_at kind m ps i ++ names) (members_of kind) ps)
+
+  pub references_in : (ℕ → List Declaration) → List Field → Parts → List Reference
+  references_in names fs end = []
+  references_in names [] (more p ps) = []
+  references_in names (f ∷ fs) (more p ps) = part_references (names 0) (is_target f.sort) p ++ references_in (λ i. names (suc i)) fs ps
+
+  pub part_references : List Declaration → Bool → Part → List Reference
+  part_references names target (child t) = references names target t
+  part_references names target (list ps) = item_references names target ps
+  part_references names target p = []
+
+  pub item_references : List Declaration → Bool → Parts → List Reference
+  item_references names target end = []
+  item_references names target (more p ps) = part_references names target p ++ item_references names target ps
+
+abbrev pub resolve : Tree → List Reference
+resolve t = references [] false t
+
+-- ---- written names
+
+abbrev pub has_number : ℕ → List ℕ → Bool
+has_number n [] = false
+has_number n (k ∷ ks) = nat_eq n k || has_number n ks
+
+abbrev pub numbers_of : List Declaration → List ℕ
+numbers_of ds = map (λ d. d.number) ds
+
+abbrev pub if_bound : Bool → Referent → List ℕ
+if_bound true (Bound b) = b ∷ []
+if_bound writes r = []
+
+abbrev pub assigned : List Reference → List ℕ
+assigned [] = []
+assigned (r ∷ rs) = if_bound r.writes r.to ++ assigned rs
+
+abbrev pub is_declared : Text → List Declaration → Bool
+is_declared s [] = false
+is_declared s (d ∷ ds) = bytes_eq s d.spelling || is_declared s ds
+
+-- those that more than one identifier declares
+abbrev pub repeated : List Declaration → List ℕ
+repeated [] = []
+repeated (d ∷ ds) = cond (is_declared d.spelling ds) (d.number ∷ []) [] ++ repeated ds
+
+abbrev pub is_for_each : Kind → Bool
+is_for_each Kind.ForInStatement = true
+is_for_each Kind.ForOfStatement = true
+is_for_each kind = false
+
+-- what a node by itself makes written: names that its scope holds twice, and the `var` in the head of a for-in or for-of
+abbrev pub written_by : Tree → List ℕ
+written_by (Node kind m span mark ps) = repeated (scope_names (scope_form kind) m ps) ++ cond (is_for_each kind) (numbers_of (var_part (at 0 ps))) []
+
+abbrev pub written_by_all : List Tree → List ℕ
+written_by_all [] = []
+written_by_all (t ∷ ts) = written_by t ++ written_by_all ts
+
+-- the numbers of the bindings that are written anywhere in a program
+abbrev pub written : Tree → List ℕ
+written t = assigned (resolve t) ++ written_by_all (in_order t)

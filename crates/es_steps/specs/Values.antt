@@ -1,0 +1,38 @@
+-- What an expression gives, as far as the order of evaluation tells it: a constant of the source, or a value that is
+-- known by where it comes from. (The values are those of ECMA-262, 6.1; to know one by its origin is our own.)
+use Rattle.std.specs.Prelude.{ℕ, List, Bool}
+
+abbrev pub Text : Type 0
+Text = List ℕ
+
+-- A literal, or what is alike: the name of a property, a template without expressions.
+pub data Constant : Type 0 where
+  StringOf : (text : Text) → Constant
+  NumberOf : (raw : Text) → Constant
+  BigIntOf : (text : Text) → Constant
+  RegExpOf : (pattern flags : Text) → Constant
+  BooleanOf : (truth : Bool) → Constant
+  Null : Constant
+  -- a template without expressions whose text has no cooked form
+  RawTemplate : (raw : Text) → Constant
+
+-- A binding is known by its first declaring identifier; functions, classes and operations by their nodes.
+pub data Value : Type 0 where
+  ConstantOf : (c : Constant) → Value
+  Undefined : Value
+  -- what a binding holds that is not written after its initializer
+  BindingOf : (b : ℕ) → Value
+  FunctionOf : (f : ℕ) → Value
+  ClassOf : (n : ℕ) → Value
+  -- `this`, `arguments` and `new.target` of a function, of the construction of a class, or of the program
+  ThisOf : (k : ℕ) → Value
+  ArgumentsOf : (k : ℕ) → Value
+  NewTargetOf : (k : ℕ) → Value
+  -- the result of node m, and the former value of what update m writes
+  ResultOf : (m : ℕ) → Value
+  FormerOf : (m : ℕ) → Value
+
+-- What a name refers to: a binding, or, where no scope holds its spelling, that spelling.
+pub data Referent : Type 0 where
+  Bound : (b : ℕ) → Referent
+  Free : (spelling : Text) → Referent

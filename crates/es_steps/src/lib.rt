@@ -1,0 +1,5 @@
+//! What a program means: names, values, events, evaluation, classes, and what a lowered program owes.
+//! docs/MEANING.md has each definition in plain words.
+#![tactic(auto)]
+
+pub mod law;
