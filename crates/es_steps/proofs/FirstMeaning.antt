@@ -15,11 +15,10 @@ use Rattle.es_base.specs.declared.table.Words.{Words}
 use Rattle.es_steps.specs.Code.{Code, Codes, value, spelled, name, steps, done, and, joined}
 use Rattle.es_steps.specs.Context.{Context, NameKind, Fixed, Changing, MeansClass, found_kind, declared_kind, unless_written, inside}
 use Rattle.es_steps.specs.Expressions.{constant_of, name_or_arguments, name_code}
-use Rattle.es_steps.specs.FirstForm.{is_plain_value, is_plain_key, is_plain_field, is_new_name, unless, element_breaches, elements_breaches, body_breaches, statement_breaches, statements_breaches, class_names, breaches, no_numbers, most_nodes, is_first_form}
+use Rattle.es_steps.specs.FirstForm.{is_plain_value, is_plain_key, is_plain_field, is_new_name, unless, element_breaches, elements_breaches, body_breaches, statement_breaches, statements_breaches, class_names, breaches, no_numbers, most_nodes}
 use Rattle.es_steps.specs.Law.{FirstFormLaw, has_meaning}
-use Rattle.es_steps.specs.Meaning.{means, means_of, start}
+use Rattle.es_steps.specs.Meaning.{means_of, start}
 use Rattle.es_steps.specs.Members.{Member, code, absent, truth, end, more, codes_in}
-use Rattle.es_steps.specs.Options.{Options}
 use Rattle.es_steps.specs.Reading.{read, read_part, read_parts, read_items}
 use Rattle.es_steps.specs.References.{has_number, declared}
 use Rattle.es_steps.specs.Scopes.{ClassName, no_class, declares, own_name, Declaration}
@@ -27,20 +26,20 @@ use Rattle.es_steps.specs.Statements.{value_or_undefined, field_code, elements_o
 use Rattle.es_steps.specs.Values.{Text, ConstantOf, Undefined, Bound, Free}
 use Rattle.es_steps.proofs.PlainClasses.{IsUnmade, fixed, changing, means_class, IsPlain, a_value, a_name, IsField, plain_field, AreFields, IsClass, plain_class, AreClasses, classes_mean}
 
-no_false : {A : Type 0} → false ≡ true → A
+pub no_false : {A : Type 0} → false ≡ true → A
 no_false h = absurd (true≢false (sym h))
 
-joined-done : (cs : Codes) → joined cs done ≡ cs
+pub joined-done : (cs : Codes) → joined cs done ≡ cs
 joined-done done = refl
 joined-done (and c cs) = rw (joined-done cs) refl
 
 -- ---- no breach
 
-both_empty : (xs ys : List ℕ) → no_numbers (xs ++ ys) ≡ true → (no_numbers xs ≡ true) × (no_numbers ys ≡ true)
+pub both_empty : (xs ys : List ℕ) → no_numbers (xs ++ ys) ≡ true → (no_numbers xs ≡ true) × (no_numbers ys ≡ true)
 both_empty [] ys h = (refl, h)
 both_empty (x ∷ xs) ys h = no_false h
 
-unless_true : (b : Bool) (m : ℕ) → no_numbers (unless b m) ≡ true → b ≡ true
+pub unless_true : (b : Bool) (m : ℕ) → no_numbers (unless b m) ≡ true → b ≡ true
 unless_true true m h = refl
 unless_true false m h = no_false h
 
@@ -58,11 +57,11 @@ unmade-declared written b no_class = unmade-unless_written written b (Fixed b) (
 unmade-declared written b (declares n) = unmade-unless_written written b (MeansClass n) (means_class n)
 unmade-declared written b (own_name n) = means_class n
 
-unmade-found : (written : List ℕ) (s : Text) (d : Option Declaration) → IsUnmade (found_kind written s d)
+pub unmade-found : (written : List ℕ) (s : Text) (d : Option Declaration) → IsUnmade (found_kind written s d)
 unmade-found written s None = changing (Free s)
 unmade-found written s (Some d) = unmade-declared written d.number d.class_name
 
-plain-name : (c : Context) (m : ℕ) (s : Text) (kind : NameKind) → IsUnmade kind → IsPlain (name_or_arguments c m s kind)
+pub plain-name : (c : Context) (m : ℕ) (s : Text) (kind : NameKind) → IsUnmade kind → IsPlain (name_or_arguments c m s kind)
 plain-name c m s kind (fixed b) = a_name m s (Fixed b) (fixed b)
 plain-name c m s kind (changing (Bound b)) = a_name m s (Changing (Bound b)) (changing (Bound b))
 plain-name c m s kind (changing (Free t)) = chosen (bytes_eq s (codes "arguments"))

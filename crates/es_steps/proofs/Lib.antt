@@ -15,6 +15,7 @@ pub mod PartsMapped
 pub mod PlainClasses
 pub mod ReadingMapped
 pub mod ReferencesMapped
+pub mod PrivateUnmarked
 pub mod Refused
 pub mod Renaming
 pub mod Renumbering

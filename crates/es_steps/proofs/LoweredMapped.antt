@@ -1,10 +1,10 @@
 -- What a lowered program owes stays the same where its new numbers become other new ones, each its own.
-use Rattle.std.proofs.Common.{◌≡◌, refl, sym, ap, ◌∙◌, true≢false, ℕ, zero, suc, List, [], ◌∷◌, ◌++◌, map, Bool, true, false}
+use Rattle.std.proofs.Common.{◌≡◌, refl, sym, ap, ◌∙◌, true≢false, ℕ, List, [], ◌∷◌, ◌++◌, map, Bool, true, false}
 use Rattle.std.specs.Prelude.{cond, ◌&&◌, nat_eq}
 use Rattle.std.proofs.lemmas.List.{map-append}
 use Rattle.es_base.specs.Numbered.{numbers, is_old}
 use Rattle.es_base.specs.Order.{in_order, number_of}
-use Rattle.es_base.specs.Tree.{Tree, Part, Parts, Node, end, more, child, absent, list, text, no_text, truth, literal}
+use Rattle.es_base.specs.Tree.{Tree, Part, Parts, Node, end, more, child}
 use Rattle.es_base.specs.declared.kind.Kind.{Kind}
 use Rattle.es_base.specs.declared.ledger.GeneratedKind.{GeneratedKind}
 use Rattle.es_base.specs.declared.ledger.LedgerEntry.{LedgerEntry}
@@ -14,7 +14,7 @@ use Rattle.es_steps.proofs.ReferencesMapped.{resolve-mapped, in_order-mapped, ha
 use Rattle.es_steps.specs.Lowered.{kind_of, none_lowered, nothing_left, declaring_number, declaring_numbers, is_bound_to, all_mean, is_one_new, private_key, private_keys, keys_of_body, keys_of_class, keys_in, is_one, declared_by_kind, names_declared, class_name_at, declares_class, own_name_number, own_name_numbers, is_accounted, all_accounted, declarations_accounted}
 use Rattle.es_steps.specs.Options.{Options}
 use Rattle.es_steps.specs.Parts.{at, items, text_of}
-use Rattle.es_steps.specs.References.{Reference, resolve, has_number}
+use Rattle.es_steps.specs.References.{Reference, resolve}
 use Rattle.es_steps.specs.Standing.{made_class, made_classes, all_old}
 use Rattle.es_steps.specs.Values.{Text, Referent, Bound, Free}
 

@@ -1,5 +1,5 @@
 -- Trees, codes and meanings with other numbers: each number m becomes `f m`.
-use Rattle.std.specs.Prelude.{◌≡◌, ℕ, List, [], ◌∷◌, map, Bool, true, false, nat_eq, Option, Some, None}
+use Rattle.std.specs.Prelude.{◌≡◌, ℕ, List, map, true, nat_eq, Option, Some, None}
 use Rattle.es_base.specs.Numbered.{is_new, is_old}
 use Rattle.es_base.specs.Tree as tree
 use Rattle.es_base.specs.Tree.{Tree, Part, Parts, Node}

@@ -9,14 +9,11 @@ use Rattle.es_base.specs.declared.kind.Kind.{Kind}
 use Rattle.es_base.specs.declared.ledger.GeneratedKind.{GeneratedKind}
 use Rattle.es_base.specs.declared.ledger.LedgerEntry.{LedgerEntry}
 use Rattle.es_steps.specs.Context.{made_as}
-use Rattle.es_steps.specs.Entries.{Entry, Entries, listed, after_run}
-use Rattle.es_steps.specs.Evaluation.{Environment, Run}
-use Rattle.es_steps.specs.Events.{Event, Throw, Events, none, then, is_throw, throws, value_behind}
+use Rattle.es_steps.specs.Entries.{Entry, Entries}
 use Rattle.es_steps.specs.Meaning.{DeclarationKind, declares_at, declaring, declaring_parts, declaring_part, declaring_items, old_bindings, names_class, unless_made, declared_function, declared_functions, inserted, by_number, with_entry, whole, source_type_of}
 use Rattle.es_steps.specs.Parts.{at, text_of}
 use Rattle.es_steps.specs.Scopes.{is_binding_identifier}
-use Rattle.es_steps.specs.Values.{Value, Undefined}
-use Rattle.es_steps.proofs.Mapped.{Renames, mapped, mapped_part, mapped_parts, mapped_option, mapped_value, mapped_event, mapped_events, mapped_environment, mapped_run, mapped_listed, mapped_entry, mapped_entries, mapped_numbered_entry, mapped_pair, mapped_binding}
+use Rattle.es_steps.proofs.Mapped.{Renames, mapped, mapped_part, mapped_parts, mapped_option, mapped_entry, mapped_entries, mapped_numbered_entry, mapped_pair, mapped_binding}
 
 -- ---- by number
 

@@ -74,7 +74,7 @@ plain-stays : (c : Code) → IsPlain c → Stays (ev c)
 plain-stays c (a_value v) env = refl
 plain-stays c (a_name m s kind h) env = read_name-stays m s kind h env
 
-plain-entries : (first : ℕ) (s e : Environment) (c : Code) → IsPlain c → entries first s e c ≡ []
+pub plain-entries : (first : ℕ) (s e : Environment) (c : Code) → IsPlain c → entries first s e c ≡ []
 plain-entries first s e c (a_value v) = refl
 plain-entries first s e c (a_name m t kind h) = refl
 

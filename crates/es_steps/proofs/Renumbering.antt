@@ -1,6 +1,6 @@
 -- Giving the new nodes their numbers anew keeps a meaning in which none of them stands.
 use Rattle.std.proofs.Common.{◌≡◌, refl, sym, ap, ap₂, ◌∙◌, ℕ, List, [], map, true, Option, Some}
-use Rattle.es_base.specs.Numbered.{numbers, new_numbers}
+use Rattle.es_base.specs.Numbered.{new_numbers}
 use Rattle.es_base.specs.Order.{in_order}
 use Rattle.es_base.specs.Tree.{Tree}
 use Rattle.es_base.specs.declared.ledger.LedgerEntry.{LedgerEntry}

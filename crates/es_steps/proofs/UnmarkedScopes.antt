@@ -12,12 +12,12 @@ use Rattle.es_steps.specs.Scopes.{ClassName, no_class, declares, own_name, Decla
 
 -- ---- parts
 
-at-unmarked : (i : ℕ) (ps : Parts) → at i (unmarked_parts ps) ≡ unmarked_part (at i ps)
+pub at-unmarked : (i : ℕ) (ps : Parts) → at i (unmarked_parts ps) ≡ unmarked_part (at i ps)
 at-unmarked i end = refl
 at-unmarked zero (more p ps) = refl
 at-unmarked (suc i) (more p ps) = at-unmarked i ps
 
-items-unmarked : (p : Part) → items (unmarked_part p) ≡ unmarked_parts (items p)
+pub items-unmarked : (p : Part) → items (unmarked_part p) ≡ unmarked_parts (items p)
 items-unmarked (list ps) = refl
 items-unmarked p = refl
 

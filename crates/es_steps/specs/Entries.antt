@@ -2,9 +2,9 @@
 -- stands. (ECMA-262, 10.2 and 15.7: calls, field initialization, class definition evaluation. Entries are our own.)
 use Rattle.std.specs.Prelude.{ℕ, List, [], ◌∷◌, ◌++◌, Bool, true, false, cond, ◌||◌, bytes_eq, Option, Some, None}
 use Rattle.es_base.specs.Numbered.{is_new}
-use Rattle.es_steps.specs.Code.{Code, Codes, Target, Callee, FunctionForm, nothing, no_rule, value, spelled, binding, rest_binding, name, helper, member, assign, compound, logical, logical_assign, update, call, construct, sequence, operation, piece, template_text, define, steps, function, class_code, field, method, constructor, static_block, to_name, to_member, no_target, plain, on_member, done, and}
-use Rattle.es_steps.specs.Context.{NameKind, Fixed, Changing, MeansClass, Made}
-use Rattle.es_steps.specs.Evaluation.{Environment, Run, Evaluation, no_meaning, gives, event, bind, ev, ev_all, ev_target, ev_callee, ev_initializers, Ready}
+use Rattle.es_steps.specs.Code.{Code, Codes, Target, Callee, FunctionForm, binding, rest_binding, member, assign, compound, logical, logical_assign, update, call, construct, sequence, operation, define, steps, function, class_code, field, method, constructor, static_block, to_name, to_member, plain, on_member, done, and}
+use Rattle.es_steps.specs.Context.{Made}
+use Rattle.es_steps.specs.Evaluation.{Environment, Run, Evaluation, no_meaning, gives, event, bind, ev, ev_all, ev_target, ev_callee, ev_initializers}
 use Rattle.es_steps.specs.Events.{Events, SuperAll, value_behind}
 use Rattle.es_steps.specs.Values.{Text, Value, Undefined, ThisOf}
 

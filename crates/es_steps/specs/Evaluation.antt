@@ -6,7 +6,7 @@ use Rattle.es_base.specs.declared.ledger.GeneratedKind.{GeneratedKind}
 use Rattle.es_steps.specs.Code.{Code, Codes, Target, Callee, FieldForm, defines, sets, leaves_out, nothing, no_rule, value, spelled, binding, rest_binding, name, helper, member, assign, compound, logical, logical_assign, update, call, construct, sequence, operation, piece, template_text, define, steps, function, class_code, field, method, constructor, static_block, to_name, to_member, no_target, plain, on_member, done, and}
 use Rattle.es_steps.specs.Context.{NameKind, Fixed, Changing, MeansClass, Made}
 use Rattle.es_steps.specs.Events.{Operation, OfKind, Operand, Word, Place, RightOf, Part, Event, ReadName, SetName, Get, Set, Define, Call, Construct, Operate, Update, Held, Events, none, then, behind, value_behind}
-use Rattle.es_steps.specs.Values.{Text, Value, Undefined, BindingOf, FunctionOf, ClassOf, ThisOf, ResultOf, FormerOf, Referent, Bound, Free}
+use Rattle.es_steps.specs.Values.{Text, Value, Undefined, BindingOf, FunctionOf, ClassOf, ThisOf, ResultOf, FormerOf, Bound}
 
 -- the values of temporaries, the last given first
 abbrev pub Environment : Type 0

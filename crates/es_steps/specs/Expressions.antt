@@ -1,13 +1,13 @@
 -- The codes of expressions. (ECMA-262, 13. Each rule reads the members of its kind in the order of the table.)
-use Rattle.std.specs.Prelude.{ℕ, suc, List, [], ◌∷◌, ◌++◌, Bool, true, false, cond, not, ◌&&◌, ◌||◌, codes, bytes_eq, Option, Some, None}
+use Rattle.std.specs.Prelude.{ℕ, List, [], ◌∷◌, ◌++◌, Bool, true, false, cond, not, ◌&&◌, ◌||◌, codes, bytes_eq, Option, Some, None}
 use Rattle.es_base.specs.declared.kind.Kind.{Kind}
 use Rattle.es_base.specs.declared.literal.LiteralValue.{LiteralValue}
 use Rattle.es_base.specs.declared.literal.LiteralValue.TheVariants as literal_value
-use Rattle.es_steps.specs.Code.{Code, Codes, Target, Callee, nothing, no_rule, value, spelled, binding, rest_binding, name, helper, member, assign, compound, logical, logical_assign, update, call, construct, sequence, operation, piece, template_text, define, to_name, to_member, no_target, plain, on_member, done, and}
-use Rattle.es_steps.specs.Context.{Context, NameKind, Fixed, Changing, MeansClass, Made, name_kind, new_here}
-use Rattle.es_steps.specs.Events.{Mark, Operand, Empty, Word, Flag, Key, Prototype, OfKind, Delete}
-use Rattle.es_steps.specs.Members.{Member, Members, code, absent, list, text, no_text, truth, literal, end, more, at, from, operands, operands_of, marks, marks_of, codes_of, word_of, flag_of}
-use Rattle.es_steps.specs.Values.{Text, Constant, StringOf, NumberOf, BigIntOf, RegExpOf, BooleanOf, Null, RawTemplate, Value, ConstantOf, Undefined, ClassOf, ThisOf, Referent, Bound, Free}
+use Rattle.es_steps.specs.Code.{Code, Codes, Target, no_rule, value, spelled, binding, name, helper, member, assign, compound, logical, logical_assign, update, call, construct, operation, piece, template_text, define, to_name, to_member, no_target, plain, on_member, done, and}
+use Rattle.es_steps.specs.Context.{Context, NameKind, Changing, MeansClass, name_kind, new_here}
+use Rattle.es_steps.specs.Events.{Mark, Operand, Word, Flag, Key, Prototype, OfKind, Delete}
+use Rattle.es_steps.specs.Members.{Member, Members, code, list, text, literal, end, more, at, operands, marks, codes_of, word_of, flag_of}
+use Rattle.es_steps.specs.Values.{Text, Constant, StringOf, NumberOf, BigIntOf, RegExpOf, BooleanOf, Null, RawTemplate, Value, ConstantOf, Undefined, ClassOf, ThisOf, Free}
 
 -- the rule of all kinds that have none of their own: the operands in order, then the operation
 abbrev pub operation_of : Kind → ℕ → Members → Code

@@ -1,14 +1,14 @@
 -- Programs of the first form, which is all that is lowered yet: scripts of class declarations whose elements are instance
 -- fields with a name, and with a literal, a name or nothing as value. (Our own. Such a program has no early error of
 -- ECMA-262 but that it may be too large.)
-use Rattle.std.specs.Prelude.{◌≡◌, ℕ, List, [], ◌∷◌, ◌++◌, Bool, true, false, cond, not, ◌&&◌, ◌||◌, nat_le, bytes_eq, codes, Option, Some, None}
+use Rattle.std.specs.Prelude.{ℕ, List, [], ◌∷◌, ◌++◌, Bool, true, false, cond, not, ◌&&◌, ◌||◌, nat_le, bytes_eq, codes, Option, Some, None}
 use Rattle.es_base.specs.Conforms.{is_among}
 use Rattle.es_base.specs.Order.{nodes}
-use Rattle.es_base.specs.Tree.{Tree, Part, Parts, Node, end, more, child, absent, list, text, no_text, truth, literal}
+use Rattle.es_base.specs.Tree.{Tree, Part, Parts, Node, end, more, child, absent, text, truth, literal}
 use Rattle.es_base.specs.declared.kind.Kind.{Kind}
 use Rattle.es_base.specs.declared.literal.LiteralValue.{LiteralValue}
 use Rattle.es_base.specs.declared.literal.LiteralValue.TheVariants as literal_value
-use Rattle.es_steps.specs.Parts.{at, items, text_of, is_true, is_present}
+use Rattle.es_steps.specs.Parts.{at, items, text_of, is_present}
 use Rattle.es_steps.specs.Values.{Text}
 
 -- a program has at most this many nodes

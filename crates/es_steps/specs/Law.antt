@@ -4,7 +4,7 @@ use Rattle.es_base.specs.Conforms.{conforms}
 use Rattle.es_base.specs.Marks.{unmarked}
 use Rattle.es_base.specs.Numbered.{EachOnce, numbers}
 use Rattle.es_base.specs.Order.{renumbered}
-use Rattle.es_base.specs.Tree.{Tree, Part, Parts, Node, end, more, child, absent, list, text, no_text, truth, literal, trees}
+use Rattle.es_base.specs.Tree.{Tree, Node, end, more, child, list, text, truth, trees}
 use Rattle.es_base.specs.declared.kind.Kind.{Kind}
 use Rattle.es_base.specs.declared.ledger.LedgerEntry.{LedgerEntry}
 use Rattle.es_base.specs.declared.table.Place.{Place}
@@ -16,6 +16,7 @@ use Rattle.es_steps.specs.FirstForm.{is_first_form}
 use Rattle.es_steps.specs.Lowered.{IsLowered, nothing_left, names_declared, declarations_accounted, initializations_stand}
 use Rattle.es_steps.specs.Meaning.{Meaning, means}
 use Rattle.es_steps.specs.Options.{Options}
+use Rattle.es_steps.specs.PrivateNames.{private_members, resolve_privates}
 use Rattle.es_steps.specs.Reading.{read}
 use Rattle.es_steps.specs.References.{declared}
 use Rattle.es_steps.specs.Standing.{meaning_numbers, made_classes, all_old}
@@ -24,6 +25,10 @@ use Rattle.es_steps.specs.Values.{Value, Undefined}
 -- marks are no part of a meaning
 abbrev pub MarksLaw : Type 0
 MarksLaw = (first : ℕ) (o : Options) (ledger : List LedgerEntry) (t : Tree) → means first o ledger (unmarked t) ≡ means first o ledger t
+
+-- nor of the private members, and of what private names mean
+abbrev pub PrivateMarksLaw : Type 0
+PrivateMarksLaw = (t : Tree) → (private_members (unmarked t) ≡ private_members t) × (resolve_privates (unmarked t) ≡ resolve_privates t)
 
 -- giving the new nodes their numbers anew, in reading order, keeps a meaning in which none of them stands
 abbrev pub RenumberingLaw : Type 0

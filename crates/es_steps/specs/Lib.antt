@@ -13,6 +13,7 @@ pub mod Meaning
 pub mod Members
 pub mod Options
 pub mod Parts
+pub mod PrivateNames
 pub mod Reading
 pub mod References
 pub mod Rows

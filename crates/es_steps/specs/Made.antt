@@ -1,6 +1,6 @@
 -- The nodes that a lowering makes: numbers in reading order from m on, no spans, no marks.
-use Rattle.std.specs.Prelude.{ℕ, ◌+◌, List, [], ◌∷◌, Bool, true, false, codes, Option, Some, None}
-use Rattle.es_base.specs.Tree.{Tree, Part, Parts, Node, end, more, child, absent, list, text, no_text, truth, literal, trees}
+use Rattle.std.specs.Prelude.{ℕ, ◌+◌, List, [], ◌∷◌, false, codes, None}
+use Rattle.es_base.specs.Tree.{Tree, Parts, Node, end, more, child, absent, list, text, no_text, truth, literal, trees}
 use Rattle.es_base.specs.declared.kind.Kind.{Kind}
 use Rattle.es_base.specs.declared.literal.LiteralValue.TheVariants as literal_value
 use Rattle.es_steps.specs.Values.{Text}

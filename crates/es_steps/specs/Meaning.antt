@@ -3,14 +3,14 @@
 use Rattle.std.specs.Prelude.{ℕ, zero, suc, List, [], ◌∷◌, ◌++◌, Bool, true, false, cond, nat_le, Option, Some, None}
 use Rattle.es_base.specs.Numbered.{is_new}
 use Rattle.es_base.specs.Order.{in_order, number_of, nodes}
-use Rattle.es_base.specs.Tree.{Tree, Part, Parts, Node, end, more, child, absent, list, text, no_text, truth, literal}
+use Rattle.es_base.specs.Tree.{Tree, Part, Parts, Node, end, more, child, list, text}
 use Rattle.es_base.specs.declared.kind.Kind.{Kind}
 use Rattle.es_base.specs.declared.ledger.GeneratedKind.{GeneratedKind}
 use Rattle.es_base.specs.declared.ledger.LedgerEntry.{LedgerEntry}
 use Rattle.es_steps.specs.Code.{Code}
 use Rattle.es_steps.specs.Context.{Context, made_as}
 use Rattle.es_steps.specs.Entries.{Entry, Entries, Listed, listed, after_run, entries}
-use Rattle.es_steps.specs.Evaluation.{Environment, Run, ev}
+use Rattle.es_steps.specs.Evaluation.{Run, ev}
 use Rattle.es_steps.specs.Options.{Options}
 use Rattle.es_steps.specs.Parts.{at, text_of}
 use Rattle.es_steps.specs.Reading.{read}

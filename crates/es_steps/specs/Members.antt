@@ -1,7 +1,7 @@
 -- The members of a node with the codes of its children: what the rule of its kind reads.
-use Rattle.std.specs.Prelude.{ℕ, zero, suc, List, [], ◌∷◌, ◌++◌, Bool, true, false, Option, Some, None}
+use Rattle.std.specs.Prelude.{ℕ, zero, suc, List, [], ◌∷◌, ◌++◌, Bool, false, Option, Some, None}
 use Rattle.es_base.specs.declared.literal.LiteralValue.{LiteralValue}
-use Rattle.es_steps.specs.Code.{Code, Codes, piece, spelled, template_text, steps, done, and, joined}
+use Rattle.es_steps.specs.Code.{Code, Codes, piece, spelled, template_text, done, and, joined}
 use Rattle.es_steps.specs.Events.{Mark, Operand, Empty, Word, Flag, Opens, Closes}
 use Rattle.es_steps.specs.Values.{Text}
 

@@ -1,5 +1,5 @@
 -- The options, as far as a definition reads them.
-use Rattle.std.specs.Prelude.{Bool, true, false, ◌&&◌}
+use Rattle.std.specs.Prelude.{Bool, true, false}
 
 pub record Options : Type 0 where
   -- class fields and private members are lowered

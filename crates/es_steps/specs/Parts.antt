@@ -1,6 +1,6 @@
 -- The members of a node by their places in the table.
-use Rattle.std.specs.Prelude.{ℕ, zero, suc, List, [], Bool, true, false, bytes_eq, codes}
-use Rattle.es_base.specs.Tree.{Tree, Part, Parts, Node, end, more, child, absent, list, text, no_text, truth, literal}
+use Rattle.std.specs.Prelude.{ℕ, zero, suc, List, [], Bool, true, false}
+use Rattle.es_base.specs.Tree.{Part, Parts, Node, end, more, child, absent, list, text, truth}
 
 -- the i-th member
 abbrev pub at : ℕ → Parts → Part

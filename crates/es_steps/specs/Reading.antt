@@ -1,9 +1,9 @@
 -- The code of a tree: each node by the rule of its kind, over the codes of its children.
-use Rattle.std.specs.Prelude.{ℕ, suc, List, [], ◌∷◌, Bool, true, false}
+use Rattle.std.specs.Prelude.{ℕ, suc, true, false}
 use Rattle.es_base.specs.Tree as tree
 use Rattle.es_base.specs.Tree.{Tree, Part, Parts, Node}
 use Rattle.es_base.specs.declared.kind.Kind.{Kind}
-use Rattle.es_steps.specs.Code.{Code, Codes, nothing, no_rule, value, spelled, binding, rest_binding, sequence, template_text, steps, static_block}
+use Rattle.es_steps.specs.Code.{Code, nothing, no_rule, value, spelled, binding, sequence, template_text, steps, static_block}
 use Rattle.es_steps.specs.Context.{Context, name_kind, inside}
 use Rattle.es_steps.specs.Expressions.{the_code, literal_code, name_code, cooked_of, template_code, meta_code, member_code, assignment_code, update_code, unary_code, logical_code, call_code, new_code, conditional_code, property_code, operation_of}
 use Rattle.es_steps.specs.Members.{Member, Members, code, absent, list, text, no_text, truth, literal, end, more, at, codes_in, word_of}

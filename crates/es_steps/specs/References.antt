@@ -1,12 +1,11 @@
 -- Resolution: what each reference of a tree refers to, and which bindings are written. (ECMA-262, 9.1: environment
 -- records; a reference means the nearest scope that holds its spelling.)
 use Rattle.std.specs.Prelude.{ℕ, suc, List, [], ◌∷◌, ◌++◌, map, Bool, true, false, cond, ◌||◌, nat_eq, bytes_eq, Option, Some, None}
-use Rattle.es_base.specs.Tree.{Tree, Part, Parts, Node, end, more, child, absent, list, text, no_text, truth, literal}
+use Rattle.es_base.specs.Tree.{Tree, Part, Parts, Node, end, more, child, list}
 use Rattle.es_base.specs.Table.{Field, members_of}
 use Rattle.es_base.specs.Conforms.{is_target_place}
 use Rattle.es_base.specs.Order.{in_order}
 use Rattle.es_base.specs.declared.kind.Kind.{Kind}
-use Rattle.es_base.specs.declared.table.Place.{Place}
 use Rattle.es_base.specs.declared.table.Sort.{Sort}
 use Rattle.es_steps.specs.Parts.{at, text_of}
 use Rattle.es_steps.specs.Scopes.{Declaration, names_at, scope_form, scope_names, var_part}

@@ -1,10 +1,10 @@
 -- Programs of the first form and what they are lowered to, as trees: their meanings are computed in proofs/Computed.antt.
-use Rattle.std.specs.Prelude.{ℕ, ◌+◌, List, [], ◌∷◌, Bool, true, false, codes, Option, Some, None}
-use Rattle.es_base.specs.Tree.{Tree, Part, Parts, Node, end, more, child, absent, list, text, no_text, truth, literal, trees}
+use Rattle.std.specs.Prelude.{ℕ, ◌+◌, List, [], ◌∷◌, false, codes, Option}
+use Rattle.es_base.specs.Tree.{Tree, Part, end, more, child, absent, list, text, truth, trees}
 use Rattle.es_base.specs.declared.kind.Kind.{Kind}
-use Rattle.es_steps.specs.Made.{node, named, number_literal, string_literal, constructor_at, define_at, void_at}
+use Rattle.es_steps.specs.Made.{node, named, number_literal, constructor_at, define_at, void_at}
 use Rattle.es_steps.specs.Meaning.{Meaning, means, source_means}
-use Rattle.es_steps.specs.Options.{Options, class_properties_alone}
+use Rattle.es_steps.specs.Options.{class_properties_alone}
 use Rattle.es_steps.specs.Values.{Text}
 
 abbrev pub program : List Tree → Tree

@@ -1,7 +1,7 @@
 -- Scopes: which names a node declares, and in which of its parts they are seen. (ECMA-262, 8.2: BoundNames,
 -- LexicallyDeclaredNames, VarDeclaredNames; functions in blocks are bound in their block.)
-use Rattle.std.specs.Prelude.{ℕ, suc, List, [], ◌∷◌, ◌++◌, Bool, true, false, cond, not, codes, bytes_eq, nat_eq, nat_le}
-use Rattle.es_base.specs.Tree.{Tree, Part, Parts, Node, end, more, child, absent, list, text, no_text, truth, literal}
+use Rattle.std.specs.Prelude.{ℕ, List, [], ◌∷◌, ◌++◌, Bool, true, false, cond, codes, bytes_eq, nat_eq}
+use Rattle.es_base.specs.Tree.{Tree, Part, Parts, Node, end, more, child, list}
 use Rattle.es_base.specs.Table.{Field, members_of}
 use Rattle.es_base.specs.declared.kind.Kind.{Kind}
 use Rattle.es_base.specs.declared.table.Place.{Place}

@@ -1,13 +1,13 @@
 -- The codes of statements, functions and classes. (ECMA-262, 14 and 15.)
-use Rattle.std.specs.Prelude.{ℕ, suc, List, [], ◌∷◌, Bool, true, false, cond, not, ◌&&◌, ◌||◌, codes, bytes_eq, Option, Some, None}
+use Rattle.std.specs.Prelude.{ℕ, Bool, true, false, cond, not, ◌&&◌, ◌||◌, codes, bytes_eq, Option, Some, None}
 use Rattle.es_base.specs.declared.kind.Kind.{Kind}
-use Rattle.es_steps.specs.Code.{Code, Codes, FunctionForm, FieldForm, defines, sets, leaves_out, nothing, no_rule, value, spelled, binding, rest_binding, name, assign, operation, steps, function, class_code, field, method, constructor, static_block, to_name, done, and, joined}
-use Rattle.es_steps.specs.Context.{Context, NameKind, Fixed, Changing, MeansClass, Made, name_kind, new_here}
+use Rattle.es_steps.specs.Code.{Code, Codes, FunctionForm, FieldForm, defines, sets, leaves_out, nothing, no_rule, value, spelled, binding, rest_binding, assign, operation, steps, function, class_code, field, method, constructor, to_name, done, and, joined}
+use Rattle.es_steps.specs.Context.{Context, Fixed, Made, new_here}
 use Rattle.es_steps.specs.Events.{OfKind}
-use Rattle.es_steps.specs.Expressions.{the_code, key_code, target_of}
-use Rattle.es_steps.specs.Members.{Member, Members, code, absent, list, text, no_text, truth, literal, end, more, at, from, before, operands, operands_of, marks, codes_in, codes_of, word_of, flag_of}
+use Rattle.es_steps.specs.Expressions.{the_code, key_code}
+use Rattle.es_steps.specs.Members.{Member, Members, code, absent, more, at, from, before, operands, operands_of, marks, codes_in, codes_of, word_of, flag_of}
 use Rattle.es_steps.specs.Options.{Options}
-use Rattle.es_steps.specs.Values.{Text, Constant, StringOf, Value, ConstantOf, Undefined}
+use Rattle.es_steps.specs.Values.{StringOf, ConstantOf, Undefined}
 
 -- ---- statements
 

@@ -1,14 +1,13 @@
 -- Programs beyond the first form, and what they are to be lowered to: their meanings are computed in
 -- proofs/ComputedWider.antt.
-use Rattle.std.specs.Prelude.{ℕ, ◌+◌, List, [], ◌∷◌, ◌++◌, Bool, true, false, codes, Option, Some, None}
-use Rattle.es_base.specs.Tree.{Tree, Part, Parts, Node, end, more, child, absent, list, text, no_text, truth, literal, trees}
+use Rattle.std.specs.Prelude.{ℕ, ◌+◌, List, [], ◌∷◌, ◌++◌, Bool, true, false, codes}
+use Rattle.es_base.specs.Tree.{Tree, Part, end, more, child, absent, list, text, no_text, truth, trees}
 use Rattle.es_base.specs.declared.kind.Kind.{Kind}
 use Rattle.es_base.specs.declared.ledger.GeneratedKind.{GeneratedKind}
 use Rattle.es_base.specs.declared.ledger.LedgerEntry.{LedgerEntry}
-use Rattle.es_steps.specs.Meaning.{Meaning, means}
-use Rattle.es_steps.specs.Options.{Options, class_properties_alone}
+use Rattle.es_steps.specs.Options.{Options}
 use Rattle.es_steps.specs.Made.{node, named, number_literal, string_literal}
-use Rattle.es_steps.specs.Rows.{program, class_at}
+use Rattle.es_steps.specs.Rows.{program, class_at, field_at}
 use Rattle.es_steps.specs.Values.{Text}
 
 abbrev pub sets_fields : Options
@@ -105,3 +104,23 @@ static_block_names = made (codes "_foo") GeneratedKind.Temp ∷ []
 
 abbrev pub compound_row : Tree
 compound_row = program (statement 1 (assignment_at 2 (codes "+=") (member_at 3 (call_at 4 (reference 5 (codes "o")) []) (named Kind.IdentifierName 6 (codes "x")) false) (number_literal 7 (codes "1"))) ∷ [])
+
+-- ---- `class A { #x; #y; f = class extends o.#y { static get #y() {} g = #x in o; h = o.#y; }; k = o.#z; }`
+
+abbrev pub private_field_at : ℕ → Text → Part → Tree
+private_field_at m s v = node Kind.PropertyDefinition m (more (child (named Kind.PrivateIdentifier (m + 1) s)) (more v (more (truth false) (more (truth false) end))))
+
+-- `static get #s() {}`, with numbers from m on
+abbrev pub private_getter_at : ℕ → Text → Tree
+private_getter_at m s = node Kind.MethodDefinition m (more (child (named Kind.PrivateIdentifier (m + 1) s)) (more (child (node Kind.FunctionExpression (m + 2) (more absent (more (list end) (more (child (node Kind.BlockStatement (m + 3) (more (list end) end))) (more (truth false) (more (truth false) end))))))) (more (text (codes "get")) (more (truth false) (more (truth true) end)))))
+
+-- `o.#s`, with numbers from m on
+abbrev pub private_read_at : ℕ → Text → Tree
+private_read_at m s = node Kind.PrivateField m (more (child (reference (m + 1) (codes "o"))) (more (child (named Kind.PrivateIdentifier (m + 2) s)) (more (truth false) (more (truth false) end))))
+
+-- `#s in o`, with numbers from m on
+abbrev pub private_in_at : ℕ → Text → Tree
+private_in_at m s = node Kind.PrivateIn m (more (text (codes "in")) (more (child (named Kind.PrivateIdentifier (m + 1) s)) (more (child (reference (m + 2) (codes "o"))) end)))
+
+abbrev pub nested_privates : Tree
+nested_privates = program (class_at 1 (codes "A") (private_field_at 4 (codes "x") absent ∷ private_field_at 6 (codes "y") absent ∷ field_at 8 (codes "f") (child (node Kind.ClassExpression 10 (more absent (more (child (private_read_at 11 (codes "y"))) (more (child (node Kind.ClassBody 14 (more (list (trees (private_getter_at 15 (codes "y") ∷ field_at 19 (codes "g") (child (private_in_at 21 (codes "x"))) ∷ field_at 24 (codes "h") (child (private_read_at 26 (codes "y"))) ∷ []))) end))) end))))) ∷ field_at 29 (codes "k") (child (private_read_at 31 (codes "z"))) ∷ []) ∷ [])

@@ -1,20 +1,22 @@
 // The laws of meanings: functions that do nothing.
 
-ghost use Rattle.std.specs.Prelude.{◌≡◌, [], ◌∷◌, None, true, false, codes};
+ghost use Rattle.std.specs.Prelude.{◌≡◌, [], ◌∷◌, Some, None, true, false, codes};
 ghost use Rattle.es_steps.specs.Events.{then, none, Define, ReadName, Set, Get, Call, Operate};
-ghost use Rattle.es_steps.specs.Law.{MarksLaw, RenumberingLaw, ClausesLaw, FirstFormLaw, DefineLaw};
+ghost use Rattle.es_steps.specs.Law.{MarksLaw, PrivateMarksLaw, RenumberingLaw, ClausesLaw, FirstFormLaw, DefineLaw};
 ghost use Rattle.es_steps.specs.Lists.{script_of_class, script_with_parameter, script_of, x, y, z, number, sum};
 ghost use Rattle.es_steps.specs.Lowered.{nothing_left};
 ghost use Rattle.es_steps.specs.Made.{number_literal};
 ghost use Rattle.es_steps.specs.Meaning.{means, source_means};
 ghost use Rattle.es_steps.specs.Options.{class_properties_alone, no_options};
+ghost use Rattle.es_steps.specs.PrivateNames.{a_field, a_getter, member, private_members, used, resolve_privates};
 ghost use Rattle.es_steps.specs.Rows.{one_field, one_field_lowered, one_field_with, two_fields, two_fields_lowered, two_fields_swapped, two_fields_with, lowered_means, means_as_written};
 ghost use Rattle.es_steps.specs.Values.{BindingOf, ThisOf, ResultOf, Undefined, Free};
-ghost use Rattle.es_steps.specs.WiderRows.{sets_fields, both_routes, shadowed, shadowed_with, set_field, static_name, static_name_lowered, computed_key, computed_key_lowered, computed_key_with, computed_key_names, compound_row, static_block_row, static_block_lowered, static_block_names};
+ghost use Rattle.es_steps.specs.WiderRows.{sets_fields, both_routes, shadowed, shadowed_with, set_field, static_name, static_name_lowered, computed_key, computed_key_lowered, computed_key_with, computed_key_names, compound_row, static_block_row, static_block_lowered, static_block_names, nested_privates};
 
-/// Marks are no part of a meaning.
+/// Marks are no part of a meaning, nor of the private members and of what private names mean.
 pub fn marks_mean_nothing()
-    ensures { MarksLaw }
+    ensures meaning { MarksLaw }
+    ensures private_names { PrivateMarksLaw }
 {}
 
 /// Giving the new nodes of a program their numbers anew, in reading order, keeps its meaning, if no
@@ -71,4 +73,13 @@ pub fn wrong_outputs_differ()
     ensures free_name { source_means class_properties_alone shadowed ≡ script_with_parameter (then (ReadName 6 (Free (codes "y"))) (then (Define (ThisOf 1) x (ResultOf 6)) (then (Set (ThisOf 1) z (BindingOf 10)) none))) }
     ensures parameter { means 18 class_properties_alone [] (shadowed_with (codes "y")) ≡ script_with_parameter (then (Define (ThisOf 1) x (BindingOf 10)) (then (Set (ThisOf 1) z (BindingOf 10)) none)) }
     ensures compound { source_means no_options compound_row ≡ script_of (then (ReadName 5 (Free (codes "o"))) (then (Call 4 (ResultOf 5) None []) (then (Get 3 (ResultOf 4) x) (then (Operate 2 sum (ResultOf 3 ∷ number (codes "1") ∷ [])) (then (Set (ResultOf 4) x (ResultOf 2)) none))))) }
+{}
+
+/// The private members of
+/// `class A { #x; #y; f = class extends o.#y { static get #y() {} g = #x in o; h = o.#y; }; k = o.#z; }`,
+/// and which class body each use of one means: the heritage of the inner class lies outside it, and no class
+/// declares `#z`; computed.
+pub fn private_names_mean_the_nearest_class()
+    ensures members { private_members nested_privates ≡ member 5 (codes "x") 3 false a_field ∷ member 7 (codes "y") 3 false a_field ∷ member 16 (codes "y") 14 true a_getter ∷ [] }
+    ensures uses { resolve_privates nested_privates ≡ used 13 (codes "y") (Some 3) ∷ used 22 (codes "x") (Some 3) ∷ used 28 (codes "y") (Some 14) ∷ used 33 (codes "z") None ∷ [] }
 {}

@@ -1,0 +1,8 @@
+use Rattle.std.proofs.Common.{◌∙◌, ap}
+use Rattle.es_base.specs.Conforms.{is_among}
+use Rattle.std.specs.Str.{chars}
+use Rattle.first_form.proofs.NameSets.{looked_up}
+use Rattle.first_form.proofs.names.Names.has.Goals as goal
+
+pub returns : goal.returns
+returns c = c.contains.ensures ∙ looked_up c.args.text.now c.self.inside.texts.keys c.utf8.text c.self.invariant ∙ ap (is_among (chars c.args.text.now)) c.self.view_is

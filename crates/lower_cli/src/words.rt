@@ -1,0 +1,41 @@
+// The words of the command line.
+
+ghost use Rattle.std.specs.Prelude.{◌≡◌, map, option_map, string_bytes};
+ghost use Rattle.lower_cli.specs.Words.{options_of, options_for, all_class_properties, is_class_properties};
+
+use es_plain::texts::is_word;
+
+/// What is lowered.
+#[derive(Debug, Clone, Copy, PartialEq, Eq)]
+pub enum Lowering {
+    /// Nothing: the tree is written as it is.
+    Nothing,
+    /// Class fields.
+    ClassProperties,
+}
+
+/// What the words ask for: nothing where there is none, class fields for `--class-properties` once or
+/// more. Any other words are none of the grammar.
+pub fn lowering_of(words: &[String]) -> Option<Lowering>
+    ensures { option_map options_for result ≡ options_of (map string_bytes words.now) }
+{
+    if words.is_empty() {
+        return Some(Lowering::Nothing);
+    }
+    if are_class_properties(words) {
+        return Some(Lowering::ClassProperties);
+    }
+    None
+}
+
+/// Whether each word is `--class-properties`.
+fn are_class_properties(words: &[String]) -> bool
+    ensures { result ≡ all_class_properties (map string_bytes words.now) }
+{
+    for word in words {
+        if !is_word(word.as_str(), "--class-properties") {
+            return false;
+        }
+    }
+    true
+}

@@ -1,0 +1,7 @@
+pub mod Calls
+pub mod Causes
+pub mod Held
+pub mod Memory
+pub mod Rest
+pub mod Room
+pub mod Standard
