@@ -1,6 +1,6 @@
 // What is said of the bytes of a source: the lowered tree, or why there is none.
 
-ghost use Rattle.std.specs.Prelude.{◌≡◌, ◌≤◌, ◌<◌, ◌+◌, ◌^◌, IfOk, IfErr, Ok, [], length, map, string_bytes, true, false};
+ghost use Rattle.std.specs.Prelude.{◌≡◌, ◌≤◌, ◌<◌, ◌+◌, ◌^◌, IfOk, IfErr, Ok, [], length, string_bytes, true, false};
 ghost use Rattle.es_base.specs.Conforms.{conforms};
 ghost use Rattle.es_base.specs.Order.{numbered_from};
 ghost use Rattle.es_base.specs.declared.table.Place.{Place};
