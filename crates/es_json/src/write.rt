@@ -45,8 +45,8 @@ pub fn write_program(alloc: Global, program: &Program) -> Result<Value, AllocErr
 /// `outside` has the numbers of the shapes that put the program outside the theorem on the order of its
 /// events, as they are given. Fails for want of memory alone.
 ///
-/// As with `write_program`, the value has no float, and `read_numbered` reads it as the same program
-/// without its marks.
+/// As with `write_program`, the value has no float, `read_numbered` reads it as the same program without
+/// its marks, and its names and warnings, too, are such as JSON holds, which the laws of `law` ask for.
 pub fn write_lowered(
     alloc: Global,
     program: &Program,

@@ -13,10 +13,9 @@ use Rattle.es_base.specs.declared.ids.Span.{Span}
 use Rattle.es_base.specs.declared.ledger.GeneratedKind.{GeneratedKind}
 use Rattle.es_base.specs.declared.ledger.LedgerEntry.{LedgerEntry}
 use Rattle.es_base.specs.declared.shape.Shape.{Shape}
-use Rattle.es_lowered.specs.Lowered.{entry_value, warning_value, number_in, write_lowered}
+use Rattle.es_lowered.specs.Lowered.{NumbersFit, WarningsFit, entry_value, warning_value, number_in, write_lowered}
 use Rattle.es_writing.specs.Kept.{IsKept, SpanFits}
 use Rattle.es_writing.specs.Writing.{number_of}
-use Rattle.es_json_law.specs.Named.{NumbersFit, WarningsFit}
 use Rattle.es_json_law.specs.Printed.{IsPrintedWell, ItemsAreWell}
 use Rattle.es_json_law.proofs.Lowered.{more_members}
 use Rattle.es_json_law.proofs.Texted.{one_text}

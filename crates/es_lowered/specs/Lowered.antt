@@ -1,6 +1,6 @@
 -- The value of a lowered program: that of its tree with three members more, the names that were made, the warnings, and
 -- the shapes of the program (our own).
-use Rattle.std.specs.Prelude.{◌≡◌, ℕ, Bool, true, false, List, [], ◌∷◌, map, codes, IsPermutation}
+use Rattle.std.specs.Prelude.{◌≡◌, ◌^◌, ◌<◌, ℕ, Bool, true, false, List, [], ◌∷◌, map, codes, IsPermutation}
 use Rattle.std.specs.List.Sorted.{IsSorted, IsStable}
 use Rattle.std.specs.Ordering.{nat_cmp, ordering_then}
 use Rattle.std.specs.declared.cmp.Ordering.{Ordering}
@@ -17,6 +17,7 @@ use Rattle.es_base.specs.declared.diagnostic.Diagnostic.{Diagnostic}
 use Rattle.es_base.specs.declared.ledger.GeneratedKind.{GeneratedKind}
 use Rattle.es_base.specs.declared.ledger.LedgerEntry.{LedgerEntry}
 use Rattle.es_base.specs.declared.shape.Shape.{Shape}
+use Rattle.es_writing.specs.Kept.{IsText, SpanFits}
 use Rattle.es_writing.specs.Writing.{Entry, entry, put_all, object_of, string_of, number_of, span_entries, write}
 
 -- ---- the names that were made
@@ -78,6 +79,18 @@ entry_value e = object_of (entry (codes "name") (string_of (written_name e)) (en
 abbrev pub entry_cmp : LedgerEntry → LedgerEntry → Ordering
 entry_cmp e f = ordering_then (slice_cmp nat_cmp (encode_utf8_all (written_name e)) (encode_utf8_all (written_name f))) (nat_cmp (number_in e.kind) (number_in f.kind))
 
+-- names and numbers that JSON can hold, as those of code are
+abbrev pub NamesAreTexts : List LedgerEntry → Type 0
+NamesAreTexts [] = Unit
+NamesAreTexts (e ∷ es) = IsText (written_name e) × NamesAreTexts es
+
+abbrev pub NumbersFit : List LedgerEntry → Type 0
+NumbersFit [] = Unit
+NumbersFit (e ∷ es) = (number_in e.kind < 2 ^ 32) × NumbersFit es
+
+abbrev pub NamesFit : List LedgerEntry → Type 0
+NamesFit es = NamesAreTexts es × NumbersFit es
+
 -- ---- warnings
 
 abbrev pub message : List ℕ
@@ -88,6 +101,10 @@ warning_value d = object_of (entry (codes "message") (string message) (entry (co
 
 abbrev pub warning_cmp : Diagnostic → Diagnostic → Ordering
 warning_cmp d e = nat_cmp d.node.0 e.node.0
+
+abbrev pub WarningsFit : List Diagnostic → Type 0
+WarningsFit [] = Unit
+WarningsFit (d ∷ ds) = (d.node.0 < 2 ^ 32) × SpanFits (span_of d.span) × WarningsFit ds
 
 -- ---- the value
 
@@ -101,10 +118,11 @@ abbrev pub with_entries : Data → List Entry → Data
 with_entries (object ms) es = object (put_all ms es)
 with_entries d es = d
 
--- the value is the array of the items in order
-pub record WritesInOrder {X : Type 0} (cmp : X → X → Ordering) (value_of : X → Data) (before : List X) (v : Value) : Type 0 where
+-- the value is the array of the items in order, and JSON can hold them
+pub record WritesInOrder {X : Type 0} (cmp : X → X → Ordering) (value_of : X → Data) (Fit : List X → Type 0) (before : List X) (v : Value) : Type 0 where
   pub after : List X
   pub in_order : IsArranged cmp before after
+  pub fit : Fit after
   pub written : view v ≡ array (items_of (map value_of after))
 
 -- of a tree, the names and warnings in their order, and the shapes
@@ -116,10 +134,12 @@ write_lowered t names warnings shapes =
     (entry (codes "outside") (array (items_of (map (λ s. number_of (shape_number s)) shapes))) []))
     )
 
--- the value of the tree with these names and warnings, in their order
+-- the value of the tree with these names and warnings, in their order, which JSON can hold
 pub record Writes (v : Value) (t : Tree) (ledger : List LedgerEntry) (warnings : List Diagnostic) (shapes : List Shape) : Type 0 where
   pub names : List LedgerEntry
   pub told : List Diagnostic
   pub names_in_order : IsArranged entry_cmp ledger names
   pub told_in_order : IsArranged warning_cmp warnings told
+  pub names_fit : NamesFit names
+  pub told_fit : WarningsFit told
   pub written : view v ≡ write_lowered t names told shapes

@@ -1,10 +1,11 @@
 // The names that were made.
 
 ghost use Rattle.std.specs.Prelude.{◌≡◌, IfOk, OnOk};
-ghost use Rattle.es_lowered.specs.Lowered.{WritesInOrder, entry_cmp, entry_value, kind_word, number_entries, written_name};
+ghost use Rattle.es_lowered.specs.Lowered.{NamesFit, WritesInOrder, entry_cmp, entry_value, kind_word, number_entries, written_name};
 ghost use Rattle.es_writing.specs.Writing.{put_all, string_of};
 ghost use Rattle.serde_json.specs.View.{view, members_view};
 
+use crate::kept::visit_names;
 use crate::order::arranged;
 use es_base::ledger::{GeneratedKind, LedgerEntry};
 use es_writing::entries::{put_number, put_value, put_word, string_of};
@@ -13,9 +14,10 @@ use std::alloc::{AllocError, Global};
 
 /// The list of the values of the names, in order (our own). Fails for want of memory alone.
 pub fn write_names(alloc: Global, entries: &[LedgerEntry]) -> Result<Value, AllocError>
-    ensures { IfOk result (WritesInOrder entry_cmp entry_value entries.now) }
+    ensures { IfOk result (WritesInOrder entry_cmp entry_value NamesFit entries.now) }
 {
     let names = arranged(alloc, entries)?;
+    visit_names(names.as_slice());
     let mut items = Vec::new(alloc);
     for entry in &names {
         items.push(entry_value(alloc, entry)?)?;

@@ -2,6 +2,7 @@
 #![tactic(auto)]
 
 mod generated;
+mod kept;
 pub mod lowered;
 mod order;
 #[cfg(test)]

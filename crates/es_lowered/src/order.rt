@@ -63,7 +63,7 @@ fn is_private(kind: GeneratedKind) -> bool
 }
 
 /// The number of a class or of a private name, and 0 where a kind has none.
-fn number_in(kind: GeneratedKind) -> u32
+pub fn number_in(kind: GeneratedKind) -> u32
     ensures { result ≡ number_in kind }
 {
     match kind {

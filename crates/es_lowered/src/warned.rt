@@ -1,9 +1,10 @@
 // Warnings.
 
 ghost use Rattle.std.specs.Prelude.{◌≡◌, IfOk};
-ghost use Rattle.es_lowered.specs.Lowered.{IsArranged, WritesInOrder, warning_cmp, warning_value};
+ghost use Rattle.es_lowered.specs.Lowered.{IsArranged, WarningsFit, WritesInOrder, warning_cmp, warning_value};
 ghost use Rattle.serde_json.specs.View.{view};
 
+use crate::kept::visit_warnings;
 use es_base::diagnostic::Diagnostic;
 use es_writing::entries::{put_number, put_span, put_word};
 use serde_json::{Map, Value};
@@ -13,9 +14,10 @@ const MESSAGE: &str = "Top-level await is not available in the configured target
 
 /// The list of the values of the warnings, in order (our own). Fails for want of memory alone.
 pub fn write_warnings(alloc: Global, warnings: &[Diagnostic]) -> Result<Value, AllocError>
-    ensures { IfOk result (WritesInOrder warning_cmp warning_value warnings.now) }
+    ensures { IfOk result (WritesInOrder warning_cmp warning_value WarningsFit warnings.now) }
 {
     let told = by_node(alloc, warnings)?;
+    visit_warnings(told.as_slice());
     let mut items = Vec::new(alloc);
     for warning in &told {
         items.push(warning_value(alloc, *warning)?)?;
