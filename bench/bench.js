@@ -1,5 +1,5 @@
-// Seconds, seconds of processor time and peak memory of the program for made inputs of 300, 3,000 and 30,000 classes of ten fields, beside those
-// of node's JSON.parse and JSON.stringify of the same bytes. Not in the gate.
+// Seconds, seconds of processor time and peak memory of the program for made inputs of 300, 3,000 and 30,000 classes
+// of ten fields, beside those of node's JSON.parse and JSON.stringify of the same bytes. Not in the gate.
 //
 //   node bench/bench.js crates/lower_cli/out/lower_cli
 const { spawnSync } = require('child_process');
