@@ -1,21 +1,22 @@
-"""Prints the kinds and their table, in code and in specs."""
-from model import *
+"""Prints the kinds, the words and their table, in code and in specs."""
+from files import BASE, code_head, snake, spec_head, write
+from kinds import *
 
 KINDS = []
-for k, v in STRUCTS.items():
+for k, v in ROWS.items():
     for kind in v[1]: KINDS.append((kind, k))
 ALL_WORDS = list(WORDS) + list(FIXED_WORDS)
 SORTS = {
-    'Child': ('A node.', 'Place'), 'Maybe': ('A node or null.', 'Place'),
+    'Child': ('A node.', 'Place'), 'Nullable': ('A node or null.', 'Place'),
     'Key': ('A node of this place, or an expression where `computed` is true.', 'Place'),
-    'List': ('A list of nodes.', 'Place'), 'Some': ('A list of at least one node.', 'Place'),
-    'Holes': ('A list of nodes and nulls.', 'Place'),
-    'Name': ('A text that is not empty.', None), 'MaybeText': ('A text or nothing.', None),
-    'Truth': ('A truth value, false where it is absent.', None), 'Never': ('A truth value that is false.', None),
+    'List': ('A list of nodes.', 'Place'), 'NonEmptyList': ('A list of at least one node.', 'Place'),
+    'ListWithHoles': ('A list of nodes and nulls.', 'Place'),
+    'Name': ('A string that is not empty.', None), 'NullableString': ('A string or nothing.', None),
+    'Boolean': ('A boolean, false where it is absent.', None), 'False': ('A boolean that is false.', None),
     'Word': ('One of a set of words.', 'Words'),
     'Literal': ('The value of a literal, which other members of the node decide too.', None),
-    'Raw': ('The text `raw` of the object `value`.', None), 'Cooked': ('The text `cooked` of the object `value`, or null.', None),
-    'Type': ('The text of `type`.', None),
+    'Raw': ('The string `raw` of the object `value`.', None), 'Cooked': ('The string `cooked` of the object `value`, or null.', None),
+    'Type': ('The string of `type`.', None),
 }
 
 
@@ -30,33 +31,27 @@ def estree(kind): return ESTREE.get(kind, kind)
 
 
 def write_table():
-    text = f'''// The kinds of nodes.
-
-ghost use Rattle.std.specs.Prelude.{{◌≡◌}};
-ghost use Rattle.{BASE}.specs.Table.{{name_of}};
-
-/// What a node is. A kind tells apart what one name of ESTree does not: declarations from expressions,
+    text = f'''/// What a node is. A kind tells apart what one name of ESTree does not: declarations from expressions,
 /// an identifier that is a reference, a binding or a mere name, private members, and patterns that
 /// declare from those that are assigned to.
 #[derive(Debug, Clone, Copy, PartialEq, Eq)]
 pub enum Kind {{
 ''' + ''.join(f'    {k},\n' for k, _ in KINDS) + f'''}}
 
-/// The text of a node's `type` (ESTree); empty for a foreign node, which keeps its own.
+/// The string of a node's `type` (ESTree); empty for a foreign node, which keeps its own.
 pub fn estree_name(kind: Kind) -> &'static str
     ensures {{ result.now ≡ name_of kind }}
 {{
     match kind {{
 ''' + ''.join(f'        Kind::{k} => "{estree(k)}",\n' for k, _ in KINDS) + '    }\n}\n'
     # kind.rt has the enum alone: a contract that cites specs naming the enum stands in another file
-    i = text.index('/// The text of a node')
+    i = text.index('/// The string of a node')
     enum_part = text[text.index('/// What a node is'):i].rstrip() + '\n'
-    write('src/kind.rt', '// The kinds of nodes.\n\n' + enum_part, BASE)
+    write('src/kind.rt', code_head('The kinds of nodes.') + '\n' + enum_part, BASE)
     name_fn = text[i:]
-    out = f'''// The table of kinds, as data: reading, writing and conformity are read off it.
-
+    out = code_head('The table of kinds, as data: reading, writing and conformity are read off it.') + f'''
 ghost use Rattle.std.specs.Prelude.{{◌≡◌, map}};
-ghost use Rattle.{BASE}.specs.Table.{{name_of, members_of, words_of, field_of, stands_in, is_statement, is_expression, is_pattern, is_target, kinds}};
+ghost use Rattle.{BASE}.specs.Table.{{name_of, members_of, field_of, stands_in, is_statement, is_expression, is_pattern, is_target, kinds}};
 
 use crate::kind::Kind;
 
@@ -83,26 +78,14 @@ pub struct Member {
 }
 
 ''' + name_fn + '''
-/// The members of a node in reading order (ESTree; the order is our own).
+/// The members of a node in preorder (ESTree; the order is our own).
 pub fn members(kind: Kind) -> &'static [Member]
     ensures { map field_of result.now ≡ members_of kind }
 {
     match kind {
 '''
     for kind, s in KINDS:
-        out += f'        Kind::{kind} => &[' + ', '.join(f'Member {{ name: "{n}", sort: {sort_code(so, "::")} }}' for n, _, so in STRUCTS[s][4]) + '],\n'
-    out += '''    }
-}
-
-/// The words of a set.
-pub fn words_in(of: Words) -> &'static [&'static str]
-    ensures { map (λ s. s.now) result.now ≡ words_of of }
-{
-    match of {
-'''
-    for w in ALL_WORDS:
-        ws = [t for _, t in WORDS[w][1]] if w in WORDS else FIXED_WORDS[w]
-        out += f'        Words::{w} => &[' + ', '.join(f'"{t}"' for t in ws) + '],\n'
+        out += f'        Kind::{kind} => &[' + ', '.join(f'Member {{ name: "{n}", sort: {sort_code(so, "::")} }}' for n, _, so in ROWS[s][4]) + '],\n'
     out += '''    }
 }
 
@@ -116,7 +99,7 @@ pub fn fits(place: Place, kind: Kind) -> bool
 
     def place_test(p):
         if p in groups: return f'fits_{groups[p][0]}(kind)'
-        _, _, also, ks = PLACES[p]
+        _, also, ks = PLACES[p]
         parts = []
         for a in also: parts.append(f'fits_{groups[a][0]}(kind)' if a in groups else place_test(a))
         parts.append('matches!(kind, ' + ' | '.join(f'Kind::{x}' for x in ks) + ')')
@@ -145,15 +128,15 @@ pub fn all_kinds() -> &'static [Kind]
 '''
     write('src/table.rt', out, BASE)
     D = f'Rattle.{BASE}.specs.declared'
-    o = f'''-- The table of kinds: names, members in reading order, places (ESTree's kinds up to ES2022; the order of reading is our own).
-use Rattle.std.specs.Prelude.{{ℕ, List, [], ◌∷◌, Bool, true, false, ◌||◌, codes}}
+    o = spec_head("The table of kinds: names, members in preorder, places (ESTree's kinds up to ES2022; the order of members is our own).") + f'''use Rattle.std.specs.Prelude.{{ℕ, List, [], ◌∷◌, map, Bool, true, false, ◌||◌, codes}}
 use {D}.kind.Kind.{{Kind}}
 use {D}.table.Place.{{Place}}
 use {D}.table.Words.{{Words}}
 use {D}.table.Sort.{{Sort}}
 use {D}.table.Member.{{Member}}
-use Rattle.{BASE}.specs.Words.{{{', '.join(snake(w) + '_text' for w in WORDS)}}}
-''' + ''.join(f'use {D}.operator.{w}.{{{w}}}\n' for w in WORDS) + '''
+use Rattle.{BASE}.specs.Words.{{word_string, all_of_set}}
+'''
+    o += '''
 -- a member: its name and what it holds
 pub record Field : Type 0 where
   pub name : List ℕ
@@ -165,18 +148,15 @@ field_of m = record { name = m.name.now; sort = m.sort }
 abbrev field : List ℕ → Sort → Field
 field s t = record { name = s; sort = t }
 
--- the text of `type`; a foreign node has its own
+-- the string of `type`; a foreign node has its own
 abbrev pub name_of : Kind → List ℕ
 ''' + ''.join(f'name_of Kind.{k} = ' + (f'codes "{estree(k)}"' if estree(k) else '[]') + '\n' for k, _ in KINDS) + '''
--- the members in reading order
+-- the members in preorder
 abbrev pub members_of : Kind → List Field
 '''
     for kind, s in KINDS:
-        o += f'members_of Kind.{kind} = ' + ''.join(f'field (codes "{n}") {sort_code(so, ".")} ∷ ' for n, _, so in STRUCTS[s][4]) + '[]\n'
-    o += '\n-- the words of a set\nabbrev pub words_of : Words → List (List ℕ)\n'
-    for w in ALL_WORDS:
-        if w in WORDS: o += f'words_of Words.{w} = ' + ''.join(f'{snake(w)}_text {w}.{v} ∷ ' for v, _ in WORDS[w][1]) + '[]\n'
-        else: o += f'words_of Words.{w} = ' + ''.join(f'codes "{t}" ∷ ' for t in FIXED_WORDS[w]) + '[]\n'
+        o += f'members_of Kind.{kind} = ' + ''.join(f'field (codes "{n}") {sort_code(so, ".")} ∷ ' for n, _, so in ROWS[s][4]) + '[]\n'
+    o += '\n-- the strings of the words of a set\nabbrev pub words_of : Words → List (List ℕ)\nwords_of set = map word_string (all_of_set set)\n'
     for p, (g, ks) in groups.items():
         o += f'\nabbrev pub is_{g} : Kind → Bool\n' + ''.join(f'is_{g} Kind.{x} = true\n' for x in ks) + f'is_{g} _ = false\n'
     o += '\n-- which kinds stand in a place\nabbrev pub stands_in : Place → Kind → Bool\n'
@@ -185,19 +165,80 @@ abbrev pub members_of : Kind → List Field
     def spec_lines(p, top):
         if p in groups: return f'is_{groups[p][0]} k'
         return None
-    for p, (doc, _, also, ks) in PLACES.items():
+    for p, (doc, also, ks) in PLACES.items():
         if p in groups:
             o += f'stands_in Place.{p} k = is_{groups[p][0]} k\n'
             continue
         chain, extra = also, list(ks)
         while chain and chain[0] not in groups:
-            extra += PLACES[chain[0]][3]
-            chain = PLACES[chain[0]][2]
+            extra += PLACES[chain[0]][2]
+            chain = PLACES[chain[0]][1]
         for x in extra: o += f'stands_in Place.{p} Kind.{x} = true\n'
         o += f'stands_in Place.{p} k = ' + (f'is_{groups[chain[0]][0]} k' if chain else 'false') + '\n'
     o += '\n-- every kind, once\nabbrev pub kinds : List Kind\nkinds = ' + ''.join(f'Kind.{k} ∷ ' for k, _ in KINDS) + '[]\n'
     write('specs/Table.antt', o, BASE)
-    w = f'-- The words that members hold (ECMA-262, and ESTree for the kinds of declarations and members).\nuse Rattle.std.specs.Prelude.{{ℕ, List, codes}}\n' + ''.join(f'use {D}.operator.{x}.{{{x}}}\n' for x in WORDS)
-    for x, (_, vs) in WORDS.items():
-        w += f'\nabbrev pub {snake(x)}_text : {x} → List ℕ\n' + ''.join(f'{snake(x)}_text {x}.{v} = codes "{t}"\n' for v, t in vs)
-    write('specs/Words.antt', w, BASE)
+    write_words()
+
+
+def write_words():
+    """the words: an enum for each set, an enum of all sets, and their strings"""
+    D = f'Rattle.{BASE}.specs.declared'
+    enums = code_head('Operators, and the other small sets of words that members hold.')
+    for name, (doc, variants) in WORDS.items():
+        enums += f'\n/// {doc}\n#[derive(Debug, Clone, Copy, PartialEq, Eq)]\npub enum {name} {{\n' + ''.join(f'    /// `{t}`\n    {v},\n' for v, t in variants) + '}\n'
+    enums += '''
+/// A word of the table, in its set.
+#[derive(Debug, Clone, Copy, PartialEq, Eq)]
+pub enum Word {
+''' + ''.join(f'    {w}({w}),\n' for w in WORDS) + ''.join(f'    /// `{FIXED_WORDS[w][0]}`, the one word of its set\n    {w},\n' for w in FIXED_WORDS) + '}\n'
+    write('src/operator.rt', enums, BASE)
+
+    spec = spec_head('The words that members hold (ECMA-262, and ESTree for the kinds of declarations and members).')
+    spec += 'use Rattle.std.specs.Prelude.{ℕ, List, [], ◌∷◌, Bool, true, false, codes}\n' + ''.join(f'use {D}.operator.{x}.{{{x}}}\n' for x in WORDS) + f'use {D}.operator.Word.{{Word}}\nuse {D}.table.Words.{{Words}}\n'
+    for name, (_, variants) in WORDS.items():
+        s = snake(name) + '_string'
+        spec += f'\nabbrev pub {s} : {name} → List ℕ\n' + ''.join(f'{s} {name}.{v} = codes "{t}"\n' for v, t in variants)
+    spec += '\n-- the string that a word is written as\nabbrev pub word_string : Word → List ℕ\n'
+    spec += ''.join(f'word_string (Word.{w} w) = {snake(w)}_string w\n' for w in WORDS) + ''.join(f'word_string Word.{w} = codes "{FIXED_WORDS[w][0]}"\n' for w in FIXED_WORDS)
+    spec += '\n-- whether a word is of this set\nabbrev pub is_of_set : Words → Word → Bool\n'
+    spec += ''.join(f'is_of_set Words.{w} (Word.{w} w) = true\n' for w in WORDS) + ''.join(f'is_of_set Words.{w} Word.{w} = true\n' for w in FIXED_WORDS) + 'is_of_set set w = false\n'
+    spec += '\n-- the words of a set\nabbrev pub all_of_set : Words → List Word\n'
+    for w in WORDS:
+        spec += f'all_of_set Words.{w} = ' + ''.join(f'Word.{w} {w}.{v} ∷ ' for v, _ in WORDS[w][1]) + '[]\n'
+    for w in FIXED_WORDS: spec += f'all_of_set Words.{w} = Word.{w} ∷ []\n'
+    write('specs/Words.antt', spec, BASE)
+
+    code = code_head('The strings of words, and the words of strings.') + f'''
+ghost use Rattle.std.specs.Prelude.{{◌≡◌, map}};
+ghost use Rattle.{BASE}.specs.Words.{{word_string, all_of_set, is_of_set, {', '.join(snake(w) + '_string' for w in WORDS)}}};
+
+use crate::operator::{{{', '.join(sorted(list(WORDS) + ['Word']))}}};
+use crate::table::Words;
+
+'''
+    for name, (_, variants) in WORDS.items():
+        s = snake(name) + '_str'
+        code += f'''fn {s}(word: {name}) -> &'static str
+    ensures {{ result.now ≡ {snake(name)}_string word }}
+{{
+    match word {{
+''' + ''.join(f'        {name}::{v} => "{t}",\n' for v, t in variants) + '    }\n}\n\n'
+    code += '''/// The string that a word is written as.
+pub fn word_str(word: Word) -> &'static str
+    ensures { result.now ≡ word_string word }
+{
+    match word {
+''' + ''.join(f'        Word::{w}(word) => {snake(w)}_str(word),\n' for w in WORDS) + ''.join(f'        Word::{w} => "{FIXED_WORDS[w][0]}",\n' for w in FIXED_WORDS) + '''    }
+}
+
+/// The words of a set.
+pub fn all_of_set(set: Words) -> &'static [Word]
+    ensures { result.now ≡ all_of_set set }
+{
+    match set {
+'''
+    for w in WORDS:
+        code += f'        Words::{w} => &[' + ', '.join(f'Word::{w}({w}::{v})' for v, _ in WORDS[w][1]) + '],\n'
+    for w in FIXED_WORDS: code += f'        Words::{w} => &[Word::{w}],\n'
+    code += '    }\n}\n'
+    write('src/word.rt', code, BASE)

@@ -59,8 +59,8 @@ fn a_name_is_its_characters(rt: HostRuntime) -> Result<(), Fail> {
 /// Whether two values are strings of the same texts.
 fn same_string(a: &LiteralValue, b: &LiteralValue) -> bool {
     match (a, b) {
-        (LiteralValue::Text { text, raw }, LiteralValue::Text { text: t, raw: r }) => {
-            text == t && raw == r
+        (LiteralValue::String { value, raw }, LiteralValue::String { string: t, raw: r }) => {
+            string == t && raw == r
         }
         _ => false,
     }
@@ -69,9 +69,9 @@ fn same_string(a: &LiteralValue, b: &LiteralValue) -> bool {
 #[test]
 fn the_value_of_a_literal_is_copied(rt: HostRuntime) -> Result<(), Fail> {
     let alloc = rt.alloc();
-    let text = Name::new(alloc, "a")?;
+    let string = Name::new(alloc, "a")?;
     let raw = Some(Name::new(alloc, "'a'")?);
-    let value = LiteralValue::Text { text, raw };
+    let value = LiteralValue::String { value, raw };
     assert!(rt; same_string(&value.try_clone(alloc)?, &value));
     Ok(())
 }

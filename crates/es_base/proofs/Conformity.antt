@@ -1,7 +1,7 @@
 -- Small trees that conform, and some that don't.
 use Rattle.std.proofs.Common.{◌≡◌, refl, Bool, true, false, None}
 use Rattle.std.specs.Prelude.{codes}
-use Rattle.es_base.specs.Tree.{Tree, Parts, Node, end, more, child, absent, list, text, no_text, truth, literal}
+use Rattle.es_base.specs.Tree.{Tree, Parts, Node, end, more, child, absent, list, string, no_string, boolean, literal}
 use Rattle.es_base.specs.Conforms.{conforms}
 use Rattle.es_base.specs.declared.kind.Kind.{Kind}
 use Rattle.es_base.specs.declared.table.Place.{Place}
@@ -11,13 +11,13 @@ abbrev leaf : Kind → Parts → Tree
 leaf kind parts = Node kind 0 None None parts
 
 abbrev named : Kind → Tree
-named kind = leaf kind (more (text (codes "a")) end)
+named kind = leaf kind (more (string (codes "a")) end)
 
 abbrev program : Parts → Tree
-program body = leaf Kind.Program (more (text (codes "script")) (more (list body) end))
+program body = leaf Kind.Program (more (string (codes "script")) (more (list body) end))
 
 abbrev statement : Tree → Tree
-statement e = leaf Kind.ExpressionStatement (more (child e) (more no_text end))
+statement e = leaf Kind.ExpressionStatement (more (child e) (more no_string end))
 
 -- `a;`
 a_reference : conforms Place.Program (program (more (child (statement (named Kind.IdentifierReference))) end)) ≡ true
@@ -35,7 +35,7 @@ no_number : conforms Place.Expression (leaf Kind.Literal (more (literal (value.N
 no_number = refl
 
 abbrev member : Tree → Bool → Bool → Tree
-member property computed optional = leaf Kind.MemberExpression (more (child (named Kind.IdentifierReference)) (more (child property) (more (truth computed) (more (truth optional) end))))
+member property computed optional = leaf Kind.MemberExpression (more (child (named Kind.IdentifierReference)) (more (child property) (more (boolean computed) (more (boolean optional) end))))
 
 -- `a.a`, and the reference that is no name
 a_member : conforms Place.Expression (member (named Kind.IdentifierName) false false) ≡ true
@@ -64,7 +64,7 @@ holes = refl
 rest_first : conforms Place.Pattern (pattern (more (child rest) (more (child (named Kind.BindingIdentifier)) end))) ≡ false
 rest_first = refl
 
--- a template with no text
+-- a template with no string
 no_template : conforms Place.Expression (leaf Kind.TemplateLiteral (more (list end) (more (list end) end))) ≡ false
 no_template = refl
 
@@ -73,5 +73,5 @@ no_member : conforms Place.Statement (leaf Kind.ReturnStatement end) ≡ false
 no_member = refl
 
 -- `#a in a`
-private_in : conforms Place.Expression (leaf Kind.PrivateIn (more (text (codes "in")) (more (child (named Kind.PrivateIdentifier)) (more (child (named Kind.IdentifierReference)) end)))) ≡ true
+private_in : conforms Place.Expression (leaf Kind.PrivateIn (more (string (codes "in")) (more (child (named Kind.PrivateIdentifier)) (more (child (named Kind.IdentifierReference)) end)))) ≡ true
 private_in = refl

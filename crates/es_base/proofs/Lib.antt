@@ -1,4 +1,5 @@
 pub mod Conformity
 pub mod NumberedLemmas
-pub mod OrderLemmas
+pub mod PreorderLemmas
 pub mod Spelled
+pub mod Spelling

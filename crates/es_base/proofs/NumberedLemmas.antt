@@ -6,19 +6,19 @@ use Rattle.std.proofs.lemmas.List.{map-append}
 use Rattle.std.proofs.lemmas.List.Elements.{filter-append}
 use Rattle.std.proofs.lemmas.Bool.{le-leb}
 use Rattle.std.proofs.Math.Dec.{leb-zero}
-use Rattle.es_base.specs.Tree.{Tree, Part, Parts, Node, end, more, child, absent, list, text, no_text, truth, literal}
-use Rattle.es_base.specs.Order.{in_order_of, in_order_of_part, number_of, one_if, either, news, news_of, news_of_part, renumbered, renumbered_part, renumbered_parts}
-use Rattle.es_base.specs.Numbered.{numbers, is_new, is_old, InTurn, EachOnce, IsNumbered, new_numbers, old_numbers}
+use Rattle.es_base.specs.Tree.{Tree, Part, Parts, Node, end, more, child, absent, list, string, no_string, boolean, literal}
+use Rattle.es_base.specs.Preorder.{preorder_of, preorder_of_part, number_of, one_if, either, news, news_of, news_of_part, renumbered, renumbered_part, renumbered_parts}
+use Rattle.es_base.specs.Numbered.{numbers, is_new, is_old, AreConsecutive, EachOnce, IsNumbered, new_numbers, old_numbers}
 
 -- the numbers of the nodes of a part and of parts
 abbrev numbers_of_part : Part → List ℕ
-numbers_of_part p = map number_of (in_order_of_part p)
+numbers_of_part p = map number_of (preorder_of_part p)
 
 abbrev numbers_of : Parts → List ℕ
-numbers_of ps = map number_of (in_order_of ps)
+numbers_of ps = map number_of (preorder_of ps)
 
 numbers_of-more : (test : ℕ → Bool) (p : Part) (rest : Parts) → filter test (numbers_of (more p rest)) ≡ filter test (numbers_of_part p) ++ filter test (numbers_of rest)
-numbers_of-more test p rest = ap (filter test) (map-append number_of (in_order_of_part p) (in_order_of rest)) ∙ filter-append test (numbers_of_part p) (numbers_of rest)
+numbers_of-more test p rest = ap (filter test) (map-append number_of (preorder_of_part p) (preorder_of rest)) ∙ filter-append test (numbers_of_part p) (numbers_of rest)
 
 -- ---- the old numbers stay
 
@@ -28,7 +28,7 @@ old_stays f n id false ks ls l e rest = rw e (ap (λ zs. id ∷ zs) rest)
 
 mutual
   old_numbers-renumbered : (f n : ℕ) (t : Tree) → f ≤ n → old_numbers f (renumbered f n t) ≡ old_numbers f t
-  old_numbers-renumbered f n (Node kind id span mark parts) l =
+  old_numbers-renumbered f n (Node kind id span semantic_id parts) l =
       old_stays f n id (nat_le f id) (numbers_of (renumbered_parts f (n + one_if (nat_le f id)) parts)) (numbers_of parts) l refl
       (old_numbers_of-renumbered f (n + one_if (nat_le f id)) parts (omega (arith, l)))
 
@@ -36,9 +36,9 @@ mutual
   old_numbers_of_part-renumbered f n (child t) l = old_numbers-renumbered f n t l
   old_numbers_of_part-renumbered f n absent l = refl
   old_numbers_of_part-renumbered f n (list all) l = old_numbers_of-renumbered f n all l
-  old_numbers_of_part-renumbered f n (text chars) l = refl
-  old_numbers_of_part-renumbered f n no_text l = refl
-  old_numbers_of_part-renumbered f n (truth value) l = refl
+  old_numbers_of_part-renumbered f n (string chars) l = refl
+  old_numbers_of_part-renumbered f n no_string l = refl
+  old_numbers_of_part-renumbered f n (boolean value) l = refl
   old_numbers_of_part-renumbered f n (literal value) l = refl
 
   old_numbers_of-renumbered : (f n : ℕ) (ps : Parts) → f ≤ n → filter (is_old f) (numbers_of (renumbered_parts f n ps)) ≡ filter (is_old f) (numbers_of ps)
@@ -53,46 +53,46 @@ mutual
 
 -- n, n + 1, .. and how many
 record Turn (n k : ℕ) (ks : List ℕ) : Type 0 where
-  in_turn : InTurn n ks
+  consecutive : AreConsecutive n ks
   many : length ks ≡ k
 
-InTurn-append : (n k : ℕ) (xs ys : List ℕ) → InTurn n xs → length xs ≡ k → InTurn (n + k) ys → InTurn n (xs ++ ys)
-InTurn-append n k [] ys i e j =
+AreConsecutive-append : (n k : ℕ) (xs ys : List ℕ) → AreConsecutive n xs → length xs ≡ k → AreConsecutive (n + k) ys → AreConsecutive n (xs ++ ys)
+AreConsecutive-append n k [] ys i e j =
     let same : n + k ≡ n = omega (arith, e) in
-    subst (λ m. InTurn m ys) same j
-InTurn-append n k (x ∷ xs) ys i e j =
+    subst (λ m. AreConsecutive m ys) same j
+AreConsecutive-append n k (x ∷ xs) ys i e j =
     let same : n + k ≡ n + 1 + length xs = omega (arith, e) in
-    (i.0, InTurn-append (n + 1) (length xs) xs ys i.1 refl (subst (λ m. InTurn m ys) same j))
+    (i.0, AreConsecutive-append (n + 1) (length xs) xs ys i.1 refl (subst (λ m. AreConsecutive m ys) same j))
 
 turn-append : (n j k : ℕ) (xs ys : List ℕ) → Turn n j xs → Turn (n + j) k ys → Turn n (j + k) (xs ++ ys)
 turn-append n j k xs ys s t = record {
-  in_turn = InTurn-append n j xs ys s.in_turn s.many t.in_turn;
+  consecutive = AreConsecutive-append n j xs ys s.consecutive s.many t.consecutive;
   many = omega (arith, length-append xs ys, s.many, t.many);
 }
 
 new_first : (f n id k : ℕ) (b : Bool) (ks : List ℕ) → f ≤ n → nat_le f id ≡ b → Turn (n + one_if b) k (filter (is_new f) ks) → Turn n (one_if b + k) (filter (is_new f) (either b n id ∷ ks))
-new_first f n id k true ks l e t = rw (le-leb f n l) (record { in_turn = (refl, t.in_turn); many = omega (arith, t.many) })
+new_first f n id k true ks l e t = rw (le-leb f n l) (record { consecutive = (refl, t.consecutive); many = omega (arith, t.many) })
 new_first f n id k false ks l e t =
     let same : n + 0 ≡ n = omega arith in
-    rw e (record { in_turn = subst (λ m. InTurn m (filter (is_new f) ks)) same t.in_turn; many = omega (arith, t.many) })
+    rw e (record { consecutive = subst (λ m. AreConsecutive m (filter (is_new f) ks)) same t.consecutive; many = omega (arith, t.many) })
 
 mutual
   new_numbers-renumbered : (f n : ℕ) (t : Tree) → f ≤ n → Turn n (news f t) (new_numbers f (renumbered f n t))
-  new_numbers-renumbered f n (Node kind id span mark parts) l =
+  new_numbers-renumbered f n (Node kind id span semantic_id parts) l =
       new_first f n id (news_of f parts) (nat_le f id) (numbers_of (renumbered_parts f (n + one_if (nat_le f id)) parts)) l refl
       (new_numbers_of-renumbered f (n + one_if (nat_le f id)) parts (omega (arith, l)))
 
   new_numbers_of_part-renumbered : (f n : ℕ) (p : Part) → f ≤ n → Turn n (news_of_part f p) (filter (is_new f) (numbers_of_part (renumbered_part f n p)))
   new_numbers_of_part-renumbered f n (child t) l = new_numbers-renumbered f n t l
-  new_numbers_of_part-renumbered f n absent l = record { in_turn = tt; many = refl }
+  new_numbers_of_part-renumbered f n absent l = record { consecutive = tt; many = refl }
   new_numbers_of_part-renumbered f n (list all) l = new_numbers_of-renumbered f n all l
-  new_numbers_of_part-renumbered f n (text chars) l = record { in_turn = tt; many = refl }
-  new_numbers_of_part-renumbered f n no_text l = record { in_turn = tt; many = refl }
-  new_numbers_of_part-renumbered f n (truth value) l = record { in_turn = tt; many = refl }
-  new_numbers_of_part-renumbered f n (literal value) l = record { in_turn = tt; many = refl }
+  new_numbers_of_part-renumbered f n (string chars) l = record { consecutive = tt; many = refl }
+  new_numbers_of_part-renumbered f n no_string l = record { consecutive = tt; many = refl }
+  new_numbers_of_part-renumbered f n (boolean value) l = record { consecutive = tt; many = refl }
+  new_numbers_of_part-renumbered f n (literal value) l = record { consecutive = tt; many = refl }
 
   new_numbers_of-renumbered : (f n : ℕ) (ps : Parts) → f ≤ n → Turn n (news_of f ps) (filter (is_new f) (numbers_of (renumbered_parts f n ps)))
-  new_numbers_of-renumbered f n end l = record { in_turn = tt; many = refl }
+  new_numbers_of-renumbered f n end l = record { consecutive = tt; many = refl }
   new_numbers_of-renumbered f n (more p rest) l =
       rw (numbers_of-more (is_new f) (renumbered_part f n p) (renumbered_parts f (n + news_of_part f p) rest))
       (turn-append n (news_of_part f p) (news_of f rest) _ _ (new_numbers_of_part-renumbered f n p l) (new_numbers_of-renumbered f (n + news_of_part f p) rest (omega (arith, l))))
@@ -102,14 +102,14 @@ mutual
 nat_eq-apart : (x y : ℕ) → (x ≡ y → ⊥) → nat_eq x y ≡ false
 nat_eq-apart x y apart = grind (arith, apart)
 
-above : (x n : ℕ) (ks : List ℕ) → x < n → InTurn n ks → AllByRecursion (λ y. nat_eq x y ≡ false) ks
+above : (x n : ℕ) (ks : List ℕ) → x < n → AreConsecutive n ks → AllByRecursion (λ y. nat_eq x y ≡ false) ks
 above x n [] l i = tt
 above x n (k ∷ ks) l i = (nat_eq-apart x k (λ e. omega (arith, l, e, i.0)), above x (n + 1) ks (omega (arith, l)) i.1)
 
-EachOnce-in_turn : (n : ℕ) (ks : List ℕ) → InTurn n ks → EachOnce ks
+EachOnce-consecutive : (n : ℕ) (ks : List ℕ) → AreConsecutive n ks → EachOnce ks
 unfolding IsDistinct
-EachOnce-in_turn n [] i = tt
-EachOnce-in_turn n (k ∷ ks) i = (above k (n + 1) ks (omega (arith, i.0)) i.1, EachOnce-in_turn (n + 1) ks i.1)
+EachOnce-consecutive n [] i = tt
+EachOnce-consecutive n (k ∷ ks) i = (above k (n + 1) ks (omega (arith, i.0)) i.1, EachOnce-consecutive (n + 1) ks i.1)
 
 -- a number that is new is none that is old
 new_old_apart : (f x y : ℕ) → is_new f x ≡ true → is_new f y ≡ false → nat_eq x y ≡ false
@@ -160,8 +160,8 @@ pub IsNumbered-renumbered : (f : ℕ) (t : Tree) → EachOnce (old_numbers f t) 
 IsNumbered-renumbered f t once =
     let new : Turn f (news f t) (new_numbers f (renumbered f f t)) = new_numbers-renumbered f f t (omega arith) in
     record {
-      once = EachOnce-parted f (numbers (renumbered f f t)) (EachOnce-in_turn f _ new.in_turn) (subst EachOnce (sym (old_numbers-renumbered f f t (omega arith))) once);
-      in_turn = new.in_turn;
+      once = EachOnce-parted f (numbers (renumbered f f t)) (EachOnce-consecutive f _ new.consecutive) (subst EachOnce (sym (old_numbers-renumbered f f t (omega arith))) once);
+      consecutive = new.consecutive;
     }
 
 none_old : (ks : List ℕ) → filter (is_old 0) ks ≡ []

@@ -1,4 +1,4 @@
--- The bytes of a text are those of its characters.
+-- The bytes of a string are those of its characters.
 use Rattle.std.proofs.Common.{◌≡◌, ap, sym, ◌∙◌, ℕ, List}
 use Rattle.std.specs.Str.{chars, encode_utf8_all}
 use Rattle.std.specs.String.{string_bytes}

@@ -1,7 +1,7 @@
 -- Conformity: what a tree of the table's grammar is (ESTree up to ES2022, read off the table of kinds).
 -- Early errors of ECMA-262 are no part of it.
 use Rattle.std.specs.Prelude.{ℕ, ◌+◌, nat_eq, nat_le, List, [], ◌∷◌, Bool, true, false, not, ◌&&◌, ◌||◌, IsTrue, codes, bytes_eq}
-use Rattle.es_base.specs.Tree.{Tree, Part, Parts, Node, end, more, child, absent, list, text, no_text, truth, literal}
+use Rattle.es_base.specs.Tree.{Tree, Part, Parts, Node, end, more, child, absent, list, string, no_string, boolean, literal}
 use Rattle.es_base.specs.Table.{Field, members_of, words_of, stands_in}
 use Rattle.es_base.specs.declared.kind.Kind.{Kind}
 use Rattle.es_base.specs.declared.table.Place.{Place}
@@ -23,27 +23,27 @@ abbrev pub is_foreign_name : List ℕ → Bool
 is_foreign_name s = begins_with (codes "TS") s || (begins_with (codes "JSX") s || is_among s (codes "Decorator" ∷ codes "AccessorProperty" ∷ []))
 
 -- a number is known by a source text that begins with a digit or a full stop
-abbrev pub is_number_text : List ℕ → Bool
-is_number_text [] = false
-is_number_text (c ∷ cs) = nat_eq c 46 || (nat_le 48 c && nat_le c 57)
+abbrev pub is_number_string : List ℕ → Bool
+is_number_string [] = false
+is_number_string (c ∷ cs) = nat_eq c 46 || (nat_le 48 c && nat_le c 57)
 
 abbrev pub literal_conforms : LiteralValue → Bool
-literal_conforms (value.Number raw) = is_number_text raw
+literal_conforms (value.Number raw) = is_number_string raw
 literal_conforms _ = true
 
 -- a literal that may be a key that is not computed: a string, a number or a bigint
 abbrev pub is_key_literal : Parts → Bool
-is_key_literal (more (literal (value.Text s raw)) rest) = true
+is_key_literal (more (literal (value.String s raw)) rest) = true
 is_key_literal (more (literal (value.Number raw)) rest) = true
 is_key_literal (more (literal (value.BigInt s)) rest) = true
 is_key_literal _ = false
 
--- the truth value at the member of this name
-abbrev pub truth_at : List ℕ → List Field → Parts → Bool
-truth_at name (f ∷ fs) (more (truth b) ps) = (bytes_eq f.name name && b) || truth_at name fs ps
-truth_at name (f ∷ fs) (more p ps) = truth_at name fs ps
-truth_at name [] ps = false
-truth_at name fs end = false
+-- the boolean at the member of this name
+abbrev pub boolean_at : List ℕ → List Field → Parts → Bool
+boolean_at name (f ∷ fs) (more (boolean b) ps) = (bytes_eq f.name name && b) || boolean_at name fs ps
+boolean_at name (f ∷ fs) (more p ps) = boolean_at name fs ps
+boolean_at name [] ps = false
+boolean_at name fs end = false
 
 abbrev pub is_target_place : Place → Bool
 is_target_place Place.SimpleAssignmentTarget = true
@@ -53,45 +53,45 @@ is_target_place Place.TargetOrRest = true
 is_target_place Place.ForLeft = true
 is_target_place _ = false
 
--- what a place asks of a node beside its kind: the literal of a key is no regular expression, truth value
+-- what a place asks of a node beside its kind: the literal of a key is no regular expression, boolean
 -- or null, and what is assigned to is no optional member
 abbrev pub place_rule : Place → Kind → Parts → Bool
 place_rule Place.PropertyKey Kind.Literal ps = is_key_literal ps
 place_rule Place.ClassKey Kind.Literal ps = is_key_literal ps
-place_rule place kind ps = not (is_target_place place && truth_at (codes "optional") (members_of kind) ps)
+place_rule place kind ps = not (is_target_place place && boolean_at (codes "optional") (members_of kind) ps)
 
 abbrev pub item_count : Parts → ℕ
 item_count end = 0
 item_count (more p ps) = item_count ps + 1
 
 abbrev pub is_pattern_child : Part → Bool
-is_pattern_child (child (Node Kind.ObjectAssignmentTarget id span mark parts)) = true
-is_pattern_child (child (Node Kind.ArrayAssignmentTarget id span mark parts)) = true
+is_pattern_child (child (Node Kind.ObjectAssignmentTarget id span semantic_id parts)) = true
+is_pattern_child (child (Node Kind.ArrayAssignmentTarget id span semantic_id parts)) = true
 is_pattern_child _ = false
 
 -- the local names of the specifiers of an export: references, unless the export has a source
 abbrev pub local_rule : Part → Part → Bool
-local_rule (child (Node Kind.ExportSpecifier id span mark (more (child (Node Kind.IdentifierReference i s m ps)) rest))) absent = true
-local_rule (child (Node Kind.ExportSpecifier id span mark (more (child (Node Kind.IdentifierReference i s m ps)) rest))) source = false
-local_rule (child (Node Kind.ExportSpecifier id span mark (more (child (Node Kind.IdentifierName i s m ps)) rest))) absent = false
+local_rule (child (Node Kind.ExportSpecifier id span semantic_id (more (child (Node Kind.IdentifierReference i s m ps)) rest))) absent = true
+local_rule (child (Node Kind.ExportSpecifier id span semantic_id (more (child (Node Kind.IdentifierReference i s m ps)) rest))) source = false
+local_rule (child (Node Kind.ExportSpecifier id span semantic_id (more (child (Node Kind.IdentifierName i s m ps)) rest))) absent = false
 local_rule specifier source = true
 
 abbrev pub local_rules : Parts → Part → Bool
 local_rules end source = true
 local_rules (more p ps) source = local_rule p source && local_rules ps source
 
--- what a kind asks of its parts together: a template has one text more than expressions, a pattern is
+-- what a kind asks of its parts together: a template has one string more than expressions, a pattern is
 -- assigned by `=` alone, and an export with a source names no references
 abbrev pub kind_rule : Kind → Parts → Bool
 kind_rule Kind.TemplateLiteral (more (list quasis) (more (list expressions) end)) = nat_eq (item_count quasis) (item_count expressions + 1)
-kind_rule Kind.AssignmentExpression (more (text operator) (more left rest)) = bytes_eq operator (codes "=") || not (is_pattern_child left)
+kind_rule Kind.AssignmentExpression (more (string operator) (more left rest)) = bytes_eq operator (codes "=") || not (is_pattern_child left)
 kind_rule Kind.ExportNamedDeclaration (more declaration (more (list specifiers) (more source end))) = local_rules specifiers source
 kind_rule kind ps = true
 
 -- a rest element is the last of its list
 abbrev pub is_rest : Part → Bool
-is_rest (child (Node Kind.RestElement id span mark parts)) = true
-is_rest (child (Node Kind.AssignmentTargetRest id span mark parts)) = true
+is_rest (child (Node Kind.RestElement id span semantic_id parts)) = true
+is_rest (child (Node Kind.AssignmentTargetRest id span semantic_id parts)) = true
 is_rest _ = false
 
 abbrev pub is_end : Parts → Bool
@@ -109,7 +109,7 @@ key_place false place = place
 abbrev mutual
   -- a node that may stand at this place, with all below it
   pub conforms : Place → Tree → Bool
-  conforms place (Node kind id span mark parts) = stands_in place kind && (place_rule place kind parts && (kind_rule kind parts && parts_conform (truth_at (codes "computed") (members_of kind) parts) (members_of kind) parts))
+  conforms place (Node kind id span semantic_id parts) = stands_in place kind && (place_rule place kind parts && (kind_rule kind parts && parts_conform (boolean_at (codes "computed") (members_of kind) parts) (members_of kind) parts))
 
   -- the parts are those of the members, one for one
   pub parts_conform : Bool → List Field → Parts → Bool
@@ -119,28 +119,28 @@ abbrev mutual
 
   pub part_conforms : Bool → Sort → Part → Bool
   part_conforms computed (Sort.Child place) (child t) = conforms place t
-  part_conforms computed (Sort.Maybe place) (child t) = conforms place t
+  part_conforms computed (Sort.Nullable place) (child t) = conforms place t
   part_conforms computed (Sort.Key place) (child t) = conforms (key_place computed place) t
   part_conforms computed sort (child t) = false
-  part_conforms computed (Sort.Maybe place) absent = true
+  part_conforms computed (Sort.Nullable place) absent = true
   part_conforms computed sort absent = false
   part_conforms computed (Sort.List place) (list ps) = items_conform false place ps
-  part_conforms computed (Sort.Some place) (list ps) = not (is_end ps) && items_conform false place ps
-  part_conforms computed (Sort.Holes place) (list ps) = items_conform true place ps
+  part_conforms computed (Sort.NonEmptyList place) (list ps) = not (is_end ps) && items_conform false place ps
+  part_conforms computed (Sort.ListWithHoles place) (list ps) = items_conform true place ps
   part_conforms computed sort (list ps) = false
-  part_conforms computed Sort.Name (text s) = not (bytes_eq s [])
-  part_conforms computed Sort.MaybeText (text s) = true
-  part_conforms computed (Sort.Word words) (text s) = is_among s (words_of words)
-  part_conforms computed Sort.Raw (text s) = true
-  part_conforms computed Sort.Cooked (text s) = true
-  part_conforms computed Sort.Type (text s) = is_foreign_name s
-  part_conforms computed sort (text s) = false
-  part_conforms computed Sort.MaybeText no_text = true
-  part_conforms computed Sort.Cooked no_text = true
-  part_conforms computed sort no_text = false
-  part_conforms computed Sort.Truth (truth b) = true
-  part_conforms computed Sort.Never (truth b) = not b
-  part_conforms computed sort (truth b) = false
+  part_conforms computed Sort.Name (string s) = not (bytes_eq s [])
+  part_conforms computed Sort.NullableString (string s) = true
+  part_conforms computed (Sort.Word words) (string s) = is_among s (words_of words)
+  part_conforms computed Sort.Raw (string s) = true
+  part_conforms computed Sort.Cooked (string s) = true
+  part_conforms computed Sort.Type (string s) = is_foreign_name s
+  part_conforms computed sort (string s) = false
+  part_conforms computed Sort.NullableString no_string = true
+  part_conforms computed Sort.Cooked no_string = true
+  part_conforms computed sort no_string = false
+  part_conforms computed Sort.Boolean (boolean b) = true
+  part_conforms computed Sort.False (boolean b) = not b
+  part_conforms computed sort (boolean b) = false
   part_conforms computed Sort.Literal (literal v) = literal_conforms v
   part_conforms computed sort (literal v) = false
 

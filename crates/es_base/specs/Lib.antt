@@ -1,7 +1,7 @@
 pub mod Conforms
-pub mod Marks
+pub mod Carried
 pub mod Numbered
-pub mod Order
+pub mod Preorder
 pub mod Refilled
 pub mod Shape
 pub mod Table

@@ -2,11 +2,11 @@
 use Rattle.std.specs.Prelude.{◌≡◌, ℕ, ◌+◌, nat_eq, nat_le, List, [], ◌∷◌, map, filter, Bool, not}
 use Rattle.std.specs.List.{IsDistinct}
 use Rattle.es_base.specs.Tree.{Tree}
-use Rattle.es_base.specs.Order.{in_order, number_of}
+use Rattle.es_base.specs.Preorder.{preorder, number_of}
 
--- the numbers of the nodes in reading order
+-- the numbers of the nodes in preorder
 abbrev pub numbers : Tree → List ℕ
-numbers t = map number_of (in_order t)
+numbers t = map number_of (preorder t)
 
 -- a number is new if it is at least `first`
 abbrev pub is_new : ℕ → ℕ → Bool
@@ -22,15 +22,15 @@ abbrev pub old_numbers : ℕ → Tree → List ℕ
 old_numbers first t = filter (is_old first) (numbers t)
 
 -- the list is n, n + 1, ..
-abbrev pub InTurn : ℕ → List ℕ → Type 0
-InTurn n [] = Unit
-InTurn n (k ∷ ks) = (k ≡ n) × InTurn (n + 1) ks
+abbrev pub AreConsecutive : ℕ → List ℕ → Type 0
+AreConsecutive n [] = Unit
+AreConsecutive n (k ∷ ks) = (k ≡ n) × AreConsecutive (n + 1) ks
 
 -- no number stands twice
 abbrev pub EachOnce : List ℕ → Type 0
 EachOnce ks = IsDistinct nat_eq ks
 
--- no number stands twice, and the new ones are first, first + 1, .. in reading order
+-- no number stands twice, and the new ones are first, first + 1, .. in preorder
 pub record IsNumbered (first : ℕ) (t : Tree) : Type 0 where
   pub once : EachOnce (numbers t)
-  pub in_turn : InTurn first (new_numbers first t)
+  pub consecutive : AreConsecutive first (new_numbers first t)

@@ -1,20 +1,12 @@
--- The table of kinds: names, members in reading order, places (ESTree's kinds up to ES2022; the order of reading is our own).
-use Rattle.std.specs.Prelude.{ℕ, List, [], ◌∷◌, Bool, true, false, ◌||◌, codes}
+-- Printed by tools/tree.py from tools/kinds.py.
+-- The table of kinds: names, members in preorder, places (ESTree's kinds up to ES2022; the order of members is our own).
+use Rattle.std.specs.Prelude.{ℕ, List, [], ◌∷◌, map, Bool, true, false, ◌||◌, codes}
 use Rattle.es_base.specs.declared.kind.Kind.{Kind}
 use Rattle.es_base.specs.declared.table.Place.{Place}
 use Rattle.es_base.specs.declared.table.Words.{Words}
 use Rattle.es_base.specs.declared.table.Sort.{Sort}
 use Rattle.es_base.specs.declared.table.Member.{Member}
-use Rattle.es_base.specs.Words.{source_type_text, variable_declaration_kind_text, method_definition_kind_text, property_kind_text, unary_operator_text, update_operator_text, binary_operator_text, logical_operator_text, assignment_operator_text}
-use Rattle.es_base.specs.declared.operator.SourceType.{SourceType}
-use Rattle.es_base.specs.declared.operator.VariableDeclarationKind.{VariableDeclarationKind}
-use Rattle.es_base.specs.declared.operator.MethodDefinitionKind.{MethodDefinitionKind}
-use Rattle.es_base.specs.declared.operator.PropertyKind.{PropertyKind}
-use Rattle.es_base.specs.declared.operator.UnaryOperator.{UnaryOperator}
-use Rattle.es_base.specs.declared.operator.UpdateOperator.{UpdateOperator}
-use Rattle.es_base.specs.declared.operator.BinaryOperator.{BinaryOperator}
-use Rattle.es_base.specs.declared.operator.LogicalOperator.{LogicalOperator}
-use Rattle.es_base.specs.declared.operator.AssignmentOperator.{AssignmentOperator}
+use Rattle.es_base.specs.Words.{word_string, all_of_set}
 
 -- a member: its name and what it holds
 pub record Field : Type 0 where
@@ -27,7 +19,7 @@ field_of m = record { name = m.name.now; sort = m.sort }
 abbrev field : List ℕ → Sort → Field
 field s t = record { name = s; sort = t }
 
--- the text of `type`; a foreign node has its own
+-- the string of `type`; a foreign node has its own
 abbrev pub name_of : Kind → List ℕ
 name_of Kind.Program = codes "Program"
 name_of Kind.ExpressionStatement = codes "ExpressionStatement"
@@ -112,39 +104,39 @@ name_of Kind.ExportDefaultDeclaration = codes "ExportDefaultDeclaration"
 name_of Kind.ExportAllDeclaration = codes "ExportAllDeclaration"
 name_of Kind.Foreign = []
 
--- the members in reading order
+-- the members in preorder
 abbrev pub members_of : Kind → List Field
 members_of Kind.Program = field (codes "sourceType") (Sort.Word Words.SourceType) ∷ field (codes "body") (Sort.List Place.Statement) ∷ []
-members_of Kind.ExpressionStatement = field (codes "expression") (Sort.Child Place.Expression) ∷ field (codes "directive") Sort.MaybeText ∷ []
+members_of Kind.ExpressionStatement = field (codes "expression") (Sort.Child Place.Expression) ∷ field (codes "directive") Sort.NullableString ∷ []
 members_of Kind.BlockStatement = field (codes "body") (Sort.List Place.Statement) ∷ []
 members_of Kind.EmptyStatement = []
 members_of Kind.DebuggerStatement = []
 members_of Kind.WithStatement = field (codes "object") (Sort.Child Place.Expression) ∷ field (codes "body") (Sort.Child Place.Statement) ∷ []
-members_of Kind.ReturnStatement = field (codes "argument") (Sort.Maybe Place.Expression) ∷ []
+members_of Kind.ReturnStatement = field (codes "argument") (Sort.Nullable Place.Expression) ∷ []
 members_of Kind.ThrowStatement = field (codes "argument") (Sort.Child Place.Expression) ∷ []
 members_of Kind.LabeledStatement = field (codes "label") (Sort.Child Place.IdentifierName) ∷ field (codes "body") (Sort.Child Place.Statement) ∷ []
-members_of Kind.BreakStatement = field (codes "label") (Sort.Maybe Place.IdentifierName) ∷ []
-members_of Kind.ContinueStatement = field (codes "label") (Sort.Maybe Place.IdentifierName) ∷ []
-members_of Kind.IfStatement = field (codes "test") (Sort.Child Place.Expression) ∷ field (codes "consequent") (Sort.Child Place.Statement) ∷ field (codes "alternate") (Sort.Maybe Place.Statement) ∷ []
+members_of Kind.BreakStatement = field (codes "label") (Sort.Nullable Place.IdentifierName) ∷ []
+members_of Kind.ContinueStatement = field (codes "label") (Sort.Nullable Place.IdentifierName) ∷ []
+members_of Kind.IfStatement = field (codes "test") (Sort.Child Place.Expression) ∷ field (codes "consequent") (Sort.Child Place.Statement) ∷ field (codes "alternate") (Sort.Nullable Place.Statement) ∷ []
 members_of Kind.SwitchStatement = field (codes "discriminant") (Sort.Child Place.Expression) ∷ field (codes "cases") (Sort.List Place.SwitchCase) ∷ []
-members_of Kind.SwitchCase = field (codes "test") (Sort.Maybe Place.Expression) ∷ field (codes "consequent") (Sort.List Place.Statement) ∷ []
-members_of Kind.TryStatement = field (codes "block") (Sort.Child Place.Block) ∷ field (codes "handler") (Sort.Maybe Place.CatchClause) ∷ field (codes "finalizer") (Sort.Maybe Place.Block) ∷ []
-members_of Kind.CatchClause = field (codes "param") (Sort.Maybe Place.Pattern) ∷ field (codes "body") (Sort.Child Place.Block) ∷ []
+members_of Kind.SwitchCase = field (codes "test") (Sort.Nullable Place.Expression) ∷ field (codes "consequent") (Sort.List Place.Statement) ∷ []
+members_of Kind.TryStatement = field (codes "block") (Sort.Child Place.Block) ∷ field (codes "handler") (Sort.Nullable Place.CatchClause) ∷ field (codes "finalizer") (Sort.Nullable Place.Block) ∷ []
+members_of Kind.CatchClause = field (codes "param") (Sort.Nullable Place.Pattern) ∷ field (codes "body") (Sort.Child Place.Block) ∷ []
 members_of Kind.WhileStatement = field (codes "test") (Sort.Child Place.Expression) ∷ field (codes "body") (Sort.Child Place.Statement) ∷ []
 members_of Kind.DoWhileStatement = field (codes "body") (Sort.Child Place.Statement) ∷ field (codes "test") (Sort.Child Place.Expression) ∷ []
-members_of Kind.ForStatement = field (codes "init") (Sort.Maybe Place.ForInit) ∷ field (codes "test") (Sort.Maybe Place.Expression) ∷ field (codes "update") (Sort.Maybe Place.Expression) ∷ field (codes "body") (Sort.Child Place.Statement) ∷ []
+members_of Kind.ForStatement = field (codes "init") (Sort.Nullable Place.ForInit) ∷ field (codes "test") (Sort.Nullable Place.Expression) ∷ field (codes "update") (Sort.Nullable Place.Expression) ∷ field (codes "body") (Sort.Child Place.Statement) ∷ []
 members_of Kind.ForInStatement = field (codes "left") (Sort.Child Place.ForLeft) ∷ field (codes "right") (Sort.Child Place.Expression) ∷ field (codes "body") (Sort.Child Place.Statement) ∷ []
-members_of Kind.ForOfStatement = field (codes "left") (Sort.Child Place.ForLeft) ∷ field (codes "right") (Sort.Child Place.Expression) ∷ field (codes "body") (Sort.Child Place.Statement) ∷ field (codes "await") Sort.Truth ∷ []
-members_of Kind.FunctionDeclaration = field (codes "id") (Sort.Maybe Place.BindingIdentifier) ∷ field (codes "params") (Sort.List Place.PatternOrRest) ∷ field (codes "body") (Sort.Child Place.Block) ∷ field (codes "async") Sort.Truth ∷ field (codes "generator") Sort.Truth ∷ []
-members_of Kind.FunctionExpression = field (codes "id") (Sort.Maybe Place.BindingIdentifier) ∷ field (codes "params") (Sort.List Place.PatternOrRest) ∷ field (codes "body") (Sort.Child Place.Block) ∷ field (codes "async") Sort.Truth ∷ field (codes "generator") Sort.Truth ∷ []
-members_of Kind.ArrowFunctionExpression = field (codes "params") (Sort.List Place.PatternOrRest) ∷ field (codes "body") (Sort.Child Place.ArrowBody) ∷ field (codes "async") Sort.Truth ∷ []
+members_of Kind.ForOfStatement = field (codes "left") (Sort.Child Place.ForLeft) ∷ field (codes "right") (Sort.Child Place.Expression) ∷ field (codes "body") (Sort.Child Place.Statement) ∷ field (codes "await") Sort.Boolean ∷ []
+members_of Kind.FunctionDeclaration = field (codes "id") (Sort.Nullable Place.BindingIdentifier) ∷ field (codes "params") (Sort.List Place.PatternOrRest) ∷ field (codes "body") (Sort.Child Place.Block) ∷ field (codes "async") Sort.Boolean ∷ field (codes "generator") Sort.Boolean ∷ []
+members_of Kind.FunctionExpression = field (codes "id") (Sort.Nullable Place.BindingIdentifier) ∷ field (codes "params") (Sort.List Place.PatternOrRest) ∷ field (codes "body") (Sort.Child Place.Block) ∷ field (codes "async") Sort.Boolean ∷ field (codes "generator") Sort.Boolean ∷ []
+members_of Kind.ArrowFunctionExpression = field (codes "params") (Sort.List Place.PatternOrRest) ∷ field (codes "body") (Sort.Child Place.ArrowBody) ∷ field (codes "async") Sort.Boolean ∷ []
 members_of Kind.VariableDeclaration = field (codes "kind") (Sort.Word Words.VariableDeclarationKind) ∷ field (codes "declarations") (Sort.List Place.VariableDeclarator) ∷ []
-members_of Kind.VariableDeclarator = field (codes "id") (Sort.Child Place.Pattern) ∷ field (codes "init") (Sort.Maybe Place.Expression) ∷ []
-members_of Kind.ClassDeclaration = field (codes "id") (Sort.Maybe Place.BindingIdentifier) ∷ field (codes "superClass") (Sort.Maybe Place.Expression) ∷ field (codes "body") (Sort.Child Place.ClassBody) ∷ []
-members_of Kind.ClassExpression = field (codes "id") (Sort.Maybe Place.BindingIdentifier) ∷ field (codes "superClass") (Sort.Maybe Place.Expression) ∷ field (codes "body") (Sort.Child Place.ClassBody) ∷ []
+members_of Kind.VariableDeclarator = field (codes "id") (Sort.Child Place.Pattern) ∷ field (codes "init") (Sort.Nullable Place.Expression) ∷ []
+members_of Kind.ClassDeclaration = field (codes "id") (Sort.Nullable Place.BindingIdentifier) ∷ field (codes "superClass") (Sort.Nullable Place.Expression) ∷ field (codes "body") (Sort.Child Place.ClassBody) ∷ []
+members_of Kind.ClassExpression = field (codes "id") (Sort.Nullable Place.BindingIdentifier) ∷ field (codes "superClass") (Sort.Nullable Place.Expression) ∷ field (codes "body") (Sort.Child Place.ClassBody) ∷ []
 members_of Kind.ClassBody = field (codes "body") (Sort.List Place.ClassElement) ∷ []
-members_of Kind.MethodDefinition = field (codes "key") (Sort.Key Place.ClassKey) ∷ field (codes "value") (Sort.Child Place.FunctionValue) ∷ field (codes "kind") (Sort.Word Words.MethodDefinitionKind) ∷ field (codes "computed") Sort.Truth ∷ field (codes "static") Sort.Truth ∷ []
-members_of Kind.PropertyDefinition = field (codes "key") (Sort.Key Place.ClassKey) ∷ field (codes "value") (Sort.Maybe Place.Expression) ∷ field (codes "computed") Sort.Truth ∷ field (codes "static") Sort.Truth ∷ []
+members_of Kind.MethodDefinition = field (codes "key") (Sort.Key Place.ClassKey) ∷ field (codes "value") (Sort.Child Place.FunctionValue) ∷ field (codes "kind") (Sort.Word Words.MethodDefinitionKind) ∷ field (codes "computed") Sort.Boolean ∷ field (codes "static") Sort.Boolean ∷ []
+members_of Kind.PropertyDefinition = field (codes "key") (Sort.Key Place.ClassKey) ∷ field (codes "value") (Sort.Nullable Place.Expression) ∷ field (codes "computed") Sort.Boolean ∷ field (codes "static") Sort.Boolean ∷ []
 members_of Kind.StaticBlock = field (codes "body") (Sort.List Place.Statement) ∷ []
 members_of Kind.PrivateIdentifier = field (codes "name") Sort.Name ∷ []
 members_of Kind.IdentifierReference = field (codes "name") Sort.Name ∷ []
@@ -153,63 +145,53 @@ members_of Kind.IdentifierName = field (codes "name") Sort.Name ∷ []
 members_of Kind.Literal = field (codes "value") Sort.Literal ∷ []
 members_of Kind.ThisExpression = []
 members_of Kind.Super = []
-members_of Kind.ArrayExpression = field (codes "elements") (Sort.Holes Place.ExpressionOrSpread) ∷ []
+members_of Kind.ArrayExpression = field (codes "elements") (Sort.ListWithHoles Place.ExpressionOrSpread) ∷ []
 members_of Kind.ObjectExpression = field (codes "properties") (Sort.List Place.ObjectMember) ∷ []
-members_of Kind.Property = field (codes "key") (Sort.Key Place.PropertyKey) ∷ field (codes "value") (Sort.Child Place.Expression) ∷ field (codes "kind") (Sort.Word Words.PropertyKind) ∷ field (codes "method") Sort.Truth ∷ field (codes "shorthand") Sort.Truth ∷ field (codes "computed") Sort.Truth ∷ []
+members_of Kind.Property = field (codes "key") (Sort.Key Place.PropertyKey) ∷ field (codes "value") (Sort.Child Place.Expression) ∷ field (codes "kind") (Sort.Word Words.PropertyKind) ∷ field (codes "method") Sort.Boolean ∷ field (codes "shorthand") Sort.Boolean ∷ field (codes "computed") Sort.Boolean ∷ []
 members_of Kind.SpreadElement = field (codes "argument") (Sort.Child Place.Expression) ∷ []
 members_of Kind.TemplateLiteral = field (codes "quasis") (Sort.List Place.TemplateElement) ∷ field (codes "expressions") (Sort.List Place.Expression) ∷ []
-members_of Kind.TemplateElement = field (codes "raw") Sort.Raw ∷ field (codes "cooked") Sort.Cooked ∷ field (codes "tail") Sort.Truth ∷ []
+members_of Kind.TemplateElement = field (codes "raw") Sort.Raw ∷ field (codes "cooked") Sort.Cooked ∷ field (codes "tail") Sort.Boolean ∷ []
 members_of Kind.TaggedTemplateExpression = field (codes "tag") (Sort.Child Place.Expression) ∷ field (codes "quasi") (Sort.Child Place.TemplateLiteral) ∷ []
-members_of Kind.MemberExpression = field (codes "object") (Sort.Child Place.ExpressionOrSuper) ∷ field (codes "property") (Sort.Key Place.MemberProperty) ∷ field (codes "computed") Sort.Truth ∷ field (codes "optional") Sort.Truth ∷ []
-members_of Kind.PrivateField = field (codes "object") (Sort.Child Place.ExpressionOrSuper) ∷ field (codes "property") (Sort.Child Place.PrivateIdentifier) ∷ field (codes "computed") Sort.Never ∷ field (codes "optional") Sort.Truth ∷ []
+members_of Kind.MemberExpression = field (codes "object") (Sort.Child Place.ExpressionOrSuper) ∷ field (codes "property") (Sort.Key Place.MemberProperty) ∷ field (codes "computed") Sort.Boolean ∷ field (codes "optional") Sort.Boolean ∷ []
+members_of Kind.PrivateField = field (codes "object") (Sort.Child Place.ExpressionOrSuper) ∷ field (codes "property") (Sort.Child Place.PrivateIdentifier) ∷ field (codes "computed") Sort.False ∷ field (codes "optional") Sort.Boolean ∷ []
 members_of Kind.UnaryExpression = field (codes "operator") (Sort.Word Words.UnaryOperator) ∷ field (codes "argument") (Sort.Child Place.Expression) ∷ []
-members_of Kind.UpdateExpression = field (codes "operator") (Sort.Word Words.UpdateOperator) ∷ field (codes "argument") (Sort.Child Place.SimpleAssignmentTarget) ∷ field (codes "prefix") Sort.Truth ∷ []
+members_of Kind.UpdateExpression = field (codes "operator") (Sort.Word Words.UpdateOperator) ∷ field (codes "argument") (Sort.Child Place.SimpleAssignmentTarget) ∷ field (codes "prefix") Sort.Boolean ∷ []
 members_of Kind.BinaryExpression = field (codes "operator") (Sort.Word Words.BinaryOperator) ∷ field (codes "left") (Sort.Child Place.Expression) ∷ field (codes "right") (Sort.Child Place.Expression) ∷ []
 members_of Kind.PrivateIn = field (codes "operator") (Sort.Word Words.In) ∷ field (codes "left") (Sort.Child Place.PrivateIdentifier) ∷ field (codes "right") (Sort.Child Place.Expression) ∷ []
 members_of Kind.LogicalExpression = field (codes "operator") (Sort.Word Words.LogicalOperator) ∷ field (codes "left") (Sort.Child Place.Expression) ∷ field (codes "right") (Sort.Child Place.Expression) ∷ []
 members_of Kind.AssignmentExpression = field (codes "operator") (Sort.Word Words.AssignmentOperator) ∷ field (codes "left") (Sort.Child Place.AssignmentTarget) ∷ field (codes "right") (Sort.Child Place.Expression) ∷ []
 members_of Kind.ConditionalExpression = field (codes "test") (Sort.Child Place.Expression) ∷ field (codes "consequent") (Sort.Child Place.Expression) ∷ field (codes "alternate") (Sort.Child Place.Expression) ∷ []
-members_of Kind.CallExpression = field (codes "callee") (Sort.Child Place.ExpressionOrSuper) ∷ field (codes "arguments") (Sort.List Place.ExpressionOrSpread) ∷ field (codes "optional") Sort.Truth ∷ []
+members_of Kind.CallExpression = field (codes "callee") (Sort.Child Place.ExpressionOrSuper) ∷ field (codes "arguments") (Sort.List Place.ExpressionOrSpread) ∷ field (codes "optional") Sort.Boolean ∷ []
 members_of Kind.NewExpression = field (codes "callee") (Sort.Child Place.Expression) ∷ field (codes "arguments") (Sort.List Place.ExpressionOrSpread) ∷ []
-members_of Kind.SequenceExpression = field (codes "expressions") (Sort.Some Place.Expression) ∷ []
-members_of Kind.YieldExpression = field (codes "argument") (Sort.Maybe Place.Expression) ∷ field (codes "delegate") Sort.Truth ∷ []
+members_of Kind.SequenceExpression = field (codes "expressions") (Sort.NonEmptyList Place.Expression) ∷ []
+members_of Kind.YieldExpression = field (codes "argument") (Sort.Nullable Place.Expression) ∷ field (codes "delegate") Sort.Boolean ∷ []
 members_of Kind.AwaitExpression = field (codes "argument") (Sort.Child Place.Expression) ∷ []
 members_of Kind.ImportExpression = field (codes "source") (Sort.Child Place.Expression) ∷ []
 members_of Kind.MetaProperty = field (codes "meta") (Sort.Child Place.IdentifierName) ∷ field (codes "property") (Sort.Child Place.IdentifierName) ∷ []
 members_of Kind.ChainExpression = field (codes "expression") (Sort.Child Place.ChainElement) ∷ []
 members_of Kind.ObjectPattern = field (codes "properties") (Sort.List Place.PatternMember) ∷ []
-members_of Kind.BindingProperty = field (codes "key") (Sort.Key Place.PropertyKey) ∷ field (codes "value") (Sort.Child Place.Pattern) ∷ field (codes "kind") (Sort.Word Words.Init) ∷ field (codes "method") Sort.Never ∷ field (codes "shorthand") Sort.Truth ∷ field (codes "computed") Sort.Truth ∷ []
-members_of Kind.ArrayPattern = field (codes "elements") (Sort.Holes Place.PatternOrRest) ∷ []
+members_of Kind.BindingProperty = field (codes "key") (Sort.Key Place.PropertyKey) ∷ field (codes "value") (Sort.Child Place.Pattern) ∷ field (codes "kind") (Sort.Word Words.Init) ∷ field (codes "method") Sort.False ∷ field (codes "shorthand") Sort.Boolean ∷ field (codes "computed") Sort.Boolean ∷ []
+members_of Kind.ArrayPattern = field (codes "elements") (Sort.ListWithHoles Place.PatternOrRest) ∷ []
 members_of Kind.AssignmentPattern = field (codes "left") (Sort.Child Place.Pattern) ∷ field (codes "right") (Sort.Child Place.Expression) ∷ []
 members_of Kind.RestElement = field (codes "argument") (Sort.Child Place.Pattern) ∷ []
 members_of Kind.ObjectAssignmentTarget = field (codes "properties") (Sort.List Place.TargetMember) ∷ []
-members_of Kind.AssignmentTargetProperty = field (codes "key") (Sort.Key Place.PropertyKey) ∷ field (codes "value") (Sort.Child Place.AssignmentTargetMaybeDefault) ∷ field (codes "kind") (Sort.Word Words.Init) ∷ field (codes "method") Sort.Never ∷ field (codes "shorthand") Sort.Truth ∷ field (codes "computed") Sort.Truth ∷ []
-members_of Kind.ArrayAssignmentTarget = field (codes "elements") (Sort.Holes Place.TargetOrRest) ∷ []
+members_of Kind.AssignmentTargetProperty = field (codes "key") (Sort.Key Place.PropertyKey) ∷ field (codes "value") (Sort.Child Place.AssignmentTargetMaybeDefault) ∷ field (codes "kind") (Sort.Word Words.Init) ∷ field (codes "method") Sort.False ∷ field (codes "shorthand") Sort.Boolean ∷ field (codes "computed") Sort.Boolean ∷ []
+members_of Kind.ArrayAssignmentTarget = field (codes "elements") (Sort.ListWithHoles Place.TargetOrRest) ∷ []
 members_of Kind.AssignmentTargetWithDefault = field (codes "left") (Sort.Child Place.AssignmentTargetMaybeDefault) ∷ field (codes "right") (Sort.Child Place.Expression) ∷ []
 members_of Kind.AssignmentTargetRest = field (codes "argument") (Sort.Child Place.AssignmentTargetMaybeDefault) ∷ []
 members_of Kind.ImportDeclaration = field (codes "specifiers") (Sort.List Place.ImportMember) ∷ field (codes "source") (Sort.Child Place.Literal) ∷ []
 members_of Kind.ImportSpecifier = field (codes "imported") (Sort.Child Place.ModuleName) ∷ field (codes "local") (Sort.Child Place.BindingIdentifier) ∷ []
 members_of Kind.ImportDefaultSpecifier = field (codes "local") (Sort.Child Place.BindingIdentifier) ∷ []
 members_of Kind.ImportNamespaceSpecifier = field (codes "local") (Sort.Child Place.BindingIdentifier) ∷ []
-members_of Kind.ExportNamedDeclaration = field (codes "declaration") (Sort.Maybe Place.Statement) ∷ field (codes "specifiers") (Sort.List Place.ExportSpecifier) ∷ field (codes "source") (Sort.Maybe Place.Literal) ∷ []
+members_of Kind.ExportNamedDeclaration = field (codes "declaration") (Sort.Nullable Place.Statement) ∷ field (codes "specifiers") (Sort.List Place.ExportSpecifier) ∷ field (codes "source") (Sort.Nullable Place.Literal) ∷ []
 members_of Kind.ExportSpecifier = field (codes "local") (Sort.Child Place.ExportLocal) ∷ field (codes "exported") (Sort.Child Place.ModuleName) ∷ []
 members_of Kind.ExportDefaultDeclaration = field (codes "declaration") (Sort.Child Place.ExportDefault) ∷ []
-members_of Kind.ExportAllDeclaration = field (codes "exported") (Sort.Maybe Place.ModuleName) ∷ field (codes "source") (Sort.Child Place.Literal) ∷ []
+members_of Kind.ExportAllDeclaration = field (codes "exported") (Sort.Nullable Place.ModuleName) ∷ field (codes "source") (Sort.Child Place.Literal) ∷ []
 members_of Kind.Foreign = field (codes "type") Sort.Type ∷ []
 
--- the words of a set
+-- the strings of the words of a set
 abbrev pub words_of : Words → List (List ℕ)
-words_of Words.SourceType = source_type_text SourceType.Script ∷ source_type_text SourceType.Module ∷ []
-words_of Words.VariableDeclarationKind = variable_declaration_kind_text VariableDeclarationKind.Var ∷ variable_declaration_kind_text VariableDeclarationKind.Let ∷ variable_declaration_kind_text VariableDeclarationKind.Const ∷ []
-words_of Words.MethodDefinitionKind = method_definition_kind_text MethodDefinitionKind.Constructor ∷ method_definition_kind_text MethodDefinitionKind.Method ∷ method_definition_kind_text MethodDefinitionKind.Get ∷ method_definition_kind_text MethodDefinitionKind.Set ∷ []
-words_of Words.PropertyKind = property_kind_text PropertyKind.Init ∷ property_kind_text PropertyKind.Get ∷ property_kind_text PropertyKind.Set ∷ []
-words_of Words.UnaryOperator = unary_operator_text UnaryOperator.Minus ∷ unary_operator_text UnaryOperator.Plus ∷ unary_operator_text UnaryOperator.Not ∷ unary_operator_text UnaryOperator.BitNot ∷ unary_operator_text UnaryOperator.Typeof ∷ unary_operator_text UnaryOperator.Void ∷ unary_operator_text UnaryOperator.Delete ∷ []
-words_of Words.UpdateOperator = update_operator_text UpdateOperator.Increment ∷ update_operator_text UpdateOperator.Decrement ∷ []
-words_of Words.BinaryOperator = binary_operator_text BinaryOperator.Equality ∷ binary_operator_text BinaryOperator.Inequality ∷ binary_operator_text BinaryOperator.StrictEquality ∷ binary_operator_text BinaryOperator.StrictInequality ∷ binary_operator_text BinaryOperator.LessThan ∷ binary_operator_text BinaryOperator.LessEqualThan ∷ binary_operator_text BinaryOperator.GreaterThan ∷ binary_operator_text BinaryOperator.GreaterEqualThan ∷ binary_operator_text BinaryOperator.ShiftLeft ∷ binary_operator_text BinaryOperator.ShiftRight ∷ binary_operator_text BinaryOperator.ShiftRightZeroFill ∷ binary_operator_text BinaryOperator.Addition ∷ binary_operator_text BinaryOperator.Subtraction ∷ binary_operator_text BinaryOperator.Multiplication ∷ binary_operator_text BinaryOperator.Division ∷ binary_operator_text BinaryOperator.Remainder ∷ binary_operator_text BinaryOperator.Exponential ∷ binary_operator_text BinaryOperator.BitwiseOr ∷ binary_operator_text BinaryOperator.BitwiseXor ∷ binary_operator_text BinaryOperator.BitwiseAnd ∷ binary_operator_text BinaryOperator.In ∷ binary_operator_text BinaryOperator.Instanceof ∷ []
-words_of Words.LogicalOperator = logical_operator_text LogicalOperator.Or ∷ logical_operator_text LogicalOperator.And ∷ logical_operator_text LogicalOperator.Coalesce ∷ []
-words_of Words.AssignmentOperator = assignment_operator_text AssignmentOperator.Assign ∷ assignment_operator_text AssignmentOperator.Addition ∷ assignment_operator_text AssignmentOperator.Subtraction ∷ assignment_operator_text AssignmentOperator.Multiplication ∷ assignment_operator_text AssignmentOperator.Division ∷ assignment_operator_text AssignmentOperator.Remainder ∷ assignment_operator_text AssignmentOperator.Exponential ∷ assignment_operator_text AssignmentOperator.ShiftLeft ∷ assignment_operator_text AssignmentOperator.ShiftRight ∷ assignment_operator_text AssignmentOperator.ShiftRightZeroFill ∷ assignment_operator_text AssignmentOperator.BitwiseOr ∷ assignment_operator_text AssignmentOperator.BitwiseXor ∷ assignment_operator_text AssignmentOperator.BitwiseAnd ∷ assignment_operator_text AssignmentOperator.LogicalOr ∷ assignment_operator_text AssignmentOperator.LogicalAnd ∷ assignment_operator_text AssignmentOperator.LogicalNullish ∷ []
-words_of Words.In = codes "in" ∷ []
-words_of Words.Init = codes "init" ∷ []
+words_of set = map word_string (all_of_set set)
 
 abbrev pub is_statement : Kind → Bool
 is_statement Kind.ExpressionStatement = true

@@ -1,6 +1,6 @@
 // Numbers that nodes carry, and places in the source.
 
-/// The number of a node. In a tree that was read, nodes are numbered from 0 in reading order.
+/// The number of a node. In a tree that was read, nodes are numbered from 0 in preorder.
 #[derive(Debug, Clone, Copy, PartialEq, Eq, PartialOrd, Ord, Hash)]
 pub struct NodeId(pub u32);
 

@@ -1,3 +1,4 @@
+// Printed by tools/tree.py from tools/kinds.py.
 // The kinds of nodes.
 
 /// What a node is. A kind tells apart what one name of ESTree does not: declarations from expressions,

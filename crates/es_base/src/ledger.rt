@@ -11,7 +11,7 @@ pub struct Ledger {
     pub entries: List<LedgerEntry>,
 }
 
-/// A name that was made.
+/// A generated name.
 #[derive(Drop)]
 pub struct LedgerEntry {
     pub name: Name,

@@ -1,8 +1,7 @@
-// What every crate of trees speaks of: texts, lists, numbers, the kinds of nodes and their table, and
+// What every crate of trees speaks of: strings, lists, numbers, the kinds of nodes and their table, and
 // in specs/ the plain tree.
 #![tactic(auto)]
 
-pub mod boxed;
 pub mod diagnostic;
 pub mod ids;
 pub mod kind;
@@ -11,5 +10,8 @@ pub mod list;
 pub mod literal;
 pub mod name;
 pub mod operator;
+pub mod places;
 pub mod shape;
+pub mod strings;
 pub mod table;
+pub mod word;

@@ -74,7 +74,7 @@ impl<T> List<T> {
 }
 
 impl<T: Drop> List<T> {
-    /// Adds an item at the end. Fails for want of memory alone, and then drops the item.
+    /// Adds an item at the end. Fails on allocation failure alone, and then drops the item.
     pub fn push(&mut self, item: T) -> Result<(), AllocError>
         ensures ok { OnOk result (self.new ≡ self.old ++ item ∷ []) }
         ensures err { OnErr result (self.new ≡ self.old) }
@@ -83,7 +83,7 @@ impl<T: Drop> List<T> {
         Ok(())
     }
 
-    /// Puts an item at the place `at`, before the one that stands there. Fails for want of memory
+    /// Puts an item at the place `at`, before the one that stands there. Fails for allocation failure
     /// alone, and then drops the item.
     pub fn insert(&mut self, at: usize, item: T) -> Result<(), AllocError>
         requires { at ≤ length self.old }

@@ -1,4 +1,4 @@
-// Names and other texts.
+// Names and other strings.
 
 ghost use Rattle.std.specs.Prelude.{◌≡◌, IfOk, Some, refl, bytes_eq};
 ghost use Rattle.std.proofs.Common.{rules};
@@ -14,13 +14,13 @@ use std::cmp::Ordering;
 use std::hash::{Hash, Hasher};
 use std::marker::Model;
 
-/// A text, which contracts see as the list of its characters.
+/// A string, which contracts see as the list of its characters.
 ///
 /// Names are equal where their characters are, and are ordered by the bytes of their UTF-8, which is
 /// the order of their characters.
 #[derive(Drop)]
 pub struct Name {
-    text: String,
+    string: String,
 }
 
 impl Model for Name {
@@ -30,31 +30,31 @@ impl Model for Name {
 
     ghost Value = { List ℕ };
 
-    ghost view = { λ n. chars (string_bytes n.text) };
+    ghost view = { λ n. chars (string_bytes n.string) };
 }
 
 impl Name {
-    /// The name of these characters. Fails for want of memory alone.
-    pub fn new(alloc: Global, text: &str) -> Result<Name, AllocError>
-        ensures { IfOk result (λ n. n ≡ chars text.now) }
+    /// The name of these characters. Fails on allocation failure alone.
+    pub fn new(alloc: Global, string: &str) -> Result<Name, AllocError>
+        ensures { IfOk result (λ n. n ≡ chars string.now) }
     {
         Ok(Name {
-            text: String::from_str(alloc, text)?,
+            string: String::from_str(alloc, string)?,
         })
     }
 
-    /// The characters, as text.
+    /// The characters, as string.
     pub fn as_str(&self) -> &str
         ensures { chars result.now ≡ self.now }
     {
-        self.text.as_str()
+        self.string.as_str()
     }
 
-    /// An equal name. Fails for want of memory alone.
+    /// An equal name. Fails on allocation failure alone.
     pub fn try_clone(&self, alloc: Global) -> Result<Name, AllocError>
         ensures { IfOk result (λ n. n ≡ self.now) }
     {
-        Name::new(alloc, self.text.as_str())
+        Name::new(alloc, self.string.as_str())
     }
 }
 
@@ -64,7 +64,7 @@ impl PartialEq for Name {
     ghost laws = { on_per encode_utf8_all (partial_equiv_from_equiv nat_list_eq_equiv) };
 
     fn eq(&self, other: &Self) -> bool {
-        self.text.as_str() == other.text.as_str()
+        self.string.as_str() == other.string.as_str()
     }
 }
 
@@ -92,7 +92,7 @@ impl Ord for Name {
     ghost matches_eq = { λ x y. texts_ties (encode_utf8_all x) (encode_utf8_all y) };
 
     fn cmp(&self, other: &Self) -> Ordering {
-        self.text.as_str().cmp(other.text.as_str())
+        self.string.as_str().cmp(other.string.as_str())
     }
 }
 
@@ -102,6 +102,6 @@ impl Hash for Name {
     ghost respects_eq = { Prim.search (hashing, rules) };
 
     fn hash<H: Hasher>(&self, state: &mut H) {
-        self.text.as_str().hash(state);
+        self.string.as_str().hash(state);
     }
 }

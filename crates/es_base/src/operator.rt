@@ -1,3 +1,4 @@
+// Printed by tools/tree.py from tools/kinds.py.
 // Operators, and the other small sets of words that members hold.
 
 /// What a program is: a script or a module (ESTree, `sourceType`).
@@ -167,4 +168,22 @@ pub enum AssignmentOperator {
     LogicalAnd,
     /// `??=`
     LogicalNullish,
+}
+
+/// A word of the table, in its set.
+#[derive(Debug, Clone, Copy, PartialEq, Eq)]
+pub enum Word {
+    SourceType(SourceType),
+    VariableDeclarationKind(VariableDeclarationKind),
+    MethodDefinitionKind(MethodDefinitionKind),
+    PropertyKind(PropertyKind),
+    UnaryOperator(UnaryOperator),
+    UpdateOperator(UpdateOperator),
+    BinaryOperator(BinaryOperator),
+    LogicalOperator(LogicalOperator),
+    AssignmentOperator(AssignmentOperator),
+    /// `in`, the one word of its set
+    In,
+    /// `init`, the one word of its set
+    Init,
 }

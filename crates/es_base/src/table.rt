@@ -1,7 +1,8 @@
+// Printed by tools/tree.py from tools/kinds.py.
 // The table of kinds, as data: reading, writing and conformity are read off it.
 
 ghost use Rattle.std.specs.Prelude.{◌≡◌, map};
-ghost use Rattle.es_base.specs.Table.{name_of, members_of, words_of, field_of, stands_in, is_statement, is_expression, is_pattern, is_target, kinds};
+ghost use Rattle.es_base.specs.Table.{name_of, members_of, field_of, stands_in, is_statement, is_expression, is_pattern, is_target, kinds};
 
 use crate::kind::Kind;
 
@@ -74,7 +75,7 @@ pub enum Place {
     Literal,
     /// The template behind a tag.
     TemplateLiteral,
-    /// A text of a template.
+    /// A string of a template.
     TemplateElement,
     /// What an import binds.
     ImportMember,
@@ -110,32 +111,32 @@ pub enum Sort {
     /// A node.
     Child(Place),
     /// A node or null.
-    Maybe(Place),
+    Nullable(Place),
     /// A node of this place, or an expression where `computed` is true.
     Key(Place),
     /// A list of nodes.
     List(Place),
     /// A list of at least one node.
-    Some(Place),
+    NonEmptyList(Place),
     /// A list of nodes and nulls.
-    Holes(Place),
-    /// A text that is not empty.
+    ListWithHoles(Place),
+    /// A string that is not empty.
     Name,
-    /// A text or nothing.
-    MaybeText,
-    /// A truth value, false where it is absent.
-    Truth,
-    /// A truth value that is false.
-    Never,
+    /// A string or nothing.
+    NullableString,
+    /// A boolean, false where it is absent.
+    Boolean,
+    /// A boolean that is false.
+    False,
     /// One of a set of words.
     Word(Words),
     /// The value of a literal, which other members of the node decide too.
     Literal,
-    /// The text `raw` of the object `value`.
+    /// The string `raw` of the object `value`.
     Raw,
-    /// The text `cooked` of the object `value`, or null.
+    /// The string `cooked` of the object `value`, or null.
     Cooked,
-    /// The text of `type`.
+    /// The string of `type`.
     Type,
 }
 
@@ -146,7 +147,7 @@ pub struct Member {
     pub sort: Sort,
 }
 
-/// The text of a node's `type` (ESTree); empty for a foreign node, which keeps its own.
+/// The string of a node's `type` (ESTree); empty for a foreign node, which keeps its own.
 pub fn estree_name(kind: Kind) -> &'static str
     ensures { result.now ≡ name_of kind }
 {
@@ -236,7 +237,7 @@ pub fn estree_name(kind: Kind) -> &'static str
     }
 }
 
-/// The members of a node in reading order (ESTree; the order is our own).
+/// The members of a node in preorder (ESTree; the order is our own).
 pub fn members(kind: Kind) -> &'static [Member]
     ensures { map field_of result.now ≡ members_of kind }
 {
@@ -258,7 +259,7 @@ pub fn members(kind: Kind) -> &'static [Member]
             },
             Member {
                 name: "directive",
-                sort: Sort::MaybeText,
+                sort: Sort::NullableString,
             },
         ],
         Kind::BlockStatement => &[Member {
@@ -279,7 +280,7 @@ pub fn members(kind: Kind) -> &'static [Member]
         ],
         Kind::ReturnStatement => &[Member {
             name: "argument",
-            sort: Sort::Maybe(Place::Expression),
+            sort: Sort::Nullable(Place::Expression),
         }],
         Kind::ThrowStatement => &[Member {
             name: "argument",
@@ -297,11 +298,11 @@ pub fn members(kind: Kind) -> &'static [Member]
         ],
         Kind::BreakStatement => &[Member {
             name: "label",
-            sort: Sort::Maybe(Place::IdentifierName),
+            sort: Sort::Nullable(Place::IdentifierName),
         }],
         Kind::ContinueStatement => &[Member {
             name: "label",
-            sort: Sort::Maybe(Place::IdentifierName),
+            sort: Sort::Nullable(Place::IdentifierName),
         }],
         Kind::IfStatement => &[
             Member {
@@ -314,7 +315,7 @@ pub fn members(kind: Kind) -> &'static [Member]
             },
             Member {
                 name: "alternate",
-                sort: Sort::Maybe(Place::Statement),
+                sort: Sort::Nullable(Place::Statement),
             },
         ],
         Kind::SwitchStatement => &[
@@ -330,7 +331,7 @@ pub fn members(kind: Kind) -> &'static [Member]
         Kind::SwitchCase => &[
             Member {
                 name: "test",
-                sort: Sort::Maybe(Place::Expression),
+                sort: Sort::Nullable(Place::Expression),
             },
             Member {
                 name: "consequent",
@@ -344,17 +345,17 @@ pub fn members(kind: Kind) -> &'static [Member]
             },
             Member {
                 name: "handler",
-                sort: Sort::Maybe(Place::CatchClause),
+                sort: Sort::Nullable(Place::CatchClause),
             },
             Member {
                 name: "finalizer",
-                sort: Sort::Maybe(Place::Block),
+                sort: Sort::Nullable(Place::Block),
             },
         ],
         Kind::CatchClause => &[
             Member {
                 name: "param",
-                sort: Sort::Maybe(Place::Pattern),
+                sort: Sort::Nullable(Place::Pattern),
             },
             Member {
                 name: "body",
@@ -384,15 +385,15 @@ pub fn members(kind: Kind) -> &'static [Member]
         Kind::ForStatement => &[
             Member {
                 name: "init",
-                sort: Sort::Maybe(Place::ForInit),
+                sort: Sort::Nullable(Place::ForInit),
             },
             Member {
                 name: "test",
-                sort: Sort::Maybe(Place::Expression),
+                sort: Sort::Nullable(Place::Expression),
             },
             Member {
                 name: "update",
-                sort: Sort::Maybe(Place::Expression),
+                sort: Sort::Nullable(Place::Expression),
             },
             Member {
                 name: "body",
@@ -428,13 +429,13 @@ pub fn members(kind: Kind) -> &'static [Member]
             },
             Member {
                 name: "await",
-                sort: Sort::Truth,
+                sort: Sort::Boolean,
             },
         ],
         Kind::FunctionDeclaration => &[
             Member {
                 name: "id",
-                sort: Sort::Maybe(Place::BindingIdentifier),
+                sort: Sort::Nullable(Place::BindingIdentifier),
             },
             Member {
                 name: "params",
@@ -446,17 +447,17 @@ pub fn members(kind: Kind) -> &'static [Member]
             },
             Member {
                 name: "async",
-                sort: Sort::Truth,
+                sort: Sort::Boolean,
             },
             Member {
                 name: "generator",
-                sort: Sort::Truth,
+                sort: Sort::Boolean,
             },
         ],
         Kind::FunctionExpression => &[
             Member {
                 name: "id",
-                sort: Sort::Maybe(Place::BindingIdentifier),
+                sort: Sort::Nullable(Place::BindingIdentifier),
             },
             Member {
                 name: "params",
@@ -468,11 +469,11 @@ pub fn members(kind: Kind) -> &'static [Member]
             },
             Member {
                 name: "async",
-                sort: Sort::Truth,
+                sort: Sort::Boolean,
             },
             Member {
                 name: "generator",
-                sort: Sort::Truth,
+                sort: Sort::Boolean,
             },
         ],
         Kind::ArrowFunctionExpression => &[
@@ -486,7 +487,7 @@ pub fn members(kind: Kind) -> &'static [Member]
             },
             Member {
                 name: "async",
-                sort: Sort::Truth,
+                sort: Sort::Boolean,
             },
         ],
         Kind::VariableDeclaration => &[
@@ -506,17 +507,17 @@ pub fn members(kind: Kind) -> &'static [Member]
             },
             Member {
                 name: "init",
-                sort: Sort::Maybe(Place::Expression),
+                sort: Sort::Nullable(Place::Expression),
             },
         ],
         Kind::ClassDeclaration => &[
             Member {
                 name: "id",
-                sort: Sort::Maybe(Place::BindingIdentifier),
+                sort: Sort::Nullable(Place::BindingIdentifier),
             },
             Member {
                 name: "superClass",
-                sort: Sort::Maybe(Place::Expression),
+                sort: Sort::Nullable(Place::Expression),
             },
             Member {
                 name: "body",
@@ -526,11 +527,11 @@ pub fn members(kind: Kind) -> &'static [Member]
         Kind::ClassExpression => &[
             Member {
                 name: "id",
-                sort: Sort::Maybe(Place::BindingIdentifier),
+                sort: Sort::Nullable(Place::BindingIdentifier),
             },
             Member {
                 name: "superClass",
-                sort: Sort::Maybe(Place::Expression),
+                sort: Sort::Nullable(Place::Expression),
             },
             Member {
                 name: "body",
@@ -556,11 +557,11 @@ pub fn members(kind: Kind) -> &'static [Member]
             },
             Member {
                 name: "computed",
-                sort: Sort::Truth,
+                sort: Sort::Boolean,
             },
             Member {
                 name: "static",
-                sort: Sort::Truth,
+                sort: Sort::Boolean,
             },
         ],
         Kind::PropertyDefinition => &[
@@ -570,15 +571,15 @@ pub fn members(kind: Kind) -> &'static [Member]
             },
             Member {
                 name: "value",
-                sort: Sort::Maybe(Place::Expression),
+                sort: Sort::Nullable(Place::Expression),
             },
             Member {
                 name: "computed",
-                sort: Sort::Truth,
+                sort: Sort::Boolean,
             },
             Member {
                 name: "static",
-                sort: Sort::Truth,
+                sort: Sort::Boolean,
             },
         ],
         Kind::StaticBlock => &[Member {
@@ -609,7 +610,7 @@ pub fn members(kind: Kind) -> &'static [Member]
         Kind::Super => &[],
         Kind::ArrayExpression => &[Member {
             name: "elements",
-            sort: Sort::Holes(Place::ExpressionOrSpread),
+            sort: Sort::ListWithHoles(Place::ExpressionOrSpread),
         }],
         Kind::ObjectExpression => &[Member {
             name: "properties",
@@ -630,15 +631,15 @@ pub fn members(kind: Kind) -> &'static [Member]
             },
             Member {
                 name: "method",
-                sort: Sort::Truth,
+                sort: Sort::Boolean,
             },
             Member {
                 name: "shorthand",
-                sort: Sort::Truth,
+                sort: Sort::Boolean,
             },
             Member {
                 name: "computed",
-                sort: Sort::Truth,
+                sort: Sort::Boolean,
             },
         ],
         Kind::SpreadElement => &[Member {
@@ -666,7 +667,7 @@ pub fn members(kind: Kind) -> &'static [Member]
             },
             Member {
                 name: "tail",
-                sort: Sort::Truth,
+                sort: Sort::Boolean,
             },
         ],
         Kind::TaggedTemplateExpression => &[
@@ -690,11 +691,11 @@ pub fn members(kind: Kind) -> &'static [Member]
             },
             Member {
                 name: "computed",
-                sort: Sort::Truth,
+                sort: Sort::Boolean,
             },
             Member {
                 name: "optional",
-                sort: Sort::Truth,
+                sort: Sort::Boolean,
             },
         ],
         Kind::PrivateField => &[
@@ -708,11 +709,11 @@ pub fn members(kind: Kind) -> &'static [Member]
             },
             Member {
                 name: "computed",
-                sort: Sort::Never,
+                sort: Sort::False,
             },
             Member {
                 name: "optional",
-                sort: Sort::Truth,
+                sort: Sort::Boolean,
             },
         ],
         Kind::UnaryExpression => &[
@@ -736,7 +737,7 @@ pub fn members(kind: Kind) -> &'static [Member]
             },
             Member {
                 name: "prefix",
-                sort: Sort::Truth,
+                sort: Sort::Boolean,
             },
         ],
         Kind::BinaryExpression => &[
@@ -820,7 +821,7 @@ pub fn members(kind: Kind) -> &'static [Member]
             },
             Member {
                 name: "optional",
-                sort: Sort::Truth,
+                sort: Sort::Boolean,
             },
         ],
         Kind::NewExpression => &[
@@ -835,16 +836,16 @@ pub fn members(kind: Kind) -> &'static [Member]
         ],
         Kind::SequenceExpression => &[Member {
             name: "expressions",
-            sort: Sort::Some(Place::Expression),
+            sort: Sort::NonEmptyList(Place::Expression),
         }],
         Kind::YieldExpression => &[
             Member {
                 name: "argument",
-                sort: Sort::Maybe(Place::Expression),
+                sort: Sort::Nullable(Place::Expression),
             },
             Member {
                 name: "delegate",
-                sort: Sort::Truth,
+                sort: Sort::Boolean,
             },
         ],
         Kind::AwaitExpression => &[Member {
@@ -888,20 +889,20 @@ pub fn members(kind: Kind) -> &'static [Member]
             },
             Member {
                 name: "method",
-                sort: Sort::Never,
+                sort: Sort::False,
             },
             Member {
                 name: "shorthand",
-                sort: Sort::Truth,
+                sort: Sort::Boolean,
             },
             Member {
                 name: "computed",
-                sort: Sort::Truth,
+                sort: Sort::Boolean,
             },
         ],
         Kind::ArrayPattern => &[Member {
             name: "elements",
-            sort: Sort::Holes(Place::PatternOrRest),
+            sort: Sort::ListWithHoles(Place::PatternOrRest),
         }],
         Kind::AssignmentPattern => &[
             Member {
@@ -936,20 +937,20 @@ pub fn members(kind: Kind) -> &'static [Member]
             },
             Member {
                 name: "method",
-                sort: Sort::Never,
+                sort: Sort::False,
             },
             Member {
                 name: "shorthand",
-                sort: Sort::Truth,
+                sort: Sort::Boolean,
             },
             Member {
                 name: "computed",
-                sort: Sort::Truth,
+                sort: Sort::Boolean,
             },
         ],
         Kind::ArrayAssignmentTarget => &[Member {
             name: "elements",
-            sort: Sort::Holes(Place::TargetOrRest),
+            sort: Sort::ListWithHoles(Place::TargetOrRest),
         }],
         Kind::AssignmentTargetWithDefault => &[
             Member {
@@ -996,7 +997,7 @@ pub fn members(kind: Kind) -> &'static [Member]
         Kind::ExportNamedDeclaration => &[
             Member {
                 name: "declaration",
-                sort: Sort::Maybe(Place::Statement),
+                sort: Sort::Nullable(Place::Statement),
             },
             Member {
                 name: "specifiers",
@@ -1004,7 +1005,7 @@ pub fn members(kind: Kind) -> &'static [Member]
             },
             Member {
                 name: "source",
-                sort: Sort::Maybe(Place::Literal),
+                sort: Sort::Nullable(Place::Literal),
             },
         ],
         Kind::ExportSpecifier => &[
@@ -1024,7 +1025,7 @@ pub fn members(kind: Kind) -> &'static [Member]
         Kind::ExportAllDeclaration => &[
             Member {
                 name: "exported",
-                sort: Sort::Maybe(Place::ModuleName),
+                sort: Sort::Nullable(Place::ModuleName),
             },
             Member {
                 name: "source",
@@ -1035,51 +1036,6 @@ pub fn members(kind: Kind) -> &'static [Member]
             name: "type",
             sort: Sort::Type,
         }],
-    }
-}
-
-/// The words of a set.
-pub fn words_in(of: Words) -> &'static [&'static str]
-    ensures { map (λ s. s.now) result.now ≡ words_of of }
-{
-    match of {
-        Words::SourceType => &["script", "module"],
-        Words::VariableDeclarationKind => &["var", "let", "const"],
-        Words::MethodDefinitionKind => &["constructor", "method", "get", "set"],
-        Words::PropertyKind => &["init", "get", "set"],
-        Words::UnaryOperator => &["-", "+", "!", "~", "typeof", "void", "delete"],
-        Words::UpdateOperator => &["++", "--"],
-        Words::BinaryOperator => &[
-            "==",
-            "!=",
-            "===",
-            "!==",
-            "<",
-            "<=",
-            ">",
-            ">=",
-            "<<",
-            ">>",
-            ">>>",
-            "+",
-            "-",
-            "*",
-            "/",
-            "%",
-            "**",
-            "|",
-            "^",
-            "&",
-            "in",
-            "instanceof",
-        ],
-        Words::LogicalOperator => &["||", "&&", "??"],
-        Words::AssignmentOperator => &[
-            "=", "+=", "-=", "*=", "/=", "%=", "**=", "<<=", ">>=", ">>>=", "|=", "^=", "&=",
-            "||=", "&&=", "??=",
-        ],
-        Words::In => &["in"],
-        Words::Init => &["init"],
     }
 }
 

@@ -16,7 +16,7 @@ use Rattle.es_base.specs.declared.shape.Shape.{Shape}
 use Rattle.es_lowered.specs.Lowered.{Writes}
 use Rattle.es_reading.specs.Reading.{read, root}
 use Rattle.es_reading.specs.declared.numbers.Numbers.{Numbers}
-use Rattle.es_base.specs.Marks.{unmarked}
+use Rattle.es_base.specs.Carried.{stripped}
 use Rattle.es_writing.specs.Kept.{IsKept}
 use Rattle.es_writing.specs.Writing.{write}
 
@@ -25,11 +25,11 @@ written_no_float (Ok v) s is = ap has_float is ∙ no_floats s
 written_no_float (Err e) s is = tt
 
 pub written_back : {E : Type 0} (r : Result Value E) (s t : Tree) → IfOk r (λ v. view v ≡ write s) → IfOk r (λ v. IsKept s) → s ≡ t
-    → IfOk r (λ v. conforms Place.Program t ≡ true → read Numbers.Given (view v) root 0 ≡ Ok (record { value = unmarked t; foreign = [] }))
+    → IfOk r (λ v. conforms Place.Program t ≡ true → read Numbers.Given (view v) root 0 ≡ Ok (record { value = stripped t; foreign = [] }))
 written_back (Ok v) s t is kept same = λ fits.
     ap (λ e. read Numbers.Given e root 0) is
     ∙ program_law s (ap (conforms Place.Program) same ∙ fits) kept
-    ∙ ap (λ u. Ok (record { value = unmarked u; foreign = [] })) same
+    ∙ ap (λ u. Ok (record { value = stripped u; foreign = [] })) same
 written_back (Err e) s t is kept same = tt
 
 pub written_kept : {E : Type 0} (r : Result Value E) (s t : Tree) → IfOk r (λ v. IsKept s) → s ≡ t → IfOk r (λ v. IsKept t)
@@ -43,9 +43,9 @@ lowered_float (Ok v) t names warnings shapes w = ap has_float w.written ∙ lowe
 lowered_float (Err e) t names warnings shapes w = tt
 
 pub lowered_back : {E : Type 0} (r : Result Value E) (s t : Tree) (names : List LedgerEntry) (warnings : List Diagnostic) (shapes : List Shape) → IfOk r (λ v. Writes v s names warnings shapes) → IfOk r (λ v. IsKept s) → s ≡ t
-    → IfOk r (λ v. conforms Place.Program t ≡ true → read Numbers.Given (view v) root 0 ≡ Ok (record { value = unmarked t; foreign = [] }))
+    → IfOk r (λ v. conforms Place.Program t ≡ true → read Numbers.Given (view v) root 0 ≡ Ok (record { value = stripped t; foreign = [] }))
 lowered_back (Ok v) s t names warnings shapes w kept same = λ fits.
     ap (λ e. read Numbers.Given e root 0) w.written
     ∙ lowered_law s w.names w.told shapes (ap (conforms Place.Program) same ∙ fits) kept
-    ∙ ap (λ u. Ok (record { value = unmarked u; foreign = [] })) same
+    ∙ ap (λ u. Ok (record { value = stripped u; foreign = [] })) same
 lowered_back (Err e) s t names warnings shapes w kept same = tt

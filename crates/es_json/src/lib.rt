@@ -6,7 +6,7 @@ pub mod read;
 #[cfg(test)]
 mod tests;
 #[cfg(test)]
-mod texts;
+mod strings;
 pub mod write;
 
 pub use es_reading::{count, fault};

@@ -15,19 +15,19 @@ use es_tree::program::Program;
 use serde_json::Value;
 use std::alloc::Global;
 
-/// The program that a value is, with its nodes numbered 0, 1, .. in reading order. (ESTree;
+/// The program that a value is, with its nodes numbered 0, 1, .. in preorder. (ESTree;
 /// docs/JSON.md)
 ///
-/// Where the value is no program, the error is its first fault in reading order; beside that it fails for
-/// want of memory alone. The value holds fewer than 2^32 - 1 values, itself and those at every depth
+/// Where the value is no program, the error is its first fault in preorder; beside that it fails for
+/// allocation failure alone. The value holds fewer than 2^32 - 1 values, itself and those at every depth
 /// counted, as `is_countable` tests.
 pub fn read_program(alloc: Global, value: &Value) -> Result<Program, ReadError>
     requires { values (view value.now) + 1 < 2 ^ 32 }
-    ensures ok { IfOk result (λ p. read Numbers.InOrder (view value.now) root 0 ≡ Ok (record { value = program_tree p; foreign = ids p.foreign })) }
+    ensures ok { IfOk result (λ p. read Numbers.Preorder (view value.now) root 0 ≡ Ok (record { value = program_tree p; foreign = ids p.foreign })) }
     ensures numbered { IfOk result (λ p. IsNumbered 0 (program_tree p)) }
-    ensures err { IfErr result (λ e. Tells e (read Numbers.InOrder (view value.now) root 0)) }
+    ensures err { IfErr result (λ e. Tells e (read Numbers.Preorder (view value.now) root 0)) }
 {
-    read_as(alloc, value, Numbers::InOrder)
+    read_as(alloc, value, Numbers::Preorder)
 }
 
 /// The program that a value is, with the numbers of the members `node`. (docs/JSON.md)
@@ -44,7 +44,7 @@ pub fn read_numbered(alloc: Global, value: &Value) -> Result<Program, ReadError>
 fn read_as(alloc: Global, value: &Value, numbers: Numbers) -> Result<Program, ReadError>
     requires { values (view value.now) + 1 < 2 ^ 32 }
     ensures ok { IfOk result (λ p. read numbers (view value.now) root 0 ≡ Ok (record { value = program_tree p; foreign = ids p.foreign })) }
-    ensures numbered { IfOk result (λ p. numbers ≡ Numbers.InOrder → IsNumbered 0 (program_tree p)) }
+    ensures numbered { IfOk result (λ p. numbers ≡ Numbers.Preorder → IsNumbered 0 (program_tree p)) }
     ensures err { IfErr result (λ e. Tells e (read numbers (view value.now) root 0)) }
 {
     let (tree, foreign) = read_tree(alloc, value, numbers)?;

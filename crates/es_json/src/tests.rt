@@ -5,7 +5,7 @@ ghost use Rattle.es_reading.specs.Told.{values};
 ghost use Rattle.serde_json.specs.View.{view};
 
 use crate::read::{read_numbered, read_program};
-use crate::texts::{acorn_written, all_kinds, from_acorn, programs, with_foreign};
+use crate::strings::{acorn_written, all_kinds, from_acorn, programs, with_foreign};
 use crate::write::{write_lowered, write_program};
 use es_base::ids::NodeId;
 use es_base::ledger::{GeneratedKind, Ledger, LedgerEntry};
@@ -26,9 +26,9 @@ fn rewritten(alloc: Global, value: &Value) -> Result<String, ReadError>
     requires { values (view value.now) + 1 < 2 ^ 32 }
 {
     let program = read_program(alloc, value)?;
-    let text = text_of(alloc, &program);
+    let string = text_of(alloc, &program);
     let_go(program);
-    Ok(text?)
+    Ok(string?)
 }
 
 /// The same, where the numbers are those of the value.
@@ -36,9 +36,9 @@ fn rewritten_numbered(alloc: Global, value: &Value) -> Result<String, ReadError>
     requires { values (view value.now) + 1 < 2 ^ 32 }
 {
     let program = read_numbered(alloc, value)?;
-    let text = text_of(alloc, &program);
+    let string = text_of(alloc, &program);
     let_go(program);
-    Ok(text?)
+    Ok(string?)
 }
 
 /// The text of a program.
@@ -47,8 +47,8 @@ fn text_of(alloc: Global, program: &Program) -> Result<String, AllocError> {
 }
 
 /// The text of the program that is read of a text.
-fn written(alloc: Global, text: &str) -> Option<String> {
-    let value = Value::from_str(alloc, text).ok()?;
+fn written(alloc: Global, string: &str) -> Option<String> {
+    let value = Value::from_str(alloc, string).ok()?;
     if is_countable(&value) {
         rewritten(alloc, &value).ok()
     } else {
@@ -57,8 +57,8 @@ fn written(alloc: Global, text: &str) -> Option<String> {
 }
 
 /// The same, where the numbers are those of the text.
-fn written_again(alloc: Global, text: &str) -> Option<String> {
-    let value = Value::from_str(alloc, text).ok()?;
+fn written_again(alloc: Global, string: &str) -> Option<String> {
+    let value = Value::from_str(alloc, string).ok()?;
     if is_countable(&value) {
         rewritten_numbered(alloc, &value).ok()
     } else {
@@ -67,8 +67,8 @@ fn written_again(alloc: Global, text: &str) -> Option<String> {
 }
 
 /// Whether what is written of a text is read and written again as the same text.
-fn comes_back(alloc: Global, text: &str) -> bool {
-    match written(alloc, text) {
+fn comes_back(alloc: Global, string: &str) -> bool {
+    match written(alloc, string) {
         None => false,
         Some(once) => match written_again(alloc, once.as_str()) {
             None => false,
@@ -79,15 +79,15 @@ fn comes_back(alloc: Global, text: &str) -> bool {
 
 #[test]
 fn programs_come_back(rt: HostRuntime) {
-    for text in programs() {
-        assert!(rt; comes_back(rt.alloc(), text));
+    for string in programs() {
+        assert!(rt; comes_back(rt.alloc(), string));
     }
 }
 
 #[test]
 fn each_kind_comes_back(rt: HostRuntime) {
-    for text in all_kinds() {
-        assert!(rt; comes_back(rt.alloc(), text));
+    for string in all_kinds() {
+        assert!(rt; comes_back(rt.alloc(), string));
     }
 }
 
@@ -102,22 +102,22 @@ fn an_empty_script_is_written(rt: HostRuntime) {
         rt.alloc(),
         "{\"type\":\"Program\",\"sourceType\":\"script\",\"body\":[]}",
     ) {
-        Some(text) => assert_eq!(rt;
-            text.as_str(),
+        Some(string) => assert_eq!(rt;
+            string.as_str(),
             "{\"body\":[],\"node\":0,\"sourceType\":\"script\",\"type\":\"Program\"}"
         ),
         None => panic!(rt; "not written"),
     }
 }
 
-/// What is written of the program that a value is, as a lowered one with a name that was made and a shape.
+/// What is written of the program that a value is, as a lowered one with a generated name and a shape.
 fn rewritten_lowered(alloc: Global, value: &Value) -> Result<String, ReadError>
     requires { values (view value.now) + 1 < 2 ^ 32 }
 {
     let program = read_program(alloc, value)?;
-    let text = lowered_text(alloc, &program);
+    let string = lowered_text(alloc, &program);
     let_go(program);
-    Ok(text?)
+    Ok(string?)
 }
 
 fn lowered_text(alloc: Global, program: &Program) -> Result<String, AllocError> {
@@ -129,8 +129,8 @@ fn lowered_text(alloc: Global, program: &Program) -> Result<String, AllocError> 
 }
 
 /// What is written of a text as a lowered program.
-fn lowered(alloc: Global, text: &str) -> Option<String> {
-    let value = Value::from_str(alloc, text).ok()?;
+fn lowered(alloc: Global, string: &str) -> Option<String> {
+    let value = Value::from_str(alloc, string).ok()?;
     if is_countable(&value) {
         rewritten_lowered(alloc, &value).ok()
     } else {
@@ -142,8 +142,8 @@ fn lowered(alloc: Global, text: &str) -> Option<String> {
 fn a_lowered_program_is_written(rt: HostRuntime) {
     let empty = "{\"type\":\"Program\",\"sourceType\":\"script\",\"body\":[]}";
     match lowered(rt.alloc(), empty) {
-        Some(text) => assert_eq!(rt;
-            text.as_str(),
+        Some(string) => assert_eq!(rt;
+            string.as_str(),
             "{\"body\":[],\"generated\":[{\"class\":1,\"kind\":\"class\",\"name\":\"_C\"}],\"node\":0,\"outside\":[2],\"sourceType\":\"script\",\"type\":\"Program\",\"warnings\":[]}"
         ),
         None => panic!(rt; "not written"),
@@ -153,11 +153,11 @@ fn a_lowered_program_is_written(rt: HostRuntime) {
 #[test]
 fn a_lowered_program_is_read_as_its_tree(rt: HostRuntime) {
     let alloc = rt.alloc();
-    for text in programs() {
-        match lowered(alloc, text) {
+    for string in programs() {
+        match lowered(alloc, string) {
             None => panic!(rt; "not written"),
             Some(whole) => {
-                assert!(rt; written_again(alloc, whole.as_str()) == written(alloc, text));
+                assert!(rt; written_again(alloc, whole.as_str()) == written(alloc, string));
             }
         }
     }
@@ -166,7 +166,7 @@ fn a_lowered_program_is_read_as_its_tree(rt: HostRuntime) {
 #[test]
 fn what_acorn_gives_is_written(rt: HostRuntime) {
     match written(rt.alloc(), from_acorn()) {
-        Some(text) => assert_eq!(rt; text.as_str(), acorn_written()),
+        Some(string) => assert_eq!(rt; string.as_str(), acorn_written()),
         None => panic!(rt; "not written"),
     }
 }

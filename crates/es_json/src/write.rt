@@ -7,7 +7,7 @@ ghost use Rattle.es_lowered.specs.Lowered.{Writes};
 ghost use Rattle.es_reading.specs.Reading.{read, root};
 ghost use Rattle.es_reading.specs.declared.numbers.Numbers.{Numbers};
 ghost use Rattle.es_tree.specs.Program.{program_tree};
-ghost use Rattle.es_base.specs.Marks.{unmarked};
+ghost use Rattle.es_base.specs.Carried.{stripped};
 ghost use Rattle.es_writing.specs.Kept.{IsKept};
 ghost use Rattle.es_writing.specs.Writing.{write};
 ghost use Rattle.serde_json.specs.View.{view};
@@ -24,7 +24,7 @@ use std::alloc::{AllocError, Global};
 
 /// The value of a program: each node as an object with its `type`, its number as `node`, its members, and
 /// `start` and `end` where it has a span (ESTree; docs/JSON.md). Its marks and its `foreign` are not
-/// written. Fails for want of memory alone.
+/// written. Fails on allocation failure alone.
 ///
 /// The value has no float, so its text is `compact_text` of it; and the program's numbers and texts are such
 /// as JSON holds (`IsKept`), which the laws of `law` ask for. What was written is read again, by
@@ -33,17 +33,17 @@ pub fn write_program(alloc: Global, program: &Program) -> Result<Value, AllocErr
     ensures value { IfOk result (λ v. view v ≡ write (program_tree program.now)) }
     ensures kept { IfOk result (λ v. IsKept (program_tree program.now)) }
     ensures no_float { IfOk result (λ v. has_float (view v) ≡ false) }
-    ensures reads_back { IfOk result (λ v. conforms Place.Program (program_tree program.now) ≡ true → read Numbers.Given (view v) root 0 ≡ Ok (record { value = unmarked (program_tree program.now); foreign = [] })) }
+    ensures reads_back { IfOk result (λ v. conforms Place.Program (program_tree program.now) ≡ true → read Numbers.Given (view v) root 0 ≡ Ok (record { value = stripped (program_tree program.now); foreign = [] })) }
 {
     let plain = program.to_plain(alloc)?;
     node::write(alloc, &plain)
 }
 
 /// The value of a lowered program: that of `write_program` with three members more (our own;
-/// docs/JSON.md). `generated` has the names that were made, in the order of the bytes of their text and
+/// docs/JSON.md). `generated` has the generated names, in the order of the bytes of their text and
 /// then of their numbers; `warnings` has the warnings, in the order of the numbers of their nodes; and
 /// `outside` has the numbers of the shapes that put the program outside the theorem on the order of its
-/// events, as they are given. Fails for want of memory alone.
+/// events, as they are given. Fails on allocation failure alone.
 ///
 /// As with `write_program`, the value has no float, `read_numbered` reads it as the same program without
 /// its marks, and its names and warnings, too, are such as JSON holds, which the laws of `law` ask for.
@@ -57,7 +57,7 @@ pub fn write_lowered(
     ensures value { IfOk result (λ v. Writes v (program_tree program.now) ledger.now.entries warnings.now outside.now) }
     ensures kept { IfOk result (λ v. IsKept (program_tree program.now)) }
     ensures no_float { IfOk result (λ v. has_float (view v) ≡ false) }
-    ensures reads_back { IfOk result (λ v. conforms Place.Program (program_tree program.now) ≡ true → read Numbers.Given (view v) root 0 ≡ Ok (record { value = unmarked (program_tree program.now); foreign = [] })) }
+    ensures reads_back { IfOk result (λ v. conforms Place.Program (program_tree program.now) ≡ true → read Numbers.Given (view v) root 0 ≡ Ok (record { value = stripped (program_tree program.now); foreign = [] })) }
 {
     let plain = program.to_plain(alloc)?;
     lowered::write_lowered(alloc, &plain, ledger, warnings, outside)

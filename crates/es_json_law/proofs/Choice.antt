@@ -3,10 +3,10 @@ use Rattle.std.proofs.Common.{◌≡◌, refl, sym, ap, ap₂, ◌∙◌, subst,
 use Rattle.std.specs.Prelude.{◌&&◌, ◌||◌, codes, option_and_then}
 use Rattle.std.specs.Str.{encode_utf8_all}
 use Rattle.std.proofs.lemmas.Bool.{and_parts, and_from, and_left, and_right, true≢false}
-use Rattle.serde_json.specs.Data.{Data, string}
+use Rattle.serde_json.specs.Data.{Data, string as json_string}
 use Rattle.serde_json.specs.Find.{get, as_str}
-use Rattle.es_base.specs.Tree.{Parts, end, more, text, literal}
-use Rattle.es_base.specs.Conforms.{parts_conform, place_rule, is_foreign_name, is_target_place, truth_at, is_key_literal}
+use Rattle.es_base.specs.Tree.{Parts, end, more, string, literal}
+use Rattle.es_base.specs.Conforms.{parts_conform, place_rule, is_foreign_name, is_target_place, boolean_at, is_key_literal}
 use Rattle.es_base.specs.Table.{members_of, name_of, stands_in, kinds}
 use Rattle.es_base.specs.declared.kind.Kind.{Kind}
 use Rattle.es_base.specs.declared.table.Place.{Place}
@@ -14,14 +14,14 @@ use Rattle.es_base.specs.declared.table.Sort.{Sort}
 use Rattle.es_base.specs.declared.table.Words.{Words}
 use Rattle.es_reading.specs.Kinds.{is_named, suits, may_stand, may_be_target, may_be_literal, may_be_reference, may_be_name, has_private_property, is_private_in, kind_among, kind_in}
 use Rattle.es_reading.specs.Literals.{form_in, may_be_key}
-use Rattle.es_reading.specs.Look.{is_node_at, is_text_at}
+use Rattle.es_reading.specs.Look.{is_node_at, is_string_at}
 use Rattle.es_reading.specs.Reading.{kind_by, kind_of, told}
 use Rattle.es_reading.specs.declared.fault.What.{What}
 use Rattle.es_reading.specs.declared.spot.Spot.{Spot}
 use Rattle.es_writing.specs.Writing.{type_of}
-use Rattle.es_writing.specs.Kept.{IsText, AreKept}
+use Rattle.es_writing.specs.Kept.{IsString, AreKept}
 use Rattle.es_json_law.specs.Suits.{kind_suits}
-use Rattle.es_json_law.proofs.Parts.{member_at, truth_found, never_found, private_child, expression_child, property_child, in_word}
+use Rattle.es_json_law.proofs.Parts.{member_at, boolean_found, never_found, private_child, expression_child, property_child, in_word}
 use Rattle.es_json_law.proofs.Stands.{AllStand, key_form}
 use Rattle.es_json_law.proofs.Texts.{is_foreign, foreign_apart}
 use Rattle.es_json_law.proofs.Tests.{not_first}
@@ -126,11 +126,11 @@ rest_apart _ = refl
 
 -- ---- the kind suits
 
-target_rule : (p : Place) (ps : Parts) → place_rule p Kind.MemberExpression ps ≡ not (is_target_place p && truth_at (codes "optional") (members_of Kind.MemberExpression) ps)
+target_rule : (p : Place) (ps : Parts) → place_rule p Kind.MemberExpression ps ≡ not (is_target_place p && boolean_at (codes "optional") (members_of Kind.MemberExpression) ps)
 target_rule Place.Program ps = refl
 target_rule _ ps = refl
 
-private_target_rule : (p : Place) (ps : Parts) → place_rule p Kind.PrivateField ps ≡ not (is_target_place p && truth_at (codes "optional") (members_of Kind.PrivateField) ps)
+private_target_rule : (p : Place) (ps : Parts) → place_rule p Kind.PrivateField ps ≡ not (is_target_place p && boolean_at (codes "optional") (members_of Kind.PrivateField) ps)
 private_target_rule Place.Program ps = refl
 private_target_rule _ ps = refl
 
@@ -147,12 +147,12 @@ literal_suits _ d ps computed rule c stands = refl
 private_property : (d : Data) (ps : Parts) (computed : Bool) → parts_conform computed (members_of Kind.PrivateField) ps ≡ true → AreKept ps → AllStand d (members_of Kind.PrivateField) ps → has_private_property d ≡ true
 private_property d ps computed c kept stands =
     ap₂ (λ a b. a && not b) (private_child d (codes "property") computed (member_at (codes "property") (members_of Kind.PrivateField) ps computed d (Sort.Child Place.PrivateIdentifier) refl c kept stands))
-    (never_found d (codes "computed") computed (member_at (codes "computed") (members_of Kind.PrivateField) ps computed d Sort.Never refl c kept stands))
+    (never_found d (codes "computed") computed (member_at (codes "computed") (members_of Kind.PrivateField) ps computed d Sort.False refl c kept stands))
 
-no_private_property : (d : Data) (ps : Parts) → parts_conform (truth_at (codes "computed") (members_of Kind.MemberExpression) ps) (members_of Kind.MemberExpression) ps ≡ true → AreKept ps → AllStand d (members_of Kind.MemberExpression) ps → has_private_property d ≡ false
+no_private_property : (d : Data) (ps : Parts) → parts_conform (boolean_at (codes "computed") (members_of Kind.MemberExpression) ps) (members_of Kind.MemberExpression) ps ≡ true → AreKept ps → AllStand d (members_of Kind.MemberExpression) ps → has_private_property d ≡ false
 no_private_property d ps c kept stands =
-    let computed = truth_at (codes "computed") (members_of Kind.MemberExpression) ps in
-    ap (λ b. is_node_at (codes "property") (codes "PrivateIdentifier") d && not b) (truth_found (codes "computed") [] (members_of Kind.MemberExpression) ps computed d refl refl c stands)
+    let computed = boolean_at (codes "computed") (members_of Kind.MemberExpression) ps in
+    ap (λ b. is_node_at (codes "property") (codes "PrivateIdentifier") d && not b) (boolean_found (codes "computed") [] (members_of Kind.MemberExpression) ps computed d refl refl c stands)
     ∙ property_child d (codes "property") computed (member_at (codes "property") (members_of Kind.MemberExpression) ps computed d (Sort.Key Place.MemberProperty) refl c kept stands)
 
 private_in : (d : Data) (ps : Parts) (computed : Bool) → parts_conform computed (members_of Kind.PrivateIn) ps ≡ true → AreKept ps → AllStand d (members_of Kind.PrivateIn) ps → is_private_in d ≡ true
@@ -162,21 +162,21 @@ private_in d ps computed c kept stands =
 
 no_private_in : (d : Data) (ps : Parts) (computed : Bool) → parts_conform computed (members_of Kind.BinaryExpression) ps ≡ true → AreKept ps → AllStand d (members_of Kind.BinaryExpression) ps → is_private_in d ≡ false
 no_private_in d ps computed c kept stands =
-    and_left _ (is_text_at (codes "operator") (codes "in") d) (expression_child d (codes "left") computed (member_at (codes "left") (members_of Kind.BinaryExpression) ps computed d (Sort.Child Place.Expression) refl c kept stands))
+    and_left _ (is_string_at (codes "operator") (codes "in") d) (expression_child d (codes "left") computed (member_at (codes "left") (members_of Kind.BinaryExpression) ps computed d (Sort.Child Place.Expression) refl c kept stands))
 
-suits_kind : (kind : Kind) (spot : Spot) (d : Data) (ps : Parts) → place_rule spot.place kind ps ≡ true → parts_conform (truth_at (codes "computed") (members_of kind) ps) (members_of kind) ps ≡ true → AreKept ps → AllStand d (members_of kind) ps → kind_suits spot kind ≡ true
+suits_kind : (kind : Kind) (spot : Spot) (d : Data) (ps : Parts) → place_rule spot.place kind ps ≡ true → parts_conform (boolean_at (codes "computed") (members_of kind) ps) (members_of kind) ps ≡ true → AreKept ps → AllStand d (members_of kind) ps → kind_suits spot kind ≡ true
     → suits spot d kind ≡ true
 suits_kind Kind.PrivateField spot d ps rule c kept stands s =
-    and_from _ _ (private_property d ps (truth_at (codes "computed") (members_of Kind.PrivateField) ps) c kept stands)
-    (ap (λ b. not (is_target_place spot.place && b)) (truth_found (codes "optional") [] (members_of Kind.PrivateField) ps (truth_at (codes "computed") (members_of Kind.PrivateField) ps) d refl refl c stands) ∙ sym (private_target_rule spot.place ps) ∙ rule)
+    and_from _ _ (private_property d ps (boolean_at (codes "computed") (members_of Kind.PrivateField) ps) c kept stands)
+    (ap (λ b. not (is_target_place spot.place && b)) (boolean_found (codes "optional") [] (members_of Kind.PrivateField) ps (boolean_at (codes "computed") (members_of Kind.PrivateField) ps) d refl refl c stands) ∙ sym (private_target_rule spot.place ps) ∙ rule)
 suits_kind Kind.MemberExpression spot d ps rule c kept stands s =
     and_from _ _ (ap not (no_private_property d ps c kept stands))
-    (ap (λ b. not (is_target_place spot.place && b)) (truth_found (codes "optional") [] (members_of Kind.MemberExpression) ps (truth_at (codes "computed") (members_of Kind.MemberExpression) ps) d refl refl c stands) ∙ sym (target_rule spot.place ps) ∙ rule)
-suits_kind Kind.PrivateIn spot d ps rule c kept stands s = private_in d ps (truth_at (codes "computed") (members_of Kind.PrivateIn) ps) c kept stands
-suits_kind Kind.BinaryExpression spot d ps rule c kept stands s = ap not (no_private_in d ps (truth_at (codes "computed") (members_of Kind.BinaryExpression) ps) c kept stands)
+    (ap (λ b. not (is_target_place spot.place && b)) (boolean_found (codes "optional") [] (members_of Kind.MemberExpression) ps (boolean_at (codes "computed") (members_of Kind.MemberExpression) ps) d refl refl c stands) ∙ sym (target_rule spot.place ps) ∙ rule)
+suits_kind Kind.PrivateIn spot d ps rule c kept stands s = private_in d ps (boolean_at (codes "computed") (members_of Kind.PrivateIn) ps) c kept stands
+suits_kind Kind.BinaryExpression spot d ps rule c kept stands s = ap not (no_private_in d ps (boolean_at (codes "computed") (members_of Kind.BinaryExpression) ps) c kept stands)
 suits_kind Kind.IdentifierReference spot d ps rule c kept stands s = s
 suits_kind Kind.IdentifierName spot d ps rule c kept stands s = s
-suits_kind Kind.Literal spot d ps rule c kept stands s = literal_suits spot.place d ps (truth_at (codes "computed") (members_of Kind.Literal) ps) rule c stands
+suits_kind Kind.Literal spot d ps rule c kept stands s = literal_suits spot.place d ps (boolean_at (codes "computed") (members_of Kind.Literal) ps) rule c stands
 suits_kind Kind.RestElement spot d ps rule c kept stands s = s
 suits_kind Kind.AssignmentTargetRest spot d ps rule c kept stands s = s
 suits_kind _ spot d ps rule c kept stands s = refl
@@ -234,7 +234,7 @@ module _ (spot : Spot) (d : Data) where
 
 -- ---- leaves of nodes outside the table
 
-foreign_named : (k : Kind) (s : List ℕ) → IsText s → is_foreign_name s ≡ true → is_named (encode_utf8_all s) k ≡ is_foreign k
+foreign_named : (k : Kind) (s : List ℕ) → IsString s → is_foreign_name s ≡ true → is_named (encode_utf8_all s) k ≡ is_foreign k
 foreign_named Kind.Foreign s kept foreign = ap is_foreign_name kept ∙ foreign
 foreign_named Kind.Program s kept foreign = foreign_apart Kind.Program s kept foreign
 foreign_named k s kept foreign = foreign_apart k s kept foreign
@@ -247,24 +247,24 @@ foreign_step : (k : Kind) (spot : Spot) (d : Data) (other rest : Result Kind Wha
 foreign_step Kind.Foreign spot d other rest stands later = ap (λ b. if b && true then Ok Kind.Foreign else other) stands
 foreign_step _ spot d other rest stands later = later refl
 
-foreign_among_kinds : (s : List ℕ) (spot : Spot) (d : Data) (known : Bool) (ks : List Kind) → IsText s → is_foreign_name s ≡ true → stands_in spot.place Kind.Foreign ≡ true → has_foreign ks ≡ true → kind_among (encode_utf8_all s) spot d known ks ≡ Ok Kind.Foreign
+foreign_among_kinds : (s : List ℕ) (spot : Spot) (d : Data) (known : Bool) (ks : List Kind) → IsString s → is_foreign_name s ≡ true → stands_in spot.place Kind.Foreign ≡ true → has_foreign ks ≡ true → kind_among (encode_utf8_all s) spot d known ks ≡ Ok Kind.Foreign
 foreign_among_kinds s spot d known [] kept foreign stands has = absurd (true≢false (sym has))
 foreign_among_kinds s spot d known (k ∷ ks) kept foreign stands has =
     ap (λ b. step b (may_stand spot d k) k (kind_among (encode_utf8_all s) spot d true ks) (kind_among (encode_utf8_all s) spot d known ks)) (foreign_named k s kept foreign)
     ∙ foreign_step k spot d (kind_among (encode_utf8_all s) spot d true ks) (kind_among (encode_utf8_all s) spot d known ks) stands (λ no. foreign_among_kinds s spot d known ks kept foreign stands (sym (ap (λ b. b || has_foreign ks) no) ∙ has))
 
-foreign_in : (s : List ℕ) (spot : Spot) (d : Data) → IsText s → is_foreign_name s ≡ true → stands_in spot.place Kind.Foreign ≡ true → kind_in (encode_utf8_all s) spot d ≡ Ok Kind.Foreign
+foreign_in : (s : List ℕ) (spot : Spot) (d : Data) → IsString s → is_foreign_name s ≡ true → stands_in spot.place Kind.Foreign ≡ true → kind_in (encode_utf8_all s) spot d ≡ Ok Kind.Foreign
 foreign_in s spot d kept foreign stands = foreign_among_kinds s spot d false kinds kept foreign stands refl
 
 -- ---- the kind of a written node
 
-type_named : (k : Kind) (ps : Parts) → is_foreign k ≡ false → type_of k ps ≡ string (name_of k)
+type_named : (k : Kind) (ps : Parts) → is_foreign k ≡ false → type_of k ps ≡ json_string (name_of k)
 type_named Kind.Foreign ps o = cc
 type_named _ ps o = refl
 
 foreign_leaf : (spot : Spot) (d : Data) (ps : Parts) (computed : Bool) (n : ℕ) → stands_in spot.place Kind.Foreign ≡ true → parts_conform computed (members_of Kind.Foreign) ps ≡ true → AreKept ps → kind_by (as_str (type_of Kind.Foreign ps)) d spot n ≡ Ok Kind.Foreign
 foreign_leaf spot d end computed n stands c kept = cc
-foreign_leaf spot d (more (text s) ps) computed n stands c kept = ap (told n) (foreign_in s spot d kept.0 (and_parts (is_foreign_name s) (parts_conform computed [] ps) c).0 stands)
+foreign_leaf spot d (more (string s) ps) computed n stands c kept = ap (told n) (foreign_in s spot d kept.0 (and_parts (is_foreign_name s) (parts_conform computed [] ps) c).0 stands)
 foreign_leaf spot d (more _ ps) computed n stands c kept = cc
 
 foreign_is : (k : Kind) → is_foreign k ≡ true → k ≡ Kind.Foreign
@@ -276,8 +276,8 @@ foreign_kind k spot d ps computed n o stands c kept =
     subst (λ (j : Kind). stands_in spot.place j ≡ true → parts_conform computed (members_of j) ps ≡ true → kind_by (as_str (type_of j ps)) d spot n ≡ Ok j) (sym (foreign_is k o)) (λ a b. foreign_leaf spot d ps computed n a b kept) stands c
 
 pub kind_chosen : (k : Kind) (spot : Spot) (d : Data) (ps : Parts) (n : ℕ) → get (codes "type") d ≡ Some (type_of k ps) → stands_in spot.place k ≡ true → place_rule spot.place k ps ≡ true
-    → parts_conform (truth_at (codes "computed") (members_of k) ps) (members_of k) ps ≡ true → AreKept ps → AllStand d (members_of k) ps → kind_suits spot k ≡ true → kind_of d spot n ≡ Ok k
+    → parts_conform (boolean_at (codes "computed") (members_of k) ps) (members_of k) ps ≡ true → AreKept ps → AllStand d (members_of k) ps → kind_suits spot k ≡ true → kind_of d spot n ≡ Ok k
 kind_chosen k spot d ps n type stands rule c kept all s = ap (λ o. kind_by (option_and_then as_str o) d spot n) type ∙ by_foreign (is_foreign k) refl where
   by_foreign : (foreign : Bool) → is_foreign k ≡ foreign → kind_by (as_str (type_of k ps)) d spot n ≡ Ok k
-  by_foreign true o = foreign_kind k spot d ps (truth_at (codes "computed") (members_of k) ps) n o stands c kept
+  by_foreign true o = foreign_kind k spot d ps (boolean_at (codes "computed") (members_of k) ps) n o stands c kept
   by_foreign false o = ap (λ t. kind_by (as_str t) d spot n) (type_named k ps o) ∙ ap (told n) (named_kind spot d k o stands (suits_kind k spot d ps rule c kept all s))

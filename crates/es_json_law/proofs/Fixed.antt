@@ -16,13 +16,13 @@ use Rattle.es_base.specs.declared.ledger.GeneratedKind.{GeneratedKind}
 use Rattle.es_base.specs.declared.ledger.LedgerEntry.{LedgerEntry}
 use Rattle.es_base.specs.declared.shape.Shape.{Shape}
 use Rattle.es_base.specs.declared.table.Place.{Place}
-use Rattle.es_lowered.specs.Lowered.{NamesAreTexts, written_name, signed, entry_value, warning_value, write_lowered}
+use Rattle.es_lowered.specs.Lowered.{NamesAreStrings, written_name, signed, entry_value, warning_value, write_lowered}
 use Rattle.es_reading.specs.Fault.{Fault, Read}
 use Rattle.es_reading.specs.Reading.{read, root}
 use Rattle.es_reading.specs.declared.numbers.Numbers.{Numbers}
 use Rattle.es_writing.specs.Writing.{put_all, number_of, write_fields}
-use Rattle.es_base.specs.Marks.{unmarked}
-use Rattle.es_writing.specs.Kept.{IsText, IsKept}
+use Rattle.es_base.specs.Carried.{stripped}
+use Rattle.es_writing.specs.Kept.{IsString, IsKept}
 use Rattle.es_json_law.proofs.Found.{found, get_all, node_entries}
 use Rattle.es_json_law.proofs.Lowered.{more_members, lowered_law}
 use Rattle.es_json_law.proofs.Texted.{tree_read}
@@ -34,9 +34,9 @@ read_alike s t r a b = ap (tree_read s) (sym a ∙ b)
 
 pub lowered_fixes_tree : (s t : Tree) (names names' : List LedgerEntry) (told told' : List Diagnostic) (shapes shapes' : List Shape)
     → conforms Place.Program s ≡ true → conforms Place.Program t ≡ true → IsKept s → IsKept t
-    → write_lowered s names told shapes ≡ write_lowered t names' told' shapes' → unmarked s ≡ unmarked t
+    → write_lowered s names told shapes ≡ write_lowered t names' told' shapes' → stripped s ≡ stripped t
 lowered_fixes_tree s t names names' told told' shapes shapes' c c' kept kept' same =
-    read_alike (unmarked s) (unmarked t) (read Numbers.Given (write_lowered s names told shapes) root 0) (lowered_law s names told shapes c kept) (ap (λ d. read Numbers.Given d root 0) same ∙ lowered_law t names' told' shapes' c' kept')
+    read_alike (stripped s) (stripped t) (read Numbers.Given (write_lowered s names told shapes) root 0) (lowered_law s names told shapes c kept) (ap (λ d. read Numbers.Given d root 0) same ∙ lowered_law t names' told' shapes' c' kept')
 
 -- ---- the lists
 
@@ -62,7 +62,7 @@ map_back write back is (x ∷ xs) = ap₂ (λ y ys. y ∷ ys) (is x) (map_back w
 
 module _ (names : List LedgerEntry) (told : List Diagnostic) (shapes : List Shape) where
   look_more : (key : List ℕ) (t : Tree) (ds : List Data) → ((o : Option Data) → found key (more_members names told shapes) o ≡ Some (array (items_of ds))) → list_at key (write_lowered t names told shapes) ≡ ds
-  look_more key (Node kind id span mark ps) ds is =
+  look_more key (Node kind id span semantic_id ps) ds is =
       let base = put_all no_members (node_entries kind id span ps (write_fields (members_of kind) ps)) in
       ap (λ o. items_or (option_and_then as_array o)) (get_all key (more_members names told shapes) base ∙ is (get key (object base))) ∙ items_back ds
 
@@ -128,12 +128,12 @@ lowered_fixes_warnings s t names names' told told' shapes shapes' same =
 
 -- ---- the names
 
-abbrev text_or : Option (List ℕ) → List ℕ
-text_or None = []
-text_or (Some s) = s
+abbrev string_or : Option (List ℕ) → List ℕ
+string_or None = []
+string_or (Some s) = s
 
 abbrev string_in : List ℕ → Data → List ℕ
-string_in key d = text_or (option_and_then as_str (get key d))
+string_in key d = string_or (option_and_then as_str (get key d))
 
 abbrev node_in : List ℕ → Data → NodeId
 node_in key d = record { 0 = number_or (whole_at key d) }
@@ -172,14 +172,14 @@ entry_read : (name : List ℕ) (kind : GeneratedKind) → entry_in (entry_value 
 entry_read name GeneratedKind.Temp = refl
 entry_read name _ = refl
 
-entry_back : (e : LedgerEntry) → IsText (written_name e) → entry_in (entry_value e) ≡ e
+entry_back : (e : LedgerEntry) → IsString (written_name e) → entry_in (entry_value e) ≡ e
 entry_back e kept = entry_read e.name e.kind ∙ ap (λ s. entry_by s e.kind) kept ∙ signed_back e.name e.kind
 
-names_back : (es : List LedgerEntry) → NamesAreTexts es → map entry_in (map entry_value es) ≡ es
+names_back : (es : List LedgerEntry) → NamesAreStrings es → map entry_in (map entry_value es) ≡ es
 names_back [] kept = refl
 names_back (e ∷ es) kept = ap₂ (λ y ys. y ∷ ys) (entry_back e kept.0) (names_back es kept.1)
 
-pub lowered_fixes_names : (s t : Tree) (names names' : List LedgerEntry) (told told' : List Diagnostic) (shapes shapes' : List Shape) → NamesAreTexts names → NamesAreTexts names'
+pub lowered_fixes_names : (s t : Tree) (names names' : List LedgerEntry) (told told' : List Diagnostic) (shapes shapes' : List Shape) → NamesAreStrings names → NamesAreStrings names'
     → write_lowered s names told shapes ≡ write_lowered t names' told' shapes' → names ≡ names'
 lowered_fixes_names s t names names' told told' shapes shapes' kept kept' same =
     sym (names_back names kept)

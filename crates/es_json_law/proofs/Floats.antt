@@ -4,13 +4,13 @@ use Rattle.std.specs.Prelude.{◌||◌}
 use Rattle.std.proofs.lemmas.Bool.{or_parts, or_from, and_right}
 use Rattle.serde_json.specs.Data.{Data, null, object, Members, no_members, member}
 use Rattle.serde_json.specs.Written.{has_float, items_have_float, members_have_float}
-use Rattle.es_base.specs.Tree.{Tree, Part, Parts, Node, end, more, child, absent, list, text, no_text, truth, literal}
+use Rattle.es_base.specs.Tree.{Tree, Part, Parts, Node, end, more, child, absent, list, string, no_string, boolean, literal}
 use Rattle.es_base.specs.Table.{Field, members_of}
 use Rattle.es_base.specs.declared.kind.Kind.{Kind}
 use Rattle.es_base.specs.declared.literal.LiteralValue.{LiteralValue}
 use Rattle.es_base.specs.declared.literal.LiteralValue.TheVariants as value
 use Rattle.es_reading.specs.Unlisted.{floats_in, floats_of, is_node_member}
-use Rattle.es_writing.specs.Writing.{Entry, put_all, type_of, raw_entry, literal_entries, span_entries, more_entries, raw_of, cooked_of, texts_of, tail_entries, kind_entries, node_of, write, write_fields, write_part, write_items, write_item}
+use Rattle.es_writing.specs.Writing.{Entry, put_all, type_of, raw_entry, literal_entries, span_entries, more_entries, raw_of, cooked_of, strings_of, tail_entries, kind_entries, node_of, write, write_fields, write_part, write_items, write_item}
 use Rattle.es_json_law.proofs.Found.{node_entries}
 use Rattle.es_json_law.proofs.Members.{any_member, NoEntry, no_entry_append, none_put_all}
 
@@ -29,16 +29,16 @@ raw_floats None = tt
 raw_floats (Some raw) = (refl, tt)
 
 literal_floats : (v : LiteralValue) → NoFloats (literal_entries v)
-literal_floats (value.Text s raw) = (refl, raw_floats raw)
+literal_floats (value.String s raw) = (refl, raw_floats raw)
 literal_floats (value.Number raw) = (refl, (refl, tt))
 literal_floats (value.BigInt s) = (refl, (refl, tt))
 literal_floats (value.RegExp pattern flags) = (refl, (refl, tt))
-literal_floats (value.Bool b) = (refl, (refl, tt))
+literal_floats (value.Boolean b) = (refl, (refl, tt))
 literal_floats value.Null = (refl, (refl, tt))
 
 type_floats : (kind : Kind) (ps : Parts) → has_float (type_of kind ps) ≡ false
 type_floats Kind.Foreign end = refl
-type_floats Kind.Foreign (more (text s) ps) = refl
+type_floats Kind.Foreign (more (string s) ps) = refl
 type_floats Kind.Foreign (more _ ps) = refl
 type_floats _ ps = refl
 
@@ -51,26 +51,26 @@ more_floats Kind.UnaryExpression ps = (refl, tt)
 more_floats Kind.ArrowFunctionExpression ps = (refl, tt)
 more_floats _ ps = tt
 
-raw_text_floats : (p : Part) → has_float (raw_of p) ≡ false
-raw_text_floats (text s) = refl
-raw_text_floats _ = refl
+raw_string_floats : (p : Part) → has_float (raw_of p) ≡ false
+raw_string_floats (string s) = refl
+raw_string_floats _ = refl
 
 cooked_floats : (p : Part) → has_float (cooked_of p) ≡ false
-cooked_floats (text s) = refl
+cooked_floats (string s) = refl
 cooked_floats _ = refl
 
-texts_floats : (raw cooked : Part) → has_float (texts_of raw cooked) ≡ false
-texts_floats raw cooked = or_from (has_float (cooked_of cooked)) (has_float (raw_of raw) || false) (cooked_floats cooked) (or_from (has_float (raw_of raw)) false (raw_text_floats raw) refl)
+strings_floats : (raw cooked : Part) → has_float (strings_of raw cooked) ≡ false
+strings_floats raw cooked = or_from (has_float (cooked_of cooked)) (has_float (raw_of raw) || false) (cooked_floats cooked) (or_from (has_float (raw_of raw)) false (raw_string_floats raw) refl)
 
 tail_floats : (ps : Parts) → NoFloats (tail_entries ps)
 tail_floats end = tt
-tail_floats (more (truth b) ps) = (refl, tt)
+tail_floats (more (boolean b) ps) = (refl, tt)
 tail_floats (more _ ps) = tt
 
 kind_floats : (kind : Kind) (ps : Parts) (es : List Entry) → NoFloats es → NoFloats (kind_entries kind ps es)
 kind_floats Kind.TemplateElement end es f = f
 kind_floats Kind.TemplateElement (more raw end) es f = f
-kind_floats Kind.TemplateElement (more raw (more cooked ps)) es f = (texts_floats raw cooked, tail_floats ps)
+kind_floats Kind.TemplateElement (more raw (more cooked ps)) es f = (strings_floats raw cooked, tail_floats ps)
 kind_floats Kind.Foreign ps es f = tt
 kind_floats _ ps es f = f
 
@@ -83,7 +83,7 @@ node_floats kind id span ps es f =
 mutual
   -- no tree is written with a float
   pub no_floats : (t : Tree) → has_float (write t) ≡ false
-  no_floats (Node kind id span mark ps) = node_floats kind id span ps (write_fields (members_of kind) ps) (no_floats_in_fields (members_of kind) ps)
+  no_floats (Node kind id span semantic_id ps) = node_floats kind id span ps (write_fields (members_of kind) ps) (no_floats_in_fields (members_of kind) ps)
 
   no_floats_in_fields : (fs : List Field) (ps : Parts) → NoFloats (write_fields fs ps)
   no_floats_in_fields fs end = tt
@@ -94,9 +94,9 @@ mutual
   no_floats_in_part name (child t) = (no_floats t, tt)
   no_floats_in_part name absent = (refl, tt)
   no_floats_in_part name (list ps) = (no_floats_in_items ps, tt)
-  no_floats_in_part name (text s) = (refl, tt)
-  no_floats_in_part name no_text = tt
-  no_floats_in_part name (truth b) = (refl, tt)
+  no_floats_in_part name (string s) = (refl, tt)
+  no_floats_in_part name no_string = tt
+  no_floats_in_part name (boolean b) = (refl, tt)
   no_floats_in_part name (literal v) = literal_floats v
 
   no_floats_in_items : (ps : Parts) → items_have_float (write_items ps) ≡ false
@@ -107,9 +107,9 @@ mutual
   no_floats_in_item (child t) = no_floats t
   no_floats_in_item absent = refl
   no_floats_in_item (list ps) = refl
-  no_floats_in_item (text s) = refl
-  no_floats_in_item no_text = refl
-  no_floats_in_item (truth b) = refl
+  no_floats_in_item (string s) = refl
+  no_floats_in_item no_string = refl
+  no_floats_in_item (boolean b) = refl
   no_floats_in_item (literal v) = refl
 
 floats_in_none : (fs : List Field) (ms : Members) → members_have_float ms ≡ false → floats_in fs ms ≡ false

@@ -5,7 +5,7 @@ use Rattle.std.proofs.lemmas.Bool.{and_parts, and_from}
 use Rattle.serde_json.specs.Data.{Data}
 use Rattle.serde_json.specs.Find.{get, as_str, as_bool, as_array}
 use Rattle.serde_json.specs.Written.{has_float}
-use Rattle.es_base.specs.Tree.{Part, Parts, end, more, child, absent, list, text, no_text, truth, literal}
+use Rattle.es_base.specs.Tree.{Part, Parts, end, more, child, absent, list, string, no_string, boolean, literal}
 use Rattle.es_base.specs.Conforms.{parts_conform, part_conforms, items_conform, kind_rule, is_end, item_count as parts_count}
 use Rattle.es_base.specs.Table.{Field, members_of, words_of}
 use Rattle.es_base.specs.declared.kind.Kind.{Kind}
@@ -31,21 +31,21 @@ list_full d name (more p ps) at full = ap (λ o. is_some (option_and_then as_arr
 good_part : (computed : Bool) (d : Data) (name : List ℕ) (sort : Sort) (p : Part) → part_conforms computed sort p ≡ true → PartIsKept p → Stands d name sort p → is_of_sort d name sort ≡ true
 good_part computed d name (Sort.Child place) (child t) c kept at = ap is_some at
 good_part computed d name (Sort.Key place) (child t) c kept at = ap is_some at
-good_part computed d name (Sort.Maybe place) (child t) c kept at = refl
-good_part computed d name (Sort.Maybe place) absent c kept at = refl
+good_part computed d name (Sort.Nullable place) (child t) c kept at = refl
+good_part computed d name (Sort.Nullable place) absent c kept at = refl
 good_part computed d name (Sort.List place) (list ps) c kept at = ap (λ o. is_some (option_and_then as_array o)) at
-good_part computed d name (Sort.Some place) (list ps) c kept at = list_full d name ps at (and_parts (not (is_end ps)) (items_conform false place ps) c).0
-good_part computed d name (Sort.Holes place) (list ps) c kept at = ap (λ o. is_some (option_and_then as_array o)) at
-good_part computed d name Sort.Name (text s) c kept at = ap (λ o. is_name (option_and_then as_str o)) at ∙ name_kept s kept c
-good_part computed d name Sort.MaybeText (text s) c kept at = ap (λ o. not (is_some o) || is_some (option_and_then as_str o)) at
-good_part computed d name (Sort.Word of) (text s) c kept at = ap (λ o. is_word (words_of of) (option_and_then as_str o)) at ∙ word_kept of s c
-good_part computed d name Sort.Raw (text s) c kept at = at.0
-good_part computed d name Sort.Cooked (text s) c kept at = at.0
-good_part computed d name Sort.Type (text s) c kept at = at.0
-good_part computed d name Sort.MaybeText no_text c kept at = ap (λ o. not (is_some o) || is_some (option_and_then as_str o)) at
-good_part computed d name Sort.Cooked no_text c kept at = at.0
-good_part computed d name Sort.Truth (truth b) c kept at = ap (λ o. not (is_some o) || is_some (option_and_then as_bool o)) at
-good_part computed d name Sort.Never (truth b) c kept at = ap (λ o. not (is_some o) || is_false (option_and_then as_bool o)) at ∙ c
+good_part computed d name (Sort.NonEmptyList place) (list ps) c kept at = list_full d name ps at (and_parts (not (is_end ps)) (items_conform false place ps) c).0
+good_part computed d name (Sort.ListWithHoles place) (list ps) c kept at = ap (λ o. is_some (option_and_then as_array o)) at
+good_part computed d name Sort.Name (string s) c kept at = ap (λ o. is_name (option_and_then as_str o)) at ∙ name_kept s kept c
+good_part computed d name Sort.NullableString (string s) c kept at = ap (λ o. not (is_some o) || is_some (option_and_then as_str o)) at
+good_part computed d name (Sort.Word of) (string s) c kept at = ap (λ o. is_word (words_of of) (option_and_then as_str o)) at ∙ word_kept of s c
+good_part computed d name Sort.Raw (string s) c kept at = at.0
+good_part computed d name Sort.Cooked (string s) c kept at = at.0
+good_part computed d name Sort.Type (string s) c kept at = at.0
+good_part computed d name Sort.NullableString no_string c kept at = ap (λ o. not (is_some o) || is_some (option_and_then as_str o)) at
+good_part computed d name Sort.Cooked no_string c kept at = at.0
+good_part computed d name Sort.Boolean (boolean b) c kept at = ap (λ o. not (is_some o) || is_some (option_and_then as_bool o)) at
+good_part computed d name Sort.False (boolean b) c kept at = ap (λ o. not (is_some o) || is_false (option_and_then as_bool o)) at ∙ c
 good_part computed d name Sort.Literal (literal v) c kept at = at.0
 good_part computed d name _ _ c kept at = cc
 

@@ -5,7 +5,7 @@ use Rattle.std.proofs.lemmas.Bool.{and_parts, and_left, and_right, or_left, or_r
 use Rattle.std.proofs.lemmas.Slice.Eq.{bytes_eq-Decides}
 use Rattle.serde_json.specs.Data.{Data, Members, no_members, member}
 use Rattle.serde_json.specs.Find.{get, as_number, as_u64}
-use Rattle.es_base.specs.Tree.{Part, Parts, end, more, child, absent, list, text, no_text, truth, literal}
+use Rattle.es_base.specs.Tree.{Part, Parts, end, more, child, absent, list, string, no_string, boolean, literal}
 use Rattle.es_base.specs.Conforms.{is_among, parts_conform, part_conforms}
 use Rattle.es_base.specs.Table.{Field, members_of}
 use Rattle.es_base.specs.declared.kind.Kind.{Kind}
@@ -37,9 +37,9 @@ part_listed : (kind : Kind) (name : List ℕ) (computed : Bool) (sort : Sort) (p
 part_listed kind name computed sort (child t) s c l = (l, tt)
 part_listed kind name computed sort absent s c l = (l, tt)
 part_listed kind name computed sort (list ps) s c l = (l, tt)
-part_listed kind name computed sort (text t) s c l = (l, tt)
-part_listed kind name computed sort no_text s c l = tt
-part_listed kind name computed sort (truth b) s c l = (l, tt)
+part_listed kind name computed sort (string t) s c l = (l, tt)
+part_listed kind name computed sort no_string s c l = tt
+part_listed kind name computed sort (boolean b) s c l = (l, tt)
 part_listed kind name computed sort (literal v) s c l = absurd (no_literal computed sort v s c)
 
 abbrev AreFields : List Field → List Field → Type 0
@@ -63,12 +63,12 @@ are_fields [] = tt
 are_fields (f ∷ fs) = (or_left (bytes_eq f.name f.name) (is_field fs f.name) (bytes_same f.name), are_fields_more f fs fs (are_fields fs))
 
 literal_listed : (v : LiteralValue) → AllListed Kind.Literal (literal_entries v)
-literal_listed (value.Text s None) = (refl, tt)
-literal_listed (value.Text s (Some raw)) = (refl, (refl, tt))
+literal_listed (value.String s None) = (refl, tt)
+literal_listed (value.String s (Some raw)) = (refl, (refl, tt))
 literal_listed (value.Number raw) = (refl, (refl, tt))
 literal_listed (value.BigInt s) = (refl, (refl, tt))
 literal_listed (value.RegExp pattern flags) = (refl, (refl, tt))
-literal_listed (value.Bool b) = (refl, (refl, tt))
+literal_listed (value.Boolean b) = (refl, (refl, tt))
 literal_listed value.Null = (refl, (refl, tt))
 
 abbrev body : Kind → Parts → List Entry
@@ -80,10 +80,10 @@ other_listed Kind.Literal (more (literal v) end) computed row c = all_listed_app
 other_listed Kind.Literal (more (literal v) (more q qs)) computed row c = all_listed_append Kind.Literal (literal_entries v) [] (literal_listed v) tt
 other_listed Kind.Literal (more _ ps) computed row c = cc
 other_listed Kind.TemplateElement end computed row c = tt
-other_listed Kind.TemplateElement (more (text raw) end) computed row c = cc
-other_listed Kind.TemplateElement (more (text raw) (more cooked end)) computed row c = (refl, tt)
-other_listed Kind.TemplateElement (more (text raw) (more cooked (more (truth tail) ps))) computed row c = (refl, (refl, tt))
-other_listed Kind.TemplateElement (more (text raw) (more cooked (more _ ps))) computed row c = (refl, tt)
+other_listed Kind.TemplateElement (more (string raw) end) computed row c = cc
+other_listed Kind.TemplateElement (more (string raw) (more cooked end)) computed row c = (refl, tt)
+other_listed Kind.TemplateElement (more (string raw) (more cooked (more (boolean tail) ps))) computed row c = (refl, (refl, tt))
+other_listed Kind.TemplateElement (more (string raw) (more cooked (more _ ps))) computed row c = (refl, tt)
 other_listed Kind.TemplateElement (more _ ps) computed row c = cc
 other_listed Kind.Foreign ps computed row c = tt
 other_listed _ ps computed row c = cc
@@ -109,7 +109,7 @@ listed_none kind (e ∷ es) l = (and_left (not (is_listed kind e.0)) (is_foreign
 
 type_plain : (kind : Kind) (ps : Parts) → is_foreign_value (type_of kind ps) ≡ false
 type_plain Kind.Foreign end = refl
-type_plain Kind.Foreign (more (text s) ps) = refl
+type_plain Kind.Foreign (more (string s) ps) = refl
 type_plain Kind.Foreign (more _ ps) = refl
 type_plain _ ps = refl
 

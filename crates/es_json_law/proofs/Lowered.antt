@@ -7,7 +7,7 @@ use Rattle.serde_json.specs.Find.{get, as_number, as_u64}
 use Rattle.serde_json.specs.View.{items_of}
 use Rattle.serde_json.specs.Written.{has_float, items_have_float}
 use Rattle.es_base.specs.Tree.{Tree, Parts, Node, end, more}
-use Rattle.es_base.specs.Conforms.{conforms, parts_conform, is_among, truth_at}
+use Rattle.es_base.specs.Conforms.{conforms, parts_conform, is_among, boolean_at}
 use Rattle.es_base.specs.Shape.{shape_number}
 use Rattle.es_base.specs.Table.{members_of}
 use Rattle.es_base.specs.declared.diagnostic.Diagnostic.{Diagnostic}
@@ -24,7 +24,7 @@ use Rattle.es_reading.specs.Reading.{read, root, parent_of}
 use Rattle.es_reading.specs.Unlisted.{is_foreign_object, is_foreign_node, any_foreign}
 use Rattle.es_reading.specs.declared.numbers.Numbers.{Numbers}
 use Rattle.es_writing.specs.Writing.{Entry, entry, put_all, number_of, write, write_fields}
-use Rattle.es_base.specs.Marks.{unmarked, unmarked_parts}
+use Rattle.es_base.specs.Carried.{stripped, stripped_parts}
 use Rattle.es_writing.specs.Kept.{IsKept}
 use Rattle.es_json_law.proofs.Choice.{kind_chosen}
 use Rattle.es_json_law.proofs.Fits.{all_fit}
@@ -72,10 +72,10 @@ more_floats names warnings shapes = (names_floats names, (warnings_floats warnin
 
 -- no float is written
 pub lowered_no_float : (t : Tree) (names : List LedgerEntry) (warnings : List Diagnostic) (shapes : List Shape) → has_float (write_lowered t names warnings shapes) ≡ false
-lowered_no_float (Node kind id span mark ps) names warnings shapes =
+lowered_no_float (Node kind id span semantic_id ps) names warnings shapes =
     let base = put_all no_members (node_entries kind id span ps (write_fields (members_of kind) ps)) in
     floats_are (put_all base (more_members names warnings shapes))
-    ∙ none_put_all is_float_member (more_members names warnings shapes) base (more_floats names warnings shapes) (sym (floats_are base) ∙ no_floats (Node kind id span mark ps))
+    ∙ none_put_all is_float_member (more_members names warnings shapes) base (more_floats names warnings shapes) (sym (floats_are base) ∙ no_floats (Node kind id span semantic_id ps))
 
 -- ---- they are not foreign
 
@@ -113,12 +113,12 @@ program_stands d e (more p end) a b stands = (a ∙ stands.0, tt)
 program_stands d e (more p (more q end)) a b stands = (a ∙ stands.0, (b ∙ stands.1.0, tt))
 program_stands d e (more p (more q (more r rs))) a b stands = (a ∙ stands.0, (b ∙ stands.1.0, tt))
 
-module _ (id : ℕ) (span : Option (ℕ × ℕ)) (mark : Option ℕ) (ps : Parts) (names : List LedgerEntry) (warnings : List Diagnostic) (shapes : List Shape) where
+module _ (id : ℕ) (span : Option (ℕ × ℕ)) (semantic_id : Option ℕ) (ps : Parts) (names : List LedgerEntry) (warnings : List Diagnostic) (shapes : List Shape) where
   abbrev base : Members
   base = put_all no_members (node_entries Kind.Program id span ps (write_fields (members_of Kind.Program) ps))
 
   abbrev program : Tree
-  program = Node Kind.Program id span mark ps
+  program = Node Kind.Program id span semantic_id ps
 
   abbrev with_more : Data
   with_more = object (put_all base (more_members names warnings shapes))
@@ -138,14 +138,14 @@ module _ (id : ℕ) (span : Option (ℕ × ℕ)) (mark : Option ℕ) (ps : Parts
   spans : span_at with_more ≡ span_at (write program)
   spans = ap₂ (λ a b. pair (u32_of a) (u32_of b)) (same_at (codes "start") refl) (same_at (codes "end") refl)
 
-  program_back : conforms Place.Program program ≡ true → IsKept program → read Numbers.Given with_more root 0 ≡ Ok (record { value = unmarked program; foreign = [] })
+  program_back : conforms Place.Program program ≡ true → IsKept program → read Numbers.Given with_more root 0 ≡ Ok (record { value = stripped program; foreign = [] })
   program_back c kept =
-      let computed = truth_at (codes "computed") (members_of Kind.Program) ps in
-      let parts = parts_of Place.Program Kind.Program id span mark ps c in
+      let computed = boolean_at (codes "computed") (members_of Kind.Program) ps in
+      let parts = parts_of Place.Program Kind.Program id span semantic_id ps c in
       let conform = parts.1.1.1 in
       let stands = program_stands (write program) with_more ps (same_at (codes "sourceType") refl) (same_at (codes "body") refl) (all_stand Kind.Program id span ps computed conform kept.2) in
       let fits = all_fit Kind.Program root with_more ps parts.1.1.0 refl conform stands in
-      node_back with_more Kind.Program root 0 id span (unmarked_parts ps)
+      node_back with_more Kind.Program root 0 id span (stripped_parts ps)
       (kind_chosen Kind.Program root with_more ps 0 (same_at (codes "type") refl ∙ type_found Kind.Program id span ps computed conform) parts.0 parts.1.0 conform kept.2 stands refl)
       (number_is computed Kind.Program with_more ps id 0 whole parts.1.1.0 conform kept.2 stands (ap u32_of (same_at (codes "node") refl) ∙ number_found Kind.Program id span ps computed conform kept.0))
       (law_fields ps (members_of Kind.Program) (parent_of Kind.Program root with_more) with_more computed 1 conform kept.2 stands fits)
@@ -154,6 +154,6 @@ module _ (id : ℕ) (span : Option (ℕ × ℕ)) (mark : Option ℕ) (ps : Parts
 
 -- the members that are put in more are passed by
 pub lowered_law : (t : Tree) (names : List LedgerEntry) (warnings : List Diagnostic) (shapes : List Shape) → conforms Place.Program t ≡ true → IsKept t
-    → read Numbers.Given (write_lowered t names warnings shapes) root 0 ≡ Ok (record { value = unmarked t; foreign = [] })
-lowered_law (Node Kind.Program id span mark ps) names warnings shapes c kept = program_back id span mark ps names warnings shapes c kept
-lowered_law (Node _ id span mark ps) names warnings shapes c kept = cc
+    → read Numbers.Given (write_lowered t names warnings shapes) root 0 ≡ Ok (record { value = stripped t; foreign = [] })
+lowered_law (Node Kind.Program id span semantic_id ps) names warnings shapes c kept = program_back id span semantic_id ps names warnings shapes c kept
+lowered_law (Node _ id span semantic_id ps) names warnings shapes c kept = cc

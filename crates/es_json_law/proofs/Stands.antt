@@ -4,20 +4,20 @@ use Rattle.std.specs.Prelude.{◌&&◌, ◌||◌, bytes_eq, codes, is_some}
 use Rattle.std.specs.Str.{chars, encode_utf8_all}
 use Rattle.std.proofs.lemmas.Bool.{and_parts, or_parts, or_left, or_right}
 use Rattle.std.proofs.lemmas.Slice.Eq.{bytes_eq-Decides}
-use Rattle.serde_json.specs.Data.{Data, null, boolean, array, no_members}
+use Rattle.serde_json.specs.Data.{Data, null, boolean as json_boolean, array, no_members}
 use Rattle.serde_json.specs.Find.{get}
-use Rattle.es_base.specs.Tree.{Part, Parts, end, more, child, absent, list, text, no_text, truth, literal}
-use Rattle.es_base.specs.Conforms.{is_among, is_number_text, is_key_literal, is_foreign_name, literal_conforms, parts_conform, part_conforms}
+use Rattle.es_base.specs.Tree.{Part, Parts, end, more, child, absent, list, string, no_string, boolean, literal}
+use Rattle.es_base.specs.Conforms.{is_among, is_number_string, is_key_literal, is_foreign_name, literal_conforms, parts_conform, part_conforms}
 use Rattle.es_base.specs.Table.{Field, members_of}
 use Rattle.es_base.specs.declared.kind.Kind.{Kind}
 use Rattle.es_base.specs.declared.literal.LiteralValue.{LiteralValue}
 use Rattle.es_base.specs.declared.literal.LiteralValue.TheVariants as value
 use Rattle.es_base.specs.declared.table.Sort.{Sort}
-use Rattle.es_reading.specs.Literals.{Form, regexp, bigint, string as string_form, truth as truth_form, null_form, numeral, whole, by_raw, form_in, value_of, may_be_key}
+use Rattle.es_reading.specs.Literals.{Form, regexp, bigint, string as string_form, boolean as boolean_form, null_form, numeral, whole, by_raw, form_in, value_of, may_be_key}
 use Rattle.es_reading.specs.Members.{is_of_sort}
 use Rattle.es_reading.specs.Reading.{leaf_of, literal_part}
 use Rattle.es_writing.specs.Writing.{Entry, entry, string_of, type_of, number_of, more_entries, span_entries, node_of, write, write_fields, write_part, write_items}
-use Rattle.es_writing.specs.Kept.{IsText, AreTexts, PartIsKept, AreKept}
+use Rattle.es_writing.specs.Kept.{IsString, AreStrings, PartIsKept, AreKept}
 use Rattle.es_json_law.proofs.Found.{bytes_same, bytes_apart, found, keys, get_all, found_append, found_past, entry_of, found_here, found_other, node_entries}
 use Rattle.es_json_law.proofs.Rows.{is_row, is_simple, names, is_apart, row_apart, row_own, row_entries}
 use Rattle.es_json_law.proofs.Tests.{not_true, nothing_more}
@@ -27,9 +27,9 @@ abbrev pub there : Part → Option Data
 there (child t) = Some (write t)
 there absent = Some null
 there (list ps) = Some (array (write_items ps))
-there (text s) = Some (string_of s)
-there no_text = None
-there (truth b) = Some (boolean b)
+there (string s) = Some (string_of s)
+there no_string = None
+there (boolean b) = Some (json_boolean b)
 there (literal v) = None
 
 -- what reading finds at a member is this part
@@ -60,9 +60,9 @@ pub part_entry : (name : List ℕ) (computed : Bool) (sort : Sort) (p : Part) �
 part_entry name computed sort (child t) s c = refl
 part_entry name computed sort absent s c = refl
 part_entry name computed sort (list ps) s c = refl
-part_entry name computed sort (text t) s c = refl
-part_entry name computed sort no_text s c = refl
-part_entry name computed sort (truth b) s c = refl
+part_entry name computed sort (string t) s c = refl
+part_entry name computed sort no_string s c = refl
+part_entry name computed sort (boolean b) s c = refl
 part_entry name computed sort (literal v) s c = absurd (no_literal computed sort v s c)
 
 -- ---- the members of a row
@@ -153,21 +153,21 @@ row_stands kind id span ps computed row c =
 -- ---- literals
 
 form_of : LiteralValue → Form
-form_of (value.Text s raw) = string_form (encode_utf8_all s) (option_map encode_utf8_all raw)
+form_of (value.String s raw) = string_form (encode_utf8_all s) (option_map encode_utf8_all raw)
 form_of (value.Number raw) = numeral (encode_utf8_all raw)
 form_of (value.BigInt s) = bigint (encode_utf8_all s)
 form_of (value.RegExp pattern flags) = regexp (encode_utf8_all pattern) (encode_utf8_all flags)
-form_of (value.Bool b) = truth_form b
+form_of (value.Boolean b) = boolean_form b
 form_of value.Null = null_form
 
-not_null : (raw : List ℕ) → IsText raw → is_number_text raw ≡ true → bytes_eq (codes "null") (encode_utf8_all raw) ≡ false
+not_null : (raw : List ℕ) → IsString raw → is_number_string raw ≡ true → bytes_eq (codes "null") (encode_utf8_all raw) ≡ false
 unfolding chars
-not_null raw kept number = bytes_apart (codes "null") (encode_utf8_all raw) (λ is. let same : codes "null" ≡ raw = ap chars is ∙ kept in let no : is_number_text raw ≡ false = sym (ap is_number_text same) in cc)
+not_null raw kept number = bytes_apart (codes "null") (encode_utf8_all raw) (λ is. let same : codes "null" ≡ raw = ap chars is ∙ kept in let no : is_number_string raw ≡ false = sym (ap is_number_string same) in cc)
 
-numeral_form : (raw : List ℕ) → IsText raw → is_number_text raw ≡ true → by_raw (Some (encode_utf8_all raw)) (Some null) ≡ Some (numeral (encode_utf8_all raw))
+numeral_form : (raw : List ℕ) → IsString raw → is_number_string raw ≡ true → by_raw (Some (encode_utf8_all raw)) (Some null) ≡ Some (numeral (encode_utf8_all raw))
 numeral_form raw kept number =
-    ap (λ b. if b then Some null_form else (if is_number_text (chars (encode_utf8_all raw)) && true then Some (numeral (encode_utf8_all raw)) else None)) (not_null raw kept number)
-    ∙ ap (λ b. if b && true then Some (numeral (encode_utf8_all raw)) else None) (ap is_number_text kept ∙ number)
+    ap (λ b. if b then Some null_form else (if is_number_string (chars (encode_utf8_all raw)) && true then Some (numeral (encode_utf8_all raw)) else None)) (not_null raw kept number)
+    ∙ ap (λ b. if b && true then Some (numeral (encode_utf8_all raw)) else None) (ap is_number_string kept ∙ number)
 
 abbrev literal_parts : LiteralValue → Parts
 literal_parts v = more (literal v) end
@@ -175,34 +175,34 @@ literal_parts v = more (literal v) end
 abbrev literal_data : ℕ → Option (ℕ × ℕ) → LiteralValue → Data
 literal_data id span v = node_of Kind.Literal id span (literal_parts v) (write_fields (members_of Kind.Literal) (literal_parts v))
 
-form_is : (id : ℕ) (span : Option (ℕ × ℕ)) (v : LiteralValue) → literal_conforms v ≡ true → AreTexts v → form_in (literal_data id span v) ≡ Some (form_of v)
+form_is : (id : ℕ) (span : Option (ℕ × ℕ)) (v : LiteralValue) → literal_conforms v ≡ true → AreStrings v → form_in (literal_data id span v) ≡ Some (form_of v)
 unfolding form_of
-form_is id None (value.Text s None) c kept = refl
-form_is id (Some p) (value.Text s None) c kept = refl
-form_is id None (value.Text s (Some raw)) c kept = refl
-form_is id (Some p) (value.Text s (Some raw)) c kept = refl
+form_is id None (value.String s None) c kept = refl
+form_is id (Some p) (value.String s None) c kept = refl
+form_is id None (value.String s (Some raw)) c kept = refl
+form_is id (Some p) (value.String s (Some raw)) c kept = refl
 form_is id None (value.Number raw) c kept = numeral_form raw kept c
 form_is id (Some p) (value.Number raw) c kept = numeral_form raw kept c
 form_is id None (value.BigInt s) c kept = refl
 form_is id (Some p) (value.BigInt s) c kept = refl
 form_is id None (value.RegExp pattern flags) c kept = refl
 form_is id (Some p) (value.RegExp pattern flags) c kept = refl
-form_is id None (value.Bool b) c kept = refl
-form_is id (Some p) (value.Bool b) c kept = refl
+form_is id None (value.Boolean b) c kept = refl
+form_is id (Some p) (value.Boolean b) c kept = refl
 form_is id None value.Null c kept = refl
 form_is id (Some p) value.Null c kept = refl
 
-value_back : (v : LiteralValue) → AreTexts v → value_of (form_of v) ≡ v
+value_back : (v : LiteralValue) → AreStrings v → value_of (form_of v) ≡ v
 unfolding form_of
-value_back (value.Text s None) kept = ap (λ z. value.Text z None) kept.0
-value_back (value.Text s (Some raw)) kept = ap₂ (λ y z. value.Text y (Some z)) kept.0 kept.1
+value_back (value.String s None) kept = ap (λ z. value.String z None) kept.0
+value_back (value.String s (Some raw)) kept = ap₂ (λ y z. value.String y (Some z)) kept.0 kept.1
 value_back (value.Number raw) kept = ap value.Number kept
 value_back (value.BigInt s) kept = ap value.BigInt kept
 value_back (value.RegExp pattern flags) kept = ap₂ value.RegExp kept.0 kept.1
-value_back (value.Bool b) kept = refl
+value_back (value.Boolean b) kept = refl
 value_back value.Null kept = refl
 
-literal_stands : (id : ℕ) (span : Option (ℕ × ℕ)) (v : LiteralValue) → literal_conforms v ≡ true → AreTexts v → Stands (literal_data id span v) (codes "value") Sort.Literal (literal v)
+literal_stands : (id : ℕ) (span : Option (ℕ × ℕ)) (v : LiteralValue) → literal_conforms v ≡ true → AreStrings v → Stands (literal_data id span v) (codes "value") Sort.Literal (literal v)
 literal_stands id span v c kept = (
   ap is_some (form_is id span v c kept),
   ap (λ f. literal_part (option_map value_of f)) (form_is id span v c kept) ∙ ap literal (value_back v kept),
@@ -218,22 +218,22 @@ key_form d name v rest stands key = key_form_by (form_in d) v rest stands.1 key 
   key_form_by (Some (whole n)) v rest is key = refl
   key_form_by (Some (bigint digits)) v rest is key = refl
   key_form_by (Some (regexp pattern flags)) v rest is key = let same : value.RegExp (chars pattern) (chars flags) ≡ v = cc in let no : false ≡ true = ap (λ z. is_key_literal (more (literal z) rest)) same ∙ key in cc
-  key_form_by (Some (truth_form b)) v rest is key = let same : value.Bool b ≡ v = cc in let no : false ≡ true = ap (λ z. is_key_literal (more (literal z) rest)) same ∙ key in cc
+  key_form_by (Some (boolean_form b)) v rest is key = let same : value.Boolean b ≡ v = cc in let no : false ≡ true = ap (λ z. is_key_literal (more (literal z) rest)) same ∙ key in cc
   key_form_by (Some null_form) v rest is key = let same : value.Null ≡ v = cc in let no : false ≡ true = ap (λ z. is_key_literal (more (literal z) rest)) same ∙ key in cc
 
 -- ---- texts of templates, and leaves of nodes outside the table
 
-template_stands : (computed : Bool) (id : ℕ) (span : Option (ℕ × ℕ)) (raw : List ℕ) (cooked : Part) (tail : Bool) (ps : Parts) → IsText raw → part_conforms computed Sort.Cooked cooked ≡ true → PartIsKept cooked → ps ≡ end
-    → AllStand (node_of Kind.TemplateElement id span (more (text raw) (more cooked (more (truth tail) ps))) (write_fields (members_of Kind.TemplateElement) (more (text raw) (more cooked (more (truth tail) ps))))) (members_of Kind.TemplateElement) (more (text raw) (more cooked (more (truth tail) end)))
-template_stands computed id None raw (text s) tail ps kept c also none = ((refl, ap text kept), ((refl, ap text also), (refl, tt)))
-template_stands computed id (Some p) raw (text s) tail ps kept c also none = ((refl, ap text kept), ((refl, ap text also), (refl, tt)))
-template_stands computed id None raw no_text tail ps kept c also none = ((refl, ap text kept), ((refl, refl), (refl, tt)))
-template_stands computed id (Some p) raw no_text tail ps kept c also none = ((refl, ap text kept), ((refl, refl), (refl, tt)))
+template_stands : (computed : Bool) (id : ℕ) (span : Option (ℕ × ℕ)) (raw : List ℕ) (cooked : Part) (tail : Bool) (ps : Parts) → IsString raw → part_conforms computed Sort.Cooked cooked ≡ true → PartIsKept cooked → ps ≡ end
+    → AllStand (node_of Kind.TemplateElement id span (more (string raw) (more cooked (more (boolean tail) ps))) (write_fields (members_of Kind.TemplateElement) (more (string raw) (more cooked (more (boolean tail) ps))))) (members_of Kind.TemplateElement) (more (string raw) (more cooked (more (boolean tail) end)))
+template_stands computed id None raw (string s) tail ps kept c also none = ((refl, ap string kept), ((refl, ap string also), (refl, tt)))
+template_stands computed id (Some p) raw (string s) tail ps kept c also none = ((refl, ap string kept), ((refl, ap string also), (refl, tt)))
+template_stands computed id None raw no_string tail ps kept c also none = ((refl, ap string kept), ((refl, refl), (refl, tt)))
+template_stands computed id (Some p) raw no_string tail ps kept c also none = ((refl, ap string kept), ((refl, refl), (refl, tt)))
 template_stands computed id span raw _ tail ps kept c also none = cc
 
-foreign_stands : (id : ℕ) (span : Option (ℕ × ℕ)) (s : List ℕ) → IsText s → AllStand (node_of Kind.Foreign id span (more (text s) end) (write_fields (members_of Kind.Foreign) (more (text s) end))) (members_of Kind.Foreign) (more (text s) end)
-foreign_stands id None s kept = ((refl, ap text kept), tt)
-foreign_stands id (Some p) s kept = ((refl, ap text kept), tt)
+foreign_stands : (id : ℕ) (span : Option (ℕ × ℕ)) (s : List ℕ) → IsString s → AllStand (node_of Kind.Foreign id span (more (string s) end) (write_fields (members_of Kind.Foreign) (more (string s) end))) (members_of Kind.Foreign) (more (string s) end)
+foreign_stands id None s kept = ((refl, ap string kept), tt)
+foreign_stands id (Some p) s kept = ((refl, ap string kept), tt)
 
 other_stands : (kind : Kind) (id : ℕ) (span : Option (ℕ × ℕ)) (ps : Parts) (computed : Bool) → is_row kind ≡ false → parts_conform computed (members_of kind) ps ≡ true → AreKept ps
     → AllStand (node_of kind id span ps (write_fields (members_of kind) ps)) (members_of kind) ps
@@ -242,15 +242,15 @@ other_stands Kind.Literal id span (more (literal v) end) computed row c kept = (
 other_stands Kind.Literal id span (more (literal v) (more q qs)) computed row c kept = absurd (nothing_more (literal_conforms v) false refl c)
 other_stands Kind.Literal id span (more _ ps) computed row c kept = cc
 other_stands Kind.TemplateElement id span end computed row c kept = tt
-other_stands Kind.TemplateElement id span (more (text raw) end) computed row c kept = cc
-other_stands Kind.TemplateElement id span (more (text raw) (more cooked end)) computed row c kept = absurd (nothing_more (part_conforms computed Sort.Cooked cooked) false refl c)
-other_stands Kind.TemplateElement id span (more (text raw) (more cooked (more (truth tail) end))) computed row c kept = template_stands computed id span raw cooked tail end kept.0 (and_parts (part_conforms computed Sort.Cooked cooked) true c).0 kept.1.0 refl
-other_stands Kind.TemplateElement id span (more (text raw) (more cooked (more (truth tail) (more q qs)))) computed row c kept = absurd (nothing_more (part_conforms computed Sort.Cooked cooked) false refl c)
-other_stands Kind.TemplateElement id span (more (text raw) (more cooked (more _ qs))) computed row c kept = absurd (nothing_more (part_conforms computed Sort.Cooked cooked) false refl c)
+other_stands Kind.TemplateElement id span (more (string raw) end) computed row c kept = cc
+other_stands Kind.TemplateElement id span (more (string raw) (more cooked end)) computed row c kept = absurd (nothing_more (part_conforms computed Sort.Cooked cooked) false refl c)
+other_stands Kind.TemplateElement id span (more (string raw) (more cooked (more (boolean tail) end))) computed row c kept = template_stands computed id span raw cooked tail end kept.0 (and_parts (part_conforms computed Sort.Cooked cooked) true c).0 kept.1.0 refl
+other_stands Kind.TemplateElement id span (more (string raw) (more cooked (more (boolean tail) (more q qs)))) computed row c kept = absurd (nothing_more (part_conforms computed Sort.Cooked cooked) false refl c)
+other_stands Kind.TemplateElement id span (more (string raw) (more cooked (more _ qs))) computed row c kept = absurd (nothing_more (part_conforms computed Sort.Cooked cooked) false refl c)
 other_stands Kind.TemplateElement id span (more _ ps) computed row c kept = cc
 other_stands Kind.Foreign id span end computed row c kept = tt
-other_stands Kind.Foreign id span (more (text s) end) computed row c kept = foreign_stands id span s kept.0
-other_stands Kind.Foreign id span (more (text s) (more q qs)) computed row c kept = absurd (nothing_more (is_foreign_name s) false refl c)
+other_stands Kind.Foreign id span (more (string s) end) computed row c kept = foreign_stands id span s kept.0
+other_stands Kind.Foreign id span (more (string s) (more q qs)) computed row c kept = absurd (nothing_more (is_foreign_name s) false refl c)
 other_stands Kind.Foreign id span (more _ ps) computed row c kept = cc
 other_stands _ id span ps computed row c kept = cc
 

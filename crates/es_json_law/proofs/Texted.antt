@@ -9,7 +9,7 @@ use Rattle.json.specs.Tree as tree
 use Rattle.json.proofs.Printed.Decimals.{IsNumber-decimal, IsNumber-signed_decimal}
 use Rattle.json.proofs.Printed.Tokens.{tokens-print}
 use Rattle.json.proofs.Printed.Trees.{ArePrintable-json_tokens, value-json_tokens}
-use Rattle.serde_json.specs.Data.{Num, unsigned, negative, float, Data, null, boolean, number, string, array, object, Items, no_items, item, Members, no_members, member}
+use Rattle.serde_json.specs.Data.{Num, unsigned, negative, float, Data, null, boolean as json_boolean, number, string as json_string, array, object, Items, no_items, item, Members, no_members, member}
 use Rattle.serde_json.specs.Read.{number_of}
 use Rattle.serde_json.specs.Written.{number_text, outline, items_outline, members_outline, compact_text}
 use Rattle.serde_json.proofs.Numbers.{number_of-decimal, number_of-negative}
@@ -21,7 +21,7 @@ use Rattle.es_reading.specs.Fault.{Fault, Read}
 use Rattle.es_reading.specs.Reading.{read, root}
 use Rattle.es_reading.specs.declared.numbers.Numbers.{Numbers}
 use Rattle.es_writing.specs.Writing.{write}
-use Rattle.es_base.specs.Marks.{unmarked}
+use Rattle.es_base.specs.Carried.{stripped}
 use Rattle.es_writing.specs.Kept.{IsKept}
 use Rattle.es_json_law.specs.Printed.{NumberIsWell, IsPrintedWell, ItemsAreWell, MembersAreWell}
 use Rattle.es_json_law.proofs.Law.{program_law}
@@ -37,9 +37,9 @@ number_read s = unwrap_or (number_of s) (unsigned 0)
 abbrev mutual
   value_of : json.Json → Data
   value_of json.null = null
-  value_of (json.boolean b) = boolean b
+  value_of (json.boolean b) = json_boolean b
   value_of (json.number s) = number (number_read s)
-  value_of (json.string s) = string s
+  value_of (json.string s) = json_string s
   value_of (json.array js) = array (items_of js)
   value_of (json.object ms) = object (members_of ms)
 
@@ -60,9 +60,9 @@ number_back (float x) well = absurd well
 mutual
   value_back : (d : Data) → IsPrintedWell d → value_of (outline d) ≡ d
   value_back null well = refl
-  value_back (boolean b) well = refl
+  value_back (json_boolean b) well = refl
   value_back (number n) well = ap number (number_back n well)
-  value_back (string s) well = refl
+  value_back (json_string s) well = refl
   value_back (array ds) well = ap array (items_back ds well)
   value_back (object ms) well = ap object (members_back ms well)
 
@@ -102,9 +102,9 @@ number_is_number (float x) well = absurd well
 mutual
   has_numbers : (d : Data) → IsPrintedWell d → tree.HasNumbers (outline d)
   has_numbers null well = tt
-  has_numbers (boolean b) well = tt
+  has_numbers (json_boolean b) well = tt
   has_numbers (number n) well = number_is_number n well
-  has_numbers (string s) well = tt
+  has_numbers (json_string s) well = tt
   has_numbers (array ds) well = items_have_numbers ds well
   has_numbers (object ms) well = members_have_numbers ms well
 
@@ -132,14 +132,14 @@ abbrev pub tree_read : Tree → Result (Read Tree) Fault → Tree
 tree_read t (Ok r) = r.value
 tree_read t (Err e) = t
 
-program_back : (s t : Tree) → conforms Place.Program t ≡ true → IsKept t → tree_read s (read Numbers.Given (write t) root 0) ≡ unmarked t
+program_back : (s t : Tree) → conforms Place.Program t ≡ true → IsKept t → tree_read s (read Numbers.Given (write t) root 0) ≡ stripped t
 program_back s t conform kept = ap (tree_read s) (program_law t conform kept)
 
 -- two programs that are written as one value are one but for their marks
-pub value_fixes_tree : (s t : Tree) → conforms Place.Program s ≡ true → conforms Place.Program t ≡ true → IsKept s → IsKept t → write s ≡ write t → unmarked s ≡ unmarked t
+pub value_fixes_tree : (s t : Tree) → conforms Place.Program s ≡ true → conforms Place.Program t ≡ true → IsKept s → IsKept t → write s ≡ write t → stripped s ≡ stripped t
 value_fixes_tree s t s_conforms t_conforms s_kept t_kept same =
     sym (program_back s s s_conforms s_kept) ∙ ap (λ d. tree_read s (read Numbers.Given d root 0)) same ∙ program_back s t t_conforms t_kept
 
-pub text_fixes_tree : (s t : Tree) → conforms Place.Program s ≡ true → conforms Place.Program t ≡ true → IsKept s → IsKept t → compact_text (write s) ≡ compact_text (write t) → unmarked s ≡ unmarked t
+pub text_fixes_tree : (s t : Tree) → conforms Place.Program s ≡ true → conforms Place.Program t ≡ true → IsKept s → IsKept t → compact_text (write s) ≡ compact_text (write t) → stripped s ≡ stripped t
 text_fixes_tree s t s_conforms t_conforms s_kept t_kept same =
     value_fixes_tree s t s_conforms t_conforms s_kept t_kept (one_text (write s) (write t) (written_well s s_kept) (written_well t t_kept) same)

@@ -9,7 +9,7 @@ use Rattle.es_base.specs.Table.{words_of, name_of}
 use Rattle.es_base.specs.declared.kind.Kind.{Kind}
 use Rattle.es_base.specs.declared.table.Words.{Words}
 use Rattle.es_reading.specs.Members.{is_name, is_word}
-use Rattle.es_writing.specs.Kept.{IsText}
+use Rattle.es_writing.specs.Kept.{IsString}
 use Rattle.es_json_law.proofs.Found.{bytes_same, bytes_true, bytes_apart}
 
 abbrev AllSpelled : List (List ℕ) → Type 0
@@ -44,7 +44,7 @@ pub word_kept : (of : Words) (s : List ℕ) → is_among s (words_of of) ≡ tru
 word_kept of s among = among_spelled s (words_of of) (spelled (words_of of) (words_spelled of)) among
 
 -- a name is not empty
-pub name_kept : (s : List ℕ) → IsText s → not (bytes_eq s []) ≡ true → is_name (Some (encode_utf8_all s)) ≡ true
+pub name_kept : (s : List ℕ) → IsString s → not (bytes_eq s []) ≡ true → is_name (Some (encode_utf8_all s)) ≡ true
 name_kept s kept some = ap (λ cs. not (bytes_eq cs [])) kept ∙ some
 
 -- ---- the names of nodes outside the table
@@ -62,5 +62,5 @@ known_name : (k : Kind) → is_foreign_name (name_of k) ≡ false
 known_name Kind.Program = refl
 known_name _ = refl
 
-pub foreign_apart : (k : Kind) (s : List ℕ) → IsText s → is_foreign_name s ≡ true → bytes_eq (name_of k) (encode_utf8_all s) ≡ false
+pub foreign_apart : (k : Kind) (s : List ℕ) → IsString s → is_foreign_name s ≡ true → bytes_eq (name_of k) (encode_utf8_all s) ≡ false
 foreign_apart k s kept foreign = bytes_apart (name_of k) (encode_utf8_all s) (λ is. let same : name_of k ≡ s = sym (name_spelled k) ∙ ap chars is ∙ kept in let no : is_foreign_name s ≡ false = sym (ap is_foreign_name same) ∙ known_name k in cc)

@@ -23,7 +23,7 @@ one_byte in_string space x xs k n h = omega (arith, h in_string)
 one_byte in_string other x xs k n h = omega (arith, h in_string)
 one_byte in_escape c x xs k n h = omega (arith, h in_string)
 
-lexemes_fit : (m : Mode) (text : List ℕ) → length (lex m text) ≤ length text
+lexemes_fit : (m : Mode) (string : List ℕ) → length (lex m string) ≤ length string
 unfolding lex
 lexemes_fit m [] = omega arith
 lexemes_fit m (x ∷ xs) = one_byte m (class x) x xs (λ next. lex next xs) (length xs) (λ next. lexemes_fit next xs)
@@ -74,5 +74,5 @@ punctuate_fits after_value (colon ∷ ls) = omega arith
 punctuate_fits after_comma (colon ∷ ls) = omega arith
 punctuate_fits after_key (colon ∷ ls) = omega (arith, punctuate_fits fresh ls)
 
-pub tokens_fit : (text : List ℕ) → length (tokens text) ≤ length text
-tokens_fit text = omega (arith, punctuate_fits fresh (lex between text), lexemes_fit between text)
+pub tokens_fit : (string : List ℕ) → length (tokens string) ≤ length string
+tokens_fit string = omega (arith, punctuate_fits fresh (lex between string), lexemes_fit between string)

@@ -5,7 +5,7 @@ use Rattle.serde_json.specs.View.{items_of}
 use Rattle.serde_json.specs.Written.{compact_text}
 use Rattle.es_base.specs.Tree.{Tree, Node}
 use Rattle.es_base.specs.Table.{members_of}
-use Rattle.es_base.specs.Marks.{span_of}
+use Rattle.es_base.specs.Carried.{span_of}
 use Rattle.es_base.specs.Shape.{shape_number}
 use Rattle.es_base.specs.declared.diagnostic.Diagnostic.{Diagnostic}
 use Rattle.es_base.specs.declared.ids.NodeId.{NodeId}
@@ -56,8 +56,8 @@ shapes_well [] = tt
 shapes_well (s ∷ ss) = (shape_well s, shapes_well ss)
 
 pub lowered_well : (t : Tree) (names : List LedgerEntry) (told : List Diagnostic) (shapes : List Shape) → IsKept t → NumbersFit names → WarningsFit told → IsPrintedWell (write_lowered t names told shapes)
-lowered_well (Node kind id span mark ps) names told shapes kept small fits =
-    well_put_all _ (more_members names told shapes) (written_well (Node kind id span mark ps) kept) (names_well names small, (warnings_well told fits, (shapes_well shapes, tt)))
+lowered_well (Node kind id span semantic_id ps) names told shapes kept small fits =
+    well_put_all _ (more_members names told shapes) (written_well (Node kind id span semantic_id ps) kept) (names_well names small, (warnings_well told fits, (shapes_well shapes, tt)))
 
 pub lowered_text_fixes_value : (s t : Tree) (names others : List LedgerEntry) (told said : List Diagnostic) (shapes forms : List Shape) → IsKept s → IsKept t → NumbersFit names → NumbersFit others → WarningsFit told → WarningsFit said
     → compact_text (write_lowered s names told shapes) ≡ compact_text (write_lowered t others said forms) → write_lowered s names told shapes ≡ write_lowered t others said forms

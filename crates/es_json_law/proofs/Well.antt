@@ -3,12 +3,12 @@ use Rattle.std.proofs.Common.{ℕ, ◌<◌, ◌^◌, List, [], ◌∷◌, ◌++�
 use Rattle.std.specs.Ordering.{nat_cmp, match_ordering}
 use Rattle.std.specs.Cmp.Lexicographic.{slice_cmp}
 use Rattle.serde_json.specs.Data.{Data, Members, no_members, member, put}
-use Rattle.es_base.specs.Tree.{Tree, Part, Parts, Node, end, more, child, absent, list, text, no_text, truth, literal}
+use Rattle.es_base.specs.Tree.{Tree, Part, Parts, Node, end, more, child, absent, list, string, no_string, boolean, literal}
 use Rattle.es_base.specs.Table.{Field, members_of}
 use Rattle.es_base.specs.declared.kind.Kind.{Kind}
 use Rattle.es_base.specs.declared.literal.LiteralValue.{LiteralValue}
 use Rattle.es_base.specs.declared.literal.LiteralValue.TheVariants as value
-use Rattle.es_writing.specs.Writing.{Entry, put_all, type_of, raw_entry, literal_entries, span_entries, more_entries, raw_of, cooked_of, texts_of, tail_entries, kind_entries, node_of, write, write_fields, write_part, write_items, write_item}
+use Rattle.es_writing.specs.Writing.{Entry, put_all, type_of, raw_entry, literal_entries, span_entries, more_entries, raw_of, cooked_of, strings_of, tail_entries, kind_entries, node_of, write, write_fields, write_part, write_items, write_item}
 use Rattle.es_writing.specs.Kept.{IsKept, PartIsKept, AreKept, SpanFits}
 use Rattle.es_json_law.specs.Printed.{IsPrintedWell, ItemsAreWell, MembersAreWell}
 use Rattle.es_json_law.proofs.Found.{node_entries}
@@ -47,16 +47,16 @@ raw_well None = tt
 raw_well (Some raw) = (tt, tt)
 
 literal_well : (v : LiteralValue) → EntriesAreWell (literal_entries v)
-literal_well (value.Text s raw) = (tt, raw_well raw)
+literal_well (value.String s raw) = (tt, raw_well raw)
 literal_well (value.Number raw) = (tt, (tt, tt))
 literal_well (value.BigInt s) = (tt, (tt, tt))
 literal_well (value.RegExp pattern flags) = (tt, ((tt, (tt, tt)), tt))
-literal_well (value.Bool b) = (tt, (tt, tt))
+literal_well (value.Boolean b) = (tt, (tt, tt))
 literal_well value.Null = (tt, (tt, tt))
 
 type_well : (kind : Kind) (ps : Parts) → IsPrintedWell (type_of kind ps)
 type_well Kind.Foreign end = tt
-type_well Kind.Foreign (more (text s) ps) = tt
+type_well Kind.Foreign (more (string s) ps) = tt
 type_well Kind.Foreign (more _ ps) = tt
 type_well _ ps = tt
 
@@ -69,26 +69,26 @@ more_well Kind.UnaryExpression ps = (tt, tt)
 more_well Kind.ArrowFunctionExpression ps = (tt, tt)
 more_well _ ps = tt
 
-raw_text_well : (p : Part) → IsPrintedWell (raw_of p)
-raw_text_well (text s) = tt
-raw_text_well _ = tt
+raw_string_well : (p : Part) → IsPrintedWell (raw_of p)
+raw_string_well (string s) = tt
+raw_string_well _ = tt
 
 cooked_well : (p : Part) → IsPrintedWell (cooked_of p)
-cooked_well (text s) = tt
+cooked_well (string s) = tt
 cooked_well _ = tt
 
-texts_well : (raw cooked : Part) → IsPrintedWell (texts_of raw cooked)
-texts_well raw cooked = (cooked_well cooked, (raw_text_well raw, tt))
+strings_well : (raw cooked : Part) → IsPrintedWell (strings_of raw cooked)
+strings_well raw cooked = (cooked_well cooked, (raw_string_well raw, tt))
 
 tail_well : (ps : Parts) → EntriesAreWell (tail_entries ps)
 tail_well end = tt
-tail_well (more (truth b) ps) = (tt, tt)
+tail_well (more (boolean b) ps) = (tt, tt)
 tail_well (more _ ps) = tt
 
 kind_well : (kind : Kind) (ps : Parts) (es : List Entry) → EntriesAreWell es → EntriesAreWell (kind_entries kind ps es)
 kind_well Kind.TemplateElement end es well = well
 kind_well Kind.TemplateElement (more raw end) es well = well
-kind_well Kind.TemplateElement (more raw (more cooked ps)) es well = (texts_well raw cooked, tail_well ps)
+kind_well Kind.TemplateElement (more raw (more cooked ps)) es well = (strings_well raw cooked, tail_well ps)
 kind_well Kind.Foreign ps es well = tt
 kind_well _ ps es well = well
 
@@ -103,7 +103,7 @@ node_well kind id span ps es small fits well =
 mutual
   -- a tree that JSON keeps is written as a value that its text fixes
   pub written_well : (t : Tree) → IsKept t → IsPrintedWell (write t)
-  written_well (Node kind id span mark ps) kept = node_well kind id span ps (write_fields (members_of kind) ps) kept.0 kept.1 (fields_well (members_of kind) ps kept.2)
+  written_well (Node kind id span semantic_id ps) kept = node_well kind id span ps (write_fields (members_of kind) ps) kept.0 kept.1 (fields_well (members_of kind) ps kept.2)
 
   fields_well : (fs : List Field) (ps : Parts) → AreKept ps → EntriesAreWell (write_fields fs ps)
   fields_well fs end kept = tt
@@ -114,9 +114,9 @@ mutual
   part_well name (child t) kept = (written_well t kept, tt)
   part_well name absent kept = (tt, tt)
   part_well name (list ps) kept = (items_well ps kept, tt)
-  part_well name (text s) kept = (tt, tt)
-  part_well name no_text kept = tt
-  part_well name (truth b) kept = (tt, tt)
+  part_well name (string s) kept = (tt, tt)
+  part_well name no_string kept = tt
+  part_well name (boolean b) kept = (tt, tt)
   part_well name (literal v) kept = literal_well v
 
   items_well : (ps : Parts) → AreKept ps → ItemsAreWell (write_items ps)
@@ -127,7 +127,7 @@ mutual
   item_well (child t) kept = written_well t kept
   item_well absent kept = tt
   item_well (list ps) kept = tt
-  item_well (text s) kept = tt
-  item_well no_text kept = tt
-  item_well (truth b) kept = tt
+  item_well (string s) kept = tt
+  item_well no_string kept = tt
+  item_well (boolean b) kept = tt
   item_well (literal v) kept = tt

@@ -1,6 +1,6 @@
 -- Which values their text fixes (our own): no float, and integers that fit 64 bits.
 use Rattle.std.specs.Prelude.{◌^◌, ◌<◌, pos, negsuc}
-use Rattle.serde_json.specs.Data.{Num, unsigned, negative, float, Data, null, boolean, number, string, array, object, Items, no_items, item, Members, no_members, member}
+use Rattle.serde_json.specs.Data.{Num, unsigned, negative, float, Data, null, boolean as json_boolean, number, string as json_string, array, object, Items, no_items, item, Members, no_members, member}
 
 -- A negative number is below zero: any other has the text of an unsigned one.
 abbrev pub NumberIsWell : Num → Type 0
@@ -12,9 +12,9 @@ NumberIsWell (float x) = ⊥
 abbrev mutual
   pub IsPrintedWell : Data → Type 0
   IsPrintedWell null = Unit
-  IsPrintedWell (boolean b) = Unit
+  IsPrintedWell (json_boolean b) = Unit
   IsPrintedWell (number n) = NumberIsWell n
-  IsPrintedWell (string s) = Unit
+  IsPrintedWell (json_string s) = Unit
   IsPrintedWell (array ds) = ItemsAreWell ds
   IsPrintedWell (object ms) = MembersAreWell ms
 

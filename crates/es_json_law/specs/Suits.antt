@@ -16,11 +16,11 @@ kind_suits spot kind = true
 
 -- what a specifier of an export names
 abbrev pub local_suits : Bool → Kind → Parts → Bool
-local_suits sourced Kind.ExportSpecifier (more (child (Node kind id span mark ps)) rest) = kind_suits (record { place = Place.ExportLocal; last = true; sourced = sourced }) kind
+local_suits sourced Kind.ExportSpecifier (more (child (Node kind id span semantic_id ps)) rest) = kind_suits (record { place = Place.ExportLocal; last = true; sourced = sourced }) kind
 local_suits sourced kind ps = true
 
 abbrev pub tree_suits : Spot → Tree → Bool
-tree_suits spot (Node kind id span mark ps) = kind_suits spot kind && local_suits spot.sourced kind ps
+tree_suits spot (Node kind id span semantic_id ps) = kind_suits spot kind && local_suits spot.sourced kind ps
 
 abbrev pub Suits : Spot → Tree → Type 0
 Suits spot t = tree_suits spot t ≡ true

@@ -10,7 +10,7 @@ use Rattle.es_base.specs.declared.ids.NodeId.{NodeId}
 use Rattle.es_base.specs.declared.ledger.GeneratedKind.{GeneratedKind}
 use Rattle.es_base.specs.declared.ledger.LedgerEntry.{LedgerEntry}
 use Rattle.es_lowered.specs.Lowered.{is_private, signed, written_name}
-use Rattle.es_writing.specs.Kept.{IsText}
+use Rattle.es_writing.specs.Kept.{IsString}
 use Rattle.es_writing.proofs.Keeping.{encodes}
 
 signed_private : (kind : GeneratedKind) (name : List ℕ) → is_private kind ≡ true → signed kind name ≡ 35 ∷ name
@@ -50,8 +50,8 @@ module _ (e f : LedgerEntry) (xs ys : List ℕ) (first : IsUtf8 xs) (second : Is
   signs_alike same = alike (is_private f.kind) same refl
 
 -- the text of a private name, put together
-pub sign_put : (e : LedgerEntry) (id : NodeId) (sign name text : List ℕ) → e.kind ≡ GeneratedKind.Private id → IsUtf8 name → chars name ≡ e.name → sign ≡ codes "#" → text ≡ sign ++ name → text ≡ encode_utf8_all (written_name e)
-sign_put e id sign name text is utf8 name_is sign_is put_in = put_in ∙ ap (λ (bs : List ℕ). bs ++ name) sign_is ∙ sym (private_bytes e name utf8 name_is (ap is_private is))
+pub sign_put : (e : LedgerEntry) (id : NodeId) (sign name string : List ℕ) → e.kind ≡ GeneratedKind.Private id → IsUtf8 name → chars name ≡ e.name → sign ≡ codes "#" → string ≡ sign ++ name → string ≡ encode_utf8_all (written_name e)
+sign_put e id sign name string is utf8 name_is sign_is put_in = put_in ∙ ap (λ (bs : List ℕ). bs ++ name) sign_is ∙ sym (private_bytes e name utf8 name_is (ap is_private is))
 
 -- the written name of an entry in code is one that UTF-8 keeps
 sign_ascii : IsAscii (35 ∷ [])
@@ -61,9 +61,9 @@ sign_ascii (suc i) = omega arith
 sign_kept : (bytes : List ℕ) → chars (35 ∷ bytes) ≡ 35 ∷ chars bytes
 sign_kept bytes = chars-append (35 ∷ []) bytes (IsUtf8-from_ascii (35 ∷ []) sign_ascii) ∙ ap (λ (cs : List ℕ). cs ++ chars bytes) (chars-IsAscii (35 ∷ []) sign_ascii)
 
-pub written_kept : (e : LedgerEntry) (bytes : List ℕ) → IsUtf8 bytes → chars bytes ≡ e.name → IsText (written_name e)
+pub written_kept : (e : LedgerEntry) (bytes : List ℕ) → IsUtf8 bytes → chars bytes ≡ e.name → IsString (written_name e)
 written_kept e bytes utf8 is = by_sign (is_private e.kind) refl
   where
-    by_sign : (b : Bool) → is_private e.kind ≡ b → IsText (written_name e)
+    by_sign : (b : Bool) → is_private e.kind ≡ b → IsString (written_name e)
     by_sign true private = ap chars (private_bytes e bytes utf8 is private) ∙ sign_kept bytes ∙ ap (λ (cs : List ℕ). 35 ∷ cs) is ∙ sym (signed_private e.kind e.name private)
     by_sign false plain = ap chars (plain_bytes e bytes utf8 is plain) ∙ is ∙ sym (signed_plain e.kind e.name plain)

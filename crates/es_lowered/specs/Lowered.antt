@@ -1,4 +1,4 @@
--- The value of a lowered program: that of its tree with three members more, the names that were made, the warnings, and
+-- The value of a lowered program: that of its tree with three members more, the generated names, the warnings, and
 -- the shapes of the program (our own).
 use Rattle.std.specs.Prelude.{◌≡◌, ◌^◌, ◌<◌, ℕ, Bool, true, false, List, [], ◌∷◌, map, codes, IsPermutation}
 use Rattle.std.specs.List.Sorted.{IsSorted, IsStable}
@@ -6,21 +6,21 @@ use Rattle.std.specs.Ordering.{nat_cmp, ordering_then}
 use Rattle.std.specs.declared.cmp.Ordering.{Ordering}
 use Rattle.std.specs.Cmp.Lexicographic.{slice_cmp}
 use Rattle.std.specs.Str.{encode_utf8_all}
-use Rattle.serde_json.specs.Data.{Data, string, array, object}
+use Rattle.serde_json.specs.Data.{Data, string as json_string, array, object}
 use Rattle.serde_json.specs.View.{view}
 pub use Rattle.serde_json.specs.View.{items_of}
 use Rattle.serde_json.specs.declared.value.Value.{Value}
 use Rattle.es_base.specs.Tree.{Tree}
-use Rattle.es_base.specs.Marks.{span_of}
+use Rattle.es_base.specs.Carried.{span_of}
 use Rattle.es_base.specs.Shape.{shape_number}
 use Rattle.es_base.specs.declared.diagnostic.Diagnostic.{Diagnostic}
 use Rattle.es_base.specs.declared.ledger.GeneratedKind.{GeneratedKind}
 use Rattle.es_base.specs.declared.ledger.LedgerEntry.{LedgerEntry}
 use Rattle.es_base.specs.declared.shape.Shape.{Shape}
-use Rattle.es_writing.specs.Kept.{IsText, SpanFits}
+use Rattle.es_writing.specs.Kept.{IsString, SpanFits}
 use Rattle.es_writing.specs.Writing.{Entry, entry, put_all, object_of, string_of, number_of, span_entries, write}
 
--- ---- the names that were made
+-- ---- the generated names
 
 abbrev pub kind_word : GeneratedKind → List ℕ
 kind_word GeneratedKind.Temp = codes "temp"
@@ -73,23 +73,23 @@ abbrev pub written_name : LedgerEntry → List ℕ
 written_name e = signed e.kind e.name
 
 abbrev pub entry_value : LedgerEntry → Data
-entry_value e = object_of (entry (codes "name") (string_of (written_name e)) (entry (codes "kind") (string (kind_word e.kind)) (number_entries e.kind)))
+entry_value e = object_of (entry (codes "name") (string_of (written_name e)) (entry (codes "kind") (json_string (kind_word e.kind)) (number_entries e.kind)))
 
 -- by the bytes of the written name, then by the number
 abbrev pub entry_cmp : LedgerEntry → LedgerEntry → Ordering
 entry_cmp e f = ordering_then (slice_cmp nat_cmp (encode_utf8_all (written_name e)) (encode_utf8_all (written_name f))) (nat_cmp (number_in e.kind) (number_in f.kind))
 
 -- names and numbers that JSON can hold, as those of code are
-abbrev pub NamesAreTexts : List LedgerEntry → Type 0
-NamesAreTexts [] = Unit
-NamesAreTexts (e ∷ es) = IsText (written_name e) × NamesAreTexts es
+abbrev pub NamesAreStrings : List LedgerEntry → Type 0
+NamesAreStrings [] = Unit
+NamesAreStrings (e ∷ es) = IsString (written_name e) × NamesAreStrings es
 
 abbrev pub NumbersFit : List LedgerEntry → Type 0
 NumbersFit [] = Unit
 NumbersFit (e ∷ es) = (number_in e.kind < 2 ^ 32) × NumbersFit es
 
 abbrev pub NamesFit : List LedgerEntry → Type 0
-NamesFit es = NamesAreTexts es × NumbersFit es
+NamesFit es = NamesAreStrings es × NumbersFit es
 
 -- ---- warnings
 
@@ -97,7 +97,7 @@ abbrev pub message : List ℕ
 message = codes "Top-level await is not available in the configured target environment."
 
 abbrev pub warning_value : Diagnostic → Data
-warning_value d = object_of (entry (codes "message") (string message) (entry (codes "node") (number_of d.node.0) (span_entries (span_of d.span))))
+warning_value d = object_of (entry (codes "message") (json_string message) (entry (codes "node") (number_of d.node.0) (span_entries (span_of d.span))))
 
 abbrev pub warning_cmp : Diagnostic → Diagnostic → Ordering
 warning_cmp d e = nat_cmp d.node.0 e.node.0
@@ -121,7 +121,7 @@ with_entries d es = d
 -- the value is the array of the items in order, and JSON can hold them
 pub record WritesInOrder {X : Type 0} (cmp : X → X → Ordering) (value_of : X → Data) (Fit : List X → Type 0) (before : List X) (v : Value) : Type 0 where
   pub after : List X
-  pub in_order : IsArranged cmp before after
+  pub preorder : IsArranged cmp before after
   pub fit : Fit after
   pub written : view v ≡ array (items_of (map value_of after))
 

@@ -1,4 +1,4 @@
-// The names that were made.
+// The generated names.
 
 ghost use Rattle.std.specs.Prelude.{◌≡◌, IfOk, OnOk};
 ghost use Rattle.es_lowered.specs.Lowered.{NamesFit, WritesInOrder, entry_cmp, entry_value, kind_word, number_entries, written_name};
@@ -12,7 +12,7 @@ use es_writing::entries::{put_number, put_value, put_word, string_of};
 use serde_json::{Map, Value};
 use std::alloc::{AllocError, Global};
 
-/// The list of the values of the names, in order (our own). Fails for want of memory alone.
+/// The list of the values of the names, in order (our own). Fails on allocation failure alone.
 pub fn write_names(alloc: Global, entries: &[LedgerEntry]) -> Result<Value, AllocError>
     ensures { IfOk result (WritesInOrder entry_cmp entry_value NamesFit entries.now) }
 {
@@ -43,9 +43,9 @@ fn written_name(alloc: Global, entry: &LedgerEntry) -> Result<Value, AllocError>
 {
     match entry.kind {
         GeneratedKind::Private(_) => {
-            let mut text = String::from_str(alloc, "#")?;
-            text.push_str(entry.name.as_str())?;
-            Ok(Value::from(text))
+            let mut string = String::from_str(alloc, "#")?;
+            string.push_str(entry.name.as_str())?;
+            Ok(Value::from(string))
         }
         _ => string_of(alloc, &entry.name),
     }

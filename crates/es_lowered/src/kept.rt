@@ -2,9 +2,9 @@
 // their texts are such as UTF-8 holds.
 
 ghost use Rattle.std.specs.Prelude.{◌<◌, ◌^◌, map};
-ghost use Rattle.es_base.specs.Marks.{span_of};
+ghost use Rattle.es_base.specs.Carried.{span_of};
 ghost use Rattle.es_lowered.specs.Lowered.{NamesFit, WarningsFit, number_in, written_name};
-ghost use Rattle.es_writing.specs.Kept.{IsText, SpanFits};
+ghost use Rattle.es_writing.specs.Kept.{IsString, SpanFits};
 
 use crate::order::number_in;
 use es_base::diagnostic::Diagnostic;
@@ -21,10 +21,10 @@ pub fn visit_names(entries: &[&LedgerEntry])
 
 #[tactic(auto, using(crate::proofs::Comparing::written_kept))]
 fn visit_entry(entry: &LedgerEntry)
-    ensures text { IsText (written_name entry.now) }
+    ensures string { IsString (written_name entry.now) }
     ensures number { number_in entry.now.kind < 2 ^ 32 }
 {
-    let _text = entry.name.as_str();
+    let _string = entry.name.as_str();
     let _number = number_in(entry.kind);
 }
 

@@ -21,10 +21,10 @@ use serde_json::Value;
 use std::alloc::{AllocError, Global};
 
 /// The value of a lowered program: that of its tree, with three members more (our own). `generated` has
-/// the names that were made, in the order of the bytes of their text and then of their numbers;
+/// the generated names, in the order of the bytes of their text and then of their numbers;
 /// `warnings` has the warnings, in the order of the numbers of their nodes; and `outside` has the numbers
 /// of the shapes that put the program outside the theorem on the order of its events, as they are given.
-/// Fails for want of memory alone.
+/// Fails on allocation failure alone.
 pub fn write_lowered(
     alloc: Global,
     tree: &Plain,

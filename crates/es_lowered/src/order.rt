@@ -1,4 +1,4 @@
-// The order of the names that were made.
+// The order of the generated names.
 
 ghost use Rattle.std.specs.Prelude.{◌≡◌, ◌∷◌, IfOk, map};
 ghost use Rattle.std.specs.Cmp.Lexicographic.{slice_cmp};
@@ -11,7 +11,7 @@ use std::alloc::{AllocError, Global};
 use std::cmp::Ordering;
 
 /// The entries in the order of the bytes of their written names, and then of their numbers; equal ones
-/// in the order that they had. Fails for want of memory alone.
+/// in the order that they had. Fails on allocation failure alone.
 pub fn arranged<'a>(
     alloc: Global,
     entries: &'a [LedgerEntry],
@@ -47,10 +47,10 @@ fn compare_written(first: &LedgerEntry, second: &LedgerEntry) -> Ordering
 }
 
 /// How `#` and a name compare to a text, by their bytes.
-fn compare_signed(name: &str, text: &str) -> Ordering
-    ensures { result ≡ slice_cmp nat_cmp (35 ∷ name.now) text.now }
+fn compare_signed(name: &str, string: &str) -> Ordering
+    ensures { result ≡ slice_cmp nat_cmp (35 ∷ name.now) string.now }
 {
-    match text.as_bytes() {
+    match string.as_bytes() {
         [] => Ordering::Greater,
         [first, rest @ ..] => b'#'.cmp(first).then_with(|| name.as_bytes().cmp(rest)),
     }

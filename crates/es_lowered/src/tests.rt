@@ -9,14 +9,14 @@ use es_base::ledger::{GeneratedKind, Ledger, LedgerEntry};
 use es_base::list::List;
 use es_base::name::Name;
 use es_base::shape::Shape;
-use es_plain::plain::{Plain, list_part, plain_node, text_part};
+use es_plain::plain::{Plain, list_part, plain_node, string_part};
 use std::alloc::{AllocError, Global};
 use std::test::Fail;
 
 /// A script with no statement.
 fn empty_script(alloc: Global) -> Result<Plain, AllocError> {
     let mut parts = List::new(alloc);
-    parts.push(text_part(Name::new(alloc, "script")?))?;
+    parts.push(string_part(Name::new(alloc, "script")?))?;
     parts.push(list_part(List::new(alloc)))?;
     Ok(plain_node(Kind::Program, NodeId(0), None, None, parts))
 }
@@ -62,9 +62,9 @@ fn four_names(alloc: Global) -> Result<Ledger, AllocError> {
 
 #[test]
 fn writes_an_empty_script(rt: HostRuntime) -> Result<(), Fail> {
-    let text = text_of(rt.alloc(), &no_names(rt.alloc()), &[], &[])?;
+    let string = text_of(rt.alloc(), &no_names(rt.alloc()), &[], &[])?;
     assert_eq!(rt;
-        text.as_str(),
+        string.as_str(),
         "{\"body\":[],\"generated\":[],\"node\":0,\"outside\":[],\"sourceType\":\"script\",\"type\":\"Program\",\"warnings\":[]}"
     );
     Ok(())
@@ -72,9 +72,9 @@ fn writes_an_empty_script(rt: HostRuntime) -> Result<(), Fail> {
 
 #[test]
 fn writes_names_in_order(rt: HostRuntime) -> Result<(), Fail> {
-    let text = text_of(rt.alloc(), &four_names(rt.alloc())?, &[], &[])?;
+    let string = text_of(rt.alloc(), &four_names(rt.alloc())?, &[], &[])?;
     assert_eq!(rt;
-        text.as_str(),
+        string.as_str(),
         "{\"body\":[],\"generated\":[{\"class\":1,\"kind\":\"private\",\"name\":\"#_\"},{\"class\":1,\"kind\":\"class\",\"name\":\"_C\"},{\"kind\":\"temp\",\"name\":\"_a\"},{\"kind\":\"closure\",\"name\":\"_f\"}],\"node\":0,\"outside\":[],\"sourceType\":\"script\",\"type\":\"Program\",\"warnings\":[]}"
     );
     Ok(())
@@ -90,14 +90,14 @@ fn writes_warnings_and_shapes(rt: HostRuntime) -> Result<(), Fail> {
         node: NodeId(2),
         span: Some(Span { start: 3, end: 8 }),
     };
-    let text = text_of(
+    let string = text_of(
         rt.alloc(),
         &no_names(rt.alloc()),
         &[later, earlier],
         &[Shape::S4, Shape::S8],
     )?;
     assert_eq!(rt;
-        text.as_str(),
+        string.as_str(),
         "{\"body\":[],\"generated\":[],\"node\":0,\"outside\":[4,8],\"sourceType\":\"script\",\"type\":\"Program\",\"warnings\":[{\"end\":8,\"message\":\"Top-level await is not available in the configured target environment.\",\"node\":2,\"start\":3},{\"message\":\"Top-level await is not available in the configured target environment.\",\"node\":5}]}"
     );
     Ok(())

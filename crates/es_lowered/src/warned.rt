@@ -12,7 +12,7 @@ use std::alloc::{AllocError, Global};
 
 const MESSAGE: &str = "Top-level await is not available in the configured target environment.";
 
-/// The list of the values of the warnings, in order (our own). Fails for want of memory alone.
+/// The list of the values of the warnings, in order (our own). Fails on allocation failure alone.
 pub fn write_warnings(alloc: Global, warnings: &[Diagnostic]) -> Result<Value, AllocError>
     ensures { IfOk result (WritesInOrder warning_cmp warning_value WarningsFit warnings.now) }
 {

@@ -4,9 +4,9 @@
 ghost use Rattle.std.specs.Prelude.{◌≡◌, ◌<◌, length, true, false, option_map};
 ghost use Rattle.es_base.specs.declared.table.Place.{Place};
 ghost use Rattle.es_base.specs.declared.table.Sort.{Sort};
-ghost use Rattle.es_base.specs.Tree.{child, list, text, truth, literal, maybe, maybe_text};
+ghost use Rattle.es_base.specs.Tree.{child, list, string, boolean, literal, nullable, nullable_string};
 ghost use Rattle.es_plain.specs.View.{plain_tree, plain_part, plain_parts};
-ghost use Rattle.es_members.specs.Standing.{part_at, Stands, ListOf, FitsIn, TextAt, MaybeTextAt};
+ghost use Rattle.es_members.specs.Standing.{part_at, Stands, ListOf, FitsIn, StringAt, NullableStringAt};
 
 use es_base::literal::LiteralValue;
 use es_base::name::Name;
@@ -35,9 +35,9 @@ pub fn child_at(parts: &[Part], at: usize) -> &Plain
 }
 
 /// The node that stands at this place, if one does, where the table has a child that may be absent.
-pub fn maybe_child_at(parts: &[Part], at: usize) -> Option<&Plain>
-    requires { (place : Place) × Stands (Sort.Maybe place) at (plain_parts parts.now) }
-    ensures { maybe (option_map (λ t. plain_tree t.now) result) ≡ part_at at (plain_parts parts.now) }
+pub fn nullable_child_at(parts: &[Part], at: usize) -> Option<&Plain>
+    requires { (place : Place) × Stands (Sort.Nullable place) at (plain_parts parts.now) }
+    ensures { nullable (option_map (λ t. plain_tree t.now) result) ≡ part_at at (plain_parts parts.now) }
 {
     match part(parts, at) {
         Part::Child(tree) => Some(tree),
@@ -69,9 +69,9 @@ pub fn child_in(item: &Part) -> &Plain
 }
 
 /// The node that an item of a list is, if it is no hole.
-pub fn maybe_child_in(item: &Part) -> Option<&Plain>
+pub fn nullable_child_in(item: &Part) -> Option<&Plain>
     requires { (place : Place) × FitsIn true place (plain_part item.now) }
-    ensures { maybe (option_map (λ t. plain_tree t.now) result) ≡ plain_part item.now }
+    ensures { nullable (option_map (λ t. plain_tree t.now) result) ≡ plain_part item.now }
 {
     match item {
         Part::Child(tree) => Some(tree),
@@ -81,9 +81,9 @@ pub fn maybe_child_in(item: &Part) -> Option<&Plain>
 }
 
 /// The text that stands at this place: a name, a word, the raw text of a template, or a foreign node's name.
-pub fn text_at(parts: &[Part], at: usize) -> &Name
-    requires { TextAt at (plain_parts parts.now) }
-    ensures { text result.now ≡ part_at at (plain_parts parts.now) }
+pub fn string_at(parts: &[Part], at: usize) -> &Name
+    requires { StringAt at (plain_parts parts.now) }
+    ensures { string result.now ≡ part_at at (plain_parts parts.now) }
 {
     match part(parts, at) {
         Part::Text(name) => name,
@@ -92,24 +92,24 @@ pub fn text_at(parts: &[Part], at: usize) -> &Name
 }
 
 /// The text that stands at this place, if one does: a directive, or the cooked text of a template.
-pub fn maybe_text_at(parts: &[Part], at: usize) -> Option<&Name>
-    requires { MaybeTextAt at (plain_parts parts.now) }
-    ensures { maybe_text (option_map (λ s. s.now) result) ≡ part_at at (plain_parts parts.now) }
+pub fn nullable_string_at(parts: &[Part], at: usize) -> Option<&Name>
+    requires { NullableStringAt at (plain_parts parts.now) }
+    ensures { nullable_string (option_map (λ s. s.now) result) ≡ part_at at (plain_parts parts.now) }
 {
     match part(parts, at) {
         Part::Text(name) => Some(name),
-        Part::NoText => None,
+        Part::NoString => None,
         _ => unreachable!(),
     }
 }
 
-/// The truth value that stands at this place.
-pub fn truth_at(parts: &[Part], at: usize) -> bool
-    requires { Stands Sort.Truth at (plain_parts parts.now) }
-    ensures { truth result ≡ part_at at (plain_parts parts.now) }
+/// The boolean that stands at this place.
+pub fn boolean_at(parts: &[Part], at: usize) -> bool
+    requires { Stands Sort.Boolean at (plain_parts parts.now) }
+    ensures { boolean result ≡ part_at at (plain_parts parts.now) }
 {
     match part(parts, at) {
-        Part::Truth(value) => *value,
+        Part::Boolean(value) => *value,
         _ => unreachable!(),
     }
 }

@@ -4,10 +4,10 @@ ghost use Rattle.es_base.specs.declared.kind.Kind.{Kind};
 ghost use Rattle.es_plain.specs.View.{plain_parts};
 ghost use Rattle.es_members.specs.Standing.{PartsOf};
 
-use crate::marks::{bears_mark, fits_at, marks_fit};
+use crate::marks::{bears_semantic_id, fits_at, semantic_ids_fit};
 use crate::members::{
-    child_at, child_in, list_at, literal_at, maybe_child_at, maybe_child_in, maybe_text_at,
-    text_at, truth_at,
+    child_at, child_in, list_at, literal_at, nullable_child_at, nullable_child_in, nullable_string_at,
+    string_at, boolean_at,
 };
 use es_base::ids::NodeId;
 use es_base::kind::Kind;
@@ -16,8 +16,8 @@ use es_base::literal::LiteralValue;
 use es_base::name::Name;
 use es_base::table::Place;
 use es_plain::plain::{
-    Part, Plain, absent_part, child_part, list_part, literal_part, no_text_part, plain_node,
-    text_part, truth_part,
+    Part, Plain, absent_part, child_part, list_part, literal_part, no_string_part, plain_node,
+    string_part, boolean_part,
 };
 use std::alloc::{AllocError, Global};
 use std::test::Fail;
@@ -28,7 +28,7 @@ fn node(kind: Kind, parts: Vec<Part>) -> Plain {
 
 /// `a`, read.
 fn reference(alloc: Global) -> Result<Plain, AllocError> {
-    let name = text_part(Name::new(alloc, "a")?);
+    let name = string_part(Name::new(alloc, "a")?);
     Ok(node(Kind::IdentifierReference, vec![in alloc; name]?))
 }
 
@@ -37,7 +37,7 @@ fn call(alloc: Global) -> Result<Plain, AllocError> {
     let callee = child_part(reference(alloc)?);
     let argument = child_part(reference(alloc)?);
     let arguments = list_part(List::from_vec(vec![in alloc; argument]?));
-    let parts = vec![in alloc; callee, arguments, truth_part(true)]?;
+    let parts = vec![in alloc; callee, arguments, boolean_part(true)]?;
     Ok(node(Kind::CallExpression, parts))
 }
 
@@ -47,7 +47,7 @@ fn call_members(parts: &[Part]) -> (Kind, usize, bool)
 {
     let callee = child_at(parts, 0);
     let arguments = list_at(parts, 1);
-    let optional = truth_at(parts, 2);
+    let optional = boolean_at(parts, 2);
     (callee.kind, arguments.len(), optional)
 }
 
@@ -75,14 +75,14 @@ fn a_call_has_its_members(rt: HostRuntime) -> Result<(), Fail> {
 fn has_argument(parts: &[Part]) -> bool
     requires { PartsOf Kind.ReturnStatement (plain_parts parts.now) }
 {
-    maybe_child_at(parts, 0).is_some()
+    nullable_child_at(parts, 0).is_some()
 }
 
 /// Whether an expression statement has the text of a directive.
 fn has_directive(parts: &[Part]) -> bool
     requires { PartsOf Kind.ExpressionStatement (plain_parts parts.now) }
 {
-    maybe_text_at(parts, 1).is_some()
+    nullable_string_at(parts, 1).is_some()
 }
 
 fn is_full(tree: &Plain) -> bool {
@@ -106,7 +106,7 @@ fn a_member_may_be_absent(rt: HostRuntime) -> Result<(), Fail> {
     let nothing = node(Kind::ReturnStatement, vec![in alloc; absent_part()]?);
     assert!(rt; !is_full(&nothing));
     let expression = child_part(reference(alloc)?);
-    let parts = vec![in alloc; expression, no_text_part()]?;
+    let parts = vec![in alloc; expression, no_string_part()]?;
     assert!(rt; !is_full(&node(Kind::ExpressionStatement, parts)));
     Ok(())
 }
@@ -115,7 +115,7 @@ fn a_member_may_be_absent(rt: HostRuntime) -> Result<(), Fail> {
 fn name_of(parts: &[Part]) -> &Name
     requires { PartsOf Kind.IdentifierReference (plain_parts parts.now) }
 {
-    text_at(parts, 0)
+    string_at(parts, 0)
 }
 
 fn is_number(parts: &[Part]) -> bool
@@ -138,7 +138,7 @@ fn is_named_a(tree: &Plain) -> bool {
 }
 
 #[test]
-fn texts_and_literals_are_read(rt: HostRuntime) -> Result<(), Fail> {
+fn strings_and_literals_are_read(rt: HostRuntime) -> Result<(), Fail> {
     let alloc = rt.alloc();
     assert!(rt; is_named_a(&reference(alloc)?));
     let raw = Name::new(alloc, "1")?;
@@ -162,11 +162,11 @@ fn kind_of(item: &Part) -> Option<Kind> {
 }
 
 /// The same, read as an item of a list with holes.
-fn kind_of_maybe(item: &Part) -> Option<Kind> {
+fn kind_of_nullable(item: &Part) -> Option<Kind> {
     match item {
         Part::Child(tree) => {
             if fits_at(tree, Place::Expression) {
-                match maybe_child_in(item) {
+                match nullable_child_in(item) {
                     Some(tree) => Some(tree.kind),
                     None => None,
                 }
@@ -182,18 +182,18 @@ fn kind_of_maybe(item: &Part) -> Option<Kind> {
 fn items_are_read(rt: HostRuntime) -> Result<(), Fail> {
     let item = child_part(call(rt.alloc())?);
     assert!(rt; kind_of(&item) == Some(Kind::CallExpression));
-    assert!(rt; kind_of_maybe(&item) == Some(Kind::CallExpression));
+    assert!(rt; kind_of_nullable(&item) == Some(Kind::CallExpression));
     Ok(())
 }
 
 #[test]
 fn a_mark_stands_where_its_kind_bears_one(rt: HostRuntime) -> Result<(), Fail> {
-    assert!(rt; bears_mark(Kind::Program));
-    assert!(rt; !bears_mark(Kind::CallExpression));
+    assert!(rt; bears_semantic_id(Kind::Program));
+    assert!(rt; !bears_semantic_id(Kind::CallExpression));
     let mut call = call(rt.alloc())?;
-    assert!(rt; marks_fit(&call));
-    call.mark = Some(0);
-    assert!(rt; !marks_fit(&call));
+    assert!(rt; semantic_ids_fit(&call));
+    call.semantic_id = Some(0);
+    assert!(rt; !semantic_ids_fit(&call));
     assert!(rt; !fits_at(&call, Place::Expression));
     Ok(())
 }

@@ -1,11 +1,11 @@
-// Giving numbers in reading order.
+// Giving numbers in preorder.
 
 ghost use Rattle.std.specs.Prelude.{◌≡◌};
 ghost use Rattle.es_number.specs.Given.{given_id, after_id};
 
 use es_base::ids::NodeId;
 
-/// The numbers that a walk in reading order gives: each node whose number is at least `first` gets
+/// The numbers that a walk in preorder gives: each node whose number is at least `first` gets
 /// `next`, which then rises by one.
 #[derive(Debug, Clone, Copy)]
 pub struct Numbering {

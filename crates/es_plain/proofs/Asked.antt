@@ -1,11 +1,11 @@
 -- What kinds ask of their parts, at lists of each length.
 use Rattle.std.proofs.Common.{◌≡◌, refl, sym, ap, ◌∙◌, ℕ, ◌+◌, ◌<◌, ◌≤◌, List, [], ◌∷◌, length, get_or, nat_eq, bytes_eq, codes, Bool, true, false, not, ◌||◌, arith}
-use Rattle.es_base.specs.Tree.{Part, Parts, end, more, list, text}
+use Rattle.es_base.specs.Tree.{Part, Parts, end, more, list, string}
 use Rattle.es_base.specs.Conforms.{kind_rule, item_count, is_pattern_child}
 use Rattle.es_base.specs.declared.kind.Kind.{Kind}
 use Rattle.es_plain.specs.View.{plain_part, plain_parts}
 use Rattle.es_plain.specs.declared.plain.Part as code
-use Rattle.es_plain.proofs.Views.{list_is, text_is}
+use Rattle.es_plain.proofs.Views.{list_is, string_is}
 
 pub item_count_is : (ps : List code.Part) → item_count (plain_parts ps) ≡ length ps
 item_count_is [] = refl
@@ -14,8 +14,8 @@ item_count_is (p ∷ ps) = omega (arith, item_count_is ps)
 list_seen : (p : code.Part) (ps : List code.Part) → p ≡ code.List ps → list (plain_parts ps) ≡ plain_part p
 list_seen p ps is = sym (ap plain_part is ∙ list_is ps)
 
-text_seen : (p : code.Part) (s : List ℕ) → p ≡ code.Text s → text s ≡ plain_part p
-text_seen p s is = sym (ap plain_part is ∙ text_is s)
+string_seen : (p : code.Part) (s : List ℕ) → p ≡ code.Text s → string s ≡ plain_part p
+string_seen p s is = sym (ap plain_part is ∙ string_is s)
 
 -- a template has one text more than expressions
 pub is_longer : (q e : code.Part) (qs es : List code.Part) → q ≡ code.List qs → e ≡ code.List es
@@ -36,11 +36,11 @@ or_there false y is = refl
 
 pub assigned_here : (op left : code.Part) (s : List ℕ) → op ≡ code.Text s → bytes_eq s (codes "=") ≡ true
     → true ≡ kind_rule Kind.AssignmentExpression (more (plain_part op) (more (plain_part left) end))
-assigned_here op left s op_is same = sym same ∙ or_here _ (not (is_pattern_child (plain_part left))) same ∙ ap (λ p. kind_rule Kind.AssignmentExpression (more p (more (plain_part left) end))) (text_seen op s op_is)
+assigned_here op left s op_is same = sym same ∙ or_here _ (not (is_pattern_child (plain_part left))) same ∙ ap (λ p. kind_rule Kind.AssignmentExpression (more p (more (plain_part left) end))) (string_seen op s op_is)
 
 pub assigned_there : (op left : code.Part) (s : List ℕ) → op ≡ code.Text s → bytes_eq s (codes "=") ≡ false
     → not (is_pattern_child (plain_part left)) ≡ kind_rule Kind.AssignmentExpression (more (plain_part op) (more (plain_part left) end))
-assigned_there op left s op_is other = or_there (bytes_eq s (codes "=")) (not (is_pattern_child (plain_part left))) other ∙ ap (λ p. kind_rule Kind.AssignmentExpression (more p (more (plain_part left) end))) (text_seen op s op_is)
+assigned_there op left s op_is other = or_there (bytes_eq s (codes "=")) (not (is_pattern_child (plain_part left))) other ∙ ap (λ p. kind_rule Kind.AssignmentExpression (more p (more (plain_part left) end))) (string_seen op s op_is)
 
 template-one : (p : Part) → kind_rule Kind.TemplateLiteral (more p end) ≡ true
 template-one (list all) = refl
@@ -63,11 +63,11 @@ template_long (p ∷ q ∷ []) long = absurd (omega arith)
 template_long (p ∷ q ∷ r ∷ ps) long = template-more (plain_part p) (plain_part q) (plain_part r) (plain_parts ps)
 
 assignment-one : (p : Part) → kind_rule Kind.AssignmentExpression (more p end) ≡ true
-assignment-one (text s) = refl
+assignment-one (string s) = refl
 assignment-one _ = refl
 
 assignment-more : (p q : Part) (ps : Parts) → kind_rule Kind.AssignmentExpression (more p (more q end)) ≡ kind_rule Kind.AssignmentExpression (more p (more q ps))
-assignment-more (text s) q ps = refl
+assignment-more (string s) q ps = refl
 assignment-more _ q ps = refl
 
 pub assignment_short : (ps : List code.Part) → length ps < 2 → kind_rule Kind.AssignmentExpression (plain_parts ps) ≡ true

@@ -4,27 +4,27 @@ use Rattle.std.proofs.lemmas.List.{drop_all, at_drop_more}
 use Rattle.std.proofs.lemmas.Bool.{and_left, and_right}
 use Rattle.es_base.specs.Tree.{list, end}
 use Rattle.es_base.specs.Table.{Field, field_of}
-use Rattle.es_base.specs.Conforms.{truth_at, parts_conform, part_conforms, items_conform, is_end, is_rest}
+use Rattle.es_base.specs.Conforms.{boolean_at, parts_conform, part_conforms, items_conform, is_end, is_rest}
 use Rattle.es_base.specs.declared.table.Place.{Place}
 use Rattle.es_base.specs.declared.table.Sort.{Sort}
 use Rattle.es_base.specs.declared.table.Member.{Member}
 use Rattle.es_plain.specs.View.{plain_part, plain_parts}
 use Rattle.es_plain.specs.declared.plain.Part as code
 
-truth_at-end : (name : List ℕ) (fs : List Field) → truth_at name fs end ≡ false
-truth_at-end name [] = refl
-truth_at-end name (f ∷ fs) = refl
+boolean_at-end : (name : List ℕ) (fs : List Field) → boolean_at name fs end ≡ false
+boolean_at-end name [] = refl
+boolean_at-end name (f ∷ fs) = refl
 
 shorter : (a b n : ℕ) → n ≡ min a b → (a ≤ n) ⊎ (b ≤ n)
 shorter a b n is = grind arith
 
-truth_at-past : (name : List ℕ) (ms : List Member) (ps : List code.Part) (n : ℕ) → (length ms ≤ n) ⊎ (length ps ≤ n) → truth_at name (map field_of (drop n ms)) (plain_parts (drop n ps)) ≡ false
-truth_at-past name ms ps n (inl short) = ap (λ (xs : List Member). truth_at name (map field_of xs) (plain_parts (drop n ps))) (drop_all n ms short)
-truth_at-past name ms ps n (inr short) = ap (λ (xs : List code.Part). truth_at name (map field_of (drop n ms)) (plain_parts xs)) (drop_all n ps short) ∙ truth_at-end name (map field_of (drop n ms))
+boolean_at-past : (name : List ℕ) (ms : List Member) (ps : List code.Part) (n : ℕ) → (length ms ≤ n) ⊎ (length ps ≤ n) → boolean_at name (map field_of (drop n ms)) (plain_parts (drop n ps)) ≡ false
+boolean_at-past name ms ps n (inl short) = ap (λ (xs : List Member). boolean_at name (map field_of xs) (plain_parts (drop n ps))) (drop_all n ms short)
+boolean_at-past name ms ps n (inr short) = ap (λ (xs : List code.Part). boolean_at name (map field_of (drop n ms)) (plain_parts xs)) (drop_all n ps short) ∙ boolean_at-end name (map field_of (drop n ms))
 
 -- where the shorter of both lists ends, no member is left
-pub truth_at-done : (name : List ℕ) (ms : List Member) (ps : List code.Part) (n : ℕ) → n ≡ min (length ms) (length ps) → truth_at name (map field_of (drop n ms)) (plain_parts (drop n ps)) ≡ false
-truth_at-done name ms ps n is = truth_at-past name ms ps n (shorter (length ms) (length ps) n is)
+pub boolean_at-done : (name : List ℕ) (ms : List Member) (ps : List code.Part) (n : ℕ) → n ≡ min (length ms) (length ps) → boolean_at name (map field_of (drop n ms)) (plain_parts (drop n ps)) ≡ false
+boolean_at-done name ms ps n is = boolean_at-past name ms ps n (shorter (length ms) (length ps) n is)
 
 pub parts_conform_unequal : (computed : Bool) (ms : List Member) (ps : List code.Part) → (length ms ≡ length ps → ⊥) → false ≡ parts_conform computed (map field_of ms) (plain_parts ps)
 parts_conform_unequal computed [] [] differ = absurd (differ refl)
@@ -35,7 +35,7 @@ parts_conform_unequal computed (m ∷ ms) (p ∷ ps) differ =
 
 -- a list that must have an item
 pub some_list : (computed : Bool) (place : Place) (ps : List code.Part) (e r : Bool) → e ≡ nat_eq (length ps) 0 → e ≡ false → r ≡ items_conform false place (plain_parts ps)
-    → r ≡ part_conforms computed (Sort.Some place) (list (plain_parts ps))
+    → r ≡ part_conforms computed (Sort.NonEmptyList place) (list (plain_parts ps))
 some_list computed place [] e r empty full is = cc
 some_list computed place (p ∷ ps) e r empty full is = is
 

@@ -1,6 +1,6 @@
 -- Which sort of part a part is.
 use Rattle.std.specs.Prelude.{Bool, true, false}
-use Rattle.es_base.specs.Tree.{Part, child, list, text, truth, literal}
+use Rattle.es_base.specs.Tree.{Part, child, list, string, boolean, literal}
 
 abbrev pub is_child : Part → Bool
 is_child (child t) = true
@@ -10,13 +10,13 @@ abbrev pub is_list : Part → Bool
 is_list (list all) = true
 is_list _ = false
 
-abbrev pub is_text : Part → Bool
-is_text (text s) = true
-is_text _ = false
+abbrev pub is_string : Part → Bool
+is_string (string s) = true
+is_string _ = false
 
-abbrev pub is_truth : Part → Bool
-is_truth (truth b) = true
-is_truth _ = false
+abbrev pub is_boolean : Part → Bool
+is_boolean (boolean b) = true
+is_boolean _ = false
 
 abbrev pub is_literal : Part → Bool
 is_literal (literal v) = true

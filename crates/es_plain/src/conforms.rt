@@ -1,14 +1,14 @@
 // Whether a plain tree is one of the table's grammar.
 
 ghost use Rattle.std.specs.Prelude.{◌≡◌, Bool, map};
-ghost use Rattle.es_base.specs.Tree.{child, list, text, truth};
+ghost use Rattle.es_base.specs.Tree.{child, list, string, boolean};
 ghost use Rattle.es_base.specs.Conforms.{conforms, parts_conform, part_conforms, items_conform, item_conforms, key_place};
 ghost use Rattle.es_base.specs.Table.{field_of};
 ghost use Rattle.es_plain.specs.View.{plain_tree, plain_part, plain_parts};
 
 use crate::plain::{Part, Plain};
-use crate::rules::{is_rest, kind_rule, literal_conforms, place_rule, truth_at};
-use crate::texts::{is_foreign_name, is_word_of};
+use crate::rules::{is_rest, kind_rule, literal_conforms, place_rule, boolean_at};
+use crate::strings::{is_foreign_name, is_word_of};
 use es_base::name::Name;
 use es_base::table::{Member, Place, Sort, fits, members};
 
@@ -33,7 +33,7 @@ fn tree_conforms(tree: &Plain, place: Place) -> bool
     fits(place, tree.kind)
         && place_rule(place, tree.kind, parts)
         && kind_rule(tree.kind, parts)
-        && parts_conform(parts, members, truth_at("computed", members, parts))
+        && parts_conform(parts, members, boolean_at("computed", members, parts))
 }
 
 /// Whether the parts are those of the members, one for one.
@@ -60,11 +60,11 @@ fn part_conforms(part: &Part, sort: Sort, computed: bool) -> bool
 {
     match part {
         Part::Child(tree) => child_conforms(tree, sort, computed),
-        Part::Absent => matches!(sort, Sort::Maybe(_)),
+        Part::Absent => matches!(sort, Sort::Nullable(_)),
         Part::List(all) => list_conforms(all.as_slice(), sort),
-        Part::Text(name) => text_conforms(name, sort),
-        Part::NoText => matches!(sort, Sort::MaybeText | Sort::Cooked),
-        Part::Truth(value) => truth_conforms(*value, sort),
+        Part::Text(name) => string_conforms(name, sort),
+        Part::NoString => matches!(sort, Sort::NullableString | Sort::Cooked),
+        Part::Boolean(value) => boolean_conforms(*value, sort),
         Part::Literal(value) => matches!(sort, Sort::Literal) && literal_conforms(value),
     }
 }
@@ -75,7 +75,7 @@ fn child_conforms(tree: &Plain, sort: Sort, computed: bool) -> bool
     ensures { result ≡ part_conforms computed sort (child (plain_tree tree.now)) }
 {
     match sort {
-        Sort::Child(place) | Sort::Maybe(place) => tree_conforms(tree, place),
+        Sort::Child(place) | Sort::Nullable(place) => tree_conforms(tree, place),
         Sort::Key(place) => tree_conforms(tree, key_place(place, computed)),
         _ => false,
     }
@@ -89,8 +89,8 @@ fn list_conforms(all: &[Part], sort: Sort) -> bool
 {
     match sort {
         Sort::List(place) => items_conform(all, place, false),
-        Sort::Some(place) => !all.is_empty() && items_conform(all, place, false),
-        Sort::Holes(place) => items_conform(all, place, true),
+        Sort::NonEmptyList(place) => !all.is_empty() && items_conform(all, place, false),
+        Sort::ListWithHoles(place) => items_conform(all, place, true),
         _ => false,
     }
 }
@@ -133,25 +133,25 @@ fn key_place(place: Place, computed: bool) -> Place
 
 /// Whether a text is of this sort.
 #[tactic(auto, using(crate::proofs::Spelling::empty_name))]
-fn text_conforms(name: &Name, sort: Sort) -> bool
-    ensures { (computed : Bool) → result ≡ part_conforms computed sort (text name.now) }
+fn string_conforms(name: &Name, sort: Sort) -> bool
+    ensures { (computed : Bool) → result ≡ part_conforms computed sort (string name.now) }
 {
     match sort {
         Sort::Name => !name.as_str().is_empty(),
-        Sort::MaybeText | Sort::Raw | Sort::Cooked => true,
+        Sort::NullableString | Sort::Raw | Sort::Cooked => true,
         Sort::Word(words) => is_word_of(name.as_str(), words),
         Sort::Type => is_foreign_name(name.as_str()),
         _ => false,
     }
 }
 
-/// Whether a truth value is of this sort.
-fn truth_conforms(value: bool, sort: Sort) -> bool
-    ensures { (computed : Bool) → result ≡ part_conforms computed sort (truth value) }
+/// Whether a boolean is of this sort.
+fn boolean_conforms(value: bool, sort: Sort) -> bool
+    ensures { (computed : Bool) → result ≡ part_conforms computed sort (boolean value) }
 {
     match sort {
-        Sort::Truth => true,
-        Sort::Never => !value,
+        Sort::Boolean => true,
+        Sort::False => !value,
         _ => false,
     }
 }

@@ -1,7 +1,7 @@
 // The number of nodes of a plain tree.
 
 ghost use Rattle.std.specs.Prelude.{◌≡◌, ◌<◌, ◌^◌};
-ghost use Rattle.es_base.specs.Order.{nodes, nodes_of, nodes_of_part};
+ghost use Rattle.es_base.specs.Preorder.{nodes, nodes_of, nodes_of_part};
 ghost use Rattle.es_plain.specs.View.{plain_tree, plain_part, plain_parts};
 
 use crate::plain::{Part, Plain};
@@ -32,7 +32,7 @@ fn count_part(part: &Part) -> u32
     match part {
         Part::Child(tree) => count_tree(tree),
         Part::List(all) => count_parts(all.as_slice()),
-        Part::Absent | Part::Text(_) | Part::NoText | Part::Truth(_) | Part::Literal(_) => 0,
+        Part::Absent | Part::Text(_) | Part::NoString | Part::Boolean(_) | Part::Literal(_) => 0,
     }
 }
 

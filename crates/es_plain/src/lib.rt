@@ -9,4 +9,4 @@ pub mod parts;
 pub mod places;
 pub mod plain;
 mod rules;
-pub mod texts;
+pub mod strings;

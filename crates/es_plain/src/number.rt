@@ -1,7 +1,7 @@
-// Numbers in reading order.
+// Numbers in preorder.
 
 ghost use Rattle.std.specs.Prelude.{◌≡◌, ◌+◌, ◌<◌, ◌^◌};
-ghost use Rattle.es_base.specs.Order.{nodes, news, numbered_from, renumbered};
+ghost use Rattle.es_base.specs.Preorder.{nodes, news, numbered_from, renumbered};
 ghost use Rattle.es_base.specs.Numbered.{EachOnce, IsNumbered, old_numbers};
 ghost use Rattle.es_number.specs.Given.{given, given_part, given_parts, after, after_part, after_parts};
 ghost use Rattle.es_plain.specs.View.{plain_tree, plain_part, plain_parts};
@@ -11,7 +11,7 @@ use es_base::list::List;
 use es_number::number::Numbering;
 
 impl Plain {
-    /// Gives the nodes the numbers 0, 1, .. in reading order. Takes no memory.
+    /// Gives the nodes the numbers 0, 1, .. in preorder. Takes no memory.
     pub fn number(&mut self)
         requires { nodes (plain_tree self.old) < 2 ^ 32 }
         ensures tree { plain_tree self.new ≡ numbered_from 0 (plain_tree self.old) }
@@ -48,7 +48,7 @@ fn number_part(part: &mut Part, numbers: Numbering) -> Numbering
     match part {
         Part::Child(tree) => number_tree(tree, numbers),
         Part::List(all) => number_parts(all, numbers),
-        Part::Absent | Part::Text(_) | Part::NoText | Part::Truth(_) | Part::Literal(_) => numbers,
+        Part::Absent | Part::Text(_) | Part::NoString | Part::Boolean(_) | Part::Literal(_) => numbers,
     }
 }
 

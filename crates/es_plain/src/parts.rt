@@ -1,8 +1,8 @@
 // Taking parts apart.
 
 ghost use Rattle.std.specs.Prelude.{◌≡◌, IfSome, is_some};
-ghost use Rattle.es_base.specs.Tree.{child, list, text, truth, literal};
-ghost use Rattle.es_plain.specs.Sorts.{is_child, is_list, is_text, is_truth, is_literal};
+ghost use Rattle.es_base.specs.Tree.{child, list, string, boolean, literal};
+ghost use Rattle.es_plain.specs.Sorts.{is_child, is_list, is_string, is_boolean, is_literal};
 ghost use Rattle.es_plain.specs.View.{plain_tree, plain_part, plain_parts};
 
 use crate::plain::{Part, Plain};
@@ -34,9 +34,9 @@ impl Part {
     }
 
     /// A text; nothing for any other part.
-    pub fn into_text(self) -> Option<Name>
-        ensures some { is_some result ≡ is_text (plain_part self) }
-        ensures value { IfSome result (λ s. plain_part self ≡ text s) }
+    pub fn into_string(self) -> Option<Name>
+        ensures some { is_some result ≡ is_string (plain_part self) }
+        ensures value { IfSome result (λ s. plain_part self ≡ string s) }
     {
         match self {
             Part::Text(name) => Some(name),
@@ -44,13 +44,13 @@ impl Part {
         }
     }
 
-    /// A truth value; nothing for any other part.
-    pub fn into_truth(self) -> Option<bool>
-        ensures some { is_some result ≡ is_truth (plain_part self) }
-        ensures value { IfSome result (λ b. plain_part self ≡ truth b) }
+    /// A boolean; nothing for any other part.
+    pub fn into_boolean(self) -> Option<bool>
+        ensures some { is_some result ≡ is_boolean (plain_part self) }
+        ensures value { IfSome result (λ b. plain_part self ≡ boolean b) }
     {
         match self {
-            Part::Truth(value) => Some(value),
+            Part::Boolean(value) => Some(value),
             _ => None,
         }
     }

@@ -1,8 +1,8 @@
 // A tree with one shape of node.
 
 ghost use Rattle.std.specs.Prelude.{◌≡◌};
-ghost use Rattle.es_base.specs.Tree.{Node, child, absent, list, text, no_text, truth, literal};
-ghost use Rattle.es_base.specs.Marks.{span_of};
+ghost use Rattle.es_base.specs.Tree.{Node, child, absent, list, string, no_string, boolean, literal};
+ghost use Rattle.es_base.specs.Carried.{span_of};
 ghost use Rattle.es_plain.specs.View.{plain_tree, plain_part, plain_parts};
 
 use es_base::ids::{NodeId, Span};
@@ -19,7 +19,7 @@ pub struct Plain {
     pub kind: Kind,
     pub node_id: NodeId,
     pub span: Option<Span>,
-    pub mark: Option<u32>,
+    pub semantic_id: Option<u32>,
     pub parts: List<Part>,
 }
 
@@ -36,9 +36,9 @@ pub enum Part {
     /// A text.
     Text(Name),
     /// No text.
-    NoText,
-    /// A truth value.
-    Truth(bool),
+    NoString,
+    /// A boolean.
+    Boolean(bool),
     /// The value of a literal.
     Literal(LiteralValue),
 }
@@ -48,16 +48,16 @@ pub fn plain_node(
     kind: Kind,
     node_id: NodeId,
     span: Option<Span>,
-    mark: Option<u32>,
+    semantic_id: Option<u32>,
     parts: List<Part>,
 ) -> Plain
-    ensures { plain_tree result ≡ Node kind node_id.0 (span_of span) mark (plain_parts parts) }
+    ensures { plain_tree result ≡ Node kind node_id.0 (span_of span) semantic_id (plain_parts parts) }
 {
     Plain {
         kind,
         node_id,
         span,
-        mark,
+        semantic_id,
         parts,
     }
 }
@@ -84,24 +84,24 @@ pub fn list_part(all: List<Part>) -> Part
 }
 
 /// A text.
-pub fn text_part(name: Name) -> Part
-    ensures { plain_part result ≡ text name }
+pub fn string_part(name: Name) -> Part
+    ensures { plain_part result ≡ string name }
 {
     Part::Text(name)
 }
 
 /// The place of a text that is not there.
-pub fn no_text_part() -> Part
-    ensures { plain_part result ≡ no_text }
+pub fn no_string_part() -> Part
+    ensures { plain_part result ≡ no_string }
 {
-    Part::NoText
+    Part::NoString
 }
 
-/// A truth value.
-pub fn truth_part(value: bool) -> Part
-    ensures { plain_part result ≡ truth value }
+/// A boolean.
+pub fn boolean_part(value: bool) -> Part
+    ensures { plain_part result ≡ boolean value }
 {
-    Part::Truth(value)
+    Part::Boolean(value)
 }
 
 /// The value of a literal.

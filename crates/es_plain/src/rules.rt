@@ -2,21 +2,21 @@
 
 ghost use Rattle.std.specs.Prelude.{◌≡◌, [], ◌∷◌, map};
 ghost use Rattle.es_base.specs.Tree.{end, more, literal};
-ghost use Rattle.es_base.specs.Conforms.{truth_at, is_target_place, is_key_literal, is_pattern_child, place_rule, local_rule, local_rules, kind_rule, is_rest, literal_conforms};
+ghost use Rattle.es_base.specs.Conforms.{boolean_at, is_target_place, is_key_literal, is_pattern_child, place_rule, local_rule, local_rules, kind_rule, is_rest, literal_conforms};
 ghost use Rattle.es_base.specs.Table.{field_of};
 ghost use Rattle.es_base.specs.declared.kind.Kind.{Kind};
 ghost use Rattle.es_plain.specs.View.{plain_part, plain_parts};
 
 use crate::places::is_target_place;
 use crate::plain::{Part, Plain};
-use crate::texts::{is_number_text, is_word};
+use crate::strings::{is_number_string, is_word};
 use es_base::kind::Kind;
 use es_base::literal::LiteralValue;
 use es_base::table::{Member, Place, members};
 
-/// Whether the truth value at the member of this name is true.
-pub fn truth_at(name: &str, members: &[Member], parts: &[Part]) -> bool
-    ensures { result ≡ truth_at name.now (map field_of members.now) (plain_parts parts.now) }
+/// Whether the boolean at the member of this name is true.
+pub fn boolean_at(name: &str, members: &[Member], parts: &[Part]) -> bool
+    ensures { result ≡ boolean_at name.now (map field_of members.now) (plain_parts parts.now) }
 {
     for (member, part) in members.iter().zip(parts) {
         if is_true_at(name, member, part) {
@@ -28,10 +28,10 @@ pub fn truth_at(name: &str, members: &[Member], parts: &[Part]) -> bool
 
 /// Whether the member has this name, and the part is true.
 fn is_true_at(name: &str, member: &Member, part: &Part) -> bool
-    ensures { result ≡ truth_at name.now (field_of member.now ∷ []) (more (plain_part part.now) end) }
+    ensures { result ≡ boolean_at name.now (field_of member.now ∷ []) (more (plain_part part.now) end) }
 {
     match part {
-        Part::Truth(value) => member.name == name && *value,
+        Part::Boolean(value) => member.name == name && *value,
         _ => false,
     }
 }
@@ -52,7 +52,7 @@ fn is_key_value(value: &LiteralValue) -> bool
 {
     matches!(
         value,
-        LiteralValue::Text { .. } | LiteralValue::Number { .. } | LiteralValue::BigInt { .. }
+        LiteralValue::String { .. } | LiteralValue::Number { .. } | LiteralValue::BigInt { .. }
     )
 }
 
@@ -63,7 +63,7 @@ pub fn place_rule(place: Place, kind: Kind, parts: &[Part]) -> bool
 {
     match (place, kind) {
         (Place::PropertyKey | Place::ClassKey, Kind::Literal) => is_key_literal(parts),
-        _ => !(is_target_place(place) && truth_at("optional", members(kind), parts)),
+        _ => !(is_target_place(place) && boolean_at("optional", members(kind), parts)),
     }
 }
 
@@ -72,7 +72,7 @@ pub fn literal_conforms(value: &LiteralValue) -> bool
     ensures { result ≡ literal_conforms value.now }
 {
     match value {
-        LiteralValue::Number { raw } => is_number_text(raw.as_str()),
+        LiteralValue::Number { raw } => is_number_string(raw.as_str()),
         _ => true,
     }
 }

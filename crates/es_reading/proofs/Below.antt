@@ -2,7 +2,7 @@
 use Rattle.std.proofs.Common.{◌≡◌, subst, ℕ, List, Option, Some, Ordering, Less, Equal, Greater}
 use Rattle.std.specs.Ordering.{nat_cmp, match_ordering}
 use Rattle.std.specs.Cmp.Lexicographic.{slice_cmp}
-use Rattle.serde_json.specs.Data.{Data, null, boolean, number, string, array, object, Items, no_items, item, Members, no_members, member}
+use Rattle.serde_json.specs.Data.{Data, null, boolean as json_boolean, number, string as json_string, array, object, Items, no_items, item, Members, no_members, member}
 use Rattle.serde_json.specs.Find.{get, get_member}
 
 abbrev pub AllIn : (Data → Type 0) → Items → Type 0
@@ -11,9 +11,9 @@ AllIn P (item d ds) = P d × AllIn P ds
 
 abbrev pub items_in : Data → Items
 items_in null = no_items
-items_in (boolean b) = no_items
+items_in (json_boolean b) = no_items
 items_in (number n) = no_items
-items_in (string s) = no_items
+items_in (json_string s) = no_items
 items_in (array ds) = ds
 items_in (object ms) = no_items
 
@@ -34,9 +34,9 @@ chosen P Greater d e r here other is = other e is
 mutual
   pub holds : (P : Data → Type 0) → Steps P → (d : Data) → Holds P d
   holds P step null = (step null (λ key e is. absurd (cc)), tt)
-  holds P step (boolean b) = (step (boolean b) (λ key e is. absurd (cc)), tt)
+  holds P step (json_boolean b) = (step (json_boolean b) (λ key e is. absurd (cc)), tt)
   holds P step (number n) = (step (number n) (λ key e is. absurd (cc)), tt)
-  holds P step (string s) = (step (string s) (λ key e is. absurd (cc)), tt)
+  holds P step (json_string s) = (step (json_string s) (λ key e is. absurd (cc)), tt)
   holds P step (array ds) = (step (array ds) (λ key e is. absurd (cc)), all P step ds)
   holds P step (object ms) = (step (object ms) (λ key e is. below P step ms key e is), tt)
 

@@ -1,18 +1,18 @@
 -- A tree that is read conforms at its place, and its marks fit.
 use Rattle.std.proofs.Common.{◌≡◌, refl, sym, ap, ◌∙◌, subst, ℕ, ◌+◌, List, [], ◌∷◌, Bool, true, false, not, ◌&&◌, Option, Some, None, option_map, option_and_then, Result, Ok, if◌then◌else◌, arith}
 use Rattle.std.specs.Prelude.{codes, is_some, ◌||◌}
-use Rattle.serde_json.specs.Data.{Data, null, boolean, number, string, array, object, Items, no_items, item}
+use Rattle.serde_json.specs.Data.{Data, null, boolean as json_boolean, number, string as json_string, array, object, Items, no_items, item}
 use Rattle.serde_json.specs.Find.{get, as_array}
 use Rattle.es_base.specs.Tree.{Tree, Part, Parts, end, more, child, absent, list}
 use Rattle.es_base.specs.Table.{Field, members_of}
 use Rattle.es_base.specs.Conforms.{conforms, item_conforms, is_rest, is_end, key_place, item_count}
-use Rattle.es_base.specs.Order.{nodes_of_part}
+use Rattle.es_base.specs.Preorder.{nodes_of_part}
 use Rattle.es_base.specs.declared.kind.Kind.{Kind}
 use Rattle.es_base.specs.declared.table.Place.{Place}
 use Rattle.es_base.specs.declared.table.Sort.{Sort}
 use Rattle.es_members.proofs.And.{left_of, right_of, both}
 use Rattle.es_members.proofs.Sorts.{wrong}
-use Rattle.es_members.specs.Marked.{marks_fit, marks_fit_in}
+use Rattle.es_members.specs.Marked.{semantic_ids_fit, semantic_ids_fit_in}
 use Rattle.es_reading.specs.Fault.{Fault, Read}
 use Rattle.es_reading.specs.Look.{is_true_at, array_at, is_null, is_there, span_at}
 use Rattle.es_reading.specs.Members.{is_of_sort, are_of_sorts, are_good, is_empty, item_count as data_count}
@@ -42,7 +42,7 @@ same_value x y e = ap (λ r. r.value) (same_read x y e)
 
 record ItemStands (holes : Bool) (spot : Spot) (p : Part) : Type 0 where
   conforming : item_conforms holes spot.place p ≡ true
-  marked : marks_fit_in p ≡ true
+  marked : semantic_ids_fit_in p ≡ true
   rest_last : is_rest p ≡ true → spot.last ≡ true
   specifier : specifier_in spot.sourced p ≡ true
 
@@ -62,10 +62,10 @@ item_stands numbers d holes spot n x stand e = item_by (holes && is_null d) numb
 
 -- ---- a list
 
-abbrev pub in_turn : Slots → Reader → List Reader → ℕ → Result (Read Part) Fault
-in_turn slots r rest n = r.item slots.holes (slot slots (is_last rest)) n
+abbrev pub consecutive : Slots → Reader → List Reader → ℕ → Result (Read Part) Fault
+consecutive slots r rest n = r.item slots.holes (slot slots (is_last rest)) n
 
-ended : (numbers : Numbers) (ds : Items) (slots : Slots) (n : ℕ) (x : Read Parts) → each (in_turn slots) (readers numbers ds) n ≡ Ok x → is_last (readers numbers ds) ≡ true → is_end x.value ≡ true
+ended : (numbers : Numbers) (ds : Items) (slots : Slots) (n : ℕ) (x : Read Parts) → each (consecutive slots) (readers numbers ds) n ≡ Ok x → is_last (readers numbers ds) ≡ true → is_end x.value ≡ true
 unfolding readers
 ended numbers no_items slots n x e h = ap is_end (sym (same_value _ _ e))
 ended numbers (item d ds) slots n x e h = wrong h
@@ -78,13 +78,13 @@ record ItemsStand (slots : Slots) (ds : Items) (ps : Parts) : Type 0 where
   stands : ListStands slots ps
   count : data_count ds ≡ item_count ps
 
-items_stand : (numbers : Numbers) (ds : Items) (slots : Slots) (n : ℕ) (x : Read Parts) → AllIn (Stand numbers) ds → each (in_turn slots) (readers numbers ds) n ≡ Ok x → ItemsStand slots ds x.value
+items_stand : (numbers : Numbers) (ds : Items) (slots : Slots) (n : ℕ) (x : Read Parts) → AllIn (Stand numbers) ds → each (consecutive slots) (readers numbers ds) n ≡ Ok x → ItemsStand slots ds x.value
 unfolding readers
 items_stand numbers no_items slots n x stand e = subst (λ (ps : Parts). ItemsStand slots no_items ps) (same_value _ _ e) (record { stands = record { conforming = refl; marked = refl; specifiers = refl }; count = refl })
 items_stand numbers (item d ds) slots n x stand e =
     let b = bound ((reader_of numbers d).item slots.holes (slot slots (is_last (readers numbers ds))) n) _ x e in
     let p : Read Part = b.0 in
-    let c = bound (each (in_turn slots) (readers numbers ds) (n + nodes_of_part p.value)) _ x b.2 in
+    let c = bound (each (consecutive slots) (readers numbers ds) (n + nodes_of_part p.value)) _ x b.2 in
     let ps : Read Parts = c.0 in
     let first = item_stands numbers d slots.holes (slot slots (is_last (readers numbers ds))) n p stand.0 b.1 in
     let others = items_stand numbers ds slots (n + nodes_of_part p.value) ps stand.1 c.1 in
@@ -100,9 +100,9 @@ items_stand numbers (item d ds) slots n x stand e =
 pub items_are : (numbers : Numbers) (d : Data) → readers_in numbers d ≡ readers numbers (items_in d)
 unfolding readers readers_in
 items_are numbers null = refl
-items_are numbers (boolean b) = refl
+items_are numbers (json_boolean b) = refl
 items_are numbers (number b) = refl
-items_are numbers (string s) = refl
+items_are numbers (json_string s) = refl
 items_are numbers (array ds) = refl
 items_are numbers (object ms) = refl
 
@@ -110,17 +110,17 @@ items_are numbers (object ms) = refl
 
 array_is : (e : Data) → is_some (as_array e) ≡ true → as_array e ≡ Some (items_in e)
 array_is null h = wrong h
-array_is (boolean b) h = wrong h
+array_is (json_boolean b) h = wrong h
 array_is (number b) h = wrong h
-array_is (string s) h = wrong h
+array_is (json_string s) h = wrong h
 array_is (array ds) h = refl
 array_is (object ms) h = wrong h
 
 there_is : (e : Data) → is_there (Some e) ≡ not (is_null e)
 there_is null = refl
-there_is (boolean b) = refl
+there_is (json_boolean b) = refl
 there_is (number b) = refl
-there_is (string s) = refl
+there_is (json_string s) = refl
 there_is (array ds) = refl
 there_is (object ms) = refl
 
@@ -138,17 +138,17 @@ child_stands : (numbers : Numbers) (o : Option Data) (spot : Spot) (n : ℕ) (x 
 child_stands numbers None spot n x stand there is = wrong there
 child_stands numbers (Some e) spot n x stand there is = as_child_stands numbers e spot n x (stand e refl).0 is
 
-maybe_by : (b : Bool) (numbers : Numbers) (d e : Data) (parent : Parent) (name : List ℕ) (place : Place) (n : ℕ) (x : Read Part) → Stand numbers e → get name d ≡ Some e → is_null e ≡ b
-    → (if b then alone absent else as_child (read numbers e (below parent place) n)) ≡ Ok x → PartRead d parent name (Sort.Maybe place) x.value
-maybe_by true numbers d e parent name place n x stand here gone is = subst (λ (p : Part). PartRead d parent name (Sort.Maybe place) p) (same_value _ _ is) (ap is_there here ∙ there_is e ∙ ap not gone)
-maybe_by false numbers d e parent name place n x stand here gone is =
+nullable_by : (b : Bool) (numbers : Numbers) (d e : Data) (parent : Parent) (name : List ℕ) (place : Place) (n : ℕ) (x : Read Part) → Stand numbers e → get name d ≡ Some e → is_null e ≡ b
+    → (if b then alone absent else as_child (read numbers e (below parent place) n)) ≡ Ok x → PartRead d parent name (Sort.Nullable place) x.value
+nullable_by true numbers d e parent name place n x stand here gone is = subst (λ (p : Part). PartRead d parent name (Sort.Nullable place) p) (same_value _ _ is) (ap is_there here ∙ there_is e ∙ ap not gone)
+nullable_by false numbers d e parent name place n x stand here gone is =
     let c = as_child_stands numbers e (below parent place) n x stand is in
-    subst (λ (p : Part). PartRead d parent name (Sort.Maybe place) p) c.1 (c.2, ap is_there here ∙ there_is e ∙ ap not gone)
+    subst (λ (p : Part). PartRead d parent name (Sort.Nullable place) p) c.1 (c.2, ap is_there here ∙ there_is e ∙ ap not gone)
 
-maybe_stands : (numbers : Numbers) (o : Option Data) (d : Data) (parent : Parent) (name : List ℕ) (place : Place) (n : ℕ) (x : Read Part) → get name d ≡ o → ((e : Data) → o ≡ Some e → Holds (Stand numbers) e)
-    → read_by (option_map (reader_of numbers) o) (λ r. r.item true (below parent place) n) ≡ Ok x → PartRead d parent name (Sort.Maybe place) x.value
-maybe_stands numbers None d parent name place n x here stand is = subst (λ (p : Part). PartRead d parent name (Sort.Maybe place) p) (same_value _ _ is) (ap is_there here)
-maybe_stands numbers (Some e) d parent name place n x here stand is = maybe_by (is_null e) numbers d e parent name place n x (stand e refl).0 here refl is
+nullable_stands : (numbers : Numbers) (o : Option Data) (d : Data) (parent : Parent) (name : List ℕ) (place : Place) (n : ℕ) (x : Read Part) → get name d ≡ o → ((e : Data) → o ≡ Some e → Holds (Stand numbers) e)
+    → read_by (option_map (reader_of numbers) o) (λ r. r.item true (below parent place) n) ≡ Ok x → PartRead d parent name (Sort.Nullable place) x.value
+nullable_stands numbers None d parent name place n x here stand is = subst (λ (p : Part). PartRead d parent name (Sort.Nullable place) p) (same_value _ _ is) (ap is_there here)
+nullable_stands numbers (Some e) d parent name place n x here stand is = nullable_by (is_null e) numbers d e parent name place n x (stand e refl).0 here refl is
 
 -- the list of a part
 record ListOf (d : Data) (name : List ℕ) (slots : Slots) (p : Part) : Type 0 where
@@ -161,9 +161,9 @@ list_stands : (numbers : Numbers) (o : Option Data) (d : Data) (name : List ℕ)
     → read_by (option_map (reader_of numbers) o) (λ r. r.items slots n) ≡ Ok x → ListOf d name slots x.value
 list_stands numbers None d name slots n x here stand there is = wrong there
 list_stands numbers (Some e) d name slots n x here stand there is =
-    let b = bound (each (in_turn slots) (readers_in numbers e) n) _ x is in
+    let b = bound (each (consecutive slots) (readers_in numbers e) n) _ x is in
     let ps : Read Parts = b.0 in
-    let items = items_stand numbers (items_in e) slots n ps (stand e refl).1 (ap (λ rs. each (in_turn slots) rs n) (sym (items_are numbers e)) ∙ b.1) in
+    let items = items_stand numbers (items_in e) slots n ps (stand e refl).1 (ap (λ rs. each (consecutive slots) rs n) (sym (items_are numbers e)) ∙ b.1) in
     record { parts = ps.value; is = same_value _ _ b.2; stands = items.stands; read = record { items = items_in e; there = ap (option_and_then as_array) here ∙ array_is e there; count = items.count } }
 
 full_list : (ds : Items) (ps : Parts) → data_count ds ≡ item_count ps → not (is_empty (Some ds)) ≡ true → is_end ps ≡ false
@@ -185,16 +185,16 @@ part_stands numbers d parent name (Sort.Child place) n x at h is =
 part_stands numbers d parent name (Sort.Key place) n x at h is =
     let c = child_stands numbers (get name d) (below parent (key_place (is_true_at (codes "computed") d) place)) n x (at name) h is in
     subst (λ (p : Part). PartRead d parent name (Sort.Key place) p) c.1 c.2
-part_stands numbers d parent name (Sort.Maybe place) n x at h is = maybe_stands numbers (get name d) d parent name place n x refl (at name) is
+part_stands numbers d parent name (Sort.Nullable place) n x at h is = nullable_stands numbers (get name d) d parent name place n x refl (at name) is
 part_stands numbers d parent name (Sort.List place) n x at h is =
     let c = list_stands numbers (get name d) d name (slots_below parent false place) n x refl (at name) h is in
     subst (λ (p : Part). PartRead d parent name (Sort.List place) p) c.is (c.stands, c.read)
-part_stands numbers d parent name (Sort.Some place) n x at h is =
+part_stands numbers d parent name (Sort.NonEmptyList place) n x at h is =
     let c = list_stands numbers (get name d) d name (slots_below parent false place) n x refl (at name) (left_of _ _ h) is in
-    subst (λ (p : Part). PartRead d parent name (Sort.Some place) p) c.is (c.stands, c.read, some_stands d name c.parts c.read h)
-part_stands numbers d parent name (Sort.Holes place) n x at h is =
+    subst (λ (p : Part). PartRead d parent name (Sort.NonEmptyList place) p) c.is (c.stands, c.read, some_stands d name c.parts c.read h)
+part_stands numbers d parent name (Sort.ListWithHoles place) n x at h is =
     let c = list_stands numbers (get name d) d name (slots_below parent true place) n x refl (at name) h is in
-    subst (λ (p : Part). PartRead d parent name (Sort.Holes place) p) c.is (c.stands, c.read)
+    subst (λ (p : Part). PartRead d parent name (Sort.ListWithHoles place) p) c.is (c.stands, c.read)
 part_stands numbers d parent name _ n x at h is = leaf_stands d name _ x h is
 
 parts_stand : (numbers : Numbers) (d : Data) (parent : Parent) (fs : List Field) (n : ℕ) (x : Read Parts) → AtMembers (Stand numbers) d → are_of_sorts d fs ≡ true
@@ -226,5 +226,5 @@ stands numbers d at spot n x e =
 pub read_stands : (numbers : Numbers) (d : Data) → Stand numbers d
 read_stands numbers d = (holds (Stand numbers) (stands numbers) d).0
 
-pub read_fits : (numbers : Numbers) (d : Data) (spot : Spot) (n : ℕ) (x : Read Tree) → read numbers d spot n ≡ Ok x → (conforms spot.place x.value && marks_fit x.value) ≡ true
+pub read_fits : (numbers : Numbers) (d : Data) (spot : Spot) (n : ℕ) (x : Read Tree) → read numbers d spot n ≡ Ok x → (conforms spot.place x.value && semantic_ids_fit x.value) ≡ true
 read_fits numbers d spot n x e = let node = read_stands numbers d spot n x e in both _ _ node.conforming node.marked

@@ -2,7 +2,7 @@
 use Rattle.std.proofs.Common.{◌≡◌, refl, sym, ap, ◌∙◌, ℕ, zero, suc, ◌+◌, ◌*◌, ◌<◌, ◌≤◌, max, List, [], ◌∷◌, length, get_or, Option, Some, None, Ordering, Less, Equal, Greater, arith}
 use Rattle.std.specs.Ordering.{nat_cmp, match_ordering}
 use Rattle.std.specs.Cmp.Lexicographic.{slice_cmp}
-use Rattle.serde_json.specs.Data.{Data, null, boolean, number, string, array, object, Items, Members, no_members, member, depth, items_depth, members_depth}
+use Rattle.serde_json.specs.Data.{Data, null, boolean as json_boolean, number, string as json_string, array, object, Items, Members, no_members, member, depth, items_depth, members_depth}
 use Rattle.serde_json.specs.Find.{get, get_member, as_array}
 use Rattle.serde_json.specs.View.{view, items_view, members_view}
 use Rattle.serde_json.specs.declared.value.Value.{Value}
@@ -30,9 +30,9 @@ member_depth (member l d ms) k e is = deeper (slice_cmp nat_cmp k l) d e (get_me
 
 get_depth : (d : Data) (k : List ℕ) (e : Data) → get k d ≡ Some e → depth e < depth d
 get_depth null k e is = cc
-get_depth (boolean b) k e is = cc
+get_depth (json_boolean b) k e is = cc
 get_depth (number b) k e is = cc
-get_depth (string b) k e is = cc
+get_depth (json_string b) k e is = cc
 get_depth (array b) k e is = cc
 get_depth (object ms) k e is = omega (arith, member_depth ms k e is)
 
@@ -50,8 +50,8 @@ falls rank d k o small is = falls_by rank d k o small (sym is)
 
 pub array_depth : (d : Data) (ds : Items) → Some ds ≡ as_array d → items_depth ds < depth d
 array_depth null ds e = cc
-array_depth (boolean b) ds e = cc
+array_depth (json_boolean b) ds e = cc
 array_depth (number b) ds e = cc
-array_depth (string b) ds e = cc
+array_depth (json_string b) ds e = cc
 array_depth (array es) ds e = let same : es ≡ ds = cc in omega (arith, ap items_depth same)
 array_depth (object ms) ds e = cc

@@ -5,9 +5,9 @@ use Rattle.std.specs.Str.{chars}
 use Rattle.std.proofs.lemmas.Bool.{or_left, or_right}
 use Rattle.serde_json.specs.Data.{Data, Items}
 use Rattle.serde_json.specs.Find.{get}
-use Rattle.es_base.specs.Tree.{Tree, Part, Parts, Node, end, more, child, absent, list, text, maybe_text}
+use Rattle.es_base.specs.Tree.{Tree, Part, Parts, Node, end, more, child, absent, list, string, nullable_string}
 use Rattle.es_base.specs.Table.{members_of, stands_in}
-use Rattle.es_base.specs.Conforms.{conforms, place_rule, kind_rule, local_rule, local_rules, is_key_literal, is_target_place, is_pattern_child, is_rest, truth_at, item_count}
+use Rattle.es_base.specs.Conforms.{conforms, place_rule, kind_rule, local_rule, local_rules, is_key_literal, is_target_place, is_pattern_child, is_rest, boolean_at, item_count}
 use Rattle.es_base.specs.declared.kind.Kind.{Kind}
 use Rattle.es_base.specs.declared.table.Place.{Place}
 use Rattle.es_base.specs.declared.table.Sort.{Sort}
@@ -15,13 +15,13 @@ use Rattle.es_members.proofs.And.{left_of, right_of, both}
 use Rattle.es_members.proofs.Sorts.{wrong}
 use Rattle.es_reading.specs.Kinds.{is_named, may_stand, may_be_literal, has_private_property}
 use Rattle.es_reading.specs.Literals.{Form, form_in, value_of, may_be_key}
-use Rattle.es_reading.specs.Look.{string_at, is_true_at, is_this, is_text_at, is_there}
+use Rattle.es_reading.specs.Look.{string_at, is_true_at, is_this, is_string_at, is_there}
 use Rattle.es_reading.specs.Members.{are_good, are_of_sorts, counts_agree, is_one_more, item_count as data_count}
 use Rattle.es_reading.specs.Reading.{parent_of, literal_part}
 use Rattle.es_reading.specs.declared.spot.Parent.{Parent}
 use Rattle.es_reading.specs.declared.spot.Spot.{Spot}
 use Rattle.es_reading.proofs.Chosen.{IsChosen}
-use Rattle.es_reading.proofs.Parted.{PartRead, PartsRead, ListRead, reads_true, truth_read, has_key, types_good, good_parts, marked_parts, target_place, by_target, is_foreign_text}
+use Rattle.es_reading.proofs.Parted.{PartRead, PartsRead, ListRead, reads_true, boolean_read, has_key, types_good, good_parts, marked_parts, target_place, by_target, is_foreign_string}
 use Rattle.es_reading.proofs.Standing.{NodeStands, local_fits, kind_in_tree, specifier_fits, specifier_in, specifiers_fit}
 use Rattle.es_reading.proofs.Wording.{assigned, key_good}
 
@@ -63,7 +63,7 @@ key_rule Kind.Literal Place.PropertyKey ps = is_key_literal ps
 key_rule Kind.Literal Place.ClassKey ps = is_key_literal ps
 key_rule kind place ps = true
 
-place_by : (k : Kind) (p : Place) (ps : Parts) → not (is_target_place p && truth_at (codes "optional") (members_of k) ps) ≡ true → key_rule k p ps ≡ true → place_rule p k ps ≡ true
+place_by : (k : Kind) (p : Place) (ps : Parts) → not (is_target_place p && boolean_at (codes "optional") (members_of k) ps) ≡ true → key_rule k p ps ≡ true → place_rule p k ps ≡ true
 place_by Kind.Literal Place.PropertyKey ps t h = h
 place_by Kind.Literal Place.ClassKey ps t h = h
 place_by Kind.Literal _ ps t h = t
@@ -90,7 +90,7 @@ keyed spot d parent _ ps h read = refl
 place_ruled : (spot : Spot) (d : Data) (parent : Parent) (k : Kind) (ps : Parts) → may_stand spot d k ≡ true → PartsRead d parent (members_of k) ps → place_rule spot.place k ps ≡ true
 place_ruled spot d parent k ps h read =
     place_by k spot.place ps
-    (ap (λ b. not (is_target_place spot.place && b)) (truth_read (codes "optional") d parent (members_of k) ps read) ∙ not_target spot d k h)
+    (ap (λ b. not (is_target_place spot.place && b)) (boolean_read (codes "optional") d parent (members_of k) ps read) ∙ not_target spot d k h)
     (keyed spot d parent k ps h read)
 
 -- ---- kinds
@@ -105,14 +105,14 @@ counted d quasis expressions q e h =
     ∙ h
 
 simple_node : (t : Tree) → conforms Place.SimpleAssignmentTarget t ≡ true → stands_in Place.SimpleAssignmentTarget (kind_in_tree t) ≡ true
-simple_node (Node k id span mark ps) h = left_of _ _ h
+simple_node (Node k id span semantic_id ps) h = left_of _ _ h
 
 simple_child : (left : Part) → ((t : Tree) → left ≡ child t → conforms Place.SimpleAssignmentTarget t ≡ true) → not (is_pattern_child left) ≡ true
-simple_child (child (Node Kind.ObjectAssignmentTarget id span mark ps)) h = let t : Tree = Node Kind.ObjectAssignmentTarget id span mark ps in wrong (simple_node t (h t refl))
-simple_child (child (Node Kind.ArrayAssignmentTarget id span mark ps)) h = let t : Tree = Node Kind.ArrayAssignmentTarget id span mark ps in wrong (simple_node t (h t refl))
+simple_child (child (Node Kind.ObjectAssignmentTarget id span semantic_id ps)) h = let t : Tree = Node Kind.ObjectAssignmentTarget id span semantic_id ps in wrong (simple_node t (h t refl))
+simple_child (child (Node Kind.ArrayAssignmentTarget id span semantic_id ps)) h = let t : Tree = Node Kind.ArrayAssignmentTarget id span semantic_id ps in wrong (simple_node t (h t refl))
 simple_child _ h = refl
 
-assign_by : (b : Bool) (o : Option (List ℕ)) (op : List ℕ) (left : Part) → is_this (codes "=") o ≡ b → maybe_text (option_map chars o) ≡ text op → ((t : Tree) → left ≡ child t → conforms (target_place b) t ≡ true)
+assign_by : (b : Bool) (o : Option (List ℕ)) (op : List ℕ) (left : Part) → is_this (codes "=") o ≡ b → nullable_string (option_map chars o) ≡ string op → ((t : Tree) → left ≡ child t → conforms (target_place b) t ≡ true)
     → (bytes_eq op (codes "=") || not (is_pattern_child left)) ≡ true
 assign_by true None op left is e h = wrong is
 assign_by true (Some s) op left is e h =
@@ -121,10 +121,10 @@ assign_by true (Some s) op left is e h =
 assign_by false o op left is e h = or_right _ _ (simple_child left h)
 
 left_child : (spot : Spot) (d : Data) (left : Part) → PartRead d (parent_of Kind.AssignmentExpression spot d) (codes "left") (Sort.Child Place.AssignmentTarget) left
-    → (t : Tree) → left ≡ child t → conforms (target_place (is_text_at (codes "operator") (codes "=") d)) t ≡ true
+    → (t : Tree) → left ≡ child t → conforms (target_place (is_string_at (codes "operator") (codes "=") d)) t ≡ true
 left_child spot d (child u) h t e =
     let same : u ≡ t = cc in
-    subst (λ (z : Tree). conforms (target_place (is_text_at (codes "operator") (codes "=") d)) z ≡ true) same (ap (λ p. conforms p u) (by_target (is_text_at (codes "operator") (codes "=") d)) ∙ h.conforming)
+    subst (λ (z : Tree). conforms (target_place (is_string_at (codes "operator") (codes "=") d)) z ≡ true) same (ap (λ p. conforms p u) (by_target (is_string_at (codes "operator") (codes "=") d)) ∙ h.conforming)
 left_child spot d _ h t e = absurd h
 
 -- whether a node stands at the part
@@ -132,15 +132,15 @@ abbrev there : Part → Bool
 there absent = false
 there p = true
 
-source_there : (d : Data) (parent : Parent) (p : Part) → PartRead d parent (codes "source") (Sort.Maybe Place.Literal) p → there p ≡ is_there (get (codes "source") d)
+source_there : (d : Data) (parent : Parent) (p : Part) → PartRead d parent (codes "source") (Sort.Nullable Place.Literal) p → there p ≡ is_there (get (codes "source") d)
 source_there d parent (child t) h = sym h.1
 source_there d parent absent h = sym h
 source_there d parent _ h = absurd h
 
 specifier_ruled : (t : Tree) (source : Part) (sourced : Bool) → specifier_fits sourced t ≡ true → there source ≡ sourced → local_rule (child t) source ≡ true
-specifier_ruled (Node Kind.ExportSpecifier id span mark (more (child (Node Kind.IdentifierReference i s m ps)) rest)) absent sourced h e = refl
-specifier_ruled (Node Kind.ExportSpecifier id span mark (more (child (Node Kind.IdentifierReference i s m ps)) rest)) _ sourced h e = wrong (ap not e ∙ h)
-specifier_ruled (Node Kind.ExportSpecifier id span mark (more (child (Node Kind.IdentifierName i s m ps)) rest)) absent sourced h e = e ∙ h
+specifier_ruled (Node Kind.ExportSpecifier id span semantic_id (more (child (Node Kind.IdentifierReference i s m ps)) rest)) absent sourced h e = refl
+specifier_ruled (Node Kind.ExportSpecifier id span semantic_id (more (child (Node Kind.IdentifierReference i s m ps)) rest)) _ sourced h e = wrong (ap not e ∙ h)
+specifier_ruled (Node Kind.ExportSpecifier id span semantic_id (more (child (Node Kind.IdentifierName i s m ps)) rest)) absent sourced h e = e ∙ h
 specifier_ruled _ _ sourced h e = refl
 
 part_ruled : (p source : Part) (sourced : Bool) → specifier_in sourced p ≡ true → there source ≡ sourced → local_rule p source ≡ true
@@ -153,8 +153,8 @@ locals_ruled (more p ps) source sourced h e = both _ _ (part_ruled p source sour
 
 kind_ruled : (spot : Spot) (d : Data) (k : Kind) (ps : Parts) → PartsRead d (parent_of k spot d) (members_of k) ps → counts_agree k d ≡ true → kind_rule k ps ≡ true
 kind_ruled spot d Kind.TemplateLiteral (more (list quasis) (more (list expressions) end)) h c = counted d quasis expressions h.0.1 h.1.0.1 c
-kind_ruled spot d Kind.AssignmentExpression (more (text operator) (more left rest)) h c =
-    assign_by (is_text_at (codes "operator") (codes "=") d) (string_at (codes "operator") d) operator left refl h.0.is (left_child spot d left h.1.0)
+kind_ruled spot d Kind.AssignmentExpression (more (string operator) (more left rest)) h c =
+    assign_by (is_string_at (codes "operator") (codes "=") d) (string_at (codes "operator") d) operator left refl h.0.is (left_child spot d left h.1.0)
 kind_ruled spot d Kind.ExportNamedDeclaration (more declaration (more (list specifiers) (more source end))) h c =
     locals_ruled specifiers source (is_there (get (codes "source") d)) h.1.0.0.specifiers (source_there d (parent_of Kind.ExportNamedDeclaration spot d) source h.1.1.0)
 kind_ruled spot d _ _ h c = refl
@@ -171,7 +171,7 @@ computed_key d Kind.AssignmentTargetProperty h = or_false _
 computed_key d _ h = wrong h
 
 types_named : (d : Data) (name : List ℕ) (k : Kind) → string_at (codes "type") d ≡ Some name → is_named name k ≡ true → types_good d (members_of k) ≡ true
-types_named d name Kind.Foreign is h = both _ true (ap (λ o. is_foreign_text (option_map chars o)) is ∙ h) refl
+types_named d name Kind.Foreign is h = both _ true (ap (λ o. is_foreign_string (option_map chars o)) is ∙ h) refl
 types_named d name _ is h = refl
 
 rest_asks : (spot : Spot) (d : Data) (k : Kind) (id : ℕ) (span : Option (ℕ × ℕ)) (ps : Parts) → may_stand spot d k ≡ true → is_rest (child (Node k id span None ps)) ≡ true → spot.last ≡ true
@@ -190,13 +190,13 @@ specifier_asks spot d _ id span _ h = refl
 
 pub node_stands : (spot : Spot) (d : Data) (k : Kind) (id : ℕ) (span : Option (ℕ × ℕ)) (ps : Parts) → IsChosen spot d k → are_good k d ≡ true → PartsRead d (parent_of k spot d) (members_of k) ps → NodeStands spot (Node k id span None ps)
 node_stands spot d k id span ps is good read =
-    let computed : has_key (members_of k) ≡ true → truth_at (codes "computed") (members_of k) ps ≡ is_true_at (codes "computed") d
-    = λ h. truth_read (codes "computed") d (parent_of k spot d) (members_of k) ps read ∙ computed_key d k h in
+    let computed : has_key (members_of k) ≡ true → boolean_at (codes "computed") (members_of k) ps ≡ is_true_at (codes "computed") d
+    = λ h. boolean_read (codes "computed") d (parent_of k spot d) (members_of k) ps read ∙ computed_key d k h in
     record {
       conforming = both _ _ (left_of _ _ is.stands)
           (both _ _ (place_ruled spot d (parent_of k spot d) k ps is.stands read)
           (both _ _ (kind_ruled spot d k ps read (right_of (are_of_sorts d (members_of k)) _ good))
-          (good_parts (truth_at (codes "computed") (members_of k) ps) d (parent_of k spot d) (members_of k) ps read computed (types_named d is.name k is.typed is.named))));
+          (good_parts (boolean_at (codes "computed") (members_of k) ps) d (parent_of k spot d) (members_of k) ps read computed (types_named d is.name k is.typed is.named))));
       marked = marked_parts d (parent_of k spot d) (members_of k) ps read;
       rest_last = rest_asks spot d k id span ps is.stands;
       local_name = local_asks spot d k is.stands;

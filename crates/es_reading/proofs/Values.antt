@@ -6,7 +6,7 @@ use Rattle.std.specs.Cmp.Lexicographic.{slice_cmp}
 use Rattle.std.proofs.lemmas.Bool.{and_parts}
 use Rattle.std.proofs.lemmas.Map.Text.{is_eq-slice_cmp}
 use Rattle.std.proofs.lemmas.Slice.Eq.{bytes_eq-Decides}
-use Rattle.serde_json.specs.Data.{Data, null, boolean, number, string, array, object, Items, Members, no_members, member}
+use Rattle.serde_json.specs.Data.{Data, null, boolean as json_boolean, number, string as json_string, array, object, Items, Members, no_members, member}
 use Rattle.serde_json.specs.Find.{get, get_member, as_array}
 use Rattle.serde_json.specs.View.{view, items_view}
 use Rattle.serde_json.specs.declared.value.Value.{Value}
@@ -16,9 +16,9 @@ use Rattle.es_reading.specs.Told.{values, values_of_items, values_of_members, va
 
 pub some_value : (d : Data) → 1 ≤ values d
 some_value null = omega arith
-some_value (boolean b) = omega arith
+some_value (json_boolean b) = omega arith
 some_value (number n) = omega arith
-some_value (string s) = omega arith
+some_value (json_string s) = omega arith
 some_value (array ds) = omega arith
 some_value (object ms) = omega arith
 
@@ -87,16 +87,16 @@ within_members fs (member l d ms) apart = omega (arith, with_member fs l d ms ap
 -- what stands at the members of a kind is less than the whole
 pub fields_within : (k : Kind) (d : Data) → values_at d (members_of k) < values d
 fields_within k null = let none = no_values (members_of k) null (λ key. refl) in omega (arith, none)
-fields_within k (boolean b) = let none = no_values (members_of k) (boolean b) (λ key. refl) in omega (arith, none)
+fields_within k (json_boolean b) = let none = no_values (members_of k) (json_boolean b) (λ key. refl) in omega (arith, none)
 fields_within k (number n) = let none = no_values (members_of k) (number n) (λ key. refl) in omega (arith, none)
-fields_within k (string s) = let none = no_values (members_of k) (string s) (λ key. refl) in omega (arith, none)
+fields_within k (json_string s) = let none = no_values (members_of k) (json_string s) (λ key. refl) in omega (arith, none)
 fields_within k (array ds) = let none = no_values (members_of k) (array ds) (λ key. refl) in omega (arith, none)
 fields_within k (object ms) = omega (arith, within_members (members_of k) ms (row_distinct k))
 
 pub items_within : (d : Data) (ds : Items) → Some ds ≡ as_array d → values_of_items ds < values d
 items_within null ds e = cc
-items_within (boolean b) ds e = cc
+items_within (json_boolean b) ds e = cc
 items_within (number n) ds e = cc
-items_within (string s) ds e = cc
+items_within (json_string s) ds e = cc
 items_within (array es) ds e = let same : es ≡ ds = cc in omega (arith, ap values_of_items same)
 items_within (object ms) ds e = cc

@@ -4,12 +4,12 @@ use Rattle.std.proofs.lemmas.Bool.Decides.{same_from_decides, Decides-eqb, nat_t
 use Rattle.std.proofs.lemmas.List.{drop_more}
 use Rattle.std.specs.Ordering.{nat_cmp, match_ordering}
 use Rattle.std.specs.Cmp.Lexicographic.{slice_cmp}
-use Rattle.serde_json.specs.Data.{Data, null, boolean, number, string, array, object, Items, Members, no_members, member}
+use Rattle.serde_json.specs.Data.{Data, null, boolean as json_boolean, number, string as json_string, array, object, Items, Members, no_members, member}
 use Rattle.serde_json.specs.Find.{get, get_member, as_array}
 use Rattle.serde_json.specs.View.{view, items_view}
 use Rattle.serde_json.specs.declared.value.Value.{Value}
-use Rattle.es_base.specs.Tree.{Tree, Part, Parts, Node, end, more, child, list, maybe_text}
-use Rattle.es_base.specs.Order.{nodes_of, nodes_of_part}
+use Rattle.es_base.specs.Tree.{Tree, Part, Parts, Node, end, more, child, list, nullable_string}
+use Rattle.es_base.specs.Preorder.{nodes_of, nodes_of_part}
 use Rattle.es_base.specs.Table.{Field, field_of, members_of}
 use Rattle.es_base.specs.declared.kind.Kind.{Kind}
 use Rattle.es_base.specs.declared.literal.LiteralValue.{LiteralValue}
@@ -45,9 +45,9 @@ find_is numbers (member l d ms) key = find_look numbers (slice_cmp nat_cmp key l
 pub read_is : (numbers : Numbers) (d : Data) (spot : Spot) (n : ℕ) → read numbers d spot n ≡ value_node (finds numbers d) numbers d spot n
 unfolding read
 read_is numbers null spot n = refl
-read_is numbers (boolean b) spot n = refl
+read_is numbers (json_boolean b) spot n = refl
 read_is numbers (number b) spot n = refl
-read_is numbers (string s) spot n = refl
+read_is numbers (json_string s) spot n = refl
 read_is numbers (array ds) spot n = refl
 read_is numbers (object ms) spot n = ap (λ (f : List ℕ → Option Reader). value_node f numbers (object ms) spot n) (λ i. λ k. find_is numbers ms k i)
 
@@ -59,18 +59,18 @@ readers_are numbers (v ∷ vs) = ap (λ rs. reader_of numbers (view v) ∷ rs) (
 in_array : (numbers : Numbers) (d : Data) (vs : List Value) → Some (items_view vs) ≡ as_array d → readers_in numbers d ≡ map (λ v. reader_of numbers (view v)) vs
 unfolding readers_in
 in_array numbers null vs e = cc
-in_array numbers (boolean b) vs e = cc
+in_array numbers (json_boolean b) vs e = cc
 in_array numbers (number b) vs e = cc
-in_array numbers (string s) vs e = cc
+in_array numbers (json_string s) vs e = cc
 in_array numbers (array ds) vs e = let same : items_view vs ≡ ds = cc in ap (readers numbers) (sym same) ∙ readers_are numbers vs
 in_array numbers (object ms) vs e = cc
 
 in_none : (numbers : Numbers) (d : Data) → None ≡ as_array d → readers_in numbers d ≡ []
 unfolding readers_in
 in_none numbers null e = refl
-in_none numbers (boolean b) e = refl
+in_none numbers (json_boolean b) e = refl
 in_none numbers (number b) e = refl
-in_none numbers (string s) e = refl
+in_none numbers (json_string s) e = refl
 in_none numbers (array ds) e = cc
 in_none numbers (object ms) e = refl
 
@@ -273,32 +273,32 @@ pub gives_by : {T : Type 0} {r s : Result (Read T) Fault} {x : T} {first last : 
 gives_by is g = record { added = g.added; reads = is ∙ g.reads; adds = g.adds }
 
 -- a member that holds no nodes
-pub leaf_member : (find : List ℕ → Option Reader) (d : Data) (parent : Parent) (name : List ℕ) (sort : Sort) (n : ℕ) → ((p : Place) → sort ≡ Sort.Child p → ⊥) → ((p : Place) → sort ≡ Sort.Maybe p → ⊥) → ((p : Place) → sort ≡ Sort.Key p → ⊥)
-    → ((p : Place) → sort ≡ Sort.List p → ⊥) → ((p : Place) → sort ≡ Sort.Some p → ⊥) → ((p : Place) → sort ≡ Sort.Holes p → ⊥) → member_of find d parent name sort n ≡ alone (leaf_of d name sort)
+pub leaf_member : (find : List ℕ → Option Reader) (d : Data) (parent : Parent) (name : List ℕ) (sort : Sort) (n : ℕ) → ((p : Place) → sort ≡ Sort.Child p → ⊥) → ((p : Place) → sort ≡ Sort.Nullable p → ⊥) → ((p : Place) → sort ≡ Sort.Key p → ⊥)
+    → ((p : Place) → sort ≡ Sort.List p → ⊥) → ((p : Place) → sort ≡ Sort.NonEmptyList p → ⊥) → ((p : Place) → sort ≡ Sort.ListWithHoles p → ⊥) → member_of find d parent name sort n ≡ alone (leaf_of d name sort)
 leaf_member find d parent name (Sort.Child p) n a b c e f g = absurd (a p refl)
-leaf_member find d parent name (Sort.Maybe p) n a b c e f g = absurd (b p refl)
+leaf_member find d parent name (Sort.Nullable p) n a b c e f g = absurd (b p refl)
 leaf_member find d parent name (Sort.Key p) n a b c e f g = absurd (c p refl)
 leaf_member find d parent name (Sort.List p) n a b c e f g = absurd (e p refl)
-leaf_member find d parent name (Sort.Some p) n a b c e f g = absurd (f p refl)
-leaf_member find d parent name (Sort.Holes p) n a b c e f g = absurd (g p refl)
+leaf_member find d parent name (Sort.NonEmptyList p) n a b c e f g = absurd (f p refl)
+leaf_member find d parent name (Sort.ListWithHoles p) n a b c e f g = absurd (g p refl)
 leaf_member find d parent name Sort.Name n a b c e f g = refl
 leaf_member find d parent name _ n a b c e f g = refl
 
-text_nodes : (t : Option (List ℕ)) → nodes_of_part (maybe_text t) ≡ 0
-text_nodes None = refl
-text_nodes (Some s) = refl
+string_nodes : (t : Option (List ℕ)) → nodes_of_part (nullable_string t) ≡ 0
+string_nodes None = refl
+string_nodes (Some s) = refl
 
 literal_nodes : (v : Option LiteralValue) → nodes_of_part (literal_part v) ≡ 0
 literal_nodes None = refl
 literal_nodes (Some v) = refl
 
 pub leaf_nodes : (d : Data) (name : List ℕ) (sort : Sort) → nodes_of_part (leaf_of d name sort) ≡ 0
-leaf_nodes d name Sort.Truth = refl
-leaf_nodes d name Sort.Never = refl
+leaf_nodes d name Sort.Boolean = refl
+leaf_nodes d name Sort.False = refl
 leaf_nodes d name Sort.Literal = literal_nodes _
-leaf_nodes d name Sort.Raw = text_nodes _
-leaf_nodes d name Sort.Cooked = text_nodes _
-leaf_nodes d name _ = text_nodes _
+leaf_nodes d name Sort.Raw = string_nodes _
+leaf_nodes d name Sort.Cooked = string_nodes _
+leaf_nodes d name _ = string_nodes _
 
 -- a member of a row is within its bound
 pub member_fits : (d : Data) (ms : List Member) (i : ℕ) (m : Member) (fs : List Field) (next at limit : ℕ) → i < length ms → next + values_at d (map field_of (drop i ms)) ≤ at + values_at d (map field_of ms)

@@ -8,14 +8,14 @@ use Rattle.std.proofs.lemmas.Bool.Decides.{nat_tests}
 use Rattle.std.proofs.lemmas.Slice.Eq.{bytes_eq-Decides}
 use Rattle.serde_json.specs.Data.{Data, null, number, unsigned}
 use Rattle.serde_json.specs.Find.{get}
-use Rattle.es_base.specs.Conforms.{is_among, is_number_text, literal_conforms, is_key_literal}
+use Rattle.es_base.specs.Conforms.{is_among, is_number_string, literal_conforms, is_key_literal}
 use Rattle.es_base.specs.Tree.{Parts, more, literal}
 use Rattle.es_base.specs.Table.{words_of}
 use Rattle.es_base.specs.declared.table.Words.{Words}
 use Rattle.es_members.proofs.And.{left_of, right_of}
 use Rattle.es_plain.proofs.Spelling.{words_of_chars}
-use Rattle.es_reading.specs.Literals.{Form, bigint, truth, numeral, whole, string as string_form, or_else, regexp_of, regexp_in, bigint_in, string_in, truth_in, by_raw, by_value, is_whole_or_absent, form_in, value_of, is_key_form}
-use Rattle.es_reading.specs.Look.{string_at, truth_at}
+use Rattle.es_reading.specs.Literals.{Form, bigint, boolean, numeral, whole, string as string_form, or_else, regexp_of, regexp_in, bigint_in, string_in, boolean_in, by_raw, by_value, is_whole_or_absent, form_in, value_of, is_key_form}
+use Rattle.es_reading.specs.Look.{string_at, boolean_at}
 
 -- ---- words
 
@@ -66,7 +66,7 @@ decimal_digit n =
     let here = glyph (n % 10) [] (omega arith) in
     by_test (n / 10 == 0) (digit_glyph false (n % 10) ∷ []) (digits_onto 63 10 false (n / 10) (digit_glyph false (n % 10) ∷ [])) here (onto 63 (n / 10) (digit_glyph false (n % 10) ∷ []) here)
 
-first_char : (n c : ℕ) (bs : List ℕ) → n ≡ 0 → (nat_le 48 c && nat_le c 57) ≡ true → is_number_text (chars_after n c bs) ≡ true
+first_char : (n c : ℕ) (bs : List ℕ) → n ≡ 0 → (nat_le 48 c && nat_le c 57) ≡ true → is_number_string (chars_after n c bs) ≡ true
 first_char zero c [] z h = or_right (nat_eq c 46) _ h
 first_char zero c (b ∷ bs) z h = or_right (nat_eq c 46) _ h
 first_char (suc n) c bs z h = absurd (omega arith)
@@ -74,21 +74,21 @@ first_char (suc n) c bs z h = absurd (omega arith)
 one_byte : (b : ℕ) → (nat_le 48 b && nat_le b 57) ≡ true → nat_lt b 128 ≡ true
 one_byte b h = let small = right_of (nat_le 48 b) (nat_le b 57) h in grind (arith, nat_tests)
 
-digit_text : (bs : List ℕ) → begins_digit bs ≡ true → is_number_text (chars bs) ≡ true
+digit_string : (bs : List ℕ) → begins_digit bs ≡ true → is_number_string (chars bs) ≡ true
 unfolding chars
-digit_text [] h = cc
-digit_text (b ∷ bs) h =
+digit_string [] h = cc
+digit_string (b ∷ bs) h =
     let small = one_byte b h in
     let bits : lead_bits b ≡ b = ap (λ z. cond z b (cond (nat_lt b 224) (b - 192) (cond (nat_lt b 240) (b - 224) (b - 240)))) small in
     first_char (continuation_len b) (lead_bits b) bs (ap (λ z. cond z 0 (cond (nat_lt b 224) 1 (cond (nat_lt b 240) 2 3))) small) (subst (λ z. (nat_le 48 z && nat_le z 57) ≡ true) (sym bits) h)
 
-whole_text : (n : ℕ) → is_number_text (chars (decimal n)) ≡ true
-whole_text n = digit_text (decimal n) (decimal_digit n)
+whole_text : (n : ℕ) → is_number_string (chars (decimal n)) ≡ true
+whole_text n = digit_string (decimal n) (decimal_digit n)
 
 -- ---- literals
 
 abbrev good_form : Form → Bool
-good_form (numeral raw) = is_number_text (chars raw)
+good_form (numeral raw) = is_number_string (chars raw)
 good_form _ = true
 
 abbrev good : Option Form → Bool
@@ -119,14 +119,14 @@ good_string : (o raw : Option (List ℕ)) → good (option_map (λ s. string_for
 good_string None raw = refl
 good_string (Some s) raw = refl
 
-good_truth : (o : Option Bool) → good (option_map truth o) ≡ true
-good_truth None = refl
-good_truth (Some b) = refl
+good_boolean : (o : Option Bool) → good (option_map boolean o) ≡ true
+good_boolean None = refl
+good_boolean (Some b) = refl
 
 good_raw : (o : Option (List ℕ)) (v : Option Data) → good (by_raw o v) ≡ true
 good_raw None v = refl
 good_raw (Some raw) v = good_if (bytes_eq (codes "null") raw) _ _ (λ t. refl)
-    (λ f. good_if (is_number_text (chars raw) && is_whole_or_absent v) _ _ (λ t. left_of _ _ t) (λ g. refl))
+    (λ f. good_if (is_number_string (chars raw) && is_whole_or_absent v) _ _ (λ t. left_of _ _ t) (λ g. refl))
 
 good_value : (v : Option Data) → good (by_value v) ≡ true
 good_value (Some null) = refl
@@ -138,7 +138,7 @@ good_in d =
     good_else (regexp_in d) _ (good_regexp (get (codes "regex") d))
     (good_else (bigint_in d) _ (good_bigint (string_at (codes "bigint") d))
     (good_else (string_in d) _ (good_string (string_at (codes "value") d) (string_at (codes "raw") d))
-    (good_else (truth_in d) _ (good_truth (truth_at (codes "value") d))
+    (good_else (boolean_in d) _ (good_boolean (boolean_at (codes "value") d))
     (good_if (is_some (get (codes "raw") d)) _ _ (λ t. good_raw (string_at (codes "raw") d) (get (codes "value") d)) (λ f. good_value (get (codes "value") d))))))
 
 value_good : (f : Form) → good_form f ≡ true → literal_conforms (value_of f) ≡ true

@@ -2,7 +2,7 @@
 use Rattle.std.specs.Prelude.{ℕ, List, Result, Ok, Err}
 use Rattle.es_reading.specs.declared.fault.What.{What}
 
--- The number is the one that the node has, or would have, in reading order.
+-- The number is the one that the node has, or would have, in preorder.
 pub data Fault : Type 0 where
   not_a_tree : (at : ℕ) (what : What) → Fault
   float_at : (at : ℕ) → Fault

@@ -7,7 +7,7 @@ use Rattle.es_base.specs.Table.{name_of, stands_in, kinds}
 use Rattle.es_base.specs.declared.kind.Kind.{Kind}
 use Rattle.es_base.specs.declared.table.Place.{Place}
 use Rattle.es_reading.specs.Literals.{form_in, may_be_key}
-use Rattle.es_reading.specs.Look.{is_node_at, is_text_at, is_true_at}
+use Rattle.es_reading.specs.Look.{is_node_at, is_string_at, is_true_at}
 use Rattle.es_reading.specs.declared.fault.What.{What}
 use Rattle.es_reading.specs.declared.spot.Spot.{Spot}
 
@@ -27,7 +27,7 @@ has_private_property d = is_node_at (codes "property") (codes "PrivateIdentifier
 
 -- `#x in o`
 abbrev pub is_private_in : Data → Bool
-is_private_in d = is_node_at (codes "left") (codes "PrivateIdentifier") d && is_text_at (codes "operator") (codes "in") d
+is_private_in d = is_node_at (codes "left") (codes "PrivateIdentifier") d && is_string_at (codes "operator") (codes "in") d
 
 -- what is assigned to is no optional member
 abbrev pub may_be_target : Place → Data → Bool

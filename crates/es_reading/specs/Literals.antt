@@ -3,17 +3,17 @@ use Rattle.std.specs.Prelude.{ℕ, List, Bool, true, false, ◌&&◌, Option, So
 use Rattle.std.specs.Str.{chars}
 use Rattle.serde_json.specs.Data.{Data, null, number, Num, unsigned, negative, float}
 use Rattle.serde_json.specs.Find.{get}
-use Rattle.es_base.specs.Conforms.{is_number_text}
+use Rattle.es_base.specs.Conforms.{is_number_string}
 use Rattle.es_base.specs.declared.literal.LiteralValue.{LiteralValue}
 use Rattle.es_base.specs.declared.literal.LiteralValue.TheVariants as value
-use Rattle.es_reading.specs.Look.{string_at, truth_at}
+use Rattle.es_reading.specs.Look.{string_at, boolean_at}
 
 -- the forms, whose texts are bytes
 pub data Form : Type 0 where
   regexp : (pattern flags : List ℕ) → Form
   bigint : (digits : List ℕ) → Form
   string : (s : List ℕ) (raw : Option (List ℕ)) → Form
-  truth : (b : Bool) → Form
+  boolean : (b : Bool) → Form
   null_form : Form
   numeral : (raw : List ℕ) → Form
   whole : (n : ℕ) → Form
@@ -39,9 +39,9 @@ bigint_in d = option_map bigint (string_at (codes "bigint") d)
 abbrev pub string_in : Data → Option Form
 string_in d = option_map (λ s. string s (string_at (codes "raw") d)) (string_at (codes "value") d)
 
--- `value` is a truth value
-abbrev pub truth_in : Data → Option Form
-truth_in d = option_map truth (truth_at (codes "value") d)
+-- `value` is a boolean
+abbrev pub boolean_in : Data → Option Form
+boolean_in d = option_map boolean (boolean_at (codes "value") d)
 
 -- absent, null or a whole number
 abbrev pub is_whole_or_absent : Option Data → Bool
@@ -54,7 +54,7 @@ is_whole_or_absent (Some _) = false
 -- `raw` is the text `null`, or that of a number whose `value` is no other value
 abbrev pub by_raw : Option (List ℕ) → Option Data → Option Form
 by_raw None v = None
-by_raw (Some raw) v = if bytes_eq (codes "null") raw then Some null_form else (if is_number_text (chars raw) && is_whole_or_absent v then Some (numeral raw) else None)
+by_raw (Some raw) v = if bytes_eq (codes "null") raw then Some null_form else (if is_number_string (chars raw) && is_whole_or_absent v then Some (numeral raw) else None)
 
 -- without `raw`: `value` is null, or a whole number that is not negative
 abbrev pub by_value : Option Data → Option Form
@@ -66,14 +66,14 @@ abbrev pub null_or_number_in : Data → Option Form
 null_or_number_in d = if is_some (get (codes "raw") d) then by_raw (string_at (codes "raw") d) (get (codes "value") d) else by_value (get (codes "value") d)
 
 abbrev pub form_in : Data → Option Form
-form_in d = or_else (regexp_in d) (or_else (bigint_in d) (or_else (string_in d) (or_else (truth_in d) (null_or_number_in d))))
+form_in d = or_else (regexp_in d) (or_else (bigint_in d) (or_else (string_in d) (or_else (boolean_in d) (null_or_number_in d))))
 
 -- what the forms stand for; a whole number is known by its decimal text
 abbrev pub value_of : Form → LiteralValue
 value_of (regexp pattern flags) = value.RegExp (chars pattern) (chars flags)
 value_of (bigint digits) = value.BigInt (chars digits)
-value_of (string s raw) = value.Text (chars s) (option_map chars raw)
-value_of (truth b) = value.Bool b
+value_of (string s raw) = value.String (chars s) (option_map chars raw)
+value_of (boolean b) = value.Boolean b
 value_of null_form = value.Null
 value_of (numeral raw) = value.Number (chars raw)
 value_of (whole n) = value.Number (chars (decimal n))

@@ -8,11 +8,11 @@ use Rattle.serde_json.specs.Find.{get, as_str, as_bool, as_array, as_null, as_nu
 abbrev pub string_at : List ℕ → Data → Option (List ℕ)
 string_at key d = option_and_then as_str (get key d)
 
-abbrev pub text_at : List ℕ → Data → Option (List ℕ)
-text_at key d = option_map chars (string_at key d)
+abbrev pub chars_at : List ℕ → Data → Option (List ℕ)
+chars_at key d = option_map chars (string_at key d)
 
-abbrev pub truth_at : List ℕ → Data → Option Bool
-truth_at key d = option_and_then as_bool (get key d)
+abbrev pub boolean_at : List ℕ → Data → Option Bool
+boolean_at key d = option_and_then as_bool (get key d)
 
 abbrev pub array_at : List ℕ → Data → Option Items
 array_at key d = option_and_then as_array (get key d)
@@ -23,15 +23,15 @@ is_true None = false
 is_true (Some b) = b
 
 abbrev pub is_true_at : List ℕ → Data → Bool
-is_true_at key d = is_true (truth_at key d)
+is_true_at key d = is_true (boolean_at key d)
 
 -- the member is this text
 abbrev pub is_this : List ℕ → Option (List ℕ) → Bool
 is_this word None = false
 is_this word (Some s) = bytes_eq word s
 
-abbrev pub is_text_at : List ℕ → List ℕ → Data → Bool
-is_text_at key word d = is_this word (string_at key d)
+abbrev pub is_string_at : List ℕ → List ℕ → Data → Bool
+is_string_at key word d = is_this word (string_at key d)
 
 -- the member is a node with this `type`
 abbrev pub type_at : List ℕ → Data → Option (List ℕ)

@@ -1,14 +1,14 @@
 -- Whether the members of a value are those of its kind, but for the nodes below.
 use Rattle.std.specs.Prelude.{ℕ, ◌+◌, nat_eq, List, [], ◌∷◌, Bool, true, false, not, ◌&&◌, ◌||◌, is_some, Option, Some, None, option_and_then, bytes_eq, codes}
 use Rattle.std.specs.Str.{chars}
-use Rattle.serde_json.specs.Data.{Data, null, string, Items, no_items, item}
+use Rattle.serde_json.specs.Data.{Data, null, string as json_string, Items, no_items, item}
 use Rattle.serde_json.specs.Find.{get}
 use Rattle.es_base.specs.Conforms.{is_among}
 use Rattle.es_base.specs.Table.{Field, members_of, words_of}
 use Rattle.es_base.specs.declared.kind.Kind.{Kind}
 use Rattle.es_base.specs.declared.table.Sort.{Sort}
 use Rattle.es_reading.specs.Literals.{form_in}
-use Rattle.es_reading.specs.Look.{string_at, truth_at, array_at}
+use Rattle.es_reading.specs.Look.{string_at, boolean_at, array_at}
 
 abbrev pub item_count : Items → ℕ
 item_count no_items = 0
@@ -38,21 +38,21 @@ is_false (Some b) = not b
 -- a text, or null
 abbrev pub is_cooked : Option Data → Bool
 is_cooked (Some null) = true
-is_cooked (Some (string s)) = true
+is_cooked (Some (json_string s)) = true
 is_cooked _ = false
 
 -- whether what stands at a member of this name is of this sort
 abbrev pub is_of_sort : Data → List ℕ → Sort → Bool
 is_of_sort d name (Sort.Child place) = is_some (get name d)
 is_of_sort d name (Sort.Key place) = is_some (get name d)
-is_of_sort d name (Sort.Maybe place) = true
+is_of_sort d name (Sort.Nullable place) = true
 is_of_sort d name (Sort.List place) = is_some (array_at name d)
-is_of_sort d name (Sort.Some place) = is_some (array_at name d) && not (is_empty (array_at name d))
-is_of_sort d name (Sort.Holes place) = is_some (array_at name d)
+is_of_sort d name (Sort.NonEmptyList place) = is_some (array_at name d) && not (is_empty (array_at name d))
+is_of_sort d name (Sort.ListWithHoles place) = is_some (array_at name d)
 is_of_sort d name Sort.Name = is_name (string_at name d)
-is_of_sort d name Sort.MaybeText = not (is_some (get name d)) || is_some (string_at name d)
-is_of_sort d name Sort.Truth = not (is_some (get name d)) || is_some (truth_at name d)
-is_of_sort d name Sort.Never = not (is_some (get name d)) || is_false (truth_at name d)
+is_of_sort d name Sort.NullableString = not (is_some (get name d)) || is_some (string_at name d)
+is_of_sort d name Sort.Boolean = not (is_some (get name d)) || is_some (boolean_at name d)
+is_of_sort d name Sort.False = not (is_some (get name d)) || is_false (boolean_at name d)
 is_of_sort d name (Sort.Word words) = is_word (words_of words) (string_at name d)
 is_of_sort d name Sort.Literal = is_some (form_in d)
 is_of_sort d name Sort.Raw = is_some (option_and_then (string_at (codes "raw")) (get (codes "value") d))

@@ -1,12 +1,12 @@
--- Reading a value as a node: its tree, or the first fault in reading order (ESTree, off the table of kinds).
+-- Reading a value as a node: its tree, or the first fault in preorder (ESTree, off the table of kinds).
 use Rattle.std.specs.Prelude.{ℕ, ◌+◌, List, [], ◌∷◌, ◌++◌, Bool, true, false, ◌&&◌, Option, Some, None, option_map, option_and_then, Result, Ok, Err, if◌then◌else◌, codes}
 use Rattle.std.specs.Ordering.{nat_cmp, match_ordering}
 use Rattle.std.specs.Cmp.Lexicographic.{slice_cmp}
-use Rattle.serde_json.specs.Data.{Data, null, boolean, number, string, array, object, Items, no_items, item, Members, no_members, member}
+use Rattle.serde_json.specs.Data.{Data, null, boolean as json_boolean, number, string as json_string, array, object, Items, no_items, item, Members, no_members, member}
 use Rattle.serde_json.specs.Find.{get}
-use Rattle.es_base.specs.Tree.{Tree, Part, Parts, Node, end, more, child, absent, list, text, truth, literal, maybe_text}
+use Rattle.es_base.specs.Tree.{Tree, Part, Parts, Node, end, more, child, absent, list, string, boolean, literal, nullable_string}
 use Rattle.es_base.specs.Conforms.{key_place}
-use Rattle.es_base.specs.Order.{nodes_of_part}
+use Rattle.es_base.specs.Preorder.{nodes_of_part}
 use Rattle.es_base.specs.Table.{Field, members_of}
 use Rattle.es_base.specs.declared.kind.Kind.{Kind}
 use Rattle.es_base.specs.declared.table.Place.{Place}
@@ -15,7 +15,7 @@ use Rattle.es_base.specs.declared.literal.LiteralValue.{LiteralValue}
 use Rattle.es_reading.specs.Fault.{Fault, float_at, Read, refused, bind}
 use Rattle.es_reading.specs.Kinds.{kind_in}
 use Rattle.es_reading.specs.Literals.{literal_of}
-use Rattle.es_reading.specs.Look.{string_at, text_at, is_true_at, is_text_at, is_null, is_there, u32_at, span_at}
+use Rattle.es_reading.specs.Look.{string_at, chars_at, is_true_at, is_string_at, is_null, is_there, u32_at, span_at}
 use Rattle.es_reading.specs.Members.{are_good}
 use Rattle.es_reading.specs.Unlisted.{floats_of, is_foreign_node}
 use Rattle.es_reading.specs.declared.fault.What.{What}
@@ -24,7 +24,7 @@ use Rattle.es_reading.specs.declared.spot.Parent.{Parent}
 use Rattle.es_reading.specs.declared.spot.Slots.{Slots}
 use Rattle.es_reading.specs.declared.spot.Spot.{Spot}
 
--- ---- the kind and the number of a node, which has the number n in reading order
+-- ---- the kind and the number of a node, which has the number n in preorder
 
 abbrev pub told : ℕ → Result Kind What → Result Kind Fault
 told n (Ok kind) = Ok kind
@@ -39,7 +39,7 @@ abbrev pub kind_of : Data → Spot → ℕ → Result Kind Fault
 kind_of d spot n = kind_by (string_at (codes "type") d) d spot n
 
 abbrev pub number_in : Numbers → Data → ℕ → Option ℕ
-number_in Numbers.InOrder d n = Some n
+number_in Numbers.Preorder d n = Some n
 number_in Numbers.Given d n = u32_at (codes "node") d
 
 abbrev pub known : ℕ → Option ℕ → Result ℕ Fault
@@ -55,7 +55,7 @@ number_of numbers d kind n =
 
 -- a pattern is assigned by `=` alone
 abbrev pub place_below : Kind → Data → Place → Place
-place_below Kind.AssignmentExpression d Place.AssignmentTarget = if is_text_at (codes "operator") (codes "=") d then Place.AssignmentTarget else Place.SimpleAssignmentTarget
+place_below Kind.AssignmentExpression d Place.AssignmentTarget = if is_string_at (codes "operator") (codes "=") d then Place.AssignmentTarget else Place.SimpleAssignmentTarget
 place_below kind d place = place
 
 -- whether the nodes below are part of an export that has a source
@@ -84,12 +84,12 @@ literal_part (Some v) = literal v
 
 -- a member that holds no nodes, of a value whose members are good
 abbrev pub leaf_of : Data → List ℕ → Sort → Part
-leaf_of d name Sort.Truth = truth (is_true_at name d)
-leaf_of d name Sort.Never = truth false
+leaf_of d name Sort.Boolean = boolean (is_true_at name d)
+leaf_of d name Sort.False = boolean false
 leaf_of d name Sort.Literal = literal_part (literal_of d)
-leaf_of d name Sort.Raw = maybe_text (option_and_then (text_at (codes "raw")) (get (codes "value") d))
-leaf_of d name Sort.Cooked = maybe_text (option_and_then (text_at (codes "cooked")) (get (codes "value") d))
-leaf_of d name sort = maybe_text (text_at name d)
+leaf_of d name Sort.Raw = nullable_string (option_and_then (chars_at (codes "raw")) (get (codes "value") d))
+leaf_of d name Sort.Cooked = nullable_string (option_and_then (chars_at (codes "cooked")) (get (codes "value") d))
+leaf_of d name sort = nullable_string (chars_at name d)
 
 abbrev pub alone : Part → Result (Read Part) Fault
 alone p = Ok (record { value = p; foreign = [] })
@@ -106,11 +106,11 @@ read_by (Some r) by = by r
 -- `find` gives the reader of what stands at a member
 abbrev pub member_of : (List ℕ → Option Reader) → Data → Parent → List ℕ → Sort → ℕ → Result (Read Part) Fault
 member_of find d parent name (Sort.Child p) n = read_by (find name) (λ r. r.item false (below parent (place_below parent.kind d p)) n)
-member_of find d parent name (Sort.Maybe p) n = read_by (find name) (λ r. r.item true (below parent p) n)
+member_of find d parent name (Sort.Nullable p) n = read_by (find name) (λ r. r.item true (below parent p) n)
 member_of find d parent name (Sort.Key p) n = read_by (find name) (λ r. r.item false (below parent (key_place (is_true_at (codes "computed") d) p)) n)
 member_of find d parent name (Sort.List p) n = read_by (find name) (λ r. r.items (slots_below parent false p) n)
-member_of find d parent name (Sort.Some p) n = read_by (find name) (λ r. r.items (slots_below parent false p) n)
-member_of find d parent name (Sort.Holes p) n = read_by (find name) (λ r. r.items (slots_below parent true p) n)
+member_of find d parent name (Sort.NonEmptyList p) n = read_by (find name) (λ r. r.items (slots_below parent false p) n)
+member_of find d parent name (Sort.ListWithHoles p) n = read_by (find name) (λ r. r.items (slots_below parent true p) n)
 member_of find d parent name sort n = alone (leaf_of d name sort)
 
 -- one after another, each with the number that it has, and with those that follow
@@ -165,21 +165,21 @@ reader d node rs = record {
 }
 
 unfoldable mutual
-  -- `n` is the number of the node in reading order
+  -- `n` is the number of the node in preorder
   pub read : Numbers → Data → Spot → ℕ → Result (Read Tree) Fault
   read numbers null spot n = refused n What.NotANode
-  read numbers (boolean b) spot n = refused n What.NotANode
+  read numbers (json_boolean b) spot n = refused n What.NotANode
   read numbers (number b) spot n = refused n What.NotANode
-  read numbers (string s) spot n = refused n What.NotANode
+  read numbers (json_string s) spot n = refused n What.NotANode
   read numbers (array ds) spot n = refused n What.NotANode
   read numbers (object ms) spot n = value_node (find numbers ms) numbers (object ms) spot n
 
   -- the readers of the items
   pub readers_in : Numbers → Data → List Reader
   readers_in numbers null = []
-  readers_in numbers (boolean b) = []
+  readers_in numbers (json_boolean b) = []
   readers_in numbers (number b) = []
-  readers_in numbers (string s) = []
+  readers_in numbers (json_string s) = []
   readers_in numbers (array ds) = readers numbers ds
   readers_in numbers (object ms) = []
 

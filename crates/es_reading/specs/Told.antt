@@ -1,6 +1,6 @@
 -- What the calls of the reader say.
 use Rattle.std.specs.Prelude.{◌≡◌, ◌+◌, ℕ, List, [], ◌∷◌, ◌++◌, map, Result, Ok, Err, Option, Some, None}
-use Rattle.serde_json.specs.Data.{Data, null, boolean, number, string, array, object, Items, no_items, item, Members, no_members, member}
+use Rattle.serde_json.specs.Data.{Data, null, boolean as json_boolean, number, string as json_string, array, object, Items, no_items, item, Members, no_members, member}
 use Rattle.serde_json.specs.Find.{get}
 use Rattle.es_base.specs.Table.{Field}
 use Rattle.es_base.specs.declared.ids.NodeId.{NodeId}
@@ -36,9 +36,9 @@ item_in numbers slots v rest = (reader_of numbers (view v)).item slots.holes (sl
 abbrev mutual
   pub values : Data → ℕ
   values null = 1
-  values (boolean b) = 1
+  values (json_boolean b) = 1
   values (number n) = 1
-  values (string s) = 1
+  values (json_string s) = 1
   values (array ds) = 1 + values_of_items ds
   values (object ms) = 1 + values_of_members ms
 

@@ -1,23 +1,23 @@
 -- What else an object holds: floats, and members of TypeScript, JSX and import attributes.
 use Rattle.std.specs.Prelude.{ℕ, List, [], ◌∷◌, Bool, true, false, not, ◌&&◌, ◌||◌, Option, Some, None, bytes_eq, codes}
 use Rattle.std.specs.Str.{chars}
-use Rattle.serde_json.specs.Data.{Data, null, boolean, number, string, array, object, Items, no_items, item, Members, no_members, member}
+use Rattle.serde_json.specs.Data.{Data, null, boolean as json_boolean, number, string as json_string, array, object, Items, no_items, item, Members, no_members, member}
 use Rattle.serde_json.specs.Find.{get}
 use Rattle.serde_json.specs.Written.{has_float}
 use Rattle.es_base.specs.Conforms.{is_among, begins_with}
 use Rattle.es_base.specs.Table.{Field, members_of}
 use Rattle.es_base.specs.declared.kind.Kind.{Kind}
 use Rattle.es_base.specs.declared.table.Sort.{Sort}
-use Rattle.es_reading.specs.Look.{text_at, is_there}
+use Rattle.es_reading.specs.Look.{chars_at, is_there}
 
 -- a member of this sort holds nodes
 abbrev pub holds_nodes : Sort → Bool
 holds_nodes (Sort.Child place) = true
 holds_nodes (Sort.Key place) = true
-holds_nodes (Sort.Maybe place) = true
+holds_nodes (Sort.Nullable place) = true
 holds_nodes (Sort.List place) = true
-holds_nodes (Sort.Some place) = true
-holds_nodes (Sort.Holes place) = true
+holds_nodes (Sort.NonEmptyList place) = true
+holds_nodes (Sort.ListWithHoles place) = true
 holds_nodes _ = false
 
 abbrev pub is_node_member : List Field → List ℕ → Bool
@@ -48,7 +48,7 @@ is_foreign_type None = false
 is_foreign_type (Some s) = begins_with (codes "TS") s || (begins_with (codes "JSX") s || is_among s (codes "Decorator" ∷ codes "ImportAttribute" ∷ []))
 
 abbrev pub is_foreign_object : Data → Bool
-is_foreign_object d = is_foreign_type (text_at (codes "type") d)
+is_foreign_object d = is_foreign_type (chars_at (codes "type") d)
 
 abbrev pub any_foreign : Items → Bool
 any_foreign no_items = false

@@ -24,11 +24,11 @@ pub enum ReadError {
     /// There was not enough memory.
     #[error("out of memory")]
     NoMemory,
-    /// The first fault in reading order is that of the node with this number; where it is no node,
+    /// The first fault in preorder is that of the node with this number; where it is no node,
     /// that is the number which it would have.
     #[error("not a tree: {what:?} at {at}")]
     NotATree { at: u32, what: What },
-    /// The first fault in reading order is a float in a member that holds no nodes, of the node with
+    /// The first fault in preorder is a float in a member that holds no nodes, of the node with
     /// this number.
     #[error("not a tree: float at {at}")]
     Float { at: u32 },

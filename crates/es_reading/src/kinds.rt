@@ -7,12 +7,12 @@ ghost use Rattle.serde_json.specs.View.{view};
 use crate::fault::What;
 use crate::lengths::kinds_of_length;
 use crate::literal::may_be_key;
-use crate::look::{is_node_at, is_text_at, is_true_at};
+use crate::look::{is_node_at, is_string_at, is_true_at};
 use crate::spot::Spot;
 use es_base::kind::Kind;
 use es_base::table::{Place, estree_name, fits};
 use es_plain::places::is_target_place;
-use es_plain::texts::is_foreign_name;
+use es_plain::strings::is_foreign_name;
 use serde_json::Value;
 
 /// The kind of a value whose `type` is this name: the first that has the name and may stand there.
@@ -80,7 +80,7 @@ fn has_private_property(value: &Value) -> bool
 fn is_private_in(value: &Value) -> bool
     ensures { result ≡ is_private_in (view value.now) }
 {
-    is_node_at(value, "left", "PrivateIdentifier") && is_text_at(value, "operator", "in")
+    is_node_at(value, "left", "PrivateIdentifier") && is_string_at(value, "operator", "in")
 }
 
 /// Whether it is no optional member where one is assigned to.

@@ -14,6 +14,6 @@ mod read;
 pub mod spot;
 #[cfg(test)]
 mod tests;
-mod texts;
+mod strings;
 pub mod tree;
 mod unlisted;

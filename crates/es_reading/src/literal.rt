@@ -2,15 +2,15 @@
 
 ghost use Rattle.std.specs.Prelude.{◌≡◌, IfOk, codes, option_map};
 ghost use Rattle.es_reading.specs.Forms.{form_of};
-ghost use Rattle.es_reading.specs.Literals.{regexp_in, bigint_in, string_in, truth_in, by_raw, by_value, null_or_number_in, is_whole_or_absent, form_in, value_of, may_be_key, is_key_form};
+ghost use Rattle.es_reading.specs.Literals.{regexp_in, bigint_in, string_in, boolean_in, by_raw, by_value, null_or_number_in, is_whole_or_absent, form_in, value_of, may_be_key, is_key_form};
 ghost use Rattle.serde_json.specs.Find.{get};
 ghost use Rattle.serde_json.specs.View.{view};
 
-use crate::look::{string_at, truth_at};
-use crate::texts::maybe_name;
+use crate::look::{string_at, boolean_at};
+use crate::strings::nullable_name;
 use es_base::literal::LiteralValue;
 use es_base::name::Name;
-use es_plain::texts::is_number_text;
+use es_plain::strings::is_number_string;
 use serde_json::Value;
 use std::alloc::{AllocError, Global};
 
@@ -22,8 +22,8 @@ pub enum Form<'a> {
     /// `bigint` is a text.
     BigInt(&'a str),
     /// `value` is a text, and so is `raw` where it is there.
-    Text { text: &'a str, raw: Option<&'a str> },
-    /// `value` is a truth value.
+    Text { string: &'a str, raw: Option<&'a str> },
+    /// `value` is a boolean.
     Bool(bool),
     /// `raw` is the text `null`, or `value` is null.
     Null,
@@ -43,14 +43,14 @@ pub fn form_in<'a>(value: &'a Value) -> Option<Form<'a>>
     if let Some(digits) = string_at(value, "bigint") {
         return Some(Form::BigInt(digits));
     }
-    if let Some(text) = string_at(value, "value") {
-        return Some(Form::Text {
-            text,
+    if let Some(string) = string_at(value, "value") {
+        return Some(Form::String {
+            string,
             raw: string_at(value, "raw"),
         });
     }
-    if let Some(truth) = truth_at(value, "value") {
-        return Some(Form::Bool(truth));
+    if let Some(boolean) = boolean_at(value, "value") {
+        return Some(Form::Bool(boolean));
     }
     null_or_number_in(value)
 }
@@ -88,7 +88,7 @@ fn by_raw<'a>(raw: Option<&'a str>, value: &'a Value) -> Option<Form<'a>>
         Some(raw) => {
             if raw == "null" {
                 Some(Form::Null)
-            } else if is_number_text(raw) && is_whole_or_absent(value) {
+            } else if is_number_string(raw) && is_whole_or_absent(value) {
                 Some(Form::Number(raw))
             } else {
                 None
@@ -139,11 +139,11 @@ fn is_key_form(form: Form) -> bool
 {
     matches!(
         form,
-        Form::Text { .. } | Form::Number(_) | Form::Whole(_) | Form::BigInt(_)
+        Form::String { .. } | Form::Number(_) | Form::Whole(_) | Form::BigInt(_)
     )
 }
 
-/// The value that a form stands for. Fails for want of memory alone.
+/// The value that a form stands for. Fails on allocation failure alone.
 pub fn value_of(alloc: Global, form: Form) -> Result<LiteralValue, AllocError>
     ensures { IfOk result (λ v. v ≡ value_of (form_of form.entry)) }
 {
@@ -156,16 +156,16 @@ pub fn value_of(alloc: Global, form: Form) -> Result<LiteralValue, AllocError>
             }
         }
         Form::BigInt(digits) => LiteralValue::BigInt {
-            text: Name::new(alloc, digits)?,
+            string: Name::new(alloc, digits)?,
         },
-        Form::Text { text, raw } => {
-            let text = Name::new(alloc, text)?;
-            LiteralValue::Text {
-                text,
-                raw: maybe_name(alloc, raw)?,
+        Form::String { string, raw } => {
+            let string = Name::new(alloc, string)?;
+            LiteralValue::String {
+                string,
+                raw: nullable_name(alloc, raw)?,
             }
         }
-        Form::Bool(truth) => LiteralValue::Bool(truth),
+        Form::Bool(boolean) => LiteralValue::Boolean(boolean),
         Form::Null => LiteralValue::Null,
         Form::Number(raw) => LiteralValue::Number {
             raw: Name::new(alloc, raw)?,

@@ -1,8 +1,8 @@
 // What stands at the members of an object.
 
 ghost use Rattle.std.specs.Prelude.{◌≡◌, option_map};
-ghost use Rattle.es_base.specs.Marks.{span_of};
-ghost use Rattle.es_reading.specs.Look.{string_at, truth_at, array_at, is_this, is_text_at, type_at, is_node_at, is_true_at, is_null, is_there, u32_at, span_at};
+ghost use Rattle.es_base.specs.Carried.{span_of};
+ghost use Rattle.es_reading.specs.Look.{string_at, boolean_at, array_at, is_this, is_string_at, type_at, is_node_at, is_true_at, is_null, is_there, u32_at, span_at};
 ghost use Rattle.serde_json.specs.Find.{get};
 ghost use Rattle.serde_json.specs.View.{view, items_view};
 
@@ -19,9 +19,9 @@ pub fn string_at<'a>(value: &'a Value, name: &str) -> Option<&'a str>
     }
 }
 
-/// The truth value at a member.
-pub fn truth_at(value: &Value, name: &str) -> Option<bool>
-    ensures { result ≡ truth_at name.now (view value.now) }
+/// The boolean at a member.
+pub fn boolean_at(value: &Value, name: &str) -> Option<bool>
+    ensures { result ≡ boolean_at name.now (view value.now) }
 {
     match value.get(name) {
         None => None,
@@ -43,19 +43,19 @@ pub fn array_at<'a>(value: &'a Value, name: &str) -> Option<&'a Vec<Value>>
 pub fn is_true_at(value: &Value, name: &str) -> bool
     ensures { result ≡ is_true_at name.now (view value.now) }
 {
-    match truth_at(value, name) {
+    match boolean_at(value, name) {
         None => false,
-        Some(truth) => truth,
+        Some(boolean) => boolean,
     }
 }
 
 /// Whether a member is this text.
-pub fn is_text_at(value: &Value, name: &str, word: &str) -> bool
-    ensures { result ≡ is_text_at name.now word.now (view value.now) }
+pub fn is_string_at(value: &Value, name: &str, word: &str) -> bool
+    ensures { result ≡ is_string_at name.now word.now (view value.now) }
 {
     match string_at(value, name) {
         None => false,
-        Some(text) => word == text,
+        Some(string) => word == string,
     }
 }
 
@@ -65,7 +65,7 @@ pub fn is_node_at(value: &Value, name: &str, kind: &str) -> bool
 {
     match value.get(name) {
         None => false,
-        Some(found) => is_text_at(found, "type", kind),
+        Some(found) => is_string_at(found, "type", kind),
     }
 }
 

@@ -8,11 +8,11 @@ ghost use Rattle.es_reading.specs.Members.{is_word, is_false, is_of_sort, are_of
 ghost use Rattle.serde_json.specs.View.{view};
 
 use crate::literal::form_in;
-use crate::look::{array_at, string_at, truth_at};
-use crate::texts::is_empty_text;
+use crate::look::{array_at, string_at, boolean_at};
+use crate::strings::is_empty_string;
 use es_base::kind::Kind;
 use es_base::table::{Member, Sort, Words, members};
-use es_plain::texts::is_word_of;
+use es_plain::strings::is_word_of;
 use serde_json::Value;
 
 /// Whether the members of a value are those of its kind, but for the nodes below.
@@ -39,13 +39,13 @@ fn is_of_sort(value: &Value, name: &str, sort: Sort) -> bool
 {
     match sort {
         Sort::Child(_) | Sort::Key(_) => value.get(name).is_some(),
-        Sort::Maybe(_) => true,
-        Sort::List(_) | Sort::Holes(_) => array_at(value, name).is_some(),
-        Sort::Some(_) => is_list_of_some(value, name),
+        Sort::Nullable(_) => true,
+        Sort::List(_) | Sort::ListWithHoles(_) => array_at(value, name).is_some(),
+        Sort::NonEmptyList(_) => is_list_of_some(value, name),
         Sort::Name => is_name(value, name),
-        Sort::MaybeText => value.get(name).is_none() || string_at(value, name).is_some(),
-        Sort::Truth => value.get(name).is_none() || truth_at(value, name).is_some(),
-        Sort::Never => value.get(name).is_none() || is_false(truth_at(value, name)),
+        Sort::NullableString => value.get(name).is_none() || string_at(value, name).is_some(),
+        Sort::Boolean => value.get(name).is_none() || boolean_at(value, name).is_some(),
+        Sort::False => value.get(name).is_none() || is_false(boolean_at(value, name)),
         Sort::Word(words) => is_word(words, string_at(value, name)),
         Sort::Literal => form_in(value).is_some(),
         Sort::Raw => is_raw(value),
@@ -55,7 +55,7 @@ fn is_of_sort(value: &Value, name: &str, sort: Sort) -> bool
 }
 
 fn is_list_of_some(value: &Value, name: &str) -> bool
-    ensures { (place : Place) → result ≡ is_of_sort (view value.now) name.now (Sort.Some place) }
+    ensures { (place : Place) → result ≡ is_of_sort (view value.now) name.now (Sort.NonEmptyList place) }
 {
     match array_at(value, name) {
         None => false,
@@ -68,25 +68,25 @@ fn is_name(value: &Value, name: &str) -> bool
 {
     match string_at(value, name) {
         None => false,
-        Some(text) => !is_empty_text(text),
+        Some(string) => !is_empty_string(string),
     }
 }
 
-fn is_false(truth: Option<bool>) -> bool
-    ensures { result ≡ is_false truth }
+fn is_false(boolean: Option<bool>) -> bool
+    ensures { result ≡ is_false boolean }
 {
-    match truth {
+    match boolean {
         None => false,
-        Some(truth) => !truth,
+        Some(boolean) => !boolean,
     }
 }
 
-fn is_word(words: Words, text: Option<&str>) -> bool
-    ensures { result ≡ is_word (words_of words) (option_map (λ s. s.now) text.entry) }
+fn is_word(words: Words, string: Option<&str>) -> bool
+    ensures { result ≡ is_word (words_of words) (option_map (λ s. s.now) string.entry) }
 {
-    match text {
+    match string {
         None => false,
-        Some(text) => is_word_of(text, words),
+        Some(string) => is_word_of(string, words),
     }
 }
 
@@ -96,7 +96,7 @@ fn is_raw(value: &Value) -> bool
 {
     match value.get("value") {
         None => false,
-        Some(texts) => string_at(texts, "raw").is_some(),
+        Some(strings) => string_at(strings, "raw").is_some(),
     }
 }
 
@@ -106,7 +106,7 @@ fn is_cooked(value: &Value) -> bool
 {
     match value.get("value") {
         None => false,
-        Some(texts) => match texts.get("cooked") {
+        Some(strings) => match strings.get("cooked") {
             None => false,
             Some(cooked) => cooked.is_null() || cooked.is_string(),
         },

@@ -1,7 +1,7 @@
 // Reading a value as a node.
 
 ghost use Rattle.std.specs.Prelude.{◌≡◌, ◌+◌, ◌<◌, ◌≤◌, ◌++◌, ◌^◌, IfOk, IfErr, OnOk, Ok, option_map, codes};
-ghost use Rattle.es_base.specs.Order.{nodes, nodes_of, nodes_of_part};
+ghost use Rattle.es_base.specs.Preorder.{nodes, nodes_of, nodes_of_part};
 ghost use Rattle.es_base.specs.Conforms.{key_place};
 ghost use Rattle.es_base.specs.Table.{members_of};
 ghost use Rattle.es_plain.specs.View.{plain_tree, plain_part, plain_parts};
@@ -15,7 +15,7 @@ ghost use Rattle.serde_json.specs.View.{view, items_view};
 use crate::fault::{ReadError, What};
 use crate::kinds::kind_in;
 use crate::leaf::leaf_of;
-use crate::look::{is_text_at, is_there, is_true_at, span_at, string_at, u32_at};
+use crate::look::{is_string_at, is_there, is_true_at, span_at, string_at, u32_at};
 use crate::members::are_good;
 use crate::numbers::Numbers;
 use crate::spot::{Parent, Slots, Spot};
@@ -79,7 +79,7 @@ fn number_in(numbers: Numbers, value: &Value, at: u32) -> Option<u32>
     ensures { result ≡ number_in numbers (view value.now) at }
 {
     match numbers {
-        Numbers::InOrder => Some(at),
+        Numbers::Preorder => Some(at),
         Numbers::Given => u32_at(value, "node"),
     }
 }
@@ -90,7 +90,7 @@ fn place_below(kind: Kind, value: &Value, place: Place) -> Place
 {
     match (kind, place) {
         (Kind::AssignmentExpression, Place::AssignmentTarget) => {
-            if is_text_at(value, "operator", "=") {
+            if is_string_at(value, "operator", "=") {
                 Place::AssignmentTarget
             } else {
                 Place::SimpleAssignmentTarget
@@ -167,7 +167,7 @@ fn note(
     Ok(())
 }
 
-/// Reads a node, which has the number `at` in reading order; gives the number of what follows too, and
+/// Reads a node, which has the number `at` in preorder; gives the number of what follows too, and
 /// adds the numbers of foreign nodes.
 #[cycle(read)]
 pub fn read_node(
@@ -239,7 +239,7 @@ fn read_member(
             let spot = below(parent, place_below(parent.kind, value, place));
             read_child(reader, value.get(name), false, spot, at, foreign)
         }
-        Sort::Maybe(place) => {
+        Sort::Nullable(place) => {
             read_child(
                 reader,
                 value.get(name),
@@ -253,11 +253,11 @@ fn read_member(
             let spot = below(parent, key_place(value, place));
             read_child(reader, value.get(name), false, spot, at, foreign)
         }
-        Sort::List(place) | Sort::Some(place) => {
+        Sort::List(place) | Sort::NonEmptyList(place) => {
             let slots = slots_below(parent, false, place);
             read_list(reader, value.get(name), slots, at, foreign)
         }
-        Sort::Holes(place) => {
+        Sort::ListWithHoles(place) => {
             let slots = slots_below(parent, true, place);
             read_list(reader, value.get(name), slots, at, foreign)
         }

@@ -15,8 +15,8 @@ use std::test::Fail;
 type Answer = Result<(Plain, List<NodeId>), ReadError>;
 
 /// What is read of a text of JSON; nothing where it is none.
-fn read(alloc: Global, text: &str, numbers: Numbers) -> Option<Answer> {
-    match Value::from_str(alloc, text) {
+fn read(alloc: Global, string: &str, numbers: Numbers) -> Option<Answer> {
+    match Value::from_str(alloc, string) {
         Err(_) => None,
         Ok(value) => {
             if is_countable(&value) {
@@ -61,22 +61,22 @@ fn is_float(answer: &Option<Answer>, at: u32) -> bool {
 /// Whether these statements are refused for this cause at the node of this number.
 fn refuses(rt: &HostRuntime, statements: &str, what: What, at: u32) -> Result<bool, Fail> {
     let alloc = rt.alloc();
-    let text = script(alloc, statements)?;
-    Ok(is_fault(&read(alloc, text.as_str(), Numbers::InOrder), what, at))
+    let string = script(alloc, statements)?;
+    Ok(is_fault(&read(alloc, string.as_str(), Numbers::Preorder), what, at))
 }
 
 /// Whether these statements are refused for a float of the node of this number.
 fn refuses_float(rt: &HostRuntime, statements: &str, at: u32) -> Result<bool, Fail> {
     let alloc = rt.alloc();
-    let text = script(alloc, statements)?;
-    Ok(is_float(&read(alloc, text.as_str(), Numbers::InOrder), at))
+    let string = script(alloc, statements)?;
+    Ok(is_float(&read(alloc, string.as_str(), Numbers::Preorder), at))
 }
 
 #[test]
 fn what_is_no_node_is_refused(rt: HostRuntime) -> Result<(), Fail> {
     let alloc = rt.alloc();
-    for text in ["1", "null", "\"a\"", "[]", "{}", "{\"type\":1}"] {
-        assert!(rt; is_fault(&read(alloc, text, Numbers::InOrder), What::NotANode, 0));
+    for string in ["1", "null", "\"a\"", "[]", "{}", "{\"type\":1}"] {
+        assert!(rt; is_fault(&read(alloc, string, Numbers::Preorder), What::NotANode, 0));
     }
     assert!(rt; refuses(&rt, "3", What::NotANode, 1)?);
     assert!(rt; refuses(&rt, "{\"type\":\"EmptyStatement\"},null", What::NotANode, 2)?);
@@ -195,10 +195,10 @@ fn a_float_is_refused(rt: HostRuntime) -> Result<(), Fail> {
 #[test]
 fn a_bad_member_is_refused(rt: HostRuntime) -> Result<(), Fail> {
     let alloc = rt.alloc();
-    let text = "{\"type\":\"Program\",\"sourceType\":\"script\",\"body\":1}";
-    assert!(rt; is_fault(&read(alloc, text, Numbers::InOrder), What::BadMember, 0));
-    let text = "{\"type\":\"Program\",\"sourceType\":\"commonjs\",\"body\":[]}";
-    assert!(rt; is_fault(&read(alloc, text, Numbers::InOrder), What::BadMember, 0));
+    let string = "{\"type\":\"Program\",\"sourceType\":\"script\",\"body\":1}";
+    assert!(rt; is_fault(&read(alloc, string, Numbers::Preorder), What::BadMember, 0));
+    let string = "{\"type\":\"Program\",\"sourceType\":\"commonjs\",\"body\":[]}";
+    assert!(rt; is_fault(&read(alloc, string, Numbers::Preorder), What::BadMember, 0));
     assert!(rt;
         refuses(
             &rt,
@@ -271,8 +271,8 @@ fn a_bad_member_is_refused(rt: HostRuntime) -> Result<(), Fail> {
 /// The number of nodes that are read, and the numbers of those that are foreign.
 fn read_of(rt: &HostRuntime, statements: &str) -> Result<Option<(u32, List<NodeId>)>, Fail> {
     let alloc = rt.alloc();
-    let text = script(alloc, statements)?;
-    Ok(match read(alloc, text.as_str(), Numbers::InOrder) {
+    let string = script(alloc, statements)?;
+    Ok(match read(alloc, string.as_str(), Numbers::Preorder) {
         Some(Ok((tree, foreign))) => Some((greatest(&tree), foreign)),
         _ => None,
     })
@@ -316,9 +316,9 @@ fn nodes_are_numbered_in_reading_order(rt: HostRuntime) -> Result<(), Fail> {
 #[test]
 fn foreign_nodes_are_told(rt: HostRuntime) -> Result<(), Fail> {
     // a leaf is none of them, a node with a member of TypeScript is one, and so is one with a list of decorators
-    let text =
+    let string =
         "{\"type\":\"TSEnumDeclaration\"},{\"type\":\"VariableDeclaration\",\"kind\":\"let\",\"declarations\":[{\"type\":\"VariableDeclarator\",\"id\":{\"type\":\"Identifier\",\"name\":\"a\",\"typeAnnotation\":{\"type\":\"TSTypeAnnotation\"}}}]},{\"type\":\"ClassDeclaration\",\"decorators\":[{\"type\":\"Decorator\"}],\"body\":{\"type\":\"ClassBody\",\"body\":[]}}";
-    match read_of(&rt, text)? {
+    match read_of(&rt, string)? {
         Some((last, foreign)) => {
             assert_eq!(rt; last, 6);
             assert_eq!(rt; foreign.as_slice(), [NodeId(4), NodeId(5)].as_slice());
@@ -331,9 +331,9 @@ fn foreign_nodes_are_told(rt: HostRuntime) -> Result<(), Fail> {
 #[test]
 fn given_numbers_are_kept(rt: HostRuntime) -> Result<(), Fail> {
     let alloc = rt.alloc();
-    let text =
+    let string =
         "{\"type\":\"Program\",\"node\":7,\"sourceType\":\"module\",\"body\":[{\"type\":\"EmptyStatement\",\"node\":5}]}";
-    match read(alloc, text, Numbers::Given) {
+    match read(alloc, string, Numbers::Given) {
         Some(Ok((tree, _))) => {
             assert!(rt; tree.kind == Kind::Program);
             assert_eq!(rt; tree.node_id, NodeId(7));
@@ -341,9 +341,9 @@ fn given_numbers_are_kept(rt: HostRuntime) -> Result<(), Fail> {
         }
         _ => panic!(rt; "not read"),
     }
-    let text =
+    let string =
         "{\"type\":\"Program\",\"node\":7,\"sourceType\":\"module\",\"body\":[{\"type\":\"EmptyStatement\",\"node\":4294967296}]}";
-    assert!(rt; is_fault(&read(alloc, text, Numbers::Given), What::BadMember, 1));
+    assert!(rt; is_fault(&read(alloc, string, Numbers::Given), What::BadMember, 1));
     assert!(rt;
         is_fault(
             &read(

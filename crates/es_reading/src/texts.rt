@@ -6,19 +6,19 @@ ghost use Rattle.std.specs.Str.{chars};
 use es_base::name::Name;
 use std::alloc::{AllocError, Global};
 
-/// The name of a text that may be absent. Fails for want of memory alone.
-pub fn maybe_name(alloc: Global, text: Option<&str>) -> Result<Option<Name>, AllocError>
-    ensures { IfOk result (λ n. n ≡ option_map (λ s. chars s.now) text.entry) }
+/// The name of a text that may be absent. Fails on allocation failure alone.
+pub fn nullable_name(alloc: Global, string: Option<&str>) -> Result<Option<Name>, AllocError>
+    ensures { IfOk result (λ n. n ≡ option_map (λ s. chars s.now) string.entry) }
 {
-    match text {
+    match string {
         None => Ok(None),
-        Some(text) => Ok(Some(Name::new(alloc, text)?)),
+        Some(string) => Ok(Some(Name::new(alloc, string)?)),
     }
 }
 
 /// Whether a text has no character.
-pub fn is_empty_text(text: &str) -> bool
-    ensures { result ≡ bytes_eq (chars text.now) [] }
+pub fn is_empty_string(string: &str) -> bool
+    ensures { result ≡ bytes_eq (chars string.now) [] }
 {
-    text.is_empty()
+    string.is_empty()
 }

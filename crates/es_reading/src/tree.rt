@@ -1,7 +1,7 @@
 // Reading a value as a program.
 
 ghost use Rattle.std.specs.Prelude.{◌≡◌, ◌+◌, ◌<◌, ◌^◌, IfOk, IfErr, Ok};
-ghost use Rattle.es_base.specs.Order.{numbered_from};
+ghost use Rattle.es_base.specs.Preorder.{numbered_from};
 ghost use Rattle.es_base.specs.declared.table.Place.{Place};
 ghost use Rattle.es_members.specs.Standing.{Fits};
 ghost use Rattle.es_reading.specs.declared.numbers.Numbers.{Numbers};
@@ -22,9 +22,9 @@ use serde_json::Value;
 use std::alloc::Global;
 
 /// The tree of a program, and the numbers of its nodes that have a member of TypeScript, JSX or import
-/// attributes, in reading order. (ESTree, off the table of kinds; docs/JSON.md)
+/// attributes, in preorder. (ESTree, off the table of kinds; docs/JSON.md)
 ///
-/// Where the value is no tree, the first fault in reading order; beside that it fails for want of memory
+/// Where the value is no tree, the first fault in preorder; beside that it fails for allocation failure
 /// alone. The value holds fewer than 2^32 - 1 values, itself and those at every depth counted.
 pub fn read_tree(
     alloc: Global,
@@ -34,7 +34,7 @@ pub fn read_tree(
     requires { values (view value.now) + 1 < 2 ^ 32 }
     ensures ok { IfOk result (λ r. read numbers (view value.now) root 0 ≡ Ok (record { value = plain_tree r.0; foreign = ids r.1 })) }
     ensures fits { IfOk result (λ r. Fits Place.Program (plain_tree r.0)) }
-    ensures in_order { IfOk result (λ r. numbers ≡ Numbers.InOrder → plain_tree r.0 ≡ numbered_from 0 (plain_tree r.0)) }
+    ensures preorder { IfOk result (λ r. numbers ≡ Numbers.Preorder → plain_tree r.0 ≡ numbered_from 0 (plain_tree r.0)) }
     ensures err { IfErr result (λ e. Tells e (read numbers (view value.now) root 0)) }
 {
     let reader = Reader { alloc, numbers };

@@ -11,7 +11,7 @@ ghost use Rattle.serde_json.specs.Written.{has_float, items_have_float, members_
 use crate::look::is_there;
 use es_base::kind::Kind;
 use es_base::table::{Member, Sort, members};
-use es_plain::texts::{begins_with, is_among};
+use es_plain::strings::{begins_with, is_among};
 use serde_json::{Map, Value};
 
 /// Whether a number below is held as a float, in a member that holds no nodes.
@@ -54,10 +54,10 @@ fn holds_nodes(sort: Sort) -> bool
         sort,
         Sort::Child(_)
             | Sort::Key(_)
-            | Sort::Maybe(_)
+            | Sort::Nullable(_)
             | Sort::List(_)
-            | Sort::Some(_)
-            | Sort::Holes(_)
+            | Sort::NonEmptyList(_)
+            | Sort::ListWithHoles(_)
     )
 }
 

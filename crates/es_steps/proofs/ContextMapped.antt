@@ -5,7 +5,7 @@ use Rattle.es_base.specs.Tree.{Tree, Parts}
 use Rattle.es_base.specs.declared.kind.Kind.{Kind}
 use Rattle.es_base.specs.declared.ledger.GeneratedKind.{GeneratedKind}
 use Rattle.es_base.specs.declared.ledger.LedgerEntry.{LedgerEntry}
-use Rattle.es_steps.specs.Context.{NameKind, Fixed, Changing, MeansClass, Context, made_as, unless_written, declared_kind, found_kind, made_or, name_kind, Frame, function_frame, class_frame, field_frame, method_frame, static_block_frame, same_frame, frame_of, in_function, in_element, framed, inside}
+use Rattle.es_steps.specs.Context.{NameKind, Fixed, Changing, MeansClass, Context, generated_as, unless_written, declared_kind, found_kind, generated_or, name_kind, Frame, function_frame, class_frame, field_frame, method_frame, static_block_frame, same_frame, frame_of, in_function, in_element, framed, inside}
 use Rattle.es_steps.specs.Meaning.{start}
 use Rattle.es_steps.specs.Options.{Options}
 use Rattle.es_steps.specs.Parts.{at, is_true}
@@ -13,7 +13,7 @@ use Rattle.es_steps.specs.References.{declared, has_number}
 use Rattle.es_steps.specs.Scopes.{ClassName, no_class, declares, own_name, Declaration, names_at}
 use Rattle.es_steps.specs.Values.{Text, Bound}
 use Rattle.es_steps.proofs.Mapped.{mapped, mapped_parts, mapped_class_name, mapped_declaration, mapped_option, mapped_name_kind, mapped_context, Renames}
-use Rattle.es_steps.proofs.PartsMapped.{cond-mapped, append-mapped, text_at-mapped, is_true_at-mapped}
+use Rattle.es_steps.proofs.PartsMapped.{cond-mapped, append-mapped, string_at-mapped, is_true_at-mapped}
 use Rattle.es_steps.proofs.ReferencesMapped.{declared-mapped, has_number-mapped, number_of-mapped, written-mapped}
 use Rattle.es_steps.proofs.ScopesMapped.{names_at-mapped}
 
@@ -32,12 +32,12 @@ module _ {first : ℕ} {f : ℕ → ℕ} (r : Renames first f) where
   found_kind-mapped written s None = refl
   found_kind-mapped written s (Some d) = declared_kind-mapped written d.number d.class_name
 
-  made_or-mapped : (g : Option GeneratedKind) (kind : NameKind) → made_or g (mapped_name_kind f kind) ≡ mapped_name_kind f (made_or g kind)
-  made_or-mapped (Some g) kind = refl
-  made_or-mapped None kind = refl
+  generated_or-mapped : (g : Option GeneratedKind) (kind : NameKind) → generated_or g (mapped_name_kind f kind) ≡ mapped_name_kind f (generated_or g kind)
+  generated_or-mapped (Some g) kind = refl
+  generated_or-mapped None kind = refl
 
   pub name_kind-mapped : (c : Context) (s : Text) → name_kind (mapped_context f c) s ≡ mapped_name_kind f (name_kind c s)
-  name_kind-mapped c s = rw (declared-mapped f s c.names, found_kind-mapped c.written s (declared s c.names)) (made_or-mapped (made_as s c.ledger) (found_kind c.written s (declared s c.names)))
+  name_kind-mapped c s = rw (declared-mapped f s c.names, found_kind-mapped c.written s (declared s c.names)) (generated_or-mapped (generated_as s c.ledger) (found_kind c.written s (declared s c.names)))
 
   -- ---- the start
 
@@ -55,7 +55,7 @@ module _ (f : ℕ → ℕ) where
   framed-mapped function_frame m ps i c = ap (λ k. in_function k (mapped_context f c)) (cond-mapped f c.constructs c.class m refl refl)
   framed-mapped class_frame m ps i c = refl
   framed-mapped field_frame m ps i c = rw (is_true_at-mapped f 3 ps) (cond-mapped (mapped_context f) (nat_eq i 1) _ c (in_element-mapped (is_true (at 3 ps)) c) refl)
-  framed-mapped method_frame m ps i c = ap (λ s. record (mapped_context f c) { constructs = bytes_eq s (codes "constructor") }) (text_at-mapped f 2 ps)
+  framed-mapped method_frame m ps i c = ap (λ s. record (mapped_context f c) { constructs = bytes_eq s (codes "constructor") }) (string_at-mapped f 2 ps)
   framed-mapped static_block_frame m ps i c = refl
   framed-mapped same_frame m ps i c = refl
 

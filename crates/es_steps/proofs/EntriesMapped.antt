@@ -5,10 +5,10 @@ use Rattle.std.proofs.Common.{sym, ◌∙◌, ap}
 use Rattle.std.proofs.lemmas.List.{map-append}
 use Rattle.es_base.specs.Numbered.{is_new}
 use Rattle.es_steps.proofs.EvaluationMapped.{Follows, value_behind-mapped, no_meaning-follows, gives-follows, event-follows, bind-follows, ev-follows, ev-mapped, ev_all-follows, ev_target-follows, ev_callee-follows, ev_initializers-follows}
-use Rattle.es_steps.proofs.Mapped.{mapped_option, mapped_maybe, mapped_given, mapped_environment, mapped_run, mapped_code, mapped_target, mapped_callee, mapped_codes, mapped_listed, mapped_parameter, mapped_method, mapped_entry, mapped_maybe_entry, mapped_entries, Renames}
+use Rattle.es_steps.proofs.Mapped.{mapped_option, mapped_nullable, mapped_given, mapped_environment, mapped_run, mapped_code, mapped_target, mapped_callee, mapped_codes, mapped_listed, mapped_parameter, mapped_method, mapped_entry, mapped_nullable_entry, mapped_entries, Renames}
 use Rattle.es_steps.specs.Code.{Code, Codes, Target, Callee, FunctionForm, binding, rest_binding, member, assign, compound, logical, logical_assign, update, call, construct, sequence, operation, define, steps, function, class_code, field, method, constructor, static_block, to_name, to_member, plain, on_member, done, and}
 use Rattle.es_steps.specs.Context.{Made}
-use Rattle.es_steps.specs.Entries.{Parameter, Method, Listed, Entry, target_name, assigned_in, assigned_in_target, assigned_in_callee, assigned_in_all, is_text_among, without, joined_parameter, parameters_of, if_simple, ev_body, ev_construction, listed, value_in, after_run, function_entry, class_entry, some_value, heritage_in, method_with, methods_in, Entries, behind_code, behind_all, behind_target, behind_callee, entries, target_entries, callee_entries, all_entries, held_entries, element_entries, element_entry}
+use Rattle.es_steps.specs.Entries.{Parameter, Method, Listed, Entry, target_name, assigned_in, assigned_in_target, assigned_in_callee, assigned_in_all, is_string_among, without, joined_parameter, parameters_of, if_simple, ev_body, ev_construction, listed, value_in, after_run, function_entry, class_entry, some_value, heritage_in, method_with, methods_in, Entries, behind_code, behind_all, behind_target, behind_callee, entries, target_entries, callee_entries, all_entries, held_entries, element_entries, element_entry}
 use Rattle.es_steps.specs.Evaluation.{Environment, Run, Evaluation, gives, ev, ev_initializers}
 use Rattle.es_steps.specs.Events.{SuperAll}
 use Rattle.es_steps.specs.Values.{Text, Value, Undefined, ThisOf}
@@ -22,7 +22,7 @@ abbrev entry_of_class : ℕ → Option ℕ → Codes → Codes → Environment �
 entry_of_class n declared h es s e = class_entry declared (heritage_in e h) (methods_in e es) (listed (ev_construction n h es es s))
 
 module _ (f : ℕ → ℕ) where
-  -- ---- the names that were made and that a code assigns
+  -- ---- the generated names and that a code assigns
 
   target_name-mapped : (to : Target) → target_name (mapped_target f to) ≡ target_name to
   target_name-mapped (to_name m s (Made g)) = refl
@@ -68,7 +68,7 @@ module _ (f : ℕ → ℕ) where
 
   pub without-mapped : (names : List Text) (s : Environment) → without names (mapped_environment f s) ≡ mapped_environment f (without names s)
   without-mapped names [] = refl
-  without-mapped names (p ∷ ps) = rw (without-mapped names ps) (kept-mapped (is_text_among p.0 names) p (without names ps))
+  without-mapped names (p ∷ ps) = rw (without-mapped names ps) (kept-mapped (is_string_among p.0 names) p (without names ps))
 
   -- ---- bodies and constructions
 
@@ -106,7 +106,7 @@ module _ (f : ℕ → ℕ) where
   listed-mapped None = refl
   listed-mapped (Some r) = rw (value_behind-mapped f r.events r.value) refl
 
-  pub value_in-mapped : (r : Option Run) → value_in (mapped_option (mapped_run f) r) ≡ mapped_maybe f (value_in r)
+  pub value_in-mapped : (r : Option Run) → value_in (mapped_option (mapped_run f) r) ≡ mapped_nullable f (value_in r)
   value_in-mapped None = refl
   value_in-mapped (Some r) = refl
 
@@ -121,22 +121,22 @@ module _ (f : ℕ → ℕ) where
   abbrev mapped_methods : List Method → List Method
   mapped_methods ms = map (mapped_method f) ms
 
-  pub class_entry-mapped : (declared : Option ℕ) (h : Option (Option Value)) (ms : Option (List Method)) (l : Option Listed) → class_entry (mapped_option f declared) (mapped_option (mapped_maybe f) h) (mapped_option mapped_methods ms) (mapped_option (mapped_listed f) l) ≡ mapped_option (mapped_entry f) (class_entry declared h ms l)
+  pub class_entry-mapped : (declared : Option ℕ) (h : Option (Option Value)) (ms : Option (List Method)) (l : Option Listed) → class_entry (mapped_option f declared) (mapped_option (mapped_nullable f) h) (mapped_option mapped_methods ms) (mapped_option (mapped_listed f) l) ≡ mapped_option (mapped_entry f) (class_entry declared h ms l)
   class_entry-mapped declared (Some h) (Some ms) (Some l) = refl
   class_entry-mapped declared h ms l = refl
 
-  some_value-mapped : (v : Option Value) → some_value (mapped_maybe f v) ≡ mapped_option (mapped_maybe f) (some_value v)
+  some_value-mapped : (v : Option Value) → some_value (mapped_nullable f v) ≡ mapped_option (mapped_nullable f) (some_value v)
   some_value-mapped None = refl
   some_value-mapped (Some v) = refl
 
-  value_of-mapped : (s : Environment) (c : Code) → value_in (ev (mapped_code f c) (mapped_environment f s)) ≡ mapped_maybe f (value_in (ev c s))
+  value_of-mapped : (s : Environment) (c : Code) → value_in (ev (mapped_code f c) (mapped_environment f s)) ≡ mapped_nullable f (value_in (ev c s))
   value_of-mapped s c = ap value_in (ev-mapped f c s) ∙ value_in-mapped (ev c s)
 
-  pub heritage_in-mapped : (s : Environment) (h : Codes) → heritage_in (mapped_environment f s) (mapped_codes f h) ≡ mapped_option (mapped_maybe f) (heritage_in s h)
+  pub heritage_in-mapped : (s : Environment) (h : Codes) → heritage_in (mapped_environment f s) (mapped_codes f h) ≡ mapped_option (mapped_nullable f) (heritage_in s h)
   heritage_in-mapped s done = refl
   heritage_in-mapped s (and h hs) = ap some_value (value_of-mapped s h) ∙ some_value-mapped (value_in (ev h s))
 
-  method_with-mapped : (is_static : Bool) (kind : Text) (k : Option Value) (g : Code) (ms : Option (List Method)) → method_with is_static kind (mapped_maybe f k) (mapped_code f g) (mapped_option mapped_methods ms) ≡ mapped_option mapped_methods (method_with is_static kind k g ms)
+  method_with-mapped : (is_static : Bool) (kind : Text) (k : Option Value) (g : Code) (ms : Option (List Method)) → method_with is_static kind (mapped_nullable f k) (mapped_code f g) (mapped_option mapped_methods ms) ≡ mapped_option mapped_methods (method_with is_static kind k g ms)
   method_with-mapped is_static kind (Some k) (function g form ps body) (Some ms) = refl
   method_with-mapped is_static kind k g ms = refl
 
@@ -165,7 +165,7 @@ module _ (f : ℕ → ℕ) where
   -- ---- entries
 
   joined-mapped : (xs ys zs ws : Entries) → zs ≡ mapped_entries f xs → ws ≡ mapped_entries f ys → zs ++ ws ≡ mapped_entries f (xs ++ ys)
-  joined-mapped xs ys zs ws p q = rw (p, q) (sym (map-append (mapped_maybe_entry f) xs ys))
+  joined-mapped xs ys zs ws p q = rw (p, q) (sym (map-append (mapped_nullable_entry f) xs ys))
 
   body_start-mapped : (e : Environment) (body : Code) → without (assigned_in (mapped_code f body)) (mapped_environment f e) ≡ mapped_environment f (without (assigned_in body) e)
   body_start-mapped e body = rw (assigned_in-mapped body) (without-mapped (assigned_in body) e)

@@ -2,14 +2,14 @@
 use Rattle.std.specs.Prelude.{◌≡◌, ℕ, List, [], ◌∷◌, ◌++◌, Bool, true, false, cond, not, ◌&&◌, codes, bytes_eq, Option, Some, None}
 use Rattle.std.proofs.Common.{refl, ap, ap₂, ◌∙◌}
 use Rattle.es_base.specs.declared.kind.Kind.{Kind}
-use Rattle.es_steps.specs.Code.{Code, Codes, Target, no_rule, value, spelled, name, helper, member, assign, compound, logical_assign, call, operation, piece, template_text, on_member, done, and}
+use Rattle.es_steps.specs.Code.{Code, Codes, Target, no_rule, value, spelled, name, helper, member, assign, compound, logical_assign, call, operation, piece, template_string, on_member, done, and}
 use Rattle.es_steps.specs.Context.{Context, NameKind, Changing, MeansClass, name_kind, new_here}
 use Rattle.es_steps.specs.Events.{Mark, Operand, Word, Flag, Key, Prototype, OfKind}
 use Rattle.es_steps.specs.Expressions.{operation_of, the_code, literal_code, name_or_arguments, name_code, cooked_of, template_code, spelling_of, meta_code, key_code, is_helper_object, helper_or, member_code, target_of, is_logical, without_sign, assignment_code, update_code, void_code, delete_code, unary_code, logical_code, known_object, define_on, helper_call, is_call_or_bind, call_of, call_code, new_code, conditional_code, is_prototype, key_marks, property_code}
-use Rattle.es_steps.specs.Members.{Member, Members, code, list, text, literal, end, more, at, codes_of, word_of, flag_of}
+use Rattle.es_steps.specs.Members.{Member, Members, code, list, string, literal, end, more, at, codes_of, word_of, flag_of}
 use Rattle.es_steps.specs.Values.{Text, StringOf, Value, ConstantOf, ThisOf, Free}
 use Rattle.es_steps.proofs.ContextMapped.{name_kind-mapped}
-use Rattle.es_steps.proofs.Mapped.{Renames, mapped_context, mapped_code, mapped_codes, mapped_target, mapped_member, mapped_members, mapped_maybe, mapped_name_kind}
+use Rattle.es_steps.proofs.Mapped.{Renames, mapped_context, mapped_code, mapped_codes, mapped_target, mapped_member, mapped_members, mapped_nullable, mapped_name_kind}
 use Rattle.es_steps.proofs.MembersMapped.{at-mapped, operands-mapped, marks-mapped, word_at-mapped, flag_at-mapped, codes_at-mapped}
 
 module _ (f : ℕ → ℕ) where
@@ -41,14 +41,14 @@ module _ (f : ℕ → ℕ) where
   name_or_arguments-mapped c m s kind = refl
 
   cooked_of-mapped : (p : Member) → cooked_of (mapped_member f p) ≡ cooked_of p
-  cooked_of-mapped (text s) = refl
+  cooked_of-mapped (string s) = refl
   cooked_of-mapped p = refl
 
   pub cooked_at-mapped : (i : ℕ) (ps : Members) → cooked_of (at i (mapped_members f ps)) ≡ cooked_of (at i ps)
   cooked_at-mapped i ps = ap cooked_of (at-mapped f i ps) ∙ cooked_of-mapped (at i ps)
 
   pub template_code-mapped : (m : ℕ) (ps : Members) → template_code (f m) (mapped_members f ps) ≡ mapped_code f (template_code m ps)
-  template_code-mapped m (more (list (more (code (template_text raw cooked)) end)) (more (list end) end)) = refl
+  template_code-mapped m (more (list (more (code (template_string raw cooked)) end)) (more (list end) end)) = refl
   template_code-mapped m ps = operation_of-mapped Kind.TemplateLiteral m ps
 
   spelling_of-mapped : (p : Member) → spelling_of (mapped_member f p) ≡ spelling_of p
@@ -128,12 +128,12 @@ module _ (f : ℕ → ℕ) where
 
   -- ---- calls
 
-  known_object-mapped : (o : Code) → known_object (mapped_code f o) ≡ mapped_maybe f (known_object o)
+  known_object-mapped : (o : Code) → known_object (mapped_code f o) ≡ mapped_nullable f (known_object o)
   known_object-mapped (value (ThisOf k)) = refl
   known_object-mapped (name m s (MeansClass n)) = refl
   known_object-mapped c = refl
 
-  define_on-mapped : (o : Option Value) (k v : Code) → define_on (mapped_maybe f o) (mapped_code f k) (mapped_code f v) ≡ mapped_code f (define_on o k v)
+  define_on-mapped : (o : Option Value) (k v : Code) → define_on (mapped_nullable f o) (mapped_code f k) (mapped_code f v) ≡ mapped_code f (define_on o k v)
   define_on-mapped None k v = refl
   define_on-mapped (Some o) k v = refl
 

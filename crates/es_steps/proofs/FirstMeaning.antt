@@ -3,8 +3,8 @@
 use Rattle.std.specs.Prelude.{◌≡◌, refl, ℕ, List, [], ◌∷◌, ◌++◌, Bool, true, false, cond, not, ◌&&◌, ◌||◌, nat_le, bytes_eq, codes, Option, Some, None}
 use Rattle.std.proofs.Common.{sym}
 use Rattle.std.proofs.lemmas.Bool.{true≢false, and_parts}
-use Rattle.es_base.specs.Conforms.{conforms, part_conforms, items_conform, truth_at, is_rest, is_end}
-use Rattle.es_base.specs.Order.{nodes}
+use Rattle.es_base.specs.Conforms.{conforms, part_conforms, items_conform, boolean_at, is_rest, is_end}
+use Rattle.es_base.specs.Preorder.{nodes}
 use Rattle.es_base.specs.Table.{members_of}
 use Rattle.es_base.specs.Tree as tree
 use Rattle.es_base.specs.Tree.{Tree, Part, Parts, Node}
@@ -18,13 +18,13 @@ use Rattle.es_steps.specs.Expressions.{constant_of, name_or_arguments, name_code
 use Rattle.es_steps.specs.FirstForm.{is_plain_value, is_plain_key, is_plain_field, is_new_name, unless, element_breaches, elements_breaches, body_breaches, statement_breaches, statements_breaches, class_names, breaches, no_numbers, most_nodes}
 use Rattle.es_steps.specs.Law.{FirstFormLaw, has_meaning}
 use Rattle.es_steps.specs.Meaning.{means_of, start}
-use Rattle.es_steps.specs.Members.{Member, code, absent, truth, end, more, codes_in}
+use Rattle.es_steps.specs.Members.{Member, code, absent, boolean, end, more, codes_in}
 use Rattle.es_steps.specs.Reading.{read, read_part, read_parts, read_items}
 use Rattle.es_steps.specs.References.{has_number, declared}
 use Rattle.es_steps.specs.Scopes.{ClassName, no_class, declares, own_name, Declaration}
 use Rattle.es_steps.specs.Statements.{value_or_undefined, field_code, elements_of, class_of}
 use Rattle.es_steps.specs.Values.{Text, ConstantOf, Undefined, Bound, Free}
-use Rattle.es_steps.proofs.PlainClasses.{IsUnmade, fixed, changing, means_class, IsPlain, a_value, a_name, IsField, plain_field, AreFields, IsClass, plain_class, AreClasses, classes_mean}
+use Rattle.es_steps.proofs.PlainClasses.{IsNotGenerated, fixed, changing, means_class, IsPlain, a_value, a_name, IsField, plain_field, AreFields, IsClass, plain_class, AreClasses, classes_mean}
 
 pub no_false : {A : Type 0} → false ≡ true → A
 no_false h = absurd (true≢false (sym h))
@@ -45,23 +45,23 @@ unless_true false m h = no_false h
 
 -- ---- values and keys
 
-unmade-unless_written : (written : List ℕ) (b : ℕ) (kind : NameKind) → IsUnmade kind → IsUnmade (unless_written written b kind)
-unmade-unless_written written b kind h = chosen (has_number b written)
+not_generated-unless_written : (written : List ℕ) (b : ℕ) (kind : NameKind) → IsNotGenerated kind → IsNotGenerated (unless_written written b kind)
+not_generated-unless_written written b kind h = chosen (has_number b written)
   where
-    chosen : (w : Bool) → IsUnmade (cond w (Changing (Bound b)) kind)
+    chosen : (w : Bool) → IsNotGenerated (cond w (Changing (Bound b)) kind)
     chosen true = changing (Bound b)
     chosen false = h
 
-unmade-declared : (written : List ℕ) (b : ℕ) (name : ClassName) → IsUnmade (declared_kind written b name)
-unmade-declared written b no_class = unmade-unless_written written b (Fixed b) (fixed b)
-unmade-declared written b (declares n) = unmade-unless_written written b (MeansClass n) (means_class n)
-unmade-declared written b (own_name n) = means_class n
+not_generated-declared : (written : List ℕ) (b : ℕ) (name : ClassName) → IsNotGenerated (declared_kind written b name)
+not_generated-declared written b no_class = not_generated-unless_written written b (Fixed b) (fixed b)
+not_generated-declared written b (declares n) = not_generated-unless_written written b (MeansClass n) (means_class n)
+not_generated-declared written b (own_name n) = means_class n
 
-pub unmade-found : (written : List ℕ) (s : Text) (d : Option Declaration) → IsUnmade (found_kind written s d)
-unmade-found written s None = changing (Free s)
-unmade-found written s (Some d) = unmade-declared written d.number d.class_name
+pub not_generated-found : (written : List ℕ) (s : Text) (d : Option Declaration) → IsNotGenerated (found_kind written s d)
+not_generated-found written s None = changing (Free s)
+not_generated-found written s (Some d) = not_generated-declared written d.number d.class_name
 
-pub plain-name : (c : Context) (m : ℕ) (s : Text) (kind : NameKind) → IsUnmade kind → IsPlain (name_or_arguments c m s kind)
+pub plain-name : (c : Context) (m : ℕ) (s : Text) (kind : NameKind) → IsNotGenerated kind → IsPlain (name_or_arguments c m s kind)
 plain-name c m s kind (fixed b) = a_name m s (Fixed b) (fixed b)
 plain-name c m s kind (changing (Bound b)) = a_name m s (Changing (Bound b)) (changing (Bound b))
 plain-name c m s kind (changing (Free t)) = chosen (bytes_eq s (codes "arguments"))
@@ -73,35 +73,35 @@ plain-name c m s kind (means_class n) = a_name m s (MeansClass n) (means_class n
 
 -- no name was made
 plain-name_code : (c : Context) (m : ℕ) (s : Text) → c.ledger ≡ [] → IsPlain (name_code c m s)
-plain-name_code c m s l = rw l (plain-name c m s (found_kind c.written s (declared s c.names)) (unmade-found c.written s (declared s c.names)))
+plain-name_code c m s l = rw l (plain-name c m s (found_kind c.written s (declared s c.names)) (not_generated-found c.written s (declared s c.names)))
 
 plain-value : (names : List Text) (c : Context) (v : Part) → c.ledger ≡ [] → is_plain_value names v ≡ true → IsPlain (value_or_undefined (read_part c v))
 plain-value names c tree.absent l h = a_value Undefined
-plain-value names c (tree.child (Node Kind.Literal m span mark (tree.more (tree.literal v) tree.end))) l h = a_value (ConstantOf (constant_of v))
-plain-value names c (tree.child (Node Kind.IdentifierReference m span mark (tree.more (tree.text s) tree.end))) l h = plain-name_code c m s l
+plain-value names c (tree.child (Node Kind.Literal m span semantic_id (tree.more (tree.literal v) tree.end))) l h = a_value (ConstantOf (constant_of v))
+plain-value names c (tree.child (Node Kind.IdentifierReference m span semantic_id (tree.more (tree.string s) tree.end))) l h = plain-name_code c m s l
 plain-value names c p l h = no_false h
 
 data IsSpelled : Member → Type 0 where
   spelled_key : (s : Text) → IsSpelled (code (spelled s))
 
 spelled-key : (c : Context) (k : Part) → is_plain_key k ≡ true → IsSpelled (read_part c k)
-spelled-key c (tree.child (Node Kind.IdentifierName m span mark (tree.more (tree.text s) tree.end))) h = spelled_key s
+spelled-key c (tree.child (Node Kind.IdentifierName m span semantic_id (tree.more (tree.string s) tree.end))) h = spelled_key s
 spelled-key c p h = no_false h
 
 -- ---- fields
 
-field-of : (c : Context) (k v : Member) → IsSpelled k → IsPlain (value_or_undefined v) → IsField (field_code c (more k (more v (more (truth false) (more (truth false) end)))))
+field-of : (c : Context) (k v : Member) → IsSpelled k → IsPlain (value_or_undefined v) → IsField (field_code c (more k (more v (more (boolean false) (more (boolean false) end)))))
 field-of c k v (spelled_key s) p = plain_field _ _ _ p
 
 field-read : (names : List Text) (c : Context) (m : ℕ) (ps : Parts) → c.ledger ≡ [] → is_plain_field names ps ≡ true → IsField (field_code c (read_parts (inside c Kind.PropertyDefinition m ps) ps))
-field-read names c m (tree.more k (tree.more v (tree.more (tree.truth false) (tree.more (tree.truth false) tree.end)))) l h =
+field-read names c m (tree.more k (tree.more v (tree.more (tree.boolean false) (tree.more (tree.boolean false) tree.end)))) l h =
     let plain = and_parts (is_plain_key k) (is_plain_value names v) h in
     field-of c _ _ (spelled-key _ k plain.0) (plain-value names _ v l plain.1)
 field-read names c m ps l h = no_false h
 
 element-read : (names : List Text) (c : Context) (t : Tree) → c.ledger ≡ [] → no_numbers (element_breaches names (tree.child t)) ≡ true → IsField (read c t)
-element-read names c (Node Kind.PropertyDefinition m span mark ps) l h = field-read names c m ps l (unless_true (is_plain_field names ps) m h)
-element-read names c (Node kind m span mark ps) l h = no_false h
+element-read names c (Node Kind.PropertyDefinition m span semantic_id ps) l h = field-read names c m ps l (unless_true (is_plain_field names ps) m h)
+element-read names c (Node kind m span semantic_id ps) l h = no_false h
 
 elements-read : (names : List Text) (c : Context) (ps : Parts) → c.ledger ≡ [] → items_conform false Place.ClassElement ps ≡ true → no_numbers (elements_breaches names ps) ≡ true → AreFields (codes_in (read_items c ps))
 elements-read names c tree.end l f h = tt
@@ -116,28 +116,28 @@ elements-read names c (tree.more p ps) l f h = no_false f
 
 -- a class body is one list
 body-read : (names : List Text) (c : Context) (t : Tree) → c.ledger ≡ [] → conforms Place.ClassBody t ≡ true → no_numbers (body_breaches names (tree.child t)) ≡ true → AreFields (elements_of (code (read c t)))
-body-read names c (Node Kind.ClassBody m span mark (tree.more (tree.list es) tree.end)) l f h =
+body-read names c (Node Kind.ClassBody m span semantic_id (tree.more (tree.list es) tree.end)) l f h =
     let fits = and_parts (items_conform false Place.ClassElement es) true f in
     rw (joined-done (codes_in (read_items c es))) (elements-read names c es l fits.0 h)
-body-read names c (Node Kind.ClassBody m span mark tree.end) l f h = no_false f
-body-read names c (Node Kind.ClassBody m span mark (tree.more p (tree.more q ps))) l f h = no_false (and_parts (part_conforms false (Sort.List Place.ClassElement) p) false f).1
-body-read names c (Node Kind.ClassBody m span mark (tree.more p tree.end)) l f h = no_false f
-body-read names c (Node kind m span mark ps) l f h = no_false f
+body-read names c (Node Kind.ClassBody m span semantic_id tree.end) l f h = no_false f
+body-read names c (Node Kind.ClassBody m span semantic_id (tree.more p (tree.more q ps))) l f h = no_false (and_parts (part_conforms false (Sort.List Place.ClassElement) p) false f).1
+body-read names c (Node Kind.ClassBody m span semantic_id (tree.more p tree.end)) l f h = no_false f
+body-read names c (Node kind m span semantic_id ps) l f h = no_false f
 
 class-read : (names : List Text) (c : Context) (computed : Bool) (n : ℕ) (id : Member) (body : Part) → c.ledger ≡ [] → part_conforms computed (Sort.Child Place.ClassBody) body ≡ true → no_numbers (body_breaches names body) ≡ true → IsClass (class_of true n (more id (more absent (more (read_part c body) end))))
 class-read names c computed n id (tree.child t) l f h = plain_class n _ _ (body-read names c t l f h)
 class-read names c computed n id p l f h = no_false f
 
 statement-read : (earlier names : List Text) (c : Context) (t : Tree) → c.ledger ≡ [] → conforms Place.Statement t ≡ true → no_numbers (statement_breaches earlier names (tree.child t)) ≡ true → IsClass (read c t)
-statement-read earlier names c (Node Kind.ClassDeclaration n span mark (tree.more id (tree.more tree.absent (tree.more body tree.end)))) l f h =
-    let computed : Bool = truth_at (codes "computed") (members_of Kind.ClassDeclaration) (tree.more id (tree.more tree.absent (tree.more body tree.end))) in
-    let fits = and_parts (part_conforms computed (Sort.Maybe Place.BindingIdentifier) id) (part_conforms computed (Sort.Child Place.ClassBody) body && true) f in
+statement-read earlier names c (Node Kind.ClassDeclaration n span semantic_id (tree.more id (tree.more tree.absent (tree.more body tree.end)))) l f h =
+    let computed : Bool = boolean_at (codes "computed") (members_of Kind.ClassDeclaration) (tree.more id (tree.more tree.absent (tree.more body tree.end))) in
+    let fits = and_parts (part_conforms computed (Sort.Nullable Place.BindingIdentifier) id) (part_conforms computed (Sort.Child Place.ClassBody) body && true) f in
     let free = both_empty (unless (is_new_name earlier id && true) n) (body_breaches names body) h in
     class-read names _ computed n _ body l (and_parts (part_conforms computed (Sort.Child Place.ClassBody) body) true fits.1).0 free.1
-statement-read earlier names c (Node Kind.ClassDeclaration n span mark (tree.more id (tree.more heritage (tree.more body tree.end)))) l f h =
+statement-read earlier names c (Node Kind.ClassDeclaration n span semantic_id (tree.more id (tree.more heritage (tree.more body tree.end)))) l f h =
     let free = both_empty (unless (is_new_name earlier id && false) n) (body_breaches names body) h in
     no_false (and_parts (is_new_name earlier id) false (unless_true (is_new_name earlier id && false) n free.0)).1
-statement-read earlier names c (Node kind n span mark ps) l f h = no_false h
+statement-read earlier names c (Node kind n span semantic_id ps) l f h = no_false h
 
 statements-read : (earlier names : List Text) (c : Context) (ps : Parts) → c.ledger ≡ [] → items_conform false Place.Statement ps ≡ true → no_numbers (statements_breaches earlier names ps) ≡ true → AreClasses (codes_in (read_items c ps))
 statements-read earlier names c tree.end l f h = tt
@@ -149,24 +149,24 @@ statements-read earlier names c (tree.more (tree.child t) ps) l f h =
     (statement-read earlier names c t l fits.0 free.0, statements-read more_names names c ps l rest.1 free.1)
 statements-read earlier names c (tree.more p ps) l f h = no_false f
 
--- ---- the program: a text and the list of its statements
+-- ---- the program: a string and the list of its statements
 
 data IsProgram : Code → Type 0 where
   classes_alone : (cs : Codes) → AreClasses cs → IsProgram (steps cs)
 
 program-read : (c : Context) (t : Tree) → c.ledger ≡ [] → conforms Place.Program t ≡ true → no_numbers (breaches t) ≡ true → IsProgram (read c t)
-program-read c (Node Kind.Program m span mark (tree.more (tree.text s) (tree.more (tree.list all) tree.end))) l f h =
-    let t : Tree = Node Kind.Program m span mark (tree.more (tree.text s) (tree.more (tree.list all) tree.end)) in
-    let word = and_parts (part_conforms false (Sort.Word Words.SourceType) (tree.text s)) (items_conform false Place.Statement all && true) f in
+program-read c (Node Kind.Program m span semantic_id (tree.more (tree.string s) (tree.more (tree.list all) tree.end))) l f h =
+    let t : Tree = Node Kind.Program m span semantic_id (tree.more (tree.string s) (tree.more (tree.list all) tree.end)) in
+    let word = and_parts (part_conforms false (Sort.Word Words.SourceType) (tree.string s)) (items_conform false Place.Statement all && true) f in
     let fits = and_parts (items_conform false Place.Statement all) true word.1 in
     let free = both_empty (unless (bytes_eq s (codes "script") && nat_le (nodes t) most_nodes) m) (statements_breaches [] (class_names all) all) h in
     classes_alone _ (rw (joined-done (codes_in (read_items _ all))) (statements-read [] (class_names all) _ all l fits.0 free.1))
-program-read c (Node Kind.Program m span mark (tree.more (tree.text s) (tree.more q tree.end))) l f h = no_false (and_parts (part_conforms false (Sort.Word Words.SourceType) (tree.text s)) false f).1
-program-read c (Node Kind.Program m span mark (tree.more p (tree.more q (tree.more r ps)))) l f h =
+program-read c (Node Kind.Program m span semantic_id (tree.more (tree.string s) (tree.more q tree.end))) l f h = no_false (and_parts (part_conforms false (Sort.Word Words.SourceType) (tree.string s)) false f).1
+program-read c (Node Kind.Program m span semantic_id (tree.more p (tree.more q (tree.more r ps)))) l f h =
     let word = and_parts (part_conforms false (Sort.Word Words.SourceType) p) (part_conforms false (Sort.List Place.Statement) q && false) f in
     no_false (and_parts (part_conforms false (Sort.List Place.Statement) q) false word.1).1
-program-read c (Node Kind.Program m span mark (tree.more p tree.end)) l f h = no_false (and_parts (part_conforms false (Sort.Word Words.SourceType) p) false f).1
-program-read c (Node kind m span mark ps) l f h = no_false f
+program-read c (Node Kind.Program m span semantic_id (tree.more p tree.end)) l f h = no_false (and_parts (part_conforms false (Sort.Word Words.SourceType) p) false f).1
+program-read c (Node kind m span semantic_id ps) l f h = no_false f
 
 program-means : (first : ℕ) (t : Tree) (c : Code) → IsProgram c → has_meaning (means_of first [] t c) ≡ true
 program-means first t c (classes_alone cs h) = classes_mean first [] t cs h

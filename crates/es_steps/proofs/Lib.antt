@@ -15,12 +15,12 @@ pub mod PartsMapped
 pub mod PlainClasses
 pub mod ReadingMapped
 pub mod ReferencesMapped
-pub mod PrivateUnmarked
+pub mod PrivateStripped
 pub mod Refused
 pub mod Renaming
 pub mod Renumbering
 pub mod ScopesMapped
 pub mod StatementsMapped
 pub mod Still
-pub mod Unmarked
-pub mod UnmarkedScopes
+pub mod Stripped
+pub mod StrippedScopes

@@ -3,13 +3,13 @@ use Rattle.std.specs.Prelude.{◌≡◌, ℕ, List, map, true, nat_eq, Option, S
 use Rattle.es_base.specs.Numbered.{is_new, is_old}
 use Rattle.es_base.specs.Tree as tree
 use Rattle.es_base.specs.Tree.{Tree, Part, Parts, Node}
-use Rattle.es_steps.specs.Code.{Code, Codes, Target, Callee, nothing, no_rule, value, spelled, binding, rest_binding, name, helper, member, assign, compound, logical, logical_assign, update, call, construct, sequence, operation, piece, template_text, define, steps, function, class_code, field, method, constructor, static_block, to_name, to_member, no_target, plain, on_member, done, and}
+use Rattle.es_steps.specs.Code.{Code, Codes, Target, Callee, nothing, no_rule, value, spelled, binding, rest_binding, name, helper, member, assign, compound, logical, logical_assign, update, call, construct, sequence, operation, piece, template_string, define, steps, function, class_code, field, method, constructor, static_block, to_name, to_member, no_target, plain, on_member, done, and}
 use Rattle.es_steps.specs.Context.{Context, NameKind, Fixed, Changing, MeansClass, Made}
 use Rattle.es_steps.specs.Entries.{Parameter, Method, Listed, Entry, FunctionEntry, ClassEntry, Entries}
 use Rattle.es_steps.specs.Evaluation.{Environment, Run, Ready, ready_name, ready_member}
 use Rattle.es_steps.specs.Events.{Event, ReadName, SetName, Get, Set, Define, Call, Construct, Operate, Update, SuperAll, Throw, Held, Events, none, then}
 use Rattle.es_steps.specs.Meaning.{Meaning, DeclarationKind}
-use Rattle.es_steps.specs.Members.{Member, Members, code, absent, list, text, no_text, truth, literal, end, more}
+use Rattle.es_steps.specs.Members.{Member, Members, code, absent, list, string, no_string, boolean, literal, end, more}
 use Rattle.es_steps.specs.References.{Reference}
 use Rattle.es_steps.specs.Scopes.{ClassName, no_class, declares, own_name, Declaration}
 use Rattle.es_steps.specs.Values.{Value, ConstantOf, Undefined, BindingOf, FunctionOf, ClassOf, ThisOf, ArgumentsOf, NewTargetOf, ResultOf, FormerOf, Referent, Bound, Free, Text}
@@ -29,15 +29,15 @@ module _ (f : ℕ → ℕ) where
 
   abbrev mutual
     pub mapped : Tree → Tree
-    mapped (Node kind m span mark ps) = Node kind (f m) span mark (mapped_parts ps)
+    mapped (Node kind m span semantic_id ps) = Node kind (f m) span semantic_id (mapped_parts ps)
 
     pub mapped_part : Part → Part
     mapped_part (tree.child t) = tree.child (mapped t)
     mapped_part tree.absent = tree.absent
     mapped_part (tree.list ps) = tree.list (mapped_parts ps)
-    mapped_part (tree.text s) = tree.text s
-    mapped_part tree.no_text = tree.no_text
-    mapped_part (tree.truth b) = tree.truth b
+    mapped_part (tree.string s) = tree.string s
+    mapped_part tree.no_string = tree.no_string
+    mapped_part (tree.boolean b) = tree.boolean b
     mapped_part (tree.literal v) = tree.literal v
 
     pub mapped_parts : Parts → Parts
@@ -87,8 +87,8 @@ module _ (f : ℕ → ℕ) where
   abbrev pub mapped_values : List Value → List Value
   mapped_values vs = map mapped_value vs
 
-  abbrev pub mapped_maybe : Option Value → Option Value
-  mapped_maybe v = mapped_option mapped_value v
+  abbrev pub mapped_nullable : Option Value → Option Value
+  mapped_nullable v = mapped_option mapped_value v
 
   abbrev mutual
     pub mapped_event : Event → Event
@@ -97,7 +97,7 @@ module _ (f : ℕ → ℕ) where
     mapped_event (Get m o k) = Get (f m) (mapped_value o) (mapped_value k)
     mapped_event (Set o k v) = Set (mapped_value o) (mapped_value k) (mapped_value v)
     mapped_event (Define o k v) = Define (mapped_value o) (mapped_value k) (mapped_value v)
-    mapped_event (Call m callee receiver vs) = Call (f m) (mapped_value callee) (mapped_maybe receiver) (mapped_values vs)
+    mapped_event (Call m callee receiver vs) = Call (f m) (mapped_value callee) (mapped_nullable receiver) (mapped_values vs)
     mapped_event (Construct m callee vs) = Construct (f m) (mapped_value callee) (mapped_values vs)
     mapped_event (Operate m op vs) = Operate (f m) op (mapped_values vs)
     mapped_event (Update m operator old) = Update (f m) operator (mapped_value old)
@@ -148,7 +148,7 @@ module _ (f : ℕ → ℕ) where
     mapped_code (sequence es) = sequence (mapped_codes es)
     mapped_code (operation m op es parts) = operation (f m) op (mapped_codes es) (mapped_codes parts)
     mapped_code (piece marks es) = piece marks (mapped_codes es)
-    mapped_code (template_text raw cooked) = template_text raw cooked
+    mapped_code (template_string raw cooked) = template_string raw cooked
     mapped_code (define o k e) = define (mapped_value o) (mapped_code k) (mapped_code e)
     mapped_code (steps es) = steps (mapped_codes es)
     mapped_code (function g form ps body) = function (f g) form (mapped_codes ps) (mapped_code body)
@@ -176,9 +176,9 @@ module _ (f : ℕ → ℕ) where
     mapped_member (code c) = code (mapped_code c)
     mapped_member absent = absent
     mapped_member (list ps) = list (mapped_members ps)
-    mapped_member (text s) = text s
-    mapped_member no_text = no_text
-    mapped_member (truth b) = truth b
+    mapped_member (string s) = string s
+    mapped_member no_string = no_string
+    mapped_member (boolean b) = boolean b
     mapped_member (literal v) = literal v
 
     pub mapped_members : Members → Members
@@ -198,13 +198,13 @@ module _ (f : ℕ → ℕ) where
 
   abbrev pub mapped_entry : Entry → Entry
   mapped_entry (FunctionEntry form ps body) = FunctionEntry form (map mapped_parameter ps) (mapped_listed body)
-  mapped_entry (ClassEntry declared h ms construction) = ClassEntry (mapped_option f declared) (mapped_maybe h) (map mapped_method ms) (mapped_listed construction)
+  mapped_entry (ClassEntry declared h ms construction) = ClassEntry (mapped_option f declared) (mapped_nullable h) (map mapped_method ms) (mapped_listed construction)
 
-  abbrev pub mapped_maybe_entry : ℕ × Option Entry → ℕ × Option Entry
-  mapped_maybe_entry p = (f p.0, mapped_option mapped_entry p.1)
+  abbrev pub mapped_nullable_entry : ℕ × Option Entry → ℕ × Option Entry
+  mapped_nullable_entry p = (f p.0, mapped_option mapped_entry p.1)
 
   abbrev pub mapped_entries : Entries → Entries
-  mapped_entries es = map mapped_maybe_entry es
+  mapped_entries es = map mapped_nullable_entry es
 
   abbrev pub mapped_numbered_entry : ℕ × Entry → ℕ × Entry
   mapped_numbered_entry p = (f p.0, mapped_entry p.1)

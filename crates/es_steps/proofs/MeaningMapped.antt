@@ -4,14 +4,14 @@ use Rattle.std.proofs.Common.{◌≡◌, refl, sym, ap, ap₂, ◌∙◌, ℕ, s
 use Rattle.std.specs.Prelude.{cond, nat_le}
 use Rattle.std.proofs.lemmas.List.{map-append}
 use Rattle.es_base.specs.Numbered.{is_new}
-use Rattle.es_base.specs.Tree.{Tree, Part, Parts, Node, end, more, child, list, text}
+use Rattle.es_base.specs.Tree.{Tree, Part, Parts, Node, end, more, child, list, string}
 use Rattle.es_base.specs.declared.kind.Kind.{Kind}
 use Rattle.es_base.specs.declared.ledger.GeneratedKind.{GeneratedKind}
 use Rattle.es_base.specs.declared.ledger.LedgerEntry.{LedgerEntry}
-use Rattle.es_steps.specs.Context.{made_as}
+use Rattle.es_steps.specs.Context.{generated_as}
 use Rattle.es_steps.specs.Entries.{Entry, Entries}
-use Rattle.es_steps.specs.Meaning.{DeclarationKind, declares_at, declaring, declaring_parts, declaring_part, declaring_items, old_bindings, names_class, unless_made, declared_function, declared_functions, inserted, by_number, with_entry, whole, source_type_of}
-use Rattle.es_steps.specs.Parts.{at, text_of}
+use Rattle.es_steps.specs.Meaning.{DeclarationKind, declares_at, declaring, declaring_parts, declaring_part, declaring_items, old_bindings, names_class, unless_generated, declared_function, declared_functions, inserted, by_number, with_entry, whole, source_type_of}
+use Rattle.es_steps.specs.Parts.{at, string_of}
 use Rattle.es_steps.specs.Scopes.{is_binding_identifier}
 use Rattle.es_steps.proofs.Mapped.{Renames, mapped, mapped_part, mapped_parts, mapped_option, mapped_entry, mapped_entries, mapped_numbered_entry, mapped_pair, mapped_binding}
 
@@ -54,23 +54,23 @@ module _ (f : ℕ → ℕ) where
 
   -- ---- declarations
 
-  text_of-mapped : (p : Part) → text_of (mapped_part f p) ≡ text_of p
-  text_of-mapped (text s) = refl
-  text_of-mapped p = refl
+  string_of-mapped : (p : Part) → string_of (mapped_part f p) ≡ string_of p
+  string_of-mapped (string s) = refl
+  string_of-mapped p = refl
 
-  text_at-mapped : (ps : Parts) → text_of (at 0 (mapped_parts f ps)) ≡ text_of (at 0 ps)
-  text_at-mapped end = refl
-  text_at-mapped (more p ps) = text_of-mapped p
+  string_at-mapped : (ps : Parts) → string_of (at 0 (mapped_parts f ps)) ≡ string_of (at 0 ps)
+  string_at-mapped end = refl
+  string_at-mapped (more p ps) = string_of-mapped p
 
   pub source_type_of-mapped : (t : Tree) → source_type_of (mapped f t) ≡ source_type_of t
-  source_type_of-mapped (Node kind m span mark ps) = text_at-mapped ps
+  source_type_of-mapped (Node kind m span semantic_id ps) = string_at-mapped ps
 
-  unless_made-mapped : (g : Option GeneratedKind) (p : ℕ × ℕ) → unless_made g (mapped_pair f p) ≡ map (mapped_pair f) (unless_made g p)
-  unless_made-mapped None p = refl
-  unless_made-mapped (Some g) p = refl
+  unless_generated-mapped : (g : Option GeneratedKind) (p : ℕ × ℕ) → unless_generated g (mapped_pair f p) ≡ map (mapped_pair f) (unless_generated g p)
+  unless_generated-mapped None p = refl
+  unless_generated-mapped (Some g) p = refl
 
   declared_function-mapped : (ledger : List LedgerEntry) (t : Tree) → declared_function ledger (mapped f t) ≡ map (mapped_pair f) (declared_function ledger t)
-  declared_function-mapped ledger (Node Kind.FunctionDeclaration g span mark (more (child (Node Kind.BindingIdentifier b s i (more (text x) end))) ps)) = unless_made-mapped (made_as x ledger) (b, g)
+  declared_function-mapped ledger (Node Kind.FunctionDeclaration g span semantic_id (more (child (Node Kind.BindingIdentifier b s i (more (string x) end))) ps)) = unless_generated-mapped (generated_as x ledger) (b, g)
   declared_function-mapped ledger t = refl
 
   pub declared_functions-mapped : (ledger : List LedgerEntry) (ts : List Tree) → declared_functions ledger (map (mapped f) ts) ≡ map (mapped_pair f) (declared_functions ledger ts)
@@ -80,7 +80,7 @@ module _ (f : ℕ → ℕ) where
       ∙ sym (map-append (mapped_pair f) (declared_function ledger t) (declared_functions ledger ts))
 
   declares_at-mapped : (kind : Kind) (ps : Parts) (d : DeclarationKind) (i : ℕ) → declares_at kind (mapped_parts f ps) d i ≡ declares_at kind ps d i
-  declares_at-mapped Kind.VariableDeclaration ps d i = ap DeclarationKind.Variable (text_at-mapped ps)
+  declares_at-mapped Kind.VariableDeclaration ps d i = ap DeclarationKind.Variable (string_at-mapped ps)
   declares_at-mapped kind ps d i = refl
 
   identifier-mapped : (b : Bool) (m : ℕ) (d : DeclarationKind) (xs ys : List (ℕ × DeclarationKind)) → xs ≡ map (mapped_binding f) ys → cond b ((f m, d) ∷ []) xs ≡ map (mapped_binding f) (cond b ((m, d) ∷ []) ys)
@@ -92,7 +92,7 @@ module _ (f : ℕ → ℕ) where
 
   mutual
     pub declaring-mapped : (d : DeclarationKind) (t : Tree) → declaring d (mapped f t) ≡ map (mapped_binding f) (declaring d t)
-    declaring-mapped d (Node kind m span mark ps) = identifier-mapped (is_binding_identifier kind) m d _ _ (declaring_parts-mapped (declares_at kind (mapped_parts f ps) d) (declares_at kind ps d) (declares_at-mapped kind ps d) ps)
+    declaring-mapped d (Node kind m span semantic_id ps) = identifier-mapped (is_binding_identifier kind) m d _ _ (declaring_parts-mapped (declares_at kind (mapped_parts f ps) d) (declares_at kind ps d) (declares_at-mapped kind ps d) ps)
 
     declaring_parts-mapped : (d e : ℕ → DeclarationKind) → ((i : ℕ) → d i ≡ e i) → (ps : Parts) → declaring_parts d (mapped_parts f ps) ≡ map (mapped_binding f) (declaring_parts e ps)
     declaring_parts-mapped d e same end = refl

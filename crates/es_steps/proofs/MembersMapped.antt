@@ -1,9 +1,9 @@
--- What is read of members follows a change of node numbers; texts, truth values and marks stay.
+-- What is read of members follows a change of node numbers; strings, booleans and marks stay.
 use Rattle.std.specs.Prelude.{◌≡◌, ℕ, zero, suc, [], ◌∷◌, ◌++◌}
 use Rattle.std.proofs.Common.{refl, ap, ap₂, ◌∙◌}
 use Rattle.es_steps.specs.Code.{Code, Codes, nothing, done, and, joined}
 use Rattle.es_steps.specs.Events.{Opens, Closes}
-use Rattle.es_steps.specs.Members.{Member, Members, code, list, text, truth, end, more, at, from, before, inner_operands, inner_marks, operands, operands_of, marks, marks_of, codes_in, codes_of, word_of, flag_of}
+use Rattle.es_steps.specs.Members.{Member, Members, code, list, string, boolean, end, more, at, from, before, inner_operands, inner_marks, operands, operands_of, marks, marks_of, codes_in, codes_of, word_of, flag_of}
 use Rattle.es_steps.proofs.Mapped.{mapped_code, mapped_codes, mapped_member, mapped_members}
 
 module _ (f : ℕ → ℕ) where
@@ -72,14 +72,14 @@ module _ (f : ℕ → ℕ) where
     codes_of-mapped (list ps) = codes_in-mapped ps
     codes_of-mapped p = refl
 
-  -- ---- texts and truth values
+  -- ---- strings and booleans
 
   word_of-mapped : (p : Member) → word_of (mapped_member f p) ≡ word_of p
-  word_of-mapped (text s) = refl
+  word_of-mapped (string s) = refl
   word_of-mapped p = refl
 
   flag_of-mapped : (p : Member) → flag_of (mapped_member f p) ≡ flag_of p
-  flag_of-mapped (truth b) = refl
+  flag_of-mapped (boolean b) = refl
   flag_of-mapped p = refl
 
   -- ---- the same at a place

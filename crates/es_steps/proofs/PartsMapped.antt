@@ -1,9 +1,9 @@
--- Members, items and texts of parts stand where they stood under other numbers; what is chosen or put together is mapped part by part.
+-- Members, items and strings of parts stand where they stood under other numbers; what is chosen or put together is mapped part by part.
 use Rattle.std.specs.Prelude.{◌≡◌, ℕ, zero, suc, List, ◌++◌, map, Bool, true, false, cond}
 use Rattle.std.proofs.Common.{refl, sym, ap, ◌∙◌}
 use Rattle.std.proofs.lemmas.List.{map-append}
-use Rattle.es_base.specs.Tree.{Part, Parts, Node, end, more, child, absent, list, text, truth}
-use Rattle.es_steps.specs.Parts.{at, items, block_items, text_of, is_true, is_present}
+use Rattle.es_base.specs.Tree.{Part, Parts, Node, end, more, child, absent, list, string, boolean}
+use Rattle.es_steps.specs.Parts.{at, items, block_items, string_of, is_true, is_present}
 use Rattle.es_steps.proofs.Mapped.{mapped_part, mapped_parts}
 
 -- ---- choices and lists
@@ -28,15 +28,15 @@ module _ (f : ℕ → ℕ) where
   items-mapped p = refl
 
   pub block_items-mapped : (p : Part) → block_items (mapped_part f p) ≡ mapped_parts f (block_items p)
-  block_items-mapped (child (Node kind m span mark (more p ps))) = items-mapped p
+  block_items-mapped (child (Node kind m span semantic_id (more p ps))) = items-mapped p
   block_items-mapped p = refl
 
-  pub text_of-mapped : (p : Part) → text_of (mapped_part f p) ≡ text_of p
-  text_of-mapped (text s) = refl
-  text_of-mapped p = refl
+  pub string_of-mapped : (p : Part) → string_of (mapped_part f p) ≡ string_of p
+  string_of-mapped (string s) = refl
+  string_of-mapped p = refl
 
   pub is_true-mapped : (p : Part) → is_true (mapped_part f p) ≡ is_true p
-  is_true-mapped (truth b) = refl
+  is_true-mapped (boolean b) = refl
   is_true-mapped p = refl
 
   pub is_present-mapped : (p : Part) → is_present (mapped_part f p) ≡ is_present p
@@ -50,8 +50,8 @@ module _ (f : ℕ → ℕ) where
   pub block_items_at-mapped : (i : ℕ) (ps : Parts) → block_items (at i (mapped_parts f ps)) ≡ mapped_parts f (block_items (at i ps))
   block_items_at-mapped i ps = ap block_items (at-mapped i ps) ∙ block_items-mapped (at i ps)
 
-  pub text_at-mapped : (i : ℕ) (ps : Parts) → text_of (at i (mapped_parts f ps)) ≡ text_of (at i ps)
-  text_at-mapped i ps = ap text_of (at-mapped i ps) ∙ text_of-mapped (at i ps)
+  pub string_at-mapped : (i : ℕ) (ps : Parts) → string_of (at i (mapped_parts f ps)) ≡ string_of (at i ps)
+  string_at-mapped i ps = ap string_of (at-mapped i ps) ∙ string_of-mapped (at i ps)
 
   pub is_true_at-mapped : (i : ℕ) (ps : Parts) → is_true (at i (mapped_parts f ps)) ≡ is_true (at i ps)
   is_true_at-mapped i ps = ap is_true (at-mapped i ps) ∙ is_true-mapped (at i ps)

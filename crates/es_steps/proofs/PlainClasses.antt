@@ -56,16 +56,16 @@ ends-after env (Some r) h = h
 
 -- ---- plain values: constants and names that were not made
 
-pub data IsUnmade : NameKind → Type 0 where
-  fixed : (b : ℕ) → IsUnmade (Fixed b)
-  changing : (r : Referent) → IsUnmade (Changing r)
-  means_class : (n : ℕ) → IsUnmade (MeansClass n)
+pub data IsNotGenerated : NameKind → Type 0 where
+  fixed : (b : ℕ) → IsNotGenerated (Fixed b)
+  changing : (r : Referent) → IsNotGenerated (Changing r)
+  means_class : (n : ℕ) → IsNotGenerated (MeansClass n)
 
 pub data IsPlain : Code → Type 0 where
   a_value : (v : Value) → IsPlain (value v)
-  a_name : (m : ℕ) (s : Text) (kind : NameKind) → IsUnmade kind → IsPlain (name m s kind)
+  a_name : (m : ℕ) (s : Text) (kind : NameKind) → IsNotGenerated kind → IsPlain (name m s kind)
 
-read_name-stays : (m : ℕ) (s : Text) (kind : NameKind) → IsUnmade kind → Stays (read_name m s kind)
+read_name-stays : (m : ℕ) (s : Text) (kind : NameKind) → IsNotGenerated kind → Stays (read_name m s kind)
 read_name-stays m s kind (fixed b) env = refl
 read_name-stays m s kind (changing r) env = refl
 read_name-stays m s kind (means_class n) env = refl

@@ -4,7 +4,7 @@ use Rattle.std.proofs.Common.{refl, ap, ap₂, ◌∙◌}
 use Rattle.es_base.specs.Tree as tree
 use Rattle.es_base.specs.Tree.{Tree, Part, Parts, Node}
 use Rattle.es_base.specs.declared.kind.Kind.{Kind}
-use Rattle.es_steps.specs.Code.{binding, sequence, spelled, static_block, steps, template_text}
+use Rattle.es_steps.specs.Code.{binding, sequence, spelled, static_block, steps, template_string}
 use Rattle.es_steps.specs.Context.{Context, inside}
 use Rattle.es_steps.specs.Members.{Members, code, list, more, at, word_of}
 use Rattle.es_steps.specs.Reading.{statement_code, class_form_code, code_of, read, read_parts, read_part, read_items}
@@ -66,7 +66,7 @@ module _ {first : ℕ} {f : ℕ → ℕ} (r : Renames first f) (c : Context) (e 
   code_of-mapped Kind.IdentifierName m ps = ap spelled (word_at-mapped f 0 ps)
   code_of-mapped Kind.Literal m ps = literal_at-mapped f 0 ps
   code_of-mapped Kind.ThisExpression m ps = refl
-  code_of-mapped Kind.TemplateElement m ps = ap₂ template_text (word_at-mapped f 0 ps) (cooked_at-mapped f 1 ps)
+  code_of-mapped Kind.TemplateElement m ps = ap₂ template_string (word_at-mapped f 0 ps) (cooked_at-mapped f 1 ps)
   code_of-mapped Kind.TemplateLiteral m ps = template_code-mapped f m ps
   code_of-mapped Kind.MetaProperty m ps = meta_code-mapped f c m ps
   code_of-mapped Kind.MemberExpression m ps = member_code-mapped r c e m ps
@@ -93,7 +93,7 @@ module _ {first : ℕ} {f : ℕ → ℕ} (r : Renames first f) (c : Context) (e 
 module _ {first : ℕ} {f : ℕ → ℕ} (r : Renames first f) where
   mutual
     pub read-mapped : (c : Context) → c.first_new ≡ first → (t : Tree) → read (mapped_context f c) (mapped f t) ≡ mapped_code f (read c t)
-    read-mapped c e (Node kind m span mark ps) =
+    read-mapped c e (Node kind m span semantic_id ps) =
         ap (code_of (mapped_context f c) kind (f m)) (read_parts-mapped (inside (mapped_context f c) kind (f m) (mapped_parts f ps)) (inside c kind m ps) (inside-mapped f c kind m ps) (λ i. inside-first c kind m ps i ∙ e) ps)
         ∙ code_of-mapped r c e kind m (read_parts (inside c kind m ps) ps)
 
@@ -109,9 +109,9 @@ module _ {first : ℕ} {f : ℕ → ℕ} (r : Renames first f) where
     read_part-mapped c e (tree.child t) = ap code (read-mapped c e t)
     read_part-mapped c e tree.absent = refl
     read_part-mapped c e (tree.list ps) = ap list (read_items-mapped c e ps)
-    read_part-mapped c e (tree.text s) = refl
-    read_part-mapped c e tree.no_text = refl
-    read_part-mapped c e (tree.truth b) = refl
+    read_part-mapped c e (tree.string s) = refl
+    read_part-mapped c e tree.no_string = refl
+    read_part-mapped c e (tree.boolean b) = refl
     read_part-mapped c e (tree.literal v) = refl
 
     pub read_items-mapped : (c : Context) → c.first_new ≡ first → (ps : Parts) → read_items (mapped_context f c) (mapped_parts f ps) ≡ mapped_members f (read_items c ps)

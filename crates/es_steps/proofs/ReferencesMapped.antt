@@ -1,35 +1,35 @@
 -- What references refer to, and which bindings are written, follow a change of numbers.
 use Rattle.std.specs.Prelude.{◌≡◌, ℕ, suc, List, [], ◌∷◌, ◌++◌, ◌||◌, map, Bool, true, false, bytes_eq, Option, Some, None}
 use Rattle.std.proofs.Common.{refl, ap, ◌∙◌}
-use Rattle.es_base.specs.Order.{number_of, in_order, in_order_of_part, in_order_of}
+use Rattle.es_base.specs.Preorder.{number_of, preorder, preorder_of_part, preorder_of}
 use Rattle.es_base.specs.Table.{Field, members_of}
 use Rattle.es_base.specs.Tree.{Tree, Part, Parts, Node, end, more, child, list}
-use Rattle.es_steps.specs.Parts.{at, text_of}
+use Rattle.es_steps.specs.Parts.{at, string_of}
 use Rattle.es_steps.specs.References.{declared, referent, Reference, is_target, is_reference, reference, references, references_in, part_references, item_references, resolve, has_number, numbers_of, if_bound, assigned, is_declared, repeated, is_for_each, written_by, written_by_all, written}
 use Rattle.es_steps.specs.Scopes.{Declaration, names_at, scope_form, scope_names, var_part}
 use Rattle.es_steps.specs.Values.{Text, Referent, Bound, Free}
 use Rattle.es_steps.proofs.Mapped.{mapped, mapped_part, mapped_parts, mapped_declaration, mapped_declarations, mapped_option, mapped_reference, mapped_referent, Renames}
-use Rattle.es_steps.proofs.PartsMapped.{cond-mapped, append-mapped, at-mapped, text_at-mapped}
+use Rattle.es_steps.proofs.PartsMapped.{cond-mapped, append-mapped, at-mapped, string_at-mapped}
 use Rattle.es_steps.proofs.ScopesMapped.{names_at-mapped, scope_names-mapped, var_part-mapped}
 
 module _ (f : ℕ → ℕ) where
-  -- ---- reading order
+  -- ---- preorder
 
   pub number_of-mapped : (t : Tree) → number_of (mapped f t) ≡ f (number_of t)
-  number_of-mapped (Node kind m span mark ps) = refl
+  number_of-mapped (Node kind m span semantic_id ps) = refl
 
   mutual
-    pub in_order-mapped : (t : Tree) → in_order (mapped f t) ≡ map (mapped f) (in_order t)
-    in_order-mapped (Node kind m span mark ps) = ap (λ ts. Node kind (f m) span mark (mapped_parts f ps) ∷ ts) (in_order_of-mapped ps)
+    pub preorder-mapped : (t : Tree) → preorder (mapped f t) ≡ map (mapped f) (preorder t)
+    preorder-mapped (Node kind m span semantic_id ps) = ap (λ ts. Node kind (f m) span semantic_id (mapped_parts f ps) ∷ ts) (preorder_of-mapped ps)
 
-    in_order_of_part-mapped : (p : Part) → in_order_of_part (mapped_part f p) ≡ map (mapped f) (in_order_of_part p)
-    in_order_of_part-mapped (child t) = in_order-mapped t
-    in_order_of_part-mapped (list ps) = in_order_of-mapped ps
-    in_order_of_part-mapped p = refl
+    preorder_of_part-mapped : (p : Part) → preorder_of_part (mapped_part f p) ≡ map (mapped f) (preorder_of_part p)
+    preorder_of_part-mapped (child t) = preorder-mapped t
+    preorder_of_part-mapped (list ps) = preorder_of-mapped ps
+    preorder_of_part-mapped p = refl
 
-    in_order_of-mapped : (ps : Parts) → in_order_of (mapped_parts f ps) ≡ map (mapped f) (in_order_of ps)
-    in_order_of-mapped end = refl
-    in_order_of-mapped (more p ps) = append-mapped (mapped f) _ _ (in_order_of_part-mapped p) (in_order_of-mapped ps)
+    preorder_of-mapped : (ps : Parts) → preorder_of (mapped_parts f ps) ≡ map (mapped f) (preorder_of ps)
+    preorder_of-mapped end = refl
+    preorder_of-mapped (more p ps) = append-mapped (mapped f) _ _ (preorder_of_part-mapped p) (preorder_of-mapped ps)
 
   -- ---- resolution
 
@@ -46,9 +46,9 @@ module _ (f : ℕ → ℕ) where
 
   mutual
     pub references-mapped : (names : List Declaration) (target : Bool) (t : Tree) → references (mapped_declarations f names) target (mapped f t) ≡ map (mapped_reference f) (references names target t)
-    references-mapped names target (Node kind m span mark ps) =
+    references-mapped names target (Node kind m span semantic_id ps) =
         cond-mapped (map (mapped_reference f)) (is_reference kind) _ _
-        (rw (text_at-mapped f 0 ps) (reference-mapped names target m (text_of (at 0 ps))))
+        (rw (string_at-mapped f 0 ps) (reference-mapped names target m (string_of (at 0 ps))))
         (references_in-mapped _ (λ i. names_at kind m ps i ++ names) (λ i. append-mapped (mapped_declaration f) _ names (names_at-mapped f kind m ps i) refl) (members_of kind) ps)
 
     -- names that are seen part by part
@@ -99,7 +99,7 @@ module _ (f : ℕ → ℕ) where
   head_numbers-mapped ps = rw (at-mapped f 0 ps, var_part-mapped f (at 0 ps)) (numbers_of-mapped (var_part (at 0 ps)))
 
   written_by-mapped : (t : Tree) → written_by (mapped f t) ≡ map f (written_by t)
-  written_by-mapped (Node kind m span mark ps) =
+  written_by-mapped (Node kind m span semantic_id ps) =
       append-mapped f _ _
       (rw (scope_names-mapped f (scope_form kind) m ps) (repeated-mapped (scope_names (scope_form kind) m ps)))
       (cond-mapped (map f) (is_for_each kind) _ [] (head_numbers-mapped ps) refl)
@@ -110,9 +110,9 @@ module _ (f : ℕ → ℕ) where
 
   all_written-mapped : (t : Tree) → written (mapped f t) ≡ map f (written t)
   all_written-mapped t =
-      append-mapped f (assigned (resolve t)) (written_by_all (in_order t))
+      append-mapped f (assigned (resolve t)) (written_by_all (preorder t))
       (ap assigned (resolve-mapped t) ∙ assigned-mapped (resolve t))
-      (ap written_by_all (in_order-mapped t) ∙ written_by_all-mapped (in_order t))
+      (ap written_by_all (preorder-mapped t) ∙ written_by_all-mapped (preorder t))
 
 pub written-mapped : {first : ℕ} {f : ℕ → ℕ} → Renames first f → (t : Tree) → written (mapped f t) ≡ map f (written t)
 written-mapped {first} {f} r t = all_written-mapped f t

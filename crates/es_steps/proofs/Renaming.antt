@@ -1,13 +1,13 @@
--- Giving the new nodes of a tree their numbers anew, in reading order, is a change of numbers.
+-- Giving the new nodes of a tree their numbers anew, in preorder, is a change of numbers.
 use Rattle.std.proofs.Common.{◌≡◌, refl, sym, subst, ap, ◌∙◌, true≢false, ℕ, ◌+◌, ◌<◌, ◌≤◌, List, [], ◌∷◌, ◌++◌, length, map, Bool, true, false, Option, Some, None, length-append, arith}
 use Rattle.std.specs.Prelude.{nat_eq, filter, not, cond}
 use Rattle.std.specs.List.{IsDistinct, AllByRecursion}
 use Rattle.std.proofs.lemmas.List.{map-append, length-map}
 use Rattle.std.proofs.lemmas.List.Elements.{filter-append}
 use Rattle.std.proofs.lemmas.Bool.{le-leb}
-use Rattle.es_base.specs.Tree.{Tree, Part, Parts, Node, end, more, child, absent, list, text, no_text, truth, literal}
-use Rattle.es_base.specs.Order.{in_order_of, in_order_of_part, number_of, one_if, either, news, news_of, news_of_part, renumbered, renumbered_part, renumbered_parts}
-use Rattle.es_base.specs.Numbered.{numbers, is_new, is_old, InTurn, EachOnce, new_numbers}
+use Rattle.es_base.specs.Tree.{Tree, Part, Parts, Node, end, more, child, absent, list, string, no_string, boolean, literal}
+use Rattle.es_base.specs.Preorder.{preorder_of, preorder_of_part, number_of, one_if, either, news, news_of, news_of_part, renumbered, renumbered_part, renumbered_parts}
+use Rattle.es_base.specs.Numbered.{numbers, is_new, is_old, AreConsecutive, EachOnce, new_numbers}
 use Rattle.es_steps.proofs.Mapped.{Renames, mapped, mapped_part, mapped_parts}
 
 -- ---- the change
@@ -119,13 +119,13 @@ renaming-renames first xs = record { apart = renaming-apart first xs; new = rena
 -- ---- a tree that it maps in turn is numbered anew
 
 abbrev new_of_part : ℕ → Part → List ℕ
-new_of_part first p = filter (is_new first) (map number_of (in_order_of_part p))
+new_of_part first p = filter (is_new first) (map number_of (preorder_of_part p))
 
 abbrev new_of : ℕ → Parts → List ℕ
-new_of first ps = filter (is_new first) (map number_of (in_order_of ps))
+new_of first ps = filter (is_new first) (map number_of (preorder_of ps))
 
 new_of-more : (first : ℕ) (p : Part) (rest : Parts) → new_of first (more p rest) ≡ new_of_part first p ++ new_of first rest
-new_of-more first p rest = ap (filter (is_new first)) (map-append number_of (in_order_of_part p) (in_order_of rest)) ∙ filter-append (is_new first) (map number_of (in_order_of_part p)) (map number_of (in_order_of rest))
+new_of-more first p rest = ap (filter (is_new first)) (map-append number_of (preorder_of_part p) (preorder_of rest)) ∙ filter-append (is_new first) (map number_of (preorder_of_part p)) (map number_of (preorder_of rest))
 
 many_first : (id : ℕ) (b : Bool) (ks : List ℕ) → length (cond b (id ∷ ks) ks) ≡ one_if b + length ks
 many_first id true ks = omega arith
@@ -133,15 +133,15 @@ many_first id false ks = omega arith
 
 mutual
   many : (first : ℕ) (t : Tree) → length (new_numbers first t) ≡ news first t
-  many first (Node kind id span mark ps) = many_first id (is_new first id) (new_of first ps) ∙ ap (λ k. one_if (is_new first id) + k) (many_of first ps)
+  many first (Node kind id span semantic_id ps) = many_first id (is_new first id) (new_of first ps) ∙ ap (λ k. one_if (is_new first id) + k) (many_of first ps)
 
   many_of_part : (first : ℕ) (p : Part) → length (new_of_part first p) ≡ news_of_part first p
   many_of_part first (child t) = many first t
   many_of_part first absent = refl
   many_of_part first (list ps) = many_of first ps
-  many_of_part first (text s) = refl
-  many_of_part first no_text = refl
-  many_of_part first (truth b) = refl
+  many_of_part first (string s) = refl
+  many_of_part first no_string = refl
+  many_of_part first (boolean b) = refl
   many_of_part first (literal v) = refl
 
   many_of : (first : ℕ) (ps : Parts) → length (new_of first ps) ≡ news_of first ps
@@ -149,44 +149,44 @@ mutual
   many_of first (more p rest) = omega (arith, ap length (new_of-more first p rest), length-append (new_of_part first p) (new_of first rest), many_of_part first p, many_of first rest)
 
 -- of two lists in turn, one behind the other, both are
-InTurn-split : (n k : ℕ) (xs ys : List ℕ) → length xs ≡ k → InTurn n (xs ++ ys) → InTurn n xs × InTurn (n + k) ys
-InTurn-split n k [] ys e i =
+AreConsecutive-split : (n k : ℕ) (xs ys : List ℕ) → length xs ≡ k → AreConsecutive n (xs ++ ys) → AreConsecutive n xs × AreConsecutive (n + k) ys
+AreConsecutive-split n k [] ys e i =
     let same : n ≡ n + k = omega (arith, e) in
-    (tt, subst (λ m. InTurn m ys) same i)
-InTurn-split n k (x ∷ xs) ys e i =
-    let both : InTurn (n + 1) xs × InTurn (n + 1 + length xs) ys = InTurn-split (n + 1) (length xs) xs ys refl i.1 in
+    (tt, subst (λ m. AreConsecutive m ys) same i)
+AreConsecutive-split n k (x ∷ xs) ys e i =
+    let both : AreConsecutive (n + 1) xs × AreConsecutive (n + 1 + length xs) ys = AreConsecutive-split (n + 1) (length xs) xs ys refl i.1 in
     let same : n + 1 + length xs ≡ n + k = omega (arith, e) in
-    ((i.0, both.0), subst (λ m. InTurn m ys) same both.1)
+    ((i.0, both.0), subst (λ m. AreConsecutive m ys) same both.1)
 
 module _ (first : ℕ) (f : ℕ → ℕ) (stays : (a : ℕ) → is_old first a ≡ true → f a ≡ a) where
-  first_anew : (n id : ℕ) (b : Bool) (ks : List ℕ) → is_new first id ≡ b → InTurn n (map f (cond b (id ∷ ks) ks)) → (f id ≡ either b n id) × InTurn (n + one_if b) (map f ks)
+  first_anew : (n id : ℕ) (b : Bool) (ks : List ℕ) → is_new first id ≡ b → AreConsecutive n (map f (cond b (id ∷ ks) ks)) → (f id ≡ either b n id) × AreConsecutive (n + one_if b) (map f ks)
   first_anew n id true ks e i = (i.0, i.1)
   first_anew n id false ks e i =
       let same : n ≡ n + 0 = omega arith in
-      (stays id (ap not e), subst (λ m. InTurn m (map f ks)) same i)
+      (stays id (ap not e), subst (λ m. AreConsecutive m (map f ks)) same i)
 
-  parts_anew : (n : ℕ) (p : Part) (rest : Parts) → InTurn n (map f (new_of first (more p rest))) → InTurn n (map f (new_of_part first p)) × InTurn (n + news_of_part first p) (map f (new_of first rest))
+  parts_anew : (n : ℕ) (p : Part) (rest : Parts) → AreConsecutive n (map f (new_of first (more p rest))) → AreConsecutive n (map f (new_of_part first p)) × AreConsecutive (n + news_of_part first p) (map f (new_of first rest))
   parts_anew n p rest i =
-      InTurn-split n (news_of_part first p) (map f (new_of_part first p)) (map f (new_of first rest))
+      AreConsecutive-split n (news_of_part first p) (map f (new_of_part first p)) (map f (new_of first rest))
       (length-map (new_of_part first p) f ∙ many_of_part first p)
-      (subst (InTurn n) (ap (map f) (new_of-more first p rest) ∙ map-append f (new_of_part first p) (new_of first rest)) i)
+      (subst (AreConsecutive n) (ap (map f) (new_of-more first p rest) ∙ map-append f (new_of_part first p) (new_of first rest)) i)
 
   mutual
-    anew : (n : ℕ) (t : Tree) → InTurn n (map f (new_numbers first t)) → mapped f t ≡ renumbered first n t
-    anew n (Node kind id span mark ps) i =
+    anew : (n : ℕ) (t : Tree) → AreConsecutive n (map f (new_numbers first t)) → mapped f t ≡ renumbered first n t
+    anew n (Node kind id span semantic_id ps) i =
         let both = first_anew n id (is_new first id) (new_of first ps) refl i in
-        ap (λ k. Node kind k span mark (mapped_parts f ps)) both.0 ∙ ap (Node kind (either (is_new first id) n id) span mark) (anew_parts (n + one_if (is_new first id)) ps both.1)
+        ap (λ k. Node kind k span semantic_id (mapped_parts f ps)) both.0 ∙ ap (Node kind (either (is_new first id) n id) span semantic_id) (anew_parts (n + one_if (is_new first id)) ps both.1)
 
-    anew_part : (n : ℕ) (p : Part) → InTurn n (map f (new_of_part first p)) → mapped_part f p ≡ renumbered_part first n p
+    anew_part : (n : ℕ) (p : Part) → AreConsecutive n (map f (new_of_part first p)) → mapped_part f p ≡ renumbered_part first n p
     anew_part n (child t) i = ap child (anew n t i)
     anew_part n absent i = refl
     anew_part n (list ps) i = ap list (anew_parts n ps i)
-    anew_part n (text s) i = refl
-    anew_part n no_text i = refl
-    anew_part n (truth b) i = refl
+    anew_part n (string s) i = refl
+    anew_part n no_string i = refl
+    anew_part n (boolean b) i = refl
     anew_part n (literal v) i = refl
 
-    anew_parts : (n : ℕ) (ps : Parts) → InTurn n (map f (new_of first ps)) → mapped_parts f ps ≡ renumbered_parts first n ps
+    anew_parts : (n : ℕ) (ps : Parts) → AreConsecutive n (map f (new_of first ps)) → mapped_parts f ps ≡ renumbered_parts first n ps
     anew_parts n end i = refl
     anew_parts n (more p rest) i =
         let both = parts_anew n p rest i in
@@ -228,20 +228,20 @@ map-same f g P [] agree all = refl
 map-same f g P (k ∷ ks) agree all = ap (λ j. j ∷ map f ks) (agree k all.0) ∙ ap (λ js. g k ∷ js) (map-same f g P ks agree all.1)
 
 -- numbers that stand once each have their places in turn, whatever becomes of others
-placed_in_turn : (beside : ℕ → ℕ) (n : ℕ) (ks : List ℕ) → EachOnce ks → InTurn n (map (λ k. placed_or (beside k) (place n k ks)) ks)
+placed_in_turn : (beside : ℕ → ℕ) (n : ℕ) (ks : List ℕ) → EachOnce ks → AreConsecutive n (map (λ k. placed_or (beside k) (place n k ks)) ks)
 unfolding IsDistinct
 placed_in_turn beside n [] once = tt
 placed_in_turn beside n (k ∷ ks) once =
     let behind : map (λ j. placed_or (beside j) (place n j (k ∷ ks))) ks ≡ map (λ j. placed_or (beside j) (place (n + 1) j ks)) ks = map-same _ _ (λ j. nat_eq k j ≡ false) ks later once.0 in
-    (ap (λ b. placed_or (beside k) (cond b (Some n) (place (n + 1) k ks))) (nat_eq-refl k), subst (InTurn (n + 1)) (sym behind) (placed_in_turn beside (n + 1) ks once.1))
+    (ap (λ b. placed_or (beside k) (cond b (Some n) (place (n + 1) k ks))) (nat_eq-refl k), subst (AreConsecutive (n + 1)) (sym behind) (placed_in_turn beside (n + 1) ks once.1))
   where
     later : (j : ℕ) → nat_eq k j ≡ false → placed_or (beside j) (place n j (k ∷ ks)) ≡ placed_or (beside j) (place (n + 1) j ks)
     later j apart = ap (λ b. placed_or (beside j) (cond b (Some n) (place (n + 1) j ks))) (nat_eq-apart j k (λ same. nat_eq-differ k j apart (sym same)))
 
-renaming_in_turn : (first : ℕ) (ks : List ℕ) → EachOnce ks → AllByRecursion (λ k. is_new first k ≡ true) ks → InTurn first (map (renaming first ks) ks)
+renaming_in_turn : (first : ℕ) (ks : List ℕ) → EachOnce ks → AllByRecursion (λ k. is_new first k ≡ true) ks → AreConsecutive first (map (renaming first ks) ks)
 renaming_in_turn first ks once new =
     let placed : map (renaming first ks) ks ≡ map (λ k. placed_or (k + length ks) (place first k ks)) ks = map-same _ _ (λ k. is_new first k ≡ true) ks (λ k e. ap (λ b. cond b (placed_or (k + length ks) (place first k ks)) k) e) new in
-    subst (InTurn first) (sym placed) (placed_in_turn (λ k. k + length ks) first ks once)
+    subst (AreConsecutive first) (sym placed) (placed_in_turn (λ k. k + length ks) first ks once)
 
 pub renaming-renumbers : (first : ℕ) (t : Tree) → EachOnce (numbers t) → mapped (renaming first (new_numbers first t)) t ≡ renumbered first first t
 renaming-renumbers first t once =

@@ -1,7 +1,7 @@
 -- Giving the new nodes their numbers anew keeps a meaning in which none of them stands.
 use Rattle.std.proofs.Common.{◌≡◌, refl, sym, ap, ap₂, ◌∙◌, ℕ, List, [], map, true, Option, Some}
 use Rattle.es_base.specs.Numbered.{new_numbers}
-use Rattle.es_base.specs.Order.{in_order}
+use Rattle.es_base.specs.Preorder.{preorder}
 use Rattle.es_base.specs.Tree.{Tree}
 use Rattle.es_base.specs.declared.ledger.LedgerEntry.{LedgerEntry}
 use Rattle.es_steps.specs.Code.{Code}
@@ -18,26 +18,26 @@ use Rattle.es_steps.proofs.EvaluationMapped.{ev-mapped}
 use Rattle.es_steps.proofs.Mapped.{Renames, mapped, mapped_option, mapped_code, mapped_run, mapped_listed, mapped_numbered_entry, mapped_pair, mapped_meaning}
 use Rattle.es_steps.proofs.MeaningMapped.{by_number-still, whole-mapped, source_type_of-mapped, declared_functions-mapped, declaring-mapped, old_bindings-mapped}
 use Rattle.es_steps.proofs.ReadingMapped.{read-mapped}
-use Rattle.es_steps.proofs.ReferencesMapped.{in_order-mapped}
+use Rattle.es_steps.proofs.ReferencesMapped.{preorder-mapped}
 use Rattle.es_steps.proofs.Renaming.{renaming-renames, renaming-renumbers}
 use Rattle.es_steps.proofs.Still.{meaning-still}
 
 module _ {first : ℕ} {f : ℕ → ℕ} (r : Renames first f) (ledger : List LedgerEntry) (t : Tree) where
-  functions-mapped : declared_functions ledger (in_order (mapped f t)) ≡ map (mapped_pair f) (declared_functions ledger (in_order t))
-  functions-mapped = ap (declared_functions ledger) (in_order-mapped f t) ∙ declared_functions-mapped f ledger (in_order t)
+  functions-mapped : declared_functions ledger (preorder (mapped f t)) ≡ map (mapped_pair f) (declared_functions ledger (preorder t))
+  functions-mapped = ap (declared_functions ledger) (preorder-mapped f t) ∙ declared_functions-mapped f ledger (preorder t)
 
   bindings-same : old_bindings first (declaring ClassDeclared (mapped f t)) ≡ old_bindings first (declaring ClassDeclared t)
   bindings-same = ap (old_bindings first) (declaring-mapped f ClassDeclared t) ∙ old_bindings-mapped r (declaring ClassDeclared t)
 
   abbrev found : Listed → List (ℕ × Entry) → Meaning
-  found l es = record { source_type = source_type_of t; program = l; entries = by_number es; functions = by_number (declared_functions ledger (in_order t)); bindings = by_number (old_bindings first (declaring ClassDeclared t)) }
+  found l es = record { source_type = source_type_of t; program = l; entries = by_number es; functions = by_number (declared_functions ledger (preorder t)); bindings = by_number (old_bindings first (declaring ClassDeclared t)) }
 
   -- the meaning under the change, where the change leaves the meaning
   found-same : (l : Listed) (es : List (ℕ × Entry)) → mapped_meaning f (found l es) ≡ found l es → with_all first ledger (mapped f t) (Some (mapped_listed f l)) (Some (map (mapped_numbered_entry f) es)) ≡ Some (found l es)
   found-same l es still =
       let program : mapped_listed f l ≡ l = ap (λ (m : Meaning). m.program) still in
       let same_entries : map (mapped_numbered_entry f) es ≡ es = by_number-still (mapped_numbered_entry f) es (ap (λ (m : Meaning). m.entries) still) in
-      let same_functions : declared_functions ledger (in_order (mapped f t)) ≡ declared_functions ledger (in_order t) = functions-mapped ∙ by_number-still (mapped_pair f) (declared_functions ledger (in_order t)) (ap (λ (m : Meaning). m.functions) still) in
+      let same_functions : declared_functions ledger (preorder (mapped f t)) ≡ declared_functions ledger (preorder t) = functions-mapped ∙ by_number-still (mapped_pair f) (declared_functions ledger (preorder t)) (ap (λ (m : Meaning). m.functions) still) in
       rw (program, same_entries, same_functions, bindings-same, source_type_of-mapped f t) refl
 
   means_of-mapped : (c : Code) → means_of first ledger (mapped f t) (mapped_code f c) ≡ with_all first ledger (mapped f t) (mapped_option (mapped_listed f) (listed (ev c []))) (mapped_option (map (mapped_numbered_entry f)) (whole (entries first [] (after_run [] (ev c [])) c)))

@@ -7,17 +7,17 @@ use Rattle.es_base.specs.declared.kind.Kind.{Kind}
 use Rattle.es_steps.specs.Parts.{at, items, block_items}
 use Rattle.es_steps.specs.Scopes.{ClassName, no_class, declares, own_name, Declaration, binds, is_binding_identifier, declaration, bound_names, bound_members, bound_part, bound_items, StatementForm, variables, function_declaration, class_declaration, imports, passes_on, nests, statement_form, is_var, lexical_by, lexical_names, lexical_part, lexical_items, var_by, var_names, var_part, var_items, body_names, ScopeForm, program_scope, function_scope, own_function_scope, arrow_scope, own_class_scope, block_scope, static_block_scope, loop_scope, switch_scope, catch_scope, no_scope, scope_form, scope_names, seen, names_at}
 use Rattle.es_steps.proofs.Mapped.{mapped, mapped_part, mapped_parts, mapped_class_name, mapped_declaration, mapped_declarations}
-use Rattle.es_steps.proofs.PartsMapped.{cond-mapped, append-mapped, at-mapped, items_at-mapped, block_items_at-mapped, text_at-mapped}
+use Rattle.es_steps.proofs.PartsMapped.{cond-mapped, append-mapped, at-mapped, items_at-mapped, block_items_at-mapped, string_at-mapped}
 
 module _ (f : ℕ → ℕ) where
   -- ---- the names that a pattern or a declaration binds
 
   declaration-mapped : (name : ClassName) (b : ℕ) (ps : Parts) → declaration (mapped_class_name f name) (f b) (mapped_parts f ps) ≡ mapped_declarations f (declaration name b ps)
-  declaration-mapped name b ps = rw (text_at-mapped f 0 ps) refl
+  declaration-mapped name b ps = rw (string_at-mapped f 0 ps) refl
 
   mutual
     pub bound_names-mapped : (name : ClassName) (t : Tree) → bound_names (mapped_class_name f name) (mapped f t) ≡ mapped_declarations f (bound_names name t)
-    bound_names-mapped name (Node kind b span mark ps) = cond-mapped (mapped_declarations f) (is_binding_identifier kind) _ _ (declaration-mapped name b ps) (bound_members-mapped name (members_of kind) ps)
+    bound_names-mapped name (Node kind b span semantic_id ps) = cond-mapped (mapped_declarations f) (is_binding_identifier kind) _ _ (declaration-mapped name b ps) (bound_members-mapped name (members_of kind) ps)
 
     pub bound_members-mapped : (name : ClassName) (fs : List Field) (ps : Parts) → bound_members (mapped_class_name f name) fs (mapped_parts f ps) ≡ mapped_declarations f (bound_members name fs ps)
     bound_members-mapped name fs end = refl
@@ -39,7 +39,7 @@ module _ (f : ℕ → ℕ) where
   -- ---- the names that a statement declares
 
   is_var-mapped : (ps : Parts) → is_var (mapped_parts f ps) ≡ is_var ps
-  is_var-mapped ps = ap (λ s. bytes_eq s (codes "var")) (text_at-mapped f 0 ps)
+  is_var-mapped ps = ap (λ s. bytes_eq s (codes "var")) (string_at-mapped f 0 ps)
 
   lexical_by-mapped : (form : StatementForm) (m : ℕ) (ps : Parts) (inner : List Declaration) → lexical_by form (f m) (mapped_parts f ps) (mapped_declarations f inner) ≡ mapped_declarations f (lexical_by form m ps inner)
   lexical_by-mapped variables m ps inner = rw (is_var-mapped ps) (cond-mapped (mapped_declarations f) (is_var ps) _ _ refl (bound_at-mapped no_class 1 ps))
@@ -51,7 +51,7 @@ module _ (f : ℕ → ℕ) where
 
   mutual
     pub lexical_names-mapped : (t : Tree) → lexical_names (mapped f t) ≡ mapped_declarations f (lexical_names t)
-    lexical_names-mapped (Node kind m span mark ps) = rw (lexical_items-mapped ps) (lexical_by-mapped (statement_form kind) m ps (lexical_items ps))
+    lexical_names-mapped (Node kind m span semantic_id ps) = rw (lexical_items-mapped ps) (lexical_by-mapped (statement_form kind) m ps (lexical_items ps))
 
     pub lexical_part-mapped : (p : Part) → lexical_part (mapped_part f p) ≡ mapped_declarations f (lexical_part p)
     lexical_part-mapped (child t) = lexical_names-mapped t
@@ -75,7 +75,7 @@ module _ (f : ℕ → ℕ) where
 
   mutual
     pub var_names-mapped : (t : Tree) → var_names (mapped f t) ≡ mapped_declarations f (var_names t)
-    var_names-mapped (Node kind m span mark ps) = rw (var_items-mapped ps) (var_by-mapped (statement_form kind) ps (var_items ps))
+    var_names-mapped (Node kind m span semantic_id ps) = rw (var_items-mapped ps) (var_by-mapped (statement_form kind) ps (var_items ps))
 
     pub var_part-mapped : (p : Part) → var_part (mapped_part f p) ≡ mapped_declarations f (var_part p)
     var_part-mapped (child t) = var_names-mapped t

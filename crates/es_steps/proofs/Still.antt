@@ -5,9 +5,9 @@ use Rattle.es_base.specs.Numbered.{is_old}
 use Rattle.es_steps.specs.Entries.{Parameter, Method, Listed, Entry, FunctionEntry, ClassEntry}
 use Rattle.es_steps.specs.Events.{Event, ReadName, SetName, Get, Set, Define, Call, Construct, Operate, Update, SuperAll, Throw, Held, Events, none, then}
 use Rattle.es_steps.specs.Meaning.{Meaning, DeclarationKind}
-use Rattle.es_steps.specs.Standing.{value_numbers, values_numbers, maybe_value_numbers, referent_numbers, event_numbers, events_numbers, listed_numbers, parameter_numbers, method_numbers, maybe_number, entry_numbers, entries_numbers, pair_numbers, binding_numbers, meaning_numbers, all_old}
+use Rattle.es_steps.specs.Standing.{value_numbers, values_numbers, nullable_value_numbers, referent_numbers, event_numbers, events_numbers, listed_numbers, parameter_numbers, method_numbers, nullable_number, entry_numbers, entries_numbers, pair_numbers, binding_numbers, meaning_numbers, all_old}
 use Rattle.es_steps.specs.Values.{Value, ConstantOf, Undefined, BindingOf, FunctionOf, ClassOf, ThisOf, ArgumentsOf, NewTargetOf, ResultOf, FormerOf, Referent, Bound, Free}
-use Rattle.es_steps.proofs.Mapped.{Renames, mapped_option, mapped_referent, mapped_value, mapped_values, mapped_maybe, mapped_event, mapped_events, mapped_listed, mapped_parameter, mapped_method, mapped_entry, mapped_numbered_entry, mapped_pair, mapped_binding, mapped_meaning}
+use Rattle.es_steps.proofs.Mapped.{Renames, mapped_option, mapped_referent, mapped_value, mapped_values, mapped_nullable, mapped_event, mapped_events, mapped_listed, mapped_parameter, mapped_method, mapped_entry, mapped_numbered_entry, mapped_pair, mapped_binding, mapped_meaning}
 
 -- numbers of two parts are old if those of both are
 old_parts : (first : ℕ) (xs ys : List ℕ) → all_old first (xs ++ ys) ≡ true → (all_old first xs ≡ true) × (all_old first ys ≡ true)
@@ -44,9 +44,9 @@ module _ {first : ℕ} {f : ℕ → ℕ} (r : Renames first f) where
       let both = old_parts first (value_numbers v) (values_numbers vs) old in
       ap₂ (λ a b. a ∷ b) (value-still v both.0) (values-still vs both.1)
 
-  pub maybe-still : (v : Option Value) → all_old first (maybe_value_numbers v) ≡ true → mapped_maybe f v ≡ v
-  maybe-still None old = refl
-  maybe-still (Some v) old = ap Some (value-still v old)
+  pub nullable-still : (v : Option Value) → all_old first (nullable_value_numbers v) ≡ true → mapped_nullable f v ≡ v
+  nullable-still None old = refl
+  nullable-still (Some v) old = ap Some (value-still v old)
 
   pub referent-still : (to : Referent) → all_old first (referent_numbers to) ≡ true → mapped_referent f to ≡ to
   referent-still (Bound b) old = ap Bound (number-still b [] old)
@@ -73,9 +73,9 @@ module _ {first : ℕ} {f : ℕ → ℕ} (r : Renames first f) where
     event-still (Set o k v) old = three-still Set o k v old
     event-still (Define o k v) old = three-still Define o k v old
     event-still (Call m callee receiver vs) old =
-        let outer = old_parts first (m ∷ value_numbers callee ++ maybe_value_numbers receiver) (values_numbers vs) old in
-        let inner = old_parts first (m ∷ value_numbers callee) (maybe_value_numbers receiver) outer.0 in
-        rw (number-still m (value_numbers callee) inner.0, value-still callee (rest_old m (value_numbers callee) inner.0), maybe-still receiver inner.1, values-still vs outer.1) refl
+        let outer = old_parts first (m ∷ value_numbers callee ++ nullable_value_numbers receiver) (values_numbers vs) old in
+        let inner = old_parts first (m ∷ value_numbers callee) (nullable_value_numbers receiver) outer.0 in
+        rw (number-still m (value_numbers callee) inner.0, value-still callee (rest_old m (value_numbers callee) inner.0), nullable-still receiver inner.1, values-still vs outer.1) refl
     event-still (Construct m callee vs) old =
         let both = old_parts first (m ∷ value_numbers callee) (values_numbers vs) old in
         rw (number-still m (value_numbers callee) both.0, value-still callee (rest_old m (value_numbers callee) both.0), values-still vs both.1) refl
@@ -112,19 +112,19 @@ module _ {first : ℕ} {f : ℕ → ℕ} (r : Renames first f) where
       let both = old_parts first (value_numbers m.key) (m.function ∷ method_numbers ms) old in
       rw (value-still m.key both.0, number-still m.function (method_numbers ms) both.1, methods-still ms (rest_old m.function (method_numbers ms) both.1)) refl
 
-  maybe_number-still : (n : Option ℕ) → all_old first (maybe_number n) ≡ true → mapped_option f n ≡ n
-  maybe_number-still None old = refl
-  maybe_number-still (Some n) old = ap Some (number-still n [] old)
+  nullable_number-still : (n : Option ℕ) → all_old first (nullable_number n) ≡ true → mapped_option f n ≡ n
+  nullable_number-still None old = refl
+  nullable_number-still (Some n) old = ap Some (number-still n [] old)
 
   pub entry-still : (e : Entry) → all_old first (entry_numbers e) ≡ true → mapped_entry f e ≡ e
   entry-still (FunctionEntry form ps body) old =
       let both = old_parts first (parameter_numbers ps) (listed_numbers body) old in
       ap₂ (FunctionEntry form) (parameters-still ps both.0) (listed-still body both.1)
   entry-still (ClassEntry declared h ms construction) old =
-      let outer = old_parts first (maybe_number declared ++ maybe_value_numbers h ++ method_numbers ms) (listed_numbers construction) old in
-      let middle = old_parts first (maybe_number declared ++ maybe_value_numbers h) (method_numbers ms) outer.0 in
-      let inner = old_parts first (maybe_number declared) (maybe_value_numbers h) middle.0 in
-      rw (maybe_number-still declared inner.0, maybe-still h inner.1, methods-still ms middle.1, listed-still construction outer.1) refl
+      let outer = old_parts first (nullable_number declared ++ nullable_value_numbers h ++ method_numbers ms) (listed_numbers construction) old in
+      let middle = old_parts first (nullable_number declared ++ nullable_value_numbers h) (method_numbers ms) outer.0 in
+      let inner = old_parts first (nullable_number declared) (nullable_value_numbers h) middle.0 in
+      rw (nullable_number-still declared inner.0, nullable-still h inner.1, methods-still ms middle.1, listed-still construction outer.1) refl
 
   pub entries-still : (es : List (ℕ × Entry)) → all_old first (entries_numbers es) ≡ true → map (mapped_numbered_entry f) es ≡ es
   entries-still [] old = refl

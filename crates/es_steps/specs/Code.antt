@@ -41,7 +41,7 @@ mutual
     operation : (m : ℕ) (operation : Operation) (operands held : Codes) → Code
     -- a part of an operation that is no operand itself: its marks and its operands
     piece : (marks : List Mark) (operands : Codes) → Code
-    template_text : (raw : Text) (cooked : Option Text) → Code
+    template_string : (raw : Text) (cooked : Option Text) → Code
     -- the helper `defineProperty` on an object that is known
     define : (object : Value) (key right : Code) → Code
     steps : (all : Codes) → Code

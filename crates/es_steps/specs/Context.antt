@@ -1,5 +1,5 @@
 -- What is known at a place of a tree: which names are seen there, what `this` is, which class stands around.
--- (ECMA-262, 9.4: execution contexts. What new nodes and made names are is our own.)
+-- (ECMA-262, 9.4: execution contexts. What new nodes and generated names are is our own.)
 use Rattle.std.specs.Prelude.{ℕ, List, [], ◌∷◌, ◌++◌, Bool, true, false, cond, codes, bytes_eq, nat_eq, Option, Some, None}
 use Rattle.es_base.specs.Numbered.{is_new}
 use Rattle.es_base.specs.Tree.{Parts}
@@ -7,12 +7,12 @@ use Rattle.es_base.specs.declared.kind.Kind.{Kind}
 use Rattle.es_base.specs.declared.ledger.GeneratedKind.{GeneratedKind}
 use Rattle.es_base.specs.declared.ledger.LedgerEntry.{LedgerEntry}
 use Rattle.es_steps.specs.Options.{Options}
-use Rattle.es_steps.specs.Parts.{at, text_of, is_true}
+use Rattle.es_steps.specs.Parts.{at, string_of, is_true}
 use Rattle.es_steps.specs.References.{declared, has_number}
 use Rattle.es_steps.specs.Scopes.{ClassName, no_class, declares, own_name, Declaration, names_at}
 use Rattle.es_steps.specs.Values.{Text, Value, Undefined, ClassOf, ThisOf, ArgumentsOf, NewTargetOf, Referent, Bound, Free}
 
--- What a name is: a binding that is not written, one that is or a free name, a class, or a name that was made.
+-- What a name is: a binding that is not written, one that is or a free name, a class, or a generated name.
 pub data NameKind : Type 0 where
   Fixed : (b : ℕ) → NameKind
   Changing : (r : Referent) → NameKind
@@ -39,9 +39,9 @@ abbrev pub new_here : Context → ℕ → Bool
 new_here c m = is_new c.first_new m
 
 -- the first entry of the ledger with this spelling
-abbrev pub made_as : Text → List LedgerEntry → Option GeneratedKind
-made_as s [] = None
-made_as s (e ∷ es) = cond (bytes_eq s e.name) (Some e.kind) (made_as s es)
+abbrev pub generated_as : Text → List LedgerEntry → Option GeneratedKind
+generated_as s [] = None
+generated_as s (e ∷ es) = cond (bytes_eq s e.name) (Some e.kind) (generated_as s es)
 
 abbrev pub unless_written : List ℕ → ℕ → NameKind → NameKind
 unless_written written b kind = cond (has_number b written) (Changing (Bound b)) kind
@@ -55,12 +55,12 @@ abbrev pub found_kind : List ℕ → Text → Option Declaration → NameKind
 found_kind written s None = Changing (Free s)
 found_kind written s (Some d) = declared_kind written d.number d.class_name
 
-abbrev pub made_or : Option GeneratedKind → NameKind → NameKind
-made_or (Some g) kind = Made g
-made_or None kind = kind
+abbrev pub generated_or : Option GeneratedKind → NameKind → NameKind
+generated_or (Some g) kind = Made g
+generated_or None kind = kind
 
 abbrev pub name_kind : Context → Text → NameKind
-name_kind c s = made_or (made_as s c.ledger) (found_kind c.written s (declared s c.names))
+name_kind c s = generated_or (generated_as s c.ledger) (found_kind c.written s (declared s c.names))
 
 -- ---- inside a node
 
@@ -94,7 +94,7 @@ abbrev pub framed : Frame → ℕ → Parts → ℕ → Context → Context
 framed function_frame m ps i c = in_function (cond c.constructs c.class m) c
 framed class_frame m ps i c = record c { class = m }
 framed field_frame m ps i c = cond (nat_eq i 1) (in_element (is_true (at 3 ps)) c) c
-framed method_frame m ps i c = record c { constructs = bytes_eq (text_of (at 2 ps)) (codes "constructor") }
+framed method_frame m ps i c = record c { constructs = bytes_eq (string_of (at 2 ps)) (codes "constructor") }
 framed static_block_frame m ps i c = in_element true c
 framed same_frame m ps i c = c
 

@@ -27,7 +27,7 @@ pub data Entry : Type 0 where
   FunctionEntry : (form : FunctionForm) (parameters : List Parameter) (body : Listed) → Entry
   ClassEntry : (declared : Option ℕ) (heritage : Option Value) (methods : List Method) (construction : Listed) → Entry
 
--- ---- the names that were made and that a code assigns
+-- ---- the generated names and that a code assigns
 
 abbrev pub target_name : Target → List Text
 target_name (to_name m s (Made g)) = s ∷ []
@@ -67,14 +67,14 @@ abbrev mutual
   assigned_in_all done = []
   assigned_in_all (and e es) = assigned_in e ++ assigned_in_all es
 
-abbrev pub is_text_among : Text → List Text → Bool
-is_text_among s [] = false
-is_text_among s (x ∷ xs) = bytes_eq s x || is_text_among s xs
+abbrev pub is_string_among : Text → List Text → Bool
+is_string_among s [] = false
+is_string_among s (x ∷ xs) = bytes_eq s x || is_string_among s xs
 
 -- an environment without these names
 abbrev pub without : List Text → Environment → Environment
 without names [] = []
-without names (p ∷ ps) = cond (is_text_among p.0 names) (without names ps) (p ∷ without names ps)
+without names (p ∷ ps) = cond (is_string_among p.0 names) (without names ps) (p ∷ without names ps)
 
 -- ---- bodies and constructions
 

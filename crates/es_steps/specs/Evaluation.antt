@@ -3,7 +3,7 @@
 use Rattle.std.specs.Prelude.{ℕ, suc, List, [], ◌∷◌, Bool, true, false, cond, bytes_eq, Option, Some, None}
 use Rattle.es_base.specs.declared.kind.Kind.{Kind}
 use Rattle.es_base.specs.declared.ledger.GeneratedKind.{GeneratedKind}
-use Rattle.es_steps.specs.Code.{Code, Codes, Target, Callee, FieldForm, defines, sets, leaves_out, nothing, no_rule, value, spelled, binding, rest_binding, name, helper, member, assign, compound, logical, logical_assign, update, call, construct, sequence, operation, piece, template_text, define, steps, function, class_code, field, method, constructor, static_block, to_name, to_member, no_target, plain, on_member, done, and}
+use Rattle.es_steps.specs.Code.{Code, Codes, Target, Callee, FieldForm, defines, sets, leaves_out, nothing, no_rule, value, spelled, binding, rest_binding, name, helper, member, assign, compound, logical, logical_assign, update, call, construct, sequence, operation, piece, template_string, define, steps, function, class_code, field, method, constructor, static_block, to_name, to_member, no_target, plain, on_member, done, and}
 use Rattle.es_steps.specs.Context.{NameKind, Fixed, Changing, MeansClass, Made}
 use Rattle.es_steps.specs.Events.{Operation, OfKind, Operand, Word, Place, RightOf, Part, Event, ReadName, SetName, Get, Set, Define, Call, Construct, Operate, Update, Held, Events, none, then, behind, value_behind}
 use Rattle.es_steps.specs.Values.{Text, Value, Undefined, BindingOf, FunctionOf, ClassOf, ThisOf, ResultOf, FormerOf, Bound}
@@ -77,30 +77,30 @@ abbrev pub give_found : Option Value → Evaluation
 give_found None = no_meaning
 give_found (Some v) = gives v
 
-abbrev pub read_made : GeneratedKind → Text → Evaluation
-read_made GeneratedKind.Temp s env = give_found (found s env) env
-read_made GeneratedKind.Param s env = give_found (found s env) env
-read_made g s env = None
+abbrev pub read_generated : GeneratedKind → Text → Evaluation
+read_generated GeneratedKind.Temp s env = give_found (found s env) env
+read_generated GeneratedKind.Param s env = give_found (found s env) env
+read_generated g s env = None
 
 abbrev pub read_name : ℕ → Text → NameKind → Evaluation
 read_name m s (Fixed b) = gives (BindingOf b)
 read_name m s (Changing r) = event (ReadName m r) (ResultOf m)
 read_name m s (MeansClass n) = gives (ClassOf n)
-read_name m s (Made g) = read_made g s
+read_name m s (Made g) = read_generated g s
 
 abbrev pub stands_for : Text → Value → Evaluation
 stands_for s v env = Some (record { events = none; value = v; after = (s, v) ∷ env })
 
-abbrev pub write_made : GeneratedKind → Text → Value → Evaluation
-write_made GeneratedKind.Temp s v = stands_for s v
-write_made GeneratedKind.Param s v = stands_for s v
-write_made g s v = no_meaning
+abbrev pub write_generated : GeneratedKind → Text → Value → Evaluation
+write_generated GeneratedKind.Temp s v = stands_for s v
+write_generated GeneratedKind.Param s v = stands_for s v
+write_generated g s v = no_meaning
 
 abbrev pub write_name : Text → NameKind → Value → Evaluation
 write_name s (Fixed b) v = event (SetName (Bound b) v) v
 write_name s (Changing r) v = event (SetName r v) v
 write_name s (MeansClass n) v = no_meaning
-write_name s (Made g) v = write_made g s v
+write_name s (Made g) v = write_generated g s v
 
 -- ---- targets whose operands have their values
 
@@ -161,7 +161,7 @@ abbrev mutual
   ev (sequence es) = settle (ev_all es (λ vs. gives (last_of Undefined vs)))
   ev (operation m op es parts) = settle (ev_all es (λ vs. ev_held m 0 parts (event (Operate m op vs) (ResultOf m))))
   ev (piece marks es) = no_meaning
-  ev (template_text raw cooked) = no_meaning
+  ev (template_string raw cooked) = no_meaning
   ev (define o k e) = settle (bind (ev k) (λ a. bind (ev e) (λ v. initialized defines o a v)))
   ev (steps es) = settle (ev_all es (λ vs. gives Undefined))
   ev (function f form parameters body) = gives (FunctionOf f)

@@ -3,10 +3,10 @@ use Rattle.std.specs.Prelude.{ℕ, List, [], ◌∷◌, ◌++◌, Bool, true, fa
 use Rattle.es_base.specs.declared.kind.Kind.{Kind}
 use Rattle.es_base.specs.declared.literal.LiteralValue.{LiteralValue}
 use Rattle.es_base.specs.declared.literal.LiteralValue.TheVariants as literal_value
-use Rattle.es_steps.specs.Code.{Code, Codes, Target, no_rule, value, spelled, binding, name, helper, member, assign, compound, logical, logical_assign, update, call, construct, operation, piece, template_text, define, to_name, to_member, no_target, plain, on_member, done, and}
+use Rattle.es_steps.specs.Code.{Code, Codes, Target, no_rule, value, spelled, binding, name, helper, member, assign, compound, logical, logical_assign, update, call, construct, operation, piece, template_string, define, to_name, to_member, no_target, plain, on_member, done, and}
 use Rattle.es_steps.specs.Context.{Context, NameKind, Changing, MeansClass, name_kind, new_here}
 use Rattle.es_steps.specs.Events.{Mark, Operand, Word, Flag, Key, Prototype, OfKind, Delete}
-use Rattle.es_steps.specs.Members.{Member, Members, code, list, text, literal, end, more, at, operands, marks, codes_of, word_of, flag_of}
+use Rattle.es_steps.specs.Members.{Member, Members, code, list, string, literal, end, more, at, operands, marks, codes_of, word_of, flag_of}
 use Rattle.es_steps.specs.Values.{Text, Constant, StringOf, NumberOf, BigIntOf, RegExpOf, BooleanOf, Null, RawTemplate, Value, ConstantOf, Undefined, ClassOf, ThisOf, Free}
 
 -- the rule of all kinds that have none of their own: the operands in order, then the operation
@@ -20,11 +20,11 @@ the_code p = no_rule
 -- ---- names and constants
 
 abbrev pub constant_of : LiteralValue → Constant
-constant_of (literal_value.Text s raw) = StringOf s
+constant_of (literal_value.String s raw) = StringOf s
 constant_of (literal_value.Number raw) = NumberOf raw
 constant_of (literal_value.BigInt s) = BigIntOf s
 constant_of (literal_value.RegExp pattern flags) = RegExpOf pattern flags
-constant_of (literal_value.Bool b) = BooleanOf b
+constant_of (literal_value.Boolean b) = BooleanOf b
 constant_of literal_value.Null = Null
 
 abbrev pub literal_code : Member → Code
@@ -40,7 +40,7 @@ abbrev pub name_code : Context → ℕ → Text → Code
 name_code c m s = name_or_arguments c m s (name_kind c s)
 
 abbrev pub cooked_of : Member → Option Text
-cooked_of (text s) = Some s
+cooked_of (string s) = Some s
 cooked_of p = None
 
 abbrev pub template_constant : Text → Option Text → Constant
@@ -49,7 +49,7 @@ template_constant raw (Some s) = StringOf s
 
 -- a template without expressions is a constant
 abbrev pub template_code : ℕ → Members → Code
-template_code m (more (list (more (code (template_text raw cooked)) end)) (more (list end) end)) = value (ConstantOf (template_constant raw cooked))
+template_code m (more (list (more (code (template_string raw cooked)) end)) (more (list end) end)) = value (ConstantOf (template_constant raw cooked))
 template_code m ps = operation_of Kind.TemplateLiteral m ps
 
 abbrev pub spelling_of : Member → Text

@@ -3,12 +3,12 @@
 -- ECMA-262 but that it may be too large.)
 use Rattle.std.specs.Prelude.{ℕ, List, [], ◌∷◌, ◌++◌, Bool, true, false, cond, not, ◌&&◌, ◌||◌, nat_le, bytes_eq, codes, Option, Some, None}
 use Rattle.es_base.specs.Conforms.{is_among}
-use Rattle.es_base.specs.Order.{nodes}
-use Rattle.es_base.specs.Tree.{Tree, Part, Parts, Node, end, more, child, absent, text, truth, literal}
+use Rattle.es_base.specs.Preorder.{nodes}
+use Rattle.es_base.specs.Tree.{Tree, Part, Parts, Node, end, more, child, absent, string, boolean, literal}
 use Rattle.es_base.specs.declared.kind.Kind.{Kind}
 use Rattle.es_base.specs.declared.literal.LiteralValue.{LiteralValue}
 use Rattle.es_base.specs.declared.literal.LiteralValue.TheVariants as literal_value
-use Rattle.es_steps.specs.Parts.{at, items, text_of, is_present}
+use Rattle.es_steps.specs.Parts.{at, items, string_of, is_present}
 use Rattle.es_steps.specs.Values.{Text}
 
 -- a program has at most this many nodes
@@ -22,9 +22,9 @@ helper_names = codes "babelHelpers" ∷ codes "WeakMap" ∷ codes "WeakSet" ∷ 
 -- ---- a field: names are those of all classes of the program
 
 abbrev pub is_plain_literal : LiteralValue → Bool
-is_plain_literal (literal_value.Text s raw) = true
+is_plain_literal (literal_value.String s raw) = true
 is_plain_literal (literal_value.Number raw) = true
-is_plain_literal (literal_value.Bool b) = true
+is_plain_literal (literal_value.Boolean b) = true
 is_plain_literal literal_value.Null = true
 is_plain_literal v = false
 
@@ -33,17 +33,17 @@ is_plain_name names s = not (is_among s names || bytes_eq s (codes "arguments"))
 
 abbrev pub is_plain_value : List Text → Part → Bool
 is_plain_value names absent = true
-is_plain_value names (child (Node Kind.Literal m span mark (more (literal v) end))) = is_plain_literal v
-is_plain_value names (child (Node Kind.IdentifierReference m span mark (more (text s) end))) = is_plain_name names s
+is_plain_value names (child (Node Kind.Literal m span semantic_id (more (literal v) end))) = is_plain_literal v
+is_plain_value names (child (Node Kind.IdentifierReference m span semantic_id (more (string s) end))) = is_plain_name names s
 is_plain_value names p = false
 
 abbrev pub is_plain_key : Part → Bool
-is_plain_key (child (Node Kind.IdentifierName m span mark (more (text s) end))) = not (bytes_eq s (codes "constructor"))
+is_plain_key (child (Node Kind.IdentifierName m span semantic_id (more (string s) end))) = not (bytes_eq s (codes "constructor"))
 is_plain_key p = false
 
 -- the members of a field: its key, its value, whether it is computed, whether it is static
 abbrev pub is_plain_field : List Text → Parts → Bool
-is_plain_field names (more key (more v (more (truth false) (more (truth false) end)))) = is_plain_key key && is_plain_value names v
+is_plain_field names (more key (more v (more (boolean false) (more (boolean false) end)))) = is_plain_key key && is_plain_value names v
 is_plain_field names ps = false
 
 abbrev pub is_field : List Text → Kind → Parts → Bool
@@ -57,7 +57,7 @@ unless true m = []
 unless false m = m ∷ []
 
 abbrev pub element_breaches : List Text → Part → List ℕ
-element_breaches names (child (Node kind m span mark ps)) = unless (is_field names kind ps) m
+element_breaches names (child (Node kind m span semantic_id ps)) = unless (is_field names kind ps) m
 element_breaches names p = []
 
 abbrev pub elements_breaches : List Text → Parts → List ℕ
@@ -65,27 +65,27 @@ elements_breaches names end = []
 elements_breaches names (more p ps) = element_breaches names p ++ elements_breaches names ps
 
 abbrev pub body_breaches : List Text → Part → List ℕ
-body_breaches names (child (Node kind m span mark (more p ps))) = elements_breaches names (items p)
+body_breaches names (child (Node kind m span semantic_id (more p ps))) = elements_breaches names (items p)
 body_breaches names p = []
 
 abbrev pub is_new_name : List Text → Part → Bool
-is_new_name earlier (child (Node Kind.BindingIdentifier m span mark (more (text s) end))) = not (is_among s earlier || is_among s helper_names)
+is_new_name earlier (child (Node Kind.BindingIdentifier m span semantic_id (more (string s) end))) = not (is_among s earlier || is_among s helper_names)
 is_new_name earlier p = false
 
 abbrev pub name_in : Part → List Text
-name_in (child (Node kind m span mark (more (text s) ps))) = s ∷ []
+name_in (child (Node kind m span semantic_id (more (string s) ps))) = s ∷ []
 name_in p = []
 
 -- the names of classes that stand in a list of statements
 abbrev pub class_names : Parts → List Text
 class_names end = []
-class_names (more (child (Node Kind.ClassDeclaration n span mark (more id ps))) rest) = name_in id ++ class_names rest
+class_names (more (child (Node Kind.ClassDeclaration n span semantic_id (more id ps))) rest) = name_in id ++ class_names rest
 class_names (more p rest) = class_names rest
 
 -- of a class with these earlier ones in front, and of any other statement
 abbrev pub statement_breaches : List Text → List Text → Part → List ℕ
-statement_breaches earlier names (child (Node Kind.ClassDeclaration n span mark (more id (more heritage (more body end))))) = unless (is_new_name earlier id && not (is_present heritage)) n ++ body_breaches names body
-statement_breaches earlier names (child (Node kind n span mark ps)) = n ∷ []
+statement_breaches earlier names (child (Node Kind.ClassDeclaration n span semantic_id (more id (more heritage (more body end))))) = unless (is_new_name earlier id && not (is_present heritage)) n ++ body_breaches names body
+statement_breaches earlier names (child (Node kind n span semantic_id ps)) = n ∷ []
 statement_breaches earlier names p = []
 
 abbrev pub statements_breaches : List Text → List Text → Parts → List ℕ
@@ -93,7 +93,7 @@ statements_breaches earlier names end = []
 statements_breaches earlier names (more p ps) = statement_breaches earlier names p ++ statements_breaches (class_names (more p end) ++ earlier) names ps
 
 abbrev pub breaches : Tree → List ℕ
-breaches (Node kind m span mark ps) = unless (bytes_eq (text_of (at 0 ps)) (codes "script") && nat_le (nodes (Node kind m span mark ps)) most_nodes) m ++ statements_breaches [] (class_names (items (at 1 ps))) (items (at 1 ps))
+breaches (Node kind m span semantic_id ps) = unless (bytes_eq (string_of (at 0 ps)) (codes "script") && nat_le (nodes (Node kind m span semantic_id ps)) most_nodes) m ++ statements_breaches [] (class_names (items (at 1 ps))) (items (at 1 ps))
 
 -- ---- the form
 

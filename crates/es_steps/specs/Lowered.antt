@@ -3,14 +3,14 @@
 use Rattle.std.specs.Prelude.{◌≡◌, ℕ, List, [], ◌∷◌, ◌++◌, Bool, true, false, cond, not, ◌&&◌, ◌||◌, bytes_eq, nat_eq, Option, Some, None}
 use Rattle.es_base.specs.Conforms.{is_among}
 use Rattle.es_base.specs.Numbered.{IsNumbered, is_new}
-use Rattle.es_base.specs.Order.{in_order}
+use Rattle.es_base.specs.Preorder.{preorder}
 use Rattle.es_base.specs.Tree.{Tree, Part, Parts, Node, end, more, child}
 use Rattle.es_base.specs.declared.kind.Kind.{Kind}
 use Rattle.es_base.specs.declared.ledger.GeneratedKind.{GeneratedKind}
 use Rattle.es_base.specs.declared.ledger.LedgerEntry.{LedgerEntry}
-use Rattle.es_steps.specs.Context.{made_as}
+use Rattle.es_steps.specs.Context.{generated_as}
 use Rattle.es_steps.specs.Options.{Options}
-use Rattle.es_steps.specs.Parts.{at, items, text_of}
+use Rattle.es_steps.specs.Parts.{at, items, string_of}
 use Rattle.es_steps.specs.References.{Reference, resolve, has_number}
 use Rattle.es_steps.specs.Scopes.{is_binding_identifier}
 use Rattle.es_steps.specs.Values.{Text, Referent, Bound}
@@ -25,20 +25,20 @@ is_lowered_kind o Kind.StaticBlock = o.static_blocks
 is_lowered_kind o kind = false
 
 abbrev pub kind_of : Tree → Kind
-kind_of (Node kind m span mark ps) = kind
+kind_of (Node kind m span semantic_id ps) = kind
 
 abbrev pub none_lowered : Options → List Tree → Bool
 none_lowered o [] = true
 none_lowered o (t ∷ ts) = not (is_lowered_kind o (kind_of t)) && none_lowered o ts
 
 abbrev pub nothing_left : Options → Tree → Bool
-nothing_left o q = none_lowered o (in_order q)
+nothing_left o q = none_lowered o (preorder q)
 
--- ---- each made name has one declaration, which is new, and all its references mean it
+-- ---- each generated name has one declaration, which is new, and all its references mean it
 
 -- the declaring identifiers of this spelling
 abbrev pub declaring_number : Text → Tree → List ℕ
-declaring_number s (Node kind b span mark ps) = cond (is_binding_identifier kind && bytes_eq s (text_of (at 0 ps))) (b ∷ []) []
+declaring_number s (Node kind b span semantic_id ps) = cond (is_binding_identifier kind && bytes_eq s (string_of (at 0 ps))) (b ∷ []) []
 
 abbrev pub declaring_numbers : Text → List Tree → List ℕ
 declaring_numbers s [] = []
@@ -59,7 +59,7 @@ is_one_new first s q bs = false
 
 -- the new private identifiers of this spelling that are keys in the body of class n
 abbrev pub private_key : ℕ → Text → Part → List ℕ
-private_key first s (child (Node kind m span mark (more (child (Node Kind.PrivateIdentifier d dspan dmark ds)) ps))) = cond (is_new first d && bytes_eq s (text_of (at 0 ds))) (d ∷ []) []
+private_key first s (child (Node kind m span semantic_id (more (child (Node Kind.PrivateIdentifier d dspan d_semantic_id ds)) ps))) = cond (is_new first d && bytes_eq s (string_of (at 0 ds))) (d ∷ []) []
 private_key first s p = []
 
 abbrev pub private_keys : ℕ → Text → Parts → List ℕ
@@ -67,11 +67,11 @@ private_keys first s end = []
 private_keys first s (more p ps) = private_key first s p ++ private_keys first s ps
 
 abbrev pub keys_of_body : ℕ → Text → Part → List ℕ
-keys_of_body first s (child (Node Kind.ClassBody m span mark ps)) = private_keys first s (items (at 0 ps))
+keys_of_body first s (child (Node Kind.ClassBody m span semantic_id ps)) = private_keys first s (items (at 0 ps))
 keys_of_body first s p = []
 
 abbrev pub keys_of_class : ℕ → ℕ → Text → Tree → List ℕ
-keys_of_class first n s (Node kind m span mark ps) = cond (nat_eq n m) (keys_of_body first s (at 2 ps)) []
+keys_of_class first n s (Node kind m span semantic_id ps) = cond (nat_eq n m) (keys_of_body first s (at 2 ps)) []
 
 abbrev pub keys_in : ℕ → ℕ → Text → List Tree → List ℕ
 keys_in first n s [] = []
@@ -83,8 +83,8 @@ is_one ds = false
 
 -- a private name is declared in the body of its class, each other name in a scope
 abbrev pub declared_by_kind : ℕ → Tree → Text → GeneratedKind → Bool
-declared_by_kind first q s (GeneratedKind.Private n) = is_one (keys_in first n.0 s (in_order q))
-declared_by_kind first q s kind = is_one_new first s q (declaring_numbers s (in_order q))
+declared_by_kind first q s (GeneratedKind.Private n) = is_one (keys_in first n.0 s (preorder q))
+declared_by_kind first q s kind = is_one_new first s q (declaring_numbers s (preorder q))
 
 abbrev pub names_declared : ℕ → List LedgerEntry → Tree → Bool
 names_declared first [] q = true
@@ -94,7 +94,7 @@ names_declared first (e ∷ es) q = declared_by_kind first q e.name e.kind && na
 
 -- the identifier that is the own name of class expression n, where p declares a class n of that name
 abbrev pub class_name_at : ℕ → Tree → List Text
-class_name_at n (Node Kind.ClassDeclaration m span mark (more (child (Node kind b bspan bmark bs)) ps)) = cond (nat_eq n m) (text_of (at 0 bs) ∷ []) []
+class_name_at n (Node Kind.ClassDeclaration m span semantic_id (more (child (Node kind b bspan b_semantic_id bs)) ps)) = cond (nat_eq n m) (string_of (at 0 bs) ∷ []) []
 class_name_at n t = []
 
 abbrev pub declares_class : ℕ → Text → List Tree → Bool
@@ -102,30 +102,30 @@ declares_class n s [] = false
 declares_class n s (t ∷ ts) = is_among s (class_name_at n t) || declares_class n s ts
 
 abbrev pub own_name_number : Tree → Tree → List ℕ
-own_name_number p (Node Kind.ClassExpression n span mark (more (child (Node kind b bspan bmark bs)) ps)) = cond (declares_class n (text_of (at 0 bs)) (in_order p)) (b ∷ []) []
+own_name_number p (Node Kind.ClassExpression n span semantic_id (more (child (Node kind b bspan b_semantic_id bs)) ps)) = cond (declares_class n (string_of (at 0 bs)) (preorder p)) (b ∷ []) []
 own_name_number p t = []
 
 abbrev pub own_name_numbers : Tree → List Tree → List ℕ
 own_name_numbers p [] = []
 own_name_numbers p (t ∷ ts) = own_name_number p t ++ own_name_numbers p ts
 
-abbrev pub is_made : Option GeneratedKind → Bool
-is_made None = false
-is_made (Some (GeneratedKind.Private n)) = false
-is_made (Some g) = true
+abbrev pub is_generated : Option GeneratedKind → Bool
+is_generated None = false
+is_generated (Some (GeneratedKind.Private n)) = false
+is_generated (Some g) = true
 
 -- a declaring identifier is old, or its name was made, or it is such an own name
 abbrev pub is_accounted : ℕ → List LedgerEntry → List ℕ → Tree → Bool
-is_accounted first ledger own (Node kind b span mark ps) = not (is_binding_identifier kind && is_new first b) || (is_made (made_as (text_of (at 0 ps)) ledger) || has_number b own)
+is_accounted first ledger own (Node kind b span semantic_id ps) = not (is_binding_identifier kind && is_new first b) || (is_generated (generated_as (string_of (at 0 ps)) ledger) || has_number b own)
 
 abbrev pub all_accounted : ℕ → List LedgerEntry → List ℕ → List Tree → Bool
 all_accounted first ledger own [] = true
 all_accounted first ledger own (t ∷ ts) = is_accounted first ledger own t && all_accounted first ledger own ts
 
 abbrev pub declarations_accounted : ℕ → List LedgerEntry → Tree → Tree → Bool
-declarations_accounted first ledger p q = all_accounted first ledger (own_name_numbers p (in_order q)) (in_order q)
+declarations_accounted first ledger p q = all_accounted first ledger (own_name_numbers p (preorder q)) (preorder q)
 
--- ---- each made name that is initialized has its one initialization in its place: no form of one exists yet, so no such
+-- ---- each generated name that is initialized has its one initialization in its place: no form of one exists yet, so no such
 -- name may be there
 
 abbrev pub needs_none : GeneratedKind → Bool

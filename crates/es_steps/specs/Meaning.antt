@@ -2,17 +2,17 @@
 -- part comes from is said in docs/MEANING.md.)
 use Rattle.std.specs.Prelude.{ℕ, zero, suc, List, [], ◌∷◌, ◌++◌, Bool, true, false, cond, nat_le, Option, Some, None}
 use Rattle.es_base.specs.Numbered.{is_new}
-use Rattle.es_base.specs.Order.{in_order, number_of, nodes}
-use Rattle.es_base.specs.Tree.{Tree, Part, Parts, Node, end, more, child, list, text}
+use Rattle.es_base.specs.Preorder.{preorder, number_of, nodes}
+use Rattle.es_base.specs.Tree.{Tree, Part, Parts, Node, end, more, child, list, string}
 use Rattle.es_base.specs.declared.kind.Kind.{Kind}
 use Rattle.es_base.specs.declared.ledger.GeneratedKind.{GeneratedKind}
 use Rattle.es_base.specs.declared.ledger.LedgerEntry.{LedgerEntry}
 use Rattle.es_steps.specs.Code.{Code}
-use Rattle.es_steps.specs.Context.{Context, made_as}
+use Rattle.es_steps.specs.Context.{Context, generated_as}
 use Rattle.es_steps.specs.Entries.{Entry, Entries, Listed, listed, after_run, entries}
 use Rattle.es_steps.specs.Evaluation.{Run, ev}
 use Rattle.es_steps.specs.Options.{Options}
-use Rattle.es_steps.specs.Parts.{at, text_of}
+use Rattle.es_steps.specs.Parts.{at, string_of}
 use Rattle.es_steps.specs.Reading.{read}
 use Rattle.es_steps.specs.References.{written}
 use Rattle.es_steps.specs.Scopes.{is_binding_identifier}
@@ -30,7 +30,7 @@ pub data DeclarationKind : Type 0 where
 
 -- what the identifiers in the i-th part declare, by the kind of the node
 abbrev pub declares_at : Kind → Parts → DeclarationKind → ℕ → DeclarationKind
-declares_at Kind.VariableDeclaration ps kind i = Variable (text_of (at 0 ps))
+declares_at Kind.VariableDeclaration ps kind i = Variable (string_of (at 0 ps))
 declares_at Kind.FunctionDeclaration ps kind zero = FunctionName
 declares_at Kind.FunctionExpression ps kind zero = FunctionName
 declares_at Kind.FunctionDeclaration ps kind i = ParameterName
@@ -42,10 +42,10 @@ declares_at Kind.ClassDeclaration ps kind i = ClassDeclared
 declares_at Kind.ClassExpression ps kind i = ClassDeclared
 declares_at k ps kind i = kind
 
--- the declaring identifiers in reading order, each with what it declares
+-- the declaring identifiers in preorder, each with what it declares
 abbrev mutual
   pub declaring : DeclarationKind → Tree → List (ℕ × DeclarationKind)
-  declaring d (Node kind m span mark ps) = cond (is_binding_identifier kind) ((m, d) ∷ []) (declaring_parts (declares_at kind ps d) ps)
+  declaring d (Node kind m span semantic_id ps) = cond (is_binding_identifier kind) ((m, d) ∷ []) (declaring_parts (declares_at kind ps d) ps)
 
   pub declaring_parts : (ℕ → DeclarationKind) → Parts → List (ℕ × DeclarationKind)
   declaring_parts d end = []
@@ -69,14 +69,14 @@ abbrev pub old_bindings : ℕ → List (ℕ × DeclarationKind) → List (ℕ ×
 old_bindings first_new [] = []
 old_bindings first_new (d ∷ ds) = cond (is_new first_new d.0) (old_bindings first_new ds) (cond (names_class d.1) (old_bindings first_new ds) (d ∷ old_bindings first_new ds))
 
--- ---- function declarations: the declaring identifier and the function, made names aside
+-- ---- function declarations: the declaring identifier and the function, generated names aside
 
-abbrev pub unless_made : Option GeneratedKind → ℕ × ℕ → List (ℕ × ℕ)
-unless_made (Some g) p = []
-unless_made None p = p ∷ []
+abbrev pub unless_generated : Option GeneratedKind → ℕ × ℕ → List (ℕ × ℕ)
+unless_generated (Some g) p = []
+unless_generated None p = p ∷ []
 
 abbrev pub declared_function : List LedgerEntry → Tree → List (ℕ × ℕ)
-declared_function ledger (Node Kind.FunctionDeclaration f span mark (more (child (Node Kind.BindingIdentifier b s i (more (text x) end))) ps)) = unless_made (made_as x ledger) (b, f)
+declared_function ledger (Node Kind.FunctionDeclaration f span semantic_id (more (child (Node Kind.BindingIdentifier b s i (more (string x) end))) ps)) = unless_generated (generated_as x ledger) (b, f)
 declared_function ledger t = []
 
 abbrev pub declared_functions : List LedgerEntry → List Tree → List (ℕ × ℕ)
@@ -116,21 +116,21 @@ abbrev pub start : ℕ → Options → List LedgerEntry → Tree → Context
 start first_new options ledger t = record { first_new = first_new; ledger = ledger; options = options; written = written t; names = []; this = ThisOf (number_of t); new_target = NewTargetOf (number_of t); arguments = ArgumentsOf (number_of t); class = number_of t; constructs = false }
 
 abbrev pub source_type_of : Tree → Text
-source_type_of (Node kind m span mark ps) = text_of (at 0 ps)
+source_type_of (Node kind m span semantic_id ps) = string_of (at 0 ps)
 
 abbrev pub with_all : ℕ → List LedgerEntry → Tree → Option Listed → Option (List (ℕ × Entry)) → Option Meaning
-with_all first_new ledger t (Some l) (Some es) = Some (record { source_type = source_type_of t; program = l; entries = by_number es; functions = by_number (declared_functions ledger (in_order t)); bindings = by_number (old_bindings first_new (declaring ClassDeclared t)) })
+with_all first_new ledger t (Some l) (Some es) = Some (record { source_type = source_type_of t; program = l; entries = by_number es; functions = by_number (declared_functions ledger (preorder t)); bindings = by_number (old_bindings first_new (declaring ClassDeclared t)) })
 with_all first_new ledger t l es = None
 
 -- the meaning of a code: entries are read in the environment at its end
 abbrev pub means_of : ℕ → List LedgerEntry → Tree → Code → Option Meaning
 means_of first_new ledger t c = let run : Option Run = ev c [] in with_all first_new ledger t (listed run) (whole (entries first_new [] (after_run [] run) c))
 
--- the meaning of a program whose nodes from `first_new` on are new, with these made names, under these options;
+-- the meaning of a program whose nodes from `first_new` on are new, with these generated names, under these options;
 -- none where a form in it has no rule
 abbrev pub means : ℕ → Options → List LedgerEntry → Tree → Option Meaning
 means first_new options ledger t = means_of first_new ledger t (read (start first_new options ledger t) t)
 
--- a source program has no new node and no made name
+-- a source program has no new node and no generated name
 abbrev pub source_means : Options → Tree → Option Meaning
 source_means options t = means (nodes t) options [] t

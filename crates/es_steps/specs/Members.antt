@@ -1,7 +1,7 @@
 -- The members of a node with the codes of its children: what the rule of its kind reads.
 use Rattle.std.specs.Prelude.{ℕ, zero, suc, List, [], ◌∷◌, ◌++◌, Bool, false, Option, Some, None}
 use Rattle.es_base.specs.declared.literal.LiteralValue.{LiteralValue}
-use Rattle.es_steps.specs.Code.{Code, Codes, piece, spelled, template_text, done, and, joined}
+use Rattle.es_steps.specs.Code.{Code, Codes, piece, spelled, template_string, done, and, joined}
 use Rattle.es_steps.specs.Events.{Mark, Operand, Empty, Word, Flag, Opens, Closes}
 use Rattle.es_steps.specs.Values.{Text}
 
@@ -10,9 +10,9 @@ mutual
     code : (c : Code) → Member
     absent : Member
     list : (all : Members) → Member
-    text : (s : Text) → Member
-    no_text : Member
-    truth : (b : Bool) → Member
+    string : (s : Text) → Member
+    no_string : Member
+    boolean : (b : Bool) → Member
     literal : (v : LiteralValue) → Member
 
   pub data Members : Type 0 where
@@ -40,17 +40,17 @@ before (suc i) (more p ps) = more p (before i ps)
 abbrev pub inner_operands : Code → Codes
 inner_operands (piece marks cs) = cs
 inner_operands (spelled s) = done
-inner_operands (template_text raw cooked) = done
+inner_operands (template_string raw cooked) = done
 inner_operands c = and c done
 
-abbrev pub marks_of_text : Option Text → List Mark
-marks_of_text None = Empty ∷ []
-marks_of_text (Some s) = Word s ∷ []
+abbrev pub marks_of_string : Option Text → List Mark
+marks_of_string None = Empty ∷ []
+marks_of_string (Some s) = Word s ∷ []
 
 abbrev pub inner_marks : Code → List Mark
 inner_marks (piece marks cs) = marks
 inner_marks (spelled s) = Word s ∷ []
-inner_marks (template_text raw cooked) = Word raw ∷ marks_of_text cooked
+inner_marks (template_string raw cooked) = Word raw ∷ marks_of_string cooked
 inner_marks c = Operand ∷ []
 
 -- the operands in order
@@ -74,9 +74,9 @@ abbrev mutual
   marks_of (code c) = inner_marks c
   marks_of absent = Empty ∷ []
   marks_of (list ps) = Opens ∷ marks ps ++ Closes ∷ []
-  marks_of (text s) = Word s ∷ []
-  marks_of no_text = Empty ∷ []
-  marks_of (truth b) = Flag b ∷ []
+  marks_of (string s) = Word s ∷ []
+  marks_of no_string = Empty ∷ []
+  marks_of (boolean b) = Flag b ∷ []
   marks_of (literal v) = []
 
 -- all codes in order
@@ -91,9 +91,9 @@ abbrev mutual
   codes_of p = done
 
 abbrev pub word_of : Member → Text
-word_of (text s) = s
+word_of (string s) = s
 word_of p = []
 
 abbrev pub flag_of : Member → Bool
-flag_of (truth b) = b
+flag_of (boolean b) = b
 flag_of p = false

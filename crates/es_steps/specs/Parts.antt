@@ -1,6 +1,6 @@
 -- The members of a node by their places in the table.
 use Rattle.std.specs.Prelude.{ℕ, zero, suc, List, [], Bool, true, false}
-use Rattle.es_base.specs.Tree.{Part, Parts, Node, end, more, child, absent, list, text, truth}
+use Rattle.es_base.specs.Tree.{Part, Parts, Node, end, more, child, absent, list, string, boolean}
 
 -- the i-th member
 abbrev pub at : ℕ → Parts → Part
@@ -14,15 +14,15 @@ items (list ps) = ps
 items p = end
 
 abbrev pub block_items : Part → Parts
-block_items (child (Node kind m span mark (more p ps))) = items p
+block_items (child (Node kind m span semantic_id (more p ps))) = items p
 block_items p = end
 
-abbrev pub text_of : Part → List ℕ
-text_of (text s) = s
-text_of p = []
+abbrev pub string_of : Part → List ℕ
+string_of (string s) = s
+string_of p = []
 
 abbrev pub is_true : Part → Bool
-is_true (truth b) = b
+is_true (boolean b) = b
 is_true p = false
 
 abbrev pub is_present : Part → Bool

@@ -1,10 +1,10 @@
 -- Private names: what the classes of a program declare, and which class body each use of one means. (ECMA-262, 9.2:
 -- private environments; a use means the nearest class body around it that declares its spelling.)
 use Rattle.std.specs.Prelude.{ℕ, List, [], ◌∷◌, ◌++◌, Bool, true, false, cond, bytes_eq, codes, Option, Some, None}
-use Rattle.es_base.specs.Order.{in_order}
+use Rattle.es_base.specs.Preorder.{preorder}
 use Rattle.es_base.specs.Tree.{Tree, Part, Parts, Node, end, more, child, list}
 use Rattle.es_base.specs.declared.kind.Kind.{Kind}
-use Rattle.es_steps.specs.Parts.{at, items, text_of, is_true}
+use Rattle.es_steps.specs.Parts.{at, items, string_of, is_true}
 use Rattle.es_steps.specs.Values.{Text}
 
 -- ---- the private members of a program
@@ -31,12 +31,12 @@ method_kind s = cond (bytes_eq s (codes "get")) a_getter (cond (bytes_eq s (code
 
 -- an element of the class body n whose key is a private name declares a member
 abbrev pub keyed_member : ℕ → Bool → PrivateKind → Part → List PrivateMember
-keyed_member n is_static kind (child (Node Kind.PrivateIdentifier d span mark ps)) = member d (text_of (at 0 ps)) n is_static kind ∷ []
+keyed_member n is_static kind (child (Node Kind.PrivateIdentifier d span semantic_id ps)) = member d (string_of (at 0 ps)) n is_static kind ∷ []
 keyed_member n is_static kind p = []
 
 abbrev pub element_members : ℕ → Part → List PrivateMember
-element_members n (child (Node Kind.PropertyDefinition m span mark ps)) = keyed_member n (is_true (at 3 ps)) a_field (at 0 ps)
-element_members n (child (Node Kind.MethodDefinition m span mark ps)) = keyed_member n (is_true (at 4 ps)) (method_kind (text_of (at 2 ps))) (at 0 ps)
+element_members n (child (Node Kind.PropertyDefinition m span semantic_id ps)) = keyed_member n (is_true (at 3 ps)) a_field (at 0 ps)
+element_members n (child (Node Kind.MethodDefinition m span semantic_id ps)) = keyed_member n (is_true (at 4 ps)) (method_kind (string_of (at 2 ps))) (at 0 ps)
 element_members n p = []
 
 abbrev pub elements_members : ℕ → Parts → List PrivateMember
@@ -50,10 +50,10 @@ members_at kind m ps = []
 
 abbrev pub members_of_all : List Tree → List PrivateMember
 members_of_all [] = []
-members_of_all (Node kind m span mark ps ∷ ts) = members_at kind m ps ++ members_of_all ts
+members_of_all (Node kind m span semantic_id ps ∷ ts) = members_at kind m ps ++ members_of_all ts
 
 abbrev pub private_members : Tree → List PrivateMember
-private_members t = members_of_all (in_order t)
+private_members t = members_of_all (preorder t)
 
 -- ---- what a use of a private name means
 
@@ -80,10 +80,10 @@ is_element Kind.MethodDefinition = true
 is_element Kind.PropertyDefinition = true
 is_element kind = false
 
--- the uses in a tree in reading order, where these private names are seen, the nearest first
+-- the uses in a tree in preorder, where these private names are seen, the nearest first
 abbrev mutual
   pub private_uses : List PrivateMember → Bool → Tree → List PrivateUse
-  private_uses seen declares (Node kind m span mark ps) = cond (is_private_identifier kind) (cond declares [] (used m (text_of (at 0 ps)) (declaring_body (text_of (at 0 ps)) seen) ∷ [])) (uses_in (members_at kind m ps ++ seen) (is_element kind) ps)
+  private_uses seen declares (Node kind m span semantic_id ps) = cond (is_private_identifier kind) (cond declares [] (used m (string_of (at 0 ps)) (declaring_body (string_of (at 0 ps)) seen) ∷ [])) (uses_in (members_at kind m ps ++ seen) (is_element kind) ps)
 
   -- of parts, the first of which declares or not
   pub uses_in : List PrivateMember → Bool → Parts → List PrivateUse

@@ -3,10 +3,10 @@ use Rattle.std.specs.Prelude.{ℕ, suc, true, false}
 use Rattle.es_base.specs.Tree as tree
 use Rattle.es_base.specs.Tree.{Tree, Part, Parts, Node}
 use Rattle.es_base.specs.declared.kind.Kind.{Kind}
-use Rattle.es_steps.specs.Code.{Code, nothing, no_rule, value, spelled, binding, sequence, template_text, steps, static_block}
+use Rattle.es_steps.specs.Code.{Code, nothing, no_rule, value, spelled, binding, sequence, template_string, steps, static_block}
 use Rattle.es_steps.specs.Context.{Context, name_kind, inside}
 use Rattle.es_steps.specs.Expressions.{the_code, literal_code, name_code, cooked_of, template_code, meta_code, member_code, assignment_code, update_code, unary_code, logical_code, call_code, new_code, conditional_code, property_code, operation_of}
-use Rattle.es_steps.specs.Members.{Member, Members, code, absent, list, text, no_text, truth, literal, end, more, at, codes_in, word_of}
+use Rattle.es_steps.specs.Members.{Member, Members, code, absent, list, string, no_string, boolean, literal, end, more, at, codes_in, word_of}
 use Rattle.es_steps.specs.Statements.{held_from, case_code, for_each_code, declarator_code, function_code, arrow_code, rest_code, class_of, field_code, method_code}
 
 -- statements that are their parts in order, and those with parts that may run or not, or again
@@ -56,7 +56,7 @@ code_of c Kind.BindingIdentifier m ps = binding m (word_of (at 0 ps)) (name_kind
 code_of c Kind.IdentifierName m ps = spelled (word_of (at 0 ps))
 code_of c Kind.Literal m ps = literal_code (at 0 ps)
 code_of c Kind.ThisExpression m ps = value c.this
-code_of c Kind.TemplateElement m ps = template_text (word_of (at 0 ps)) (cooked_of (at 1 ps))
+code_of c Kind.TemplateElement m ps = template_string (word_of (at 0 ps)) (cooked_of (at 1 ps))
 code_of c Kind.TemplateLiteral m ps = template_code m ps
 code_of c Kind.MetaProperty m ps = meta_code c m ps
 code_of c Kind.MemberExpression m ps = member_code c m ps
@@ -80,7 +80,7 @@ code_of c kind m ps = class_form_code c kind m ps
 
 abbrev mutual
   pub read : Context → Tree → Code
-  read c (Node kind m span mark ps) = code_of c kind m (read_parts (inside c kind m ps) ps)
+  read c (Node kind m span semantic_id ps) = code_of c kind m (read_parts (inside c kind m ps) ps)
 
   pub read_parts : (ℕ → Context) → Parts → Members
   read_parts c tree.end = end
@@ -90,9 +90,9 @@ abbrev mutual
   read_part c (tree.child t) = code (read c t)
   read_part c tree.absent = absent
   read_part c (tree.list ps) = list (read_items c ps)
-  read_part c (tree.text s) = text s
-  read_part c tree.no_text = no_text
-  read_part c (tree.truth b) = truth b
+  read_part c (tree.string s) = string s
+  read_part c tree.no_string = no_string
+  read_part c (tree.boolean b) = boolean b
   read_part c (tree.literal v) = literal v
 
   pub read_items : Context → Parts → Members

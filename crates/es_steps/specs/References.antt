@@ -4,10 +4,10 @@ use Rattle.std.specs.Prelude.{ℕ, suc, List, [], ◌∷◌, ◌++◌, map, Bool
 use Rattle.es_base.specs.Tree.{Tree, Part, Parts, Node, end, more, child, list}
 use Rattle.es_base.specs.Table.{Field, members_of}
 use Rattle.es_base.specs.Conforms.{is_target_place}
-use Rattle.es_base.specs.Order.{in_order}
+use Rattle.es_base.specs.Preorder.{preorder}
 use Rattle.es_base.specs.declared.kind.Kind.{Kind}
 use Rattle.es_base.specs.declared.table.Sort.{Sort}
-use Rattle.es_steps.specs.Parts.{at, text_of}
+use Rattle.es_steps.specs.Parts.{at, string_of}
 use Rattle.es_steps.specs.Scopes.{Declaration, names_at, scope_form, scope_names, var_part}
 use Rattle.es_steps.specs.Values.{Text, Referent, Bound, Free}
 
@@ -29,10 +29,10 @@ pub record Reference : Type 0 where
 
 abbrev pub is_target : Sort → Bool
 is_target (Sort.Child place) = is_target_place place
-is_target (Sort.Maybe place) = is_target_place place
+is_target (Sort.Nullable place) = is_target_place place
 is_target (Sort.List place) = is_target_place place
-is_target (Sort.Some place) = is_target_place place
-is_target (Sort.Holes place) = is_target_place place
+is_target (Sort.NonEmptyList place) = is_target_place place
+is_target (Sort.ListWithHoles place) = is_target_place place
 is_target sort = false
 
 abbrev pub is_reference : Kind → Bool
@@ -42,10 +42,10 @@ is_reference kind = false
 abbrev pub reference : List Declaration → Bool → ℕ → Text → List Reference
 reference names target m s = record { number = m; spelling = s; to = referent s (declared s names); writes = target } ∷ []
 
--- the references of a tree in reading order, where these names are seen
+-- the references of a tree in preorder, where these names are seen
 abbrev mutual
   pub references : List Declaration → Bool → Tree → List Reference
-  references names target (Node kind m span mark ps) = cond (is_reference kind) (reference names target m (text_of (at 0 ps))) (references_in (λ i. names_at kind m ps i ++ names) (members_of kind) ps)
+  references names target (Node kind m span semantic_id ps) = cond (is_reference kind) (reference names target m (string_of (at 0 ps))) (references_in (λ i. names_at kind m ps i ++ names) (members_of kind) ps)
 
   pub references_in : (ℕ → List Declaration) → List Field → Parts → List Reference
   references_in names fs end = []
@@ -97,7 +97,7 @@ is_for_each kind = false
 
 -- what a node by itself makes written: names that its scope holds twice, and the `var` in the head of a for-in or for-of
 abbrev pub written_by : Tree → List ℕ
-written_by (Node kind m span mark ps) = repeated (scope_names (scope_form kind) m ps) ++ cond (is_for_each kind) (numbers_of (var_part (at 0 ps))) []
+written_by (Node kind m span semantic_id ps) = repeated (scope_names (scope_form kind) m ps) ++ cond (is_for_each kind) (numbers_of (var_part (at 0 ps))) []
 
 abbrev pub written_by_all : List Tree → List ℕ
 written_by_all [] = []
@@ -105,4 +105,4 @@ written_by_all (t ∷ ts) = written_by t ++ written_by_all ts
 
 -- the numbers of the bindings that are written anywhere in a program
 abbrev pub written : Tree → List ℕ
-written t = assigned (resolve t) ++ written_by_all (in_order t)
+written t = assigned (resolve t) ++ written_by_all (preorder t)

@@ -1,6 +1,6 @@
 -- Programs of the first form and what they are lowered to, as trees: their meanings are computed in proofs/Computed.antt.
 use Rattle.std.specs.Prelude.{ℕ, ◌+◌, List, [], ◌∷◌, false, codes, Option}
-use Rattle.es_base.specs.Tree.{Tree, Part, end, more, child, absent, list, text, truth, trees}
+use Rattle.es_base.specs.Tree.{Tree, Part, end, more, child, absent, list, string, boolean, trees}
 use Rattle.es_base.specs.declared.kind.Kind.{Kind}
 use Rattle.es_steps.specs.Made.{node, named, number_literal, constructor_at, define_at, void_at}
 use Rattle.es_steps.specs.Meaning.{Meaning, means, source_means}
@@ -8,13 +8,13 @@ use Rattle.es_steps.specs.Options.{class_properties_alone}
 use Rattle.es_steps.specs.Values.{Text}
 
 abbrev pub program : List Tree → Tree
-program ts = node Kind.Program 0 (more (text (codes "script")) (more (list (trees ts)) end))
+program ts = node Kind.Program 0 (more (string (codes "script")) (more (list (trees ts)) end))
 
 abbrev pub class_at : ℕ → Text → List Tree → Tree
 class_at n s es = node Kind.ClassDeclaration n (more (child (named Kind.BindingIdentifier (n + 1) s)) (more absent (more (child (node Kind.ClassBody (n + 2) (more (list (trees es)) end))) end)))
 
 abbrev pub field_at : ℕ → Text → Part → Tree
-field_at m s v = node Kind.PropertyDefinition m (more (child (named Kind.IdentifierName (m + 1) s)) (more v (more (truth false) (more (truth false) end))))
+field_at m s v = node Kind.PropertyDefinition m (more (child (named Kind.IdentifierName (m + 1) s)) (more v (more (boolean false) (more (boolean false) end))))
 
 -- ---- `class C { x = 1 }`, and `class C { constructor() { B.defineProperty(this, "x", 1); } }`
 
@@ -47,7 +47,7 @@ two_fields_swapped = two_fields_with (define_at 13 (codes "y") (named Kind.Ident
 abbrev pub no_field : Tree
 no_field = program (class_at 1 (codes "C") [] ∷ [])
 
--- the meaning of what a program of n nodes was lowered to, with no made name
+-- the meaning of what a program of n nodes was lowered to, with no generated name
 abbrev pub lowered_means : ℕ → Tree → Option Meaning
 lowered_means n t = means n class_properties_alone [] t
 

@@ -6,7 +6,7 @@ use Rattle.es_base.specs.Table.{Field, members_of}
 use Rattle.es_base.specs.declared.kind.Kind.{Kind}
 use Rattle.es_base.specs.declared.table.Place.{Place}
 use Rattle.es_base.specs.declared.table.Sort.{Sort}
-use Rattle.es_steps.specs.Parts.{at, items, block_items, text_of}
+use Rattle.es_steps.specs.Parts.{at, items, block_items, string_of}
 use Rattle.es_steps.specs.Values.{Text}
 
 -- The class that a name is the name of: a declaration's, seen around it, or the own name of an expression.
@@ -34,10 +34,10 @@ is_binding_place place = false
 
 abbrev pub binds : Sort → Bool
 binds (Sort.Child place) = is_binding_place place
-binds (Sort.Maybe place) = is_binding_place place
+binds (Sort.Nullable place) = is_binding_place place
 binds (Sort.List place) = is_binding_place place
-binds (Sort.Some place) = is_binding_place place
-binds (Sort.Holes place) = is_binding_place place
+binds (Sort.NonEmptyList place) = is_binding_place place
+binds (Sort.ListWithHoles place) = is_binding_place place
 binds sort = false
 
 abbrev pub is_binding_identifier : Kind → Bool
@@ -45,11 +45,11 @@ is_binding_identifier Kind.BindingIdentifier = true
 is_binding_identifier kind = false
 
 abbrev pub declaration : ClassName → ℕ → Parts → List Declaration
-declaration name b ps = record { spelling = text_of (at 0 ps); number = b; class_name = name } ∷ []
+declaration name b ps = record { spelling = string_of (at 0 ps); number = b; class_name = name } ∷ []
 
 abbrev mutual
   pub bound_names : ClassName → Tree → List Declaration
-  bound_names name (Node kind b span mark ps) = cond (is_binding_identifier kind) (declaration name b ps) (bound_members name (members_of kind) ps)
+  bound_names name (Node kind b span semantic_id ps) = cond (is_binding_identifier kind) (declaration name b ps) (bound_members name (members_of kind) ps)
 
   pub bound_members : ClassName → List Field → Parts → List Declaration
   bound_members name fs end = []
@@ -102,7 +102,7 @@ statement_form Kind.ForOfStatement = nests
 statement_form kind = other_statement
 
 abbrev pub is_var : Parts → Bool
-is_var ps = bytes_eq (text_of (at 0 ps)) (codes "var")
+is_var ps = bytes_eq (string_of (at 0 ps)) (codes "var")
 
 -- lexical names, those of functions among them, by the form of the statement; `inner` are those of its parts
 abbrev pub lexical_by : StatementForm → ℕ → Parts → List Declaration → List Declaration
@@ -115,7 +115,7 @@ lexical_by form m ps inner = []
 
 abbrev mutual
   pub lexical_names : Tree → List Declaration
-  lexical_names (Node kind m span mark ps) = lexical_by (statement_form kind) m ps (lexical_items ps)
+  lexical_names (Node kind m span semantic_id ps) = lexical_by (statement_form kind) m ps (lexical_items ps)
 
   pub lexical_part : Part → List Declaration
   lexical_part (child t) = lexical_names t
@@ -135,7 +135,7 @@ var_by form ps inner = []
 
 abbrev mutual
   pub var_names : Tree → List Declaration
-  var_names (Node kind m span mark ps) = var_by (statement_form kind) ps (var_items ps)
+  var_names (Node kind m span semantic_id ps) = var_by (statement_form kind) ps (var_items ps)
 
   pub var_part : Part → List Declaration
   var_part (child t) = var_names t
@@ -146,7 +146,7 @@ abbrev mutual
   var_items end = []
   var_items (more p ps) = var_part p ++ var_items ps
 
--- all names of a body, in reading order
+-- all names of a body, in preorder
 abbrev pub body_names : Parts → List Declaration
 body_names end = []
 body_names (more p ps) = (lexical_part p ++ var_part p) ++ body_names ps
@@ -182,7 +182,7 @@ scope_form Kind.SwitchStatement = switch_scope
 scope_form Kind.CatchClause = catch_scope
 scope_form kind = no_scope
 
--- the names that the scope of node m holds, in reading order, a function expression's own name aside
+-- the names that the scope of node m holds, in preorder, a function expression's own name aside
 abbrev pub scope_names : ScopeForm → ℕ → Parts → List Declaration
 scope_names program_scope m ps = body_names (items (at 1 ps))
 scope_names function_scope m ps = bound_part no_class (at 1 ps) ++ body_names (block_items (at 2 ps))

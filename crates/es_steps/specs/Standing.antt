@@ -24,9 +24,9 @@ abbrev pub values_numbers : List Value → List ℕ
 values_numbers [] = []
 values_numbers (v ∷ vs) = value_numbers v ++ values_numbers vs
 
-abbrev pub maybe_value_numbers : Option Value → List ℕ
-maybe_value_numbers None = []
-maybe_value_numbers (Some v) = value_numbers v
+abbrev pub nullable_value_numbers : Option Value → List ℕ
+nullable_value_numbers None = []
+nullable_value_numbers (Some v) = value_numbers v
 
 abbrev pub referent_numbers : Referent → List ℕ
 referent_numbers (Bound b) = b ∷ []
@@ -39,7 +39,7 @@ abbrev mutual
   event_numbers (Get m o k) = m ∷ value_numbers o ++ value_numbers k
   event_numbers (Set o k v) = value_numbers o ++ value_numbers k ++ value_numbers v
   event_numbers (Define o k v) = value_numbers o ++ value_numbers k ++ value_numbers v
-  event_numbers (Call m f receiver vs) = m ∷ value_numbers f ++ maybe_value_numbers receiver ++ values_numbers vs
+  event_numbers (Call m f receiver vs) = m ∷ value_numbers f ++ nullable_value_numbers receiver ++ values_numbers vs
   event_numbers (Construct m f vs) = m ∷ value_numbers f ++ values_numbers vs
   event_numbers (Operate m operation vs) = m ∷ values_numbers vs
   event_numbers (Update m operator old) = m ∷ value_numbers old
@@ -62,13 +62,13 @@ abbrev pub method_numbers : List Method → List ℕ
 method_numbers [] = []
 method_numbers (m ∷ ms) = value_numbers m.key ++ m.function ∷ method_numbers ms
 
-abbrev pub maybe_number : Option ℕ → List ℕ
-maybe_number None = []
-maybe_number (Some n) = n ∷ []
+abbrev pub nullable_number : Option ℕ → List ℕ
+nullable_number None = []
+nullable_number (Some n) = n ∷ []
 
 abbrev pub entry_numbers : Entry → List ℕ
 entry_numbers (FunctionEntry form ps body) = parameter_numbers ps ++ listed_numbers body
-entry_numbers (ClassEntry declared h ms construction) = maybe_number declared ++ maybe_value_numbers h ++ method_numbers ms ++ listed_numbers construction
+entry_numbers (ClassEntry declared h ms construction) = nullable_number declared ++ nullable_value_numbers h ++ method_numbers ms ++ listed_numbers construction
 
 abbrev pub entries_numbers : List (ℕ × Entry) → List ℕ
 entries_numbers [] = []
@@ -86,14 +86,14 @@ binding_numbers (b ∷ bs) = b.0 ∷ binding_numbers bs
 abbrev pub meaning_numbers : Meaning → List ℕ
 meaning_numbers m = listed_numbers m.program ++ entries_numbers m.entries ++ pair_numbers m.functions ++ binding_numbers m.bindings
 
--- the classes of private names that were made
-abbrev pub made_class : GeneratedKind → List ℕ
-made_class (GeneratedKind.Private n) = n.0 ∷ []
-made_class kind = []
+-- the classes of private generated names
+abbrev pub generated_class : GeneratedKind → List ℕ
+generated_class (GeneratedKind.Private n) = n.0 ∷ []
+generated_class kind = []
 
-abbrev pub made_classes : List LedgerEntry → List ℕ
-made_classes [] = []
-made_classes (e ∷ es) = made_class e.kind ++ made_classes es
+abbrev pub generated_classes : List LedgerEntry → List ℕ
+generated_classes [] = []
+generated_classes (e ∷ es) = generated_class e.kind ++ generated_classes es
 
 -- none of these numbers is that of a new node
 abbrev pub all_old : ℕ → List ℕ → Bool

@@ -54,7 +54,7 @@ rest_code c = no_rule
 
 -- ---- classes
 
--- the identifier that declares a class for the code around it, unless it is a made name
+-- the identifier that declares a class for the code around it, unless it is a generated name
 abbrev pub declared_by : Bool → Member → Option ℕ
 declared_by true (code (binding b s (Made g))) = None
 declared_by true (code (binding b s kind)) = Some b

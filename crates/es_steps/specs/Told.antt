@@ -24,7 +24,7 @@ await_here kind m = []
 
 abbrev mutual
   pub top_awaits : Tree → List ℕ
-  top_awaits (Node kind m span mark ps) = await_here kind m ++ cond (is_hoist_scope kind) [] (top_awaits_in ps)
+  top_awaits (Node kind m span semantic_id ps) = await_here kind m ++ cond (is_hoist_scope kind) [] (top_awaits_in ps)
 
   pub top_awaits_in : Parts → List ℕ
   top_awaits_in end = []

@@ -7,13 +7,13 @@ Text = List ℕ
 
 -- A literal, or what is alike: the name of a property, a template without expressions.
 pub data Constant : Type 0 where
-  StringOf : (text : Text) → Constant
+  StringOf : (string : Text) → Constant
   NumberOf : (raw : Text) → Constant
-  BigIntOf : (text : Text) → Constant
+  BigIntOf : (string : Text) → Constant
   RegExpOf : (pattern flags : Text) → Constant
-  BooleanOf : (truth : Bool) → Constant
+  BooleanOf : (boolean : Bool) → Constant
   Null : Constant
-  -- a template without expressions whose text has no cooked form
+  -- a template without expressions whose string has no cooked form
   RawTemplate : (raw : Text) → Constant
 
 -- A binding is known by its first declaring identifier; functions, classes and operations by their nodes.

@@ -1,7 +1,7 @@
 -- Programs beyond the first form, and what they are to be lowered to: their meanings are computed in
 -- proofs/ComputedWider.antt.
 use Rattle.std.specs.Prelude.{ℕ, ◌+◌, List, [], ◌∷◌, ◌++◌, Bool, true, false, codes}
-use Rattle.es_base.specs.Tree.{Tree, Part, end, more, child, absent, list, text, no_text, truth, trees}
+use Rattle.es_base.specs.Tree.{Tree, Part, end, more, child, absent, list, string, no_string, boolean, trees}
 use Rattle.es_base.specs.declared.kind.Kind.{Kind}
 use Rattle.es_base.specs.declared.ledger.GeneratedKind.{GeneratedKind}
 use Rattle.es_base.specs.declared.ledger.LedgerEntry.{LedgerEntry}
@@ -17,7 +17,7 @@ abbrev pub both_routes : Options
 both_routes = record { class_properties = true; static_blocks = true; sets_fields = false; removes_fields = false }
 
 abbrev pub statement : ℕ → Tree → Tree
-statement m e = node Kind.ExpressionStatement m (more (child e) (more no_text end))
+statement m e = node Kind.ExpressionStatement m (more (child e) (more no_string end))
 
 abbrev pub reference : ℕ → Text → Tree
 reference m s = named Kind.IdentifierReference m s
@@ -26,31 +26,31 @@ abbrev pub this_at : ℕ → Tree
 this_at m = node Kind.ThisExpression m end
 
 abbrev pub call_at : ℕ → Tree → List Tree → Tree
-call_at m f es = node Kind.CallExpression m (more (child f) (more (list (trees es)) (more (truth false) end)))
+call_at m f es = node Kind.CallExpression m (more (child f) (more (list (trees es)) (more (boolean false) end)))
 
 abbrev pub member_at : ℕ → Tree → Tree → Bool → Tree
-member_at m o k computed = node Kind.MemberExpression m (more (child o) (more (child k) (more (truth computed) (more (truth false) end))))
+member_at m o k computed = node Kind.MemberExpression m (more (child o) (more (child k) (more (boolean computed) (more (boolean false) end))))
 
 abbrev pub assignment_at : ℕ → Text → Tree → Tree → Tree
-assignment_at m operator to e = node Kind.AssignmentExpression m (more (text operator) (more (child to) (more (child e) end)))
+assignment_at m operator to e = node Kind.AssignmentExpression m (more (string operator) (more (child to) (more (child e) end)))
 
 abbrev pub keyed_field : ℕ → Tree → Bool → Bool → Tree → Tree
-keyed_field m key computed is_static v = node Kind.PropertyDefinition m (more (child key) (more (child v) (more (truth computed) (more (truth is_static) end))))
+keyed_field m key computed is_static v = node Kind.PropertyDefinition m (more (child key) (more (child v) (more (boolean computed) (more (boolean is_static) end))))
 
 -- a constructor whose parts have these numbers, with its parameters and statements
 abbrev pub constructor_of : ℕ → ℕ → ℕ → ℕ → List Tree → List Tree → Tree
 constructor_of m key f body ps ts =
-    node Kind.MethodDefinition m (more (child (named Kind.IdentifierName key (codes "constructor"))) (more (child (node Kind.FunctionExpression f (more absent (more (list (trees ps)) (more (child (node Kind.BlockStatement body (more (list (trees ts)) end))) (more (truth false) (more (truth false) end))))))) (more (text (codes "constructor")) (more (truth false) (more (truth false) end)))))
+    node Kind.MethodDefinition m (more (child (named Kind.IdentifierName key (codes "constructor"))) (more (child (node Kind.FunctionExpression f (more absent (more (list (trees ps)) (more (child (node Kind.BlockStatement body (more (list (trees ts)) end))) (more (boolean false) (more (boolean false) end))))))) (more (string (codes "constructor")) (more (boolean false) (more (boolean false) end)))))
 
 abbrev pub let_at : ℕ → Text → Tree
-let_at m s = node Kind.VariableDeclaration m (more (text (codes "let")) (more (list (trees (node Kind.VariableDeclarator (m + 1) (more (child (named Kind.BindingIdentifier (m + 2) s)) (more absent end)) ∷ []))) end))
+let_at m s = node Kind.VariableDeclaration m (more (string (codes "let")) (more (list (trees (node Kind.VariableDeclarator (m + 1) (more (child (named Kind.BindingIdentifier (m + 2) s)) (more absent end)) ∷ []))) end))
 
 -- `babelHelpers.defineProperty(o, k, v);`, with numbers from m on but for o, k and v
 abbrev pub define_on_at : ℕ → Tree → Tree → Tree → Tree
 define_on_at m o k v = statement m (call_at (m + 1) (member_at (m + 2) (reference (m + 3) (codes "babelHelpers")) (named Kind.IdentifierName (m + 4) (codes "defineProperty")) false) (o ∷ k ∷ v ∷ []))
 
-abbrev pub made : Text → GeneratedKind → LedgerEntry
-made s kind = record { name = s; kind = kind }
+abbrev pub generated : Text → GeneratedKind → LedgerEntry
+generated s kind = record { name = s; kind = kind }
 
 -- ---- `class A { x = y; constructor(y) { this.z = y; } }`, and the parameter under another name
 
@@ -86,7 +86,7 @@ abbrev pub computed_key_lowered : Tree
 computed_key_lowered = computed_key_with (statement 11 (assignment_at 12 (codes "=") (reference 13 (codes "_f")) (call_at 5 (reference 6 (codes "f")) [])) ∷ [])
 
 abbrev pub computed_key_names : List LedgerEntry
-computed_key_names = made (codes "_f") GeneratedKind.Temp ∷ []
+computed_key_names = generated (codes "_f") GeneratedKind.Temp ∷ []
 
 -- ---- `class C { static [foo()] = 1; static { bar(); } }`, and
 -- `let _foo; _foo = foo(); class C {} babelHelpers.defineProperty(C, _foo, 1); bar();`
@@ -98,7 +98,7 @@ abbrev pub static_block_lowered : Tree
 static_block_lowered = program (let_at 12 (codes "_foo") ∷ statement 15 (assignment_at 16 (codes "=") (reference 17 (codes "_foo")) (call_at 5 (reference 6 (codes "foo")) [])) ∷ class_at 1 (codes "C") [] ∷ define_on_at 18 (reference 23 (codes "C")) (reference 24 (codes "_foo")) (number_literal 7 (codes "1")) ∷ statement 9 (call_at 10 (reference 11 (codes "bar")) []) ∷ [])
 
 abbrev pub static_block_names : List LedgerEntry
-static_block_names = made (codes "_foo") GeneratedKind.Temp ∷ []
+static_block_names = generated (codes "_foo") GeneratedKind.Temp ∷ []
 
 -- ---- `o().x += 1;`
 
@@ -108,19 +108,19 @@ compound_row = program (statement 1 (assignment_at 2 (codes "+=") (member_at 3 (
 -- ---- `class A { #x; #y; f = class extends o.#y { static get #y() {} g = #x in o; h = o.#y; }; k = o.#z; }`
 
 abbrev pub private_field_at : ℕ → Text → Part → Tree
-private_field_at m s v = node Kind.PropertyDefinition m (more (child (named Kind.PrivateIdentifier (m + 1) s)) (more v (more (truth false) (more (truth false) end))))
+private_field_at m s v = node Kind.PropertyDefinition m (more (child (named Kind.PrivateIdentifier (m + 1) s)) (more v (more (boolean false) (more (boolean false) end))))
 
 -- `static get #s() {}`, with numbers from m on
 abbrev pub private_getter_at : ℕ → Text → Tree
-private_getter_at m s = node Kind.MethodDefinition m (more (child (named Kind.PrivateIdentifier (m + 1) s)) (more (child (node Kind.FunctionExpression (m + 2) (more absent (more (list end) (more (child (node Kind.BlockStatement (m + 3) (more (list end) end))) (more (truth false) (more (truth false) end))))))) (more (text (codes "get")) (more (truth false) (more (truth true) end)))))
+private_getter_at m s = node Kind.MethodDefinition m (more (child (named Kind.PrivateIdentifier (m + 1) s)) (more (child (node Kind.FunctionExpression (m + 2) (more absent (more (list end) (more (child (node Kind.BlockStatement (m + 3) (more (list end) end))) (more (boolean false) (more (boolean false) end))))))) (more (string (codes "get")) (more (boolean false) (more (boolean true) end)))))
 
 -- `o.#s`, with numbers from m on
 abbrev pub private_read_at : ℕ → Text → Tree
-private_read_at m s = node Kind.PrivateField m (more (child (reference (m + 1) (codes "o"))) (more (child (named Kind.PrivateIdentifier (m + 2) s)) (more (truth false) (more (truth false) end))))
+private_read_at m s = node Kind.PrivateField m (more (child (reference (m + 1) (codes "o"))) (more (child (named Kind.PrivateIdentifier (m + 2) s)) (more (boolean false) (more (boolean false) end))))
 
 -- `#s in o`, with numbers from m on
 abbrev pub private_in_at : ℕ → Text → Tree
-private_in_at m s = node Kind.PrivateIn m (more (text (codes "in")) (more (child (named Kind.PrivateIdentifier (m + 1) s)) (more (child (reference (m + 2) (codes "o"))) end)))
+private_in_at m s = node Kind.PrivateIn m (more (string (codes "in")) (more (child (named Kind.PrivateIdentifier (m + 1) s)) (more (child (reference (m + 2) (codes "o"))) end)))
 
 abbrev pub nested_privates : Tree
 nested_privates = program (class_at 1 (codes "A") (private_field_at 4 (codes "x") absent ∷ private_field_at 6 (codes "y") absent ∷ field_at 8 (codes "f") (child (node Kind.ClassExpression 10 (more absent (more (child (private_read_at 11 (codes "y"))) (more (child (node Kind.ClassBody 14 (more (list (trees (private_getter_at 15 (codes "y") ∷ field_at 19 (codes "g") (child (private_in_at 21 (codes "x"))) ∷ field_at 24 (codes "h") (child (private_read_at 26 (codes "y"))) ∷ []))) end))) end))))) ∷ field_at 29 (codes "k") (child (private_read_at 31 (codes "z"))) ∷ []) ∷ [])

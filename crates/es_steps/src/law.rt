@@ -2,7 +2,7 @@
 
 ghost use Rattle.std.specs.Prelude.{◌≡◌, [], ◌∷◌, Some, None, true, false, codes};
 ghost use Rattle.es_steps.specs.Events.{then, none, Define, ReadName, Set, Get, Call, Operate};
-ghost use Rattle.es_steps.specs.Law.{MarksLaw, PrivateMarksLaw, RenumberingLaw, ClausesLaw, FirstFormLaw, DefineLaw};
+ghost use Rattle.es_steps.specs.Law.{SemanticIdsLaw, PrivateSemanticIdsLaw, RenumberingLaw, ClausesLaw, FirstFormLaw, DefineLaw};
 ghost use Rattle.es_steps.specs.Lists.{script_of_class, script_with_parameter, script_of, x, y, z, number, sum};
 ghost use Rattle.es_steps.specs.Lowered.{nothing_left};
 ghost use Rattle.es_steps.specs.Made.{number_literal};
@@ -14,12 +14,12 @@ ghost use Rattle.es_steps.specs.Values.{BindingOf, ThisOf, ResultOf, Undefined, 
 ghost use Rattle.es_steps.specs.WiderRows.{sets_fields, both_routes, shadowed, shadowed_with, set_field, static_name, static_name_lowered, computed_key, computed_key_lowered, computed_key_with, computed_key_names, compound_row, static_block_row, static_block_lowered, static_block_names, nested_privates};
 
 /// Marks are no part of a meaning, nor of the private members and of what private names mean.
-pub fn marks_mean_nothing()
-    ensures meaning { MarksLaw }
-    ensures private_names { PrivateMarksLaw }
+pub fn semantic_ids_mean_nothing()
+    ensures meaning { SemanticIdsLaw }
+    ensures private_names { PrivateSemanticIdsLaw }
 {}
 
-/// Giving the new nodes of a program their numbers anew, in reading order, keeps its meaning, if no
+/// Giving the new nodes of a program their numbers anew, in preorder, keeps its meaning, if no
 /// number stands twice and no number of a new node stands in the meaning.
 pub fn renumbering_keeps_meaning()
     ensures { RenumberingLaw }

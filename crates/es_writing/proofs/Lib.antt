@@ -1,4 +1,4 @@
-pub mod InOrder
+pub mod Preorder
 pub mod Keeping
 pub mod Parts
 pub mod Sizes

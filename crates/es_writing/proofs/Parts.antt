@@ -1,6 +1,6 @@
 -- Lists of parts of each length, and kinds that are no others.
 use Rattle.std.proofs.Common.{◌≡◌, refl, sym, ap, ◌∙◌, ◌<◌, ◌≤◌, List, [], ◌∷◌, length, get_or, Bool, false, not, codes, arith}
-use Rattle.serde_json.specs.Data.{boolean}
+use Rattle.serde_json.specs.Data.{boolean as json_boolean}
 use Rattle.es_base.specs.Tree.{Part, Parts, Node, end, more, child, absent}
 use Rattle.es_base.specs.Table.{Field, members_of}
 use Rattle.es_base.specs.declared.kind.Kind.{Kind}
@@ -9,7 +9,7 @@ use Rattle.es_plain.specs.declared.plain.Part as code
 use Rattle.es_writing.specs.Writing.{Entry, entry, is_block, kind_entries, more_entries, write_fields}
 
 block-one : (p q : Part) (ps : Parts) → is_block (more p (more q ps)) ≡ is_block (more absent (more q end))
-block-one p (child (Node Kind.BlockStatement id span mark parts)) ps = refl
+block-one p (child (Node Kind.BlockStatement id span semantic_id parts)) ps = refl
 block-one p (child _) ps = refl
 block-one p _ ps = refl
 
@@ -41,5 +41,5 @@ short_row kind ps fs is short row =
     ap (λ gs. write_fields gs (plain_parts ps)) row
     ∙ sym (ap (λ k. kind_entries k (plain_parts ps) (write_fields (members_of kind) (plain_parts ps))) is ∙ short_template ps (write_fields (members_of kind) (plain_parts ps)) short)
 
-pub arrow_entries : (kind : Kind) (ps : Parts) (b : Bool) → kind ≡ Kind.ArrowFunctionExpression → b ≡ is_block ps → entry (codes "expression") (boolean (not b)) [] ≡ more_entries kind ps
-arrow_entries kind ps b is block = ap (λ x. entry (codes "expression") (boolean (not x)) []) block ∙ sym (ap (λ k. more_entries k ps) is)
+pub arrow_entries : (kind : Kind) (ps : Parts) (b : Bool) → kind ≡ Kind.ArrowFunctionExpression → b ≡ is_block ps → entry (codes "expression") (json_boolean (not b)) [] ≡ more_entries kind ps
+arrow_entries kind ps b is block = ap (λ x. entry (codes "expression") (json_boolean (not x)) []) block ∙ sym (ap (λ k. more_entries k ps) is)

@@ -9,7 +9,7 @@ use Rattle.es_plain.proofs.Views.{tree_is, child_is, list_is}
 
 abbrev mutual
   pub tree_size : Tree → ℕ
-  tree_size (Node kind id span mark parts) = parts_size parts + 4
+  tree_size (Node kind id span semantic_id parts) = parts_size parts + 4
 
   pub part_size : tree_part → ℕ
   part_size (child t) = tree_size t

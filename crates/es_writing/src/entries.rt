@@ -1,9 +1,9 @@
 // Values, and entries of an object.
 
 ghost use Rattle.std.specs.Prelude.{◌≡◌, [], IfOk, OnOk};
-ghost use Rattle.es_base.specs.Marks.{span_of};
+ghost use Rattle.es_base.specs.Carried.{span_of};
 ghost use Rattle.es_writing.specs.Writing.{entry, put_all, string_of, number_of, span_entries};
-ghost use Rattle.serde_json.specs.Data.{null, boolean, string};
+ghost use Rattle.serde_json.specs.Data.{null, boolean as json_boolean, string as json_string};
 ghost use Rattle.serde_json.specs.View.{view, members_view};
 
 use es_base::ids::Span;
@@ -11,12 +11,12 @@ use es_base::name::Name;
 use serde_json::{Map, Value};
 use std::alloc::{AllocError, Global};
 
-/// The value of a text of a tree. Fails for want of memory alone.
+/// The value of a text of a tree. Fails on allocation failure alone.
 #[tactic(auto, using(crate::proofs::Keeping::encodes))]
-pub fn string_of(alloc: Global, text: &Name) -> Result<Value, AllocError>
-    ensures { IfOk result (λ v. view v ≡ string_of text.now) }
+pub fn string_of(alloc: Global, string: &Name) -> Result<Value, AllocError>
+    ensures { IfOk result (λ v. view v ≡ string_of string.now) }
 {
-    Value::try_from_str(alloc, text.as_str())
+    Value::try_from_str(alloc, string.as_str())
 }
 
 /// The value of a number of a tree.
@@ -26,7 +26,7 @@ pub fn number_of(number: u32) -> Value
     Value::from(number)
 }
 
-/// Puts a value at this name. Fails for want of memory alone.
+/// Puts a value at this name. Fails on allocation failure alone.
 pub fn put_value(
     object: &mut Map<String, Value>,
     alloc: Global,
@@ -38,7 +38,7 @@ pub fn put_value(
     serde_json::put(object, alloc, name, value)
 }
 
-/// Puts null at this name. Fails for want of memory alone.
+/// Puts null at this name. Fails on allocation failure alone.
 pub fn put_null(
     object: &mut Map<String, Value>,
     alloc: Global,
@@ -49,19 +49,19 @@ pub fn put_null(
     put_value(object, alloc, name, Value::Null)
 }
 
-/// Puts a truth value at this name. Fails for want of memory alone.
-pub fn put_truth(
+/// Puts a boolean at this name. Fails on allocation failure alone.
+pub fn put_boolean(
     object: &mut Map<String, Value>,
     alloc: Global,
     name: &str,
-    truth: bool,
+    boolean: bool,
 ) -> Result<(), AllocError>
-    ensures { OnOk result (members_view object.new.entries ≡ put_all (members_view object.old.entries) (entry name.now (boolean truth) [])) }
+    ensures { OnOk result (members_view object.new.entries ≡ put_all (members_view object.old.entries) (entry name.now (json_boolean boolean) [])) }
 {
-    put_value(object, alloc, name, Value::from(truth))
+    put_value(object, alloc, name, Value::from(boolean))
 }
 
-/// Puts a number at this name. Fails for want of memory alone.
+/// Puts a number at this name. Fails on allocation failure alone.
 pub fn put_number(
     object: &mut Map<String, Value>,
     alloc: Global,
@@ -73,32 +73,32 @@ pub fn put_number(
     put_value(object, alloc, name, number_of(number))
 }
 
-/// Puts a text of a tree at this name. Fails for want of memory alone.
-pub fn put_text(
+/// Puts a text of a tree at this name. Fails on allocation failure alone.
+pub fn put_string(
     object: &mut Map<String, Value>,
     alloc: Global,
     name: &str,
-    text: &Name,
+    string: &Name,
 ) -> Result<(), AllocError>
-    ensures { OnOk result (members_view object.new.entries ≡ put_all (members_view object.old.entries) (entry name.now (string_of text.now) [])) }
+    ensures { OnOk result (members_view object.new.entries ≡ put_all (members_view object.old.entries) (entry name.now (string_of string.now) [])) }
 {
-    put_value(object, alloc, name, string_of(alloc, text)?)
+    put_value(object, alloc, name, string_of(alloc, string)?)
 }
 
-/// Puts a word at this name. Fails for want of memory alone.
+/// Puts a word at this name. Fails on allocation failure alone.
 pub fn put_word(
     object: &mut Map<String, Value>,
     alloc: Global,
     name: &str,
     word: &str,
 ) -> Result<(), AllocError>
-    ensures { OnOk result (members_view object.new.entries ≡ put_all (members_view object.old.entries) (entry name.now (string word.now) [])) }
+    ensures { OnOk result (members_view object.new.entries ≡ put_all (members_view object.old.entries) (entry name.now (json_string word.now) [])) }
 {
     put_value(object, alloc, name, Value::try_from_str(alloc, word)?)
 }
 
 /// Puts in where a node stands in its source, if it stands there (ESTree, `start` and `end`). Fails for
-/// want of memory alone.
+/// allocation failure alone.
 pub fn put_span(
     object: &mut Map<String, Value>,
     alloc: Global,

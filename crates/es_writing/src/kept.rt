@@ -1,9 +1,9 @@
 // A walk through a tree for what its types say of it: its numbers are below 2^32, and its texts are such
 // as UTF-8 holds.
 
-ghost use Rattle.es_base.specs.Marks.{span_of};
+ghost use Rattle.es_base.specs.Carried.{span_of};
 ghost use Rattle.es_plain.specs.View.{plain_tree, plain_part, plain_parts};
-ghost use Rattle.es_writing.specs.Kept.{IsKept, PartIsKept, AreKept, SpanFits, IsText, IsMaybeText, AreTexts};
+ghost use Rattle.es_writing.specs.Kept.{IsKept, PartIsKept, AreKept, SpanFits, IsString, IsNullableString, AreStrings};
 
 use es_base::ids::Span;
 use es_base::literal::LiteralValue;
@@ -36,9 +36,9 @@ fn visit_part(part: &Part)
     match part {
         Part::Child(tree) => visit_tree(tree),
         Part::List(all) => visit_parts(all.as_slice()),
-        Part::Text(text) => visit_text(text),
+        Part::Text(string) => visit_string(string),
         Part::Literal(value) => visit_literal(value),
-        Part::Absent | Part::NoText | Part::Truth(_) => {}
+        Part::Absent | Part::NoString | Part::Boolean(_) => {}
     }
 }
 
@@ -47,35 +47,35 @@ fn visit_span(_span: Option<Span>)
 {}
 
 fn visit_literal(value: &LiteralValue)
-    ensures { AreTexts value.now }
+    ensures { AreStrings value.now }
 {
     match value {
-        LiteralValue::Text { text, raw } => {
-            visit_text(text);
-            visit_maybe_text(raw);
+        LiteralValue::String { value, raw } => {
+            visit_string(string);
+            visit_nullable_string(raw);
         }
-        LiteralValue::Number { raw } => visit_text(raw),
-        LiteralValue::BigInt { text } => visit_text(text),
+        LiteralValue::Number { raw } => visit_string(raw),
+        LiteralValue::BigInt { string } => visit_string(string),
         LiteralValue::RegExp { pattern, flags } => {
-            visit_text(pattern);
-            visit_text(flags);
+            visit_string(pattern);
+            visit_string(flags);
         }
-        LiteralValue::Bool(_) | LiteralValue::Null => {}
+        LiteralValue::Boolean(_) | LiteralValue::Null => {}
     }
 }
 
-fn visit_maybe_text(text: &Option<Name>)
-    ensures { IsMaybeText text.now }
+fn visit_nullable_string(string: &Option<Name>)
+    ensures { IsNullableString string.now }
 {
-    match text {
+    match string {
         None => {}
-        Some(text) => visit_text(text),
+        Some(string) => visit_string(string),
     }
 }
 
-#[tactic(auto, using(crate::proofs::Keeping::text_kept))]
-fn visit_text(text: &Name)
-    ensures { IsText text.now }
+#[tactic(auto, using(crate::proofs::Keeping::string_kept))]
+fn visit_string(string: &Name)
+    ensures { IsString string.now }
 {
-    let _text = text.as_str();
+    let _string = string.as_str();
 }

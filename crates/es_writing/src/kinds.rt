@@ -4,10 +4,10 @@ ghost use Rattle.std.specs.Prelude.{◌≡◌, IfOk, OnOk, codes};
 ghost use Rattle.es_base.specs.declared.kind.Kind.{Kind};
 ghost use Rattle.es_base.specs.Tree.{absent, end, more};
 ghost use Rattle.es_plain.specs.View.{plain_part, plain_parts};
-ghost use Rattle.es_writing.specs.Writing.{put_all, type_of, is_block, more_entries, raw_of, cooked_of, texts_of, tail_entries, entry};
+ghost use Rattle.es_writing.specs.Writing.{put_all, type_of, is_block, more_entries, raw_of, cooked_of, strings_of, tail_entries, entry};
 ghost use Rattle.serde_json.specs.View.{view, members_view};
 
-use crate::entries::{put_truth, put_value, string_of};
+use crate::entries::{put_boolean, put_value, string_of};
 use es_base::kind::Kind;
 use es_base::table::estree_name;
 use es_plain::plain::{Part, Plain};
@@ -35,7 +35,7 @@ fn foreign_type(alloc: Global, parts: &[Part]) -> Result<Value, AllocError>
 }
 
 /// Puts in the members that follow from the others: `prefix` of a unary expression, and `expression` of
-/// an arrow. Fails for want of memory alone.
+/// an arrow. Fails on allocation failure alone.
 pub fn put_more(
     object: &mut Map<String, Value>,
     alloc: Global,
@@ -45,8 +45,8 @@ pub fn put_more(
     ensures { OnOk result (members_view object.new.entries ≡ put_all (members_view object.old.entries) (more_entries kind (plain_parts parts.now))) }
 {
     match kind {
-        Kind::UnaryExpression => put_truth(object, alloc, "prefix", true),
-        Kind::ArrowFunctionExpression => put_truth(object, alloc, "expression", !is_block(parts)),
+        Kind::UnaryExpression => put_boolean(object, alloc, "prefix", true),
+        Kind::ArrowFunctionExpression => put_boolean(object, alloc, "expression", !is_block(parts)),
         _ => Ok(()),
     }
 }
@@ -72,7 +72,7 @@ fn is_block_statement(body: &Part) -> bool
 }
 
 /// Puts in the members of a template element: `value`, the object of its texts, and `tail`. Fails for
-/// want of memory alone.
+/// allocation failure alone.
 pub fn put_template(
     object: &mut Map<String, Value>,
     alloc: Global,
@@ -80,9 +80,9 @@ pub fn put_template(
     cooked: &Part,
     tail: &[Part],
 ) -> Result<(), AllocError>
-    ensures { OnOk result (members_view object.new.entries ≡ put_all (members_view object.old.entries) (entry (codes "value") (texts_of (plain_part raw.now) (plain_part cooked.now)) (tail_entries (plain_parts tail.now)))) }
+    ensures { OnOk result (members_view object.new.entries ≡ put_all (members_view object.old.entries) (entry (codes "value") (strings_of (plain_part raw.now) (plain_part cooked.now)) (tail_entries (plain_parts tail.now)))) }
 {
-    put_value(object, alloc, "value", texts_of(alloc, raw, cooked)?)?;
+    put_value(object, alloc, "value", strings_of(alloc, raw, cooked)?)?;
     put_tail(object, alloc, tail)
 }
 
@@ -90,28 +90,28 @@ fn put_tail(object: &mut Map<String, Value>, alloc: Global, tail: &[Part]) -> Re
     ensures { OnOk result (members_view object.new.entries ≡ put_all (members_view object.old.entries) (tail_entries (plain_parts tail.now))) }
 {
     match tail {
-        [Part::Truth(last), ..] => put_truth(object, alloc, "tail", *last),
+        [Part::Boolean(last), ..] => put_boolean(object, alloc, "tail", *last),
         _ => Ok(()),
     }
 }
 
 /// The texts of a template element.
-fn texts_of(alloc: Global, raw: &Part, cooked: &Part) -> Result<Value, AllocError>
-    ensures { IfOk result (λ v. view v ≡ texts_of (plain_part raw.now) (plain_part cooked.now)) }
+fn strings_of(alloc: Global, raw: &Part, cooked: &Part) -> Result<Value, AllocError>
+    ensures { IfOk result (λ v. view v ≡ strings_of (plain_part raw.now) (plain_part cooked.now)) }
 {
     let mut object = Map::new(alloc);
-    put_value(&mut object, alloc, "raw", text_or_null(alloc, raw)?)?;
-    put_value(&mut object, alloc, "cooked", text_or_null(alloc, cooked)?)?;
+    put_value(&mut object, alloc, "raw", string_or_null(alloc, raw)?)?;
+    put_value(&mut object, alloc, "cooked", string_or_null(alloc, cooked)?)?;
     Ok(Value::from(object))
 }
 
 /// The text at a part; null, where there is none.
-fn text_or_null(alloc: Global, part: &Part) -> Result<Value, AllocError>
+fn string_or_null(alloc: Global, part: &Part) -> Result<Value, AllocError>
     ensures raw { IfOk result (λ v. view v ≡ raw_of (plain_part part.now)) }
     ensures cooked { IfOk result (λ v. view v ≡ cooked_of (plain_part part.now)) }
 {
     match part {
-        Part::Text(text) => string_of(alloc, text),
+        Part::Text(string) => string_of(alloc, string),
         _ => Ok(Value::Null),
     }
 }

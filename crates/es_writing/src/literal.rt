@@ -1,17 +1,17 @@
 // What a literal has at its members (ESTree).
 
 ghost use Rattle.std.specs.Prelude.{◌≡◌, IfOk, OnOk};
-ghost use Rattle.es_writing.specs.Writing.{put_all, raw_entry, truth_text, regex_of, literal_entries};
+ghost use Rattle.es_writing.specs.Writing.{put_all, raw_entry, boolean_string, regex_of, literal_entries};
 ghost use Rattle.serde_json.specs.View.{view, members_view};
 
-use crate::entries::{put_null, put_text, put_truth, put_value, put_word};
+use crate::entries::{put_null, put_string, put_boolean, put_value, put_word};
 use es_base::literal::LiteralValue;
 use es_base::name::Name;
 use serde_json::{Map, Value};
 use std::alloc::{AllocError, Global};
 
 /// Puts in the value of a literal, and its text: `value` and `raw`, `bigint` or `regex`. What JSON
-/// cannot hold has the value null. Fails for want of memory alone.
+/// cannot hold has the value null. Fails on allocation failure alone.
 pub fn put_literal(
     object: &mut Map<String, Value>,
     alloc: Global,
@@ -20,25 +20,25 @@ pub fn put_literal(
     ensures { OnOk result (members_view object.new.entries ≡ put_all (members_view object.old.entries) (literal_entries value.now)) }
 {
     match value {
-        LiteralValue::Text { text, raw } => {
-            put_text(object, alloc, "value", text)?;
+        LiteralValue::String { value, raw } => {
+            put_string(object, alloc, "value", string)?;
             put_raw(object, alloc, raw)
         }
         LiteralValue::Number { raw } => {
             put_null(object, alloc, "value")?;
-            put_text(object, alloc, "raw", raw)
+            put_string(object, alloc, "raw", raw)
         }
-        LiteralValue::BigInt { text } => {
+        LiteralValue::BigInt { string } => {
             put_null(object, alloc, "value")?;
-            put_text(object, alloc, "bigint", text)
+            put_string(object, alloc, "bigint", string)
         }
         LiteralValue::RegExp { pattern, flags } => {
             put_null(object, alloc, "value")?;
             put_value(object, alloc, "regex", regex_of(alloc, pattern, flags)?)
         }
-        LiteralValue::Bool(truth) => {
-            put_truth(object, alloc, "value", *truth)?;
-            put_word(object, alloc, "raw", truth_text(*truth))
+        LiteralValue::Boolean(boolean) => {
+            put_boolean(object, alloc, "value", *boolean)?;
+            put_word(object, alloc, "raw", boolean_string(*boolean))
         }
         LiteralValue::Null => {
             put_null(object, alloc, "value")?;
@@ -57,7 +57,7 @@ fn put_raw(
 {
     match raw {
         None => Ok(()),
-        Some(raw) => put_text(object, alloc, "raw", raw),
+        Some(raw) => put_string(object, alloc, "raw", raw),
     }
 }
 
@@ -66,14 +66,14 @@ fn regex_of(alloc: Global, pattern: &Name, flags: &Name) -> Result<Value, AllocE
     ensures { IfOk result (λ v. view v ≡ regex_of pattern.now flags.now) }
 {
     let mut object = Map::new(alloc);
-    put_text(&mut object, alloc, "pattern", pattern)?;
-    put_text(&mut object, alloc, "flags", flags)?;
+    put_string(&mut object, alloc, "pattern", pattern)?;
+    put_string(&mut object, alloc, "flags", flags)?;
     Ok(Value::from(object))
 }
 
-/// The source text of a truth value.
-fn truth_text(truth: bool) -> &'static str
-    ensures { result.now ≡ truth_text truth }
+/// The source text of a boolean.
+fn boolean_string(boolean: bool) -> &'static str
+    ensures { result.now ≡ boolean_string boolean }
 {
-    if truth { "true" } else { "false" }
+    if boolean { "true" } else { "false" }
 }

@@ -8,7 +8,7 @@ ghost use Rattle.es_writing.specs.Writing.{put_all, kind_entries, write, write_f
 ghost use Rattle.serde_json.specs.Data.{array};
 ghost use Rattle.serde_json.specs.View.{view, members_view};
 
-use crate::entries::{number_of, put_null, put_span, put_text, put_truth, put_value};
+use crate::entries::{number_of, put_null, put_span, put_string, put_boolean, put_value};
 use crate::kept::visit_tree;
 use crate::kinds::{put_more, put_template, type_of};
 use crate::literal::put_literal;
@@ -20,7 +20,7 @@ use std::alloc::{AllocError, Global};
 
 /// The value of a node: an object with its `type`, its number as `node`, what stands at its members, by
 /// the table of kinds, and where it stands in its source, `start` and `end` (ESTree; `node` is our own).
-/// Its mark is not written. Fails for want of memory alone.
+/// Its mark is not written. Fails on allocation failure alone.
 pub fn write(alloc: Global, tree: &Plain) -> Result<Value, AllocError>
     ensures value { IfOk result (λ v. view v ≡ write (plain_tree tree.now)) }
     ensures kept { IfOk result (λ v. IsKept (plain_tree tree.now)) }
@@ -99,9 +99,9 @@ fn put_part(
         Part::Child(tree) => put_value(object, alloc, name, write_tree(alloc, tree)?),
         Part::Absent => put_null(object, alloc, name),
         Part::List(all) => put_value(object, alloc, name, write_items(alloc, all.as_slice())?),
-        Part::Text(text) => put_text(object, alloc, name, text),
-        Part::NoText => Ok(()),
-        Part::Truth(truth) => put_truth(object, alloc, name, *truth),
+        Part::Text(string) => put_string(object, alloc, name, string),
+        Part::NoString => Ok(()),
+        Part::Boolean(boolean) => put_boolean(object, alloc, name, *boolean),
         Part::Literal(value) => put_literal(object, alloc, value),
     }
 }

@@ -1,7 +1,7 @@
 -- A class of plain fields and the class whose constructor defines them evaluate alike and have the same entry.
 use Rattle.std.specs.Prelude.{◌≡◌, ℕ, List, [], ◌∷◌, ◌++◌, Bool, true, false, cond, Option, Some, None}
 use Rattle.std.proofs.Common.{refl, sym, ap, ap₂, ◌∙◌}
-use Rattle.es_base.specs.Order.{in_order}
+use Rattle.es_base.specs.Preorder.{preorder}
 use Rattle.es_base.specs.Tree.{Tree}
 use Rattle.es_steps.proofs.PlainClasses.{IsPlain, a_value, a_name, fixed, changing, means_class, plain-entries}
 use Rattle.es_steps.specs.Code.{Code, Codes, FunctionForm, defines, value, name, define, steps, function, class_code, field, constructor, done, and}
@@ -164,7 +164,7 @@ program-entries first (and c cs) (and d ds) h = step c d h.0 (program-entries fi
         rw (class-runs n declared fs, lowered_class-runs n k declared fs) (ap₂ (λ (xs ys : Entries). xs ++ ys) (lowered-entries first n k declared fs p ∙ sym (source-entries first n declared fs p)) ih)
 
 -- programs of such classes that declare the same mean the same
-pub lowered_classes_mean : (first : ℕ) (p q : Tree) (cs ds : Codes) → ArePairs cs ds → source_type_of q ≡ source_type_of p → declared_functions [] (in_order q) ≡ declared_functions [] (in_order p) → declaring ClassDeclared q ≡ declaring ClassDeclared p → means_of first [] q (steps ds) ≡ means_of first [] p (steps cs)
+pub lowered_classes_mean : (first : ℕ) (p q : Tree) (cs ds : Codes) → ArePairs cs ds → source_type_of q ≡ source_type_of p → declared_functions [] (preorder q) ≡ declared_functions [] (preorder p) → declaring ClassDeclared q ≡ declaring ClassDeclared p → means_of first [] q (steps ds) ≡ means_of first [] p (steps cs)
 lowered_classes_mean first p q cs ds h source_type functions bindings =
     let runs = program-runs cs ds h in
     rw (runs.0, runs.1, program-entries first cs ds h) (told (whole (all_entries first [] [] cs)))

@@ -2,7 +2,7 @@
 use Rattle.std.specs.Prelude.{◌≡◌, ℕ, ◌+◌, List, [], ◌∷◌, ◌++◌, false}
 use Rattle.std.proofs.Common.{refl, sym, ap, ◌∙◌, append_assoc}
 use Rattle.std.proofs.lemmas.List.{append-nil}
-use Rattle.es_base.specs.Order.{in_order, in_order_of}
+use Rattle.es_base.specs.Preorder.{preorder, preorder_of}
 use Rattle.es_base.specs.Tree.{Tree, Parts, end, more, trees}
 use Rattle.es_steps.specs.Meaning.{DeclarationKind, ClassDeclared, declaring, declaring_items, declared_function, declared_functions}
 use Rattle.es_steps.specs.References.{Reference, if_bound, assigned, item_references, written_by, written_by_all, written}
@@ -14,15 +14,15 @@ use Rattle.first_form.proofs.Shaped.{no_value, a_literal, a_reference, a_key, a_
 
 pub lexical-definitions : (es : Parts) → AreFields es → (k : ℕ) → lexical_items (trees (definitions_from k es)) ≡ []
 lexical-definitions end h k = refl
-lexical-definitions (more p es) (a_field m span mark key v hk hv, h) k = lexical-definitions es h _
+lexical-definitions (more p es) (a_field m span semantic_id key v hk hv, h) k = lexical-definitions es h _
 
 pub names-definitions : (es : Parts) → AreFields es → (k : ℕ) → body_names (trees (definitions_from k es)) ≡ []
 names-definitions end h k = refl
-names-definitions (more p es) (a_field m span mark key v hk hv, h) k = names-definitions es h _
+names-definitions (more p es) (a_field m span semantic_id key v hk hv, h) k = names-definitions es h _
 
 pub names-lowered : (ps : Parts) → AreClasses ps → (k : ℕ) → body_names (lowered_statements k ps) ≡ body_names ps
 names-lowered end h k = refl
-names-lowered (more p ps) (a_class n span mark id body hid hbody, h) k = ap (λ (ds : List Declaration). lexical_part p ++ var_part p ++ ds) (names-lowered ps h _)
+names-lowered (more p ps) (a_class n span semantic_id id body hid hbody, h) k = ap (λ (ds : List Declaration). lexical_part p ++ var_part p ++ ds) (names-lowered ps h _)
 
 -- ---- appended lists
 
@@ -50,19 +50,19 @@ two_ends (x ∷ xs) ys = ap (λ zs. x ∷ zs) (two_ends xs ys)
 -- ---- in these lists nothing is written, and no function is declared
 
 abbrev Unwritten : Parts → Type 0
-Unwritten ps = ((names : List Declaration) → assigned (item_references names false ps) ≡ []) × (written_by_all (in_order_of ps) ≡ []) × (declared_functions [] (in_order_of ps) ≡ [])
+Unwritten ps = ((names : List Declaration) → assigned (item_references names false ps) ≡ []) × (written_by_all (preorder_of ps) ≡ []) × (declared_functions [] (preorder_of ps) ≡ [])
 
 fields-unwritten : (es : Parts) → AreFields es → Unwritten es
 fields-unwritten end h = (λ names. refl, refl, refl)
-fields-unwritten (more p es) (a_field m span mark key v (a_key i ispan imark s) no_value, h) = fields-unwritten es h
-fields-unwritten (more p es) (a_field m span mark key v (a_key i ispan imark s) (a_literal l lspan lmark w), h) = fields-unwritten es h
-fields-unwritten (more p es) (a_field m span mark key v (a_key i ispan imark s) (a_reference r rspan rmark x), h) = fields-unwritten es h
+fields-unwritten (more p es) (a_field m span semantic_id key v (a_key i ispan i_semantic_id s) no_value, h) = fields-unwritten es h
+fields-unwritten (more p es) (a_field m span semantic_id key v (a_key i ispan i_semantic_id s) (a_literal l lspan l_semantic_id w), h) = fields-unwritten es h
+fields-unwritten (more p es) (a_field m span semantic_id key v (a_key i ispan i_semantic_id s) (a_reference r rspan r_semantic_id x), h) = fields-unwritten es h
 
 definitions-unwritten : (es : Parts) → AreFields es → (k : ℕ) → Unwritten (trees (definitions_from k es))
 definitions-unwritten end h k = (λ names. refl, refl, refl)
-definitions-unwritten (more p es) (a_field m span mark key v hk no_value, h) k = definitions-unwritten es h (k + 9)
-definitions-unwritten (more p es) (a_field m span mark key v hk (a_literal l lspan lmark w), h) k = definitions-unwritten es h (k + 7)
-definitions-unwritten (more p es) (a_field m span mark key v hk (a_reference r rspan rmark x), h) k = definitions-unwritten es h (k + 7)
+definitions-unwritten (more p es) (a_field m span semantic_id key v hk no_value, h) k = definitions-unwritten es h (k + 9)
+definitions-unwritten (more p es) (a_field m span semantic_id key v hk (a_literal l lspan l_semantic_id w), h) k = definitions-unwritten es h (k + 7)
+definitions-unwritten (more p es) (a_field m span semantic_id key v hk (a_reference r rspan r_semantic_id x), h) k = definitions-unwritten es h (k + 7)
 
 elements-unwritten : (es : Parts) → AreFields es → (k : ℕ) → Unwritten (lowered_elements k es)
 elements-unwritten end h k = (λ names. refl, refl, refl)
@@ -70,20 +70,20 @@ elements-unwritten (more p es) h k =
     let ts : Parts = trees (definitions_from (k + 4) (more p es)) in
     let none = definitions-unwritten (more p es) h (k + 4) in (
       λ names. rw (names-definitions (more p es) h (k + 4), lexical-definitions (more p es) h (k + 4), four_ends (item_references names false ts)) (none.0 names),
-      rw (names-definitions (more p es) h (k + 4), lexical-definitions (more p es) h (k + 4), four_ends (in_order_of ts)) none.1,
-      rw (four_ends (in_order_of ts)) none.2,
+      rw (names-definitions (more p es) h (k + 4), lexical-definitions (more p es) h (k + 4), four_ends (preorder_of ts)) none.1,
+      rw (four_ends (preorder_of ts)) none.2,
     )
 
 -- a class with these elements in front of these classes
 abbrev ClassUnwritten : Parts → Parts → Type 0
 ClassUnwritten es ps =
     ((names : List Declaration) → assigned (item_references names false es ++ [] ++ [] ++ item_references names false ps) ≡ [])
-    × (written_by_all (in_order_of es ++ [] ++ [] ++ in_order_of ps) ≡ []) × (declared_functions [] (in_order_of es ++ [] ++ [] ++ in_order_of ps) ≡ [])
+    × (written_by_all (preorder_of es ++ [] ++ [] ++ preorder_of ps) ≡ []) × (declared_functions [] (preorder_of es ++ [] ++ [] ++ preorder_of ps) ≡ [])
 
 class-unwritten : (es ps : Parts) → Unwritten es → Unwritten ps → ClassUnwritten es ps
 class-unwritten es ps a b =
-    let xs : List Tree = in_order_of es in
-    let ys : List Tree = in_order_of ps in (
+    let xs : List Tree = preorder_of es in
+    let ys : List Tree = preorder_of ps in (
       λ names. rw (two_ends (item_references names false es) (item_references names false ps), assigned-append (item_references names false es) (item_references names false ps), a.0 names) (b.0 names),
       rw (two_ends xs ys, written_by_all-append xs ys, a.1) b.1,
       rw (two_ends xs ys, declared_functions-append xs ys, a.2) b.2,
@@ -91,12 +91,12 @@ class-unwritten es ps a b =
 
 classes-unwritten : (ps : Parts) → AreClasses ps → Unwritten ps
 classes-unwritten end h = (λ names. refl, refl, refl)
-classes-unwritten (more p ps) (a_class n span mark id body (a_name i ispan imark s free) (a_body m bspan bmark es he), h) =
+classes-unwritten (more p ps) (a_class n span semantic_id id body (a_name i ispan i_semantic_id s free) (a_body m bspan b_semantic_id es he), h) =
     class-unwritten es ps (fields-unwritten es he) (classes-unwritten ps h)
 
 lowered-unwritten : (ps : Parts) → AreClasses ps → (k : ℕ) → Unwritten (lowered_statements k ps)
 lowered-unwritten end h k = (λ names. refl, refl, refl)
-lowered-unwritten (more p ps) (a_class n span mark id body (a_name i ispan imark s free) (a_body m bspan bmark es he), h) k =
+lowered-unwritten (more p ps) (a_class n span semantic_id id body (a_name i ispan i_semantic_id s free) (a_body m bspan b_semantic_id es he), h) k =
     let next : ℕ = k + statement_size p in
     class-unwritten (lowered_elements k es) (lowered_statements next ps) (elements-unwritten es he k) (lowered-unwritten ps h next)
 
@@ -107,15 +107,15 @@ Undeclaring ps = (d : DeclarationKind) → declaring_items d ps ≡ []
 
 fields-declare : (es : Parts) → AreFields es → Undeclaring es
 fields-declare end h d = refl
-fields-declare (more p es) (a_field m span mark key v (a_key i ispan imark s) no_value, h) d = fields-declare es h d
-fields-declare (more p es) (a_field m span mark key v (a_key i ispan imark s) (a_literal l lspan lmark w), h) d = fields-declare es h d
-fields-declare (more p es) (a_field m span mark key v (a_key i ispan imark s) (a_reference r rspan rmark x), h) d = fields-declare es h d
+fields-declare (more p es) (a_field m span semantic_id key v (a_key i ispan i_semantic_id s) no_value, h) d = fields-declare es h d
+fields-declare (more p es) (a_field m span semantic_id key v (a_key i ispan i_semantic_id s) (a_literal l lspan l_semantic_id w), h) d = fields-declare es h d
+fields-declare (more p es) (a_field m span semantic_id key v (a_key i ispan i_semantic_id s) (a_reference r rspan r_semantic_id x), h) d = fields-declare es h d
 
 definitions-declare : (es : Parts) → AreFields es → (k : ℕ) → Undeclaring (trees (definitions_from k es))
 definitions-declare end h k d = refl
-definitions-declare (more p es) (a_field m span mark key v hk no_value, h) k d = definitions-declare es h (k + 9) d
-definitions-declare (more p es) (a_field m span mark key v hk (a_literal l lspan lmark w), h) k d = definitions-declare es h (k + 7) d
-definitions-declare (more p es) (a_field m span mark key v hk (a_reference r rspan rmark x), h) k d = definitions-declare es h (k + 7) d
+definitions-declare (more p es) (a_field m span semantic_id key v hk no_value, h) k d = definitions-declare es h (k + 9) d
+definitions-declare (more p es) (a_field m span semantic_id key v hk (a_literal l lspan l_semantic_id w), h) k d = definitions-declare es h (k + 7) d
+definitions-declare (more p es) (a_field m span semantic_id key v hk (a_reference r rspan r_semantic_id x), h) k d = definitions-declare es h (k + 7) d
 
 elements-declare : (es : Parts) → AreFields es → (k : ℕ) → Undeclaring (lowered_elements k es)
 elements-declare end h k d = refl
@@ -123,21 +123,21 @@ elements-declare (more p es) h k d = four_ends _ ∙ definitions-declare (more p
 
 classes-declare : (ps : Parts) → AreClasses ps → (k : ℕ) (d : DeclarationKind) → declaring_items d (lowered_statements k ps) ≡ declaring_items d ps
 classes-declare end h k d = refl
-classes-declare (more p ps) (a_class n span mark id body (a_name i ispan imark s free) (a_body m bspan bmark es he), h) k d =
+classes-declare (more p ps) (a_class n span semantic_id id body (a_name i ispan i_semantic_id s free) (a_body m bspan b_semantic_id es he), h) k d =
     rw (elements-declare es he k ClassDeclared, fields-declare es he ClassDeclared) (ap (λ ds. (i, ClassDeclared) ∷ ds) (classes-declare ps h _ d))
 
 -- ---- programs
 
 pub written-lowered : (k : ℕ) (t : Tree) → IsProgram t → written (lowered_from k t) ≡ written t
-written-lowered k t (a_program m span mark s all h) =
+written-lowered k t (a_program m span semantic_id s all h) =
     let ps : Parts = lowered_statements k all in
     let here = classes-unwritten all h in
     let there = lowered-unwritten all h k in
-    rw (names-lowered all h k, append-nil (item_references (body_names all ++ []) false all), append-nil (item_references (body_names all ++ []) false ps), append-nil (in_order_of all), append-nil (in_order_of ps), here.0 (body_names all ++ []), there.0 (body_names all ++ []), here.1, there.1) refl
+    rw (names-lowered all h k, append-nil (item_references (body_names all ++ []) false all), append-nil (item_references (body_names all ++ []) false ps), append-nil (preorder_of all), append-nil (preorder_of ps), here.0 (body_names all ++ []), there.0 (body_names all ++ []), here.1, there.1) refl
 
-pub functions-lowered : (k : ℕ) (t : Tree) → IsProgram t → declared_functions [] (in_order (lowered_from k t)) ≡ declared_functions [] (in_order t)
-functions-lowered k t (a_program m span mark s all h) =
-    rw (append-nil (in_order_of all), append-nil (in_order_of (lowered_statements k all)), (classes-unwritten all h).2) (lowered-unwritten all h k).2
+pub functions-lowered : (k : ℕ) (t : Tree) → IsProgram t → declared_functions [] (preorder (lowered_from k t)) ≡ declared_functions [] (preorder t)
+functions-lowered k t (a_program m span semantic_id s all h) =
+    rw (append-nil (preorder_of all), append-nil (preorder_of (lowered_statements k all)), (classes-unwritten all h).2) (lowered-unwritten all h k).2
 
 pub declaring-lowered : (k : ℕ) (t : Tree) → IsProgram t → declaring ClassDeclared (lowered_from k t) ≡ declaring ClassDeclared t
-declaring-lowered k t (a_program m span mark s all h) = ap (λ ds. ds ++ []) (classes-declare all h k ClassDeclared)
+declaring-lowered k t (a_program m span semantic_id s all h) = ap (λ ds. ds ++ []) (classes-declare all h k ClassDeclared)

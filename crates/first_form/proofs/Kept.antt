@@ -4,10 +4,10 @@ use Rattle.std.specs.Prelude.{filter}
 use Rattle.std.proofs.lemmas.Bool.{lt-leb}
 use Rattle.std.proofs.Math.Bool.{and-false}
 use Rattle.es_base.proofs.NumberedLemmas.{IsNumbered-renumbered, EachOnce-old_zero}
-use Rattle.es_base.proofs.OrderLemmas.{renumbered-zero}
-use Rattle.es_base.specs.Numbered.{is_new, InTurn, EachOnce, IsNumbered, numbers}
-use Rattle.es_base.specs.Order.{nodes, nodes_of, nodes_of_part, in_order, in_order_of, in_order_of_part, number_of, numbered_from, numbered_part, numbered_parts}
-use Rattle.es_base.specs.Tree.{Tree, Part, Parts, Node, end, more, child, absent, list, text, no_text, truth, literal}
+use Rattle.es_base.proofs.PreorderLemmas.{renumbered-zero}
+use Rattle.es_base.specs.Numbered.{is_new, AreConsecutive, EachOnce, IsNumbered, numbers}
+use Rattle.es_base.specs.Preorder.{nodes, nodes_of, nodes_of_part, preorder, preorder_of, preorder_of_part, number_of, numbered_from, numbered_part, numbered_parts}
+use Rattle.es_base.specs.Tree.{Tree, Part, Parts, Node, end, more, child, absent, list, string, no_string, boolean, literal}
 use Rattle.es_base.specs.declared.kind.Kind.{Kind}
 use Rattle.es_steps.specs.Lowered.{IsLowered, is_lowered_kind, kind_of, none_lowered, own_name_numbers, all_accounted}
 use Rattle.es_steps.specs.Meaning.{means, source_means}
@@ -26,22 +26,22 @@ below-append first (t ∷ ts) us a b = (a.0, below-append first ts us a.1 b)
 
 -- the numbers n, n + 1, .. of a tree, where they end by `first`
 mutual
-  numbered-below : (first n : ℕ) (t : Tree) → n + nodes t ≤ first → Below first (in_order (numbered_from n t))
-  numbered-below first n (Node kind id span mark parts) l = (omega (arith, l), numbered_parts-below first (n + 1) parts (omega (arith, l)))
+  numbered-below : (first n : ℕ) (t : Tree) → n + nodes t ≤ first → Below first (preorder (numbered_from n t))
+  numbered-below first n (Node kind id span semantic_id parts) l = (omega (arith, l), numbered_parts-below first (n + 1) parts (omega (arith, l)))
 
-  numbered_part-below : (first n : ℕ) (p : Part) → n + nodes_of_part p ≤ first → Below first (in_order_of_part (numbered_part n p))
+  numbered_part-below : (first n : ℕ) (p : Part) → n + nodes_of_part p ≤ first → Below first (preorder_of_part (numbered_part n p))
   numbered_part-below first n (child t) l = numbered-below first n t l
   numbered_part-below first n absent l = tt
   numbered_part-below first n (list all) l = numbered_parts-below first n all l
-  numbered_part-below first n (text chars) l = tt
-  numbered_part-below first n no_text l = tt
-  numbered_part-below first n (truth value) l = tt
+  numbered_part-below first n (string chars) l = tt
+  numbered_part-below first n no_string l = tt
+  numbered_part-below first n (boolean value) l = tt
   numbered_part-below first n (literal value) l = tt
 
-  numbered_parts-below : (first n : ℕ) (ps : Parts) → n + nodes_of ps ≤ first → Below first (in_order_of (numbered_parts n ps))
+  numbered_parts-below : (first n : ℕ) (ps : Parts) → n + nodes_of ps ≤ first → Below first (preorder_of (numbered_parts n ps))
   numbered_parts-below first n end l = tt
   numbered_parts-below first n (more p rest) l =
-      below-append first (in_order_of_part (numbered_part n p)) (in_order_of (numbered_parts (n + nodes_of_part p) rest))
+      below-append first (preorder_of_part (numbered_part n p)) (preorder_of (numbered_parts (n + nodes_of_part p) rest))
       (numbered_part-below first n p (omega (arith, l)))
       (numbered_parts-below first (n + nodes_of_part p) rest (omega (arith, l)))
 
@@ -52,7 +52,7 @@ below-none_new first (t ∷ ts) b = rw (lt-leb first (number_of t) b.0) (below-n
 -- so no new node declares a name
 below-accounted : (first : ℕ) (own : List ℕ) (ts : List Tree) → Below first ts → all_accounted first [] own ts ≡ true
 below-accounted first own [] b = refl
-below-accounted first own (Node kind m span mark ps ∷ ts) b = rw (lt-leb first m b.0, and-false (is_binding_identifier kind)) (below-accounted first own ts b.1)
+below-accounted first own (Node kind m span semantic_id ps ∷ ts) b = rw (lt-leb first m b.0, and-false (is_binding_identifier kind)) (below-accounted first own ts b.1)
 
 -- ---- each number stands once
 
@@ -79,12 +79,12 @@ none_left (t ∷ ts) = rw (not_lowered (kind_of t)) (none_left ts)
 numbered-owes : (t : Tree) → IsLowered (nodes t) no_options [] t (numbered_from 0 t)
 numbered-owes t =
     let q : Tree = numbered_from 0 t in
-    let below : Below (nodes t) (in_order q) = numbered-below (nodes t) 0 t (omega arith) in
+    let below : Below (nodes t) (preorder q) = numbered-below (nodes t) 0 t (omega arith) in
     record {
-      numbered = record { once = numbered-once t; in_turn = subst (InTurn (nodes t)) (sym (below-none_new (nodes t) (in_order q) below)) tt };
-      left = none_left (in_order q);
+      numbered = record { once = numbered-once t; consecutive = subst (AreConsecutive (nodes t)) (sym (below-none_new (nodes t) (preorder q) below)) tt };
+      left = none_left (preorder q);
       declared = refl;
-      accounted = below-accounted (nodes t) (own_name_numbers t (in_order q)) (in_order q) below;
+      accounted = below-accounted (nodes t) (own_name_numbers t (preorder q)) (preorder q) below;
       initialized = refl;
     }
 

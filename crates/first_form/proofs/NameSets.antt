@@ -25,7 +25,7 @@ names_of ks = map (λ (k : Bor (List ℕ)). chars k.now) ks
 pub bytes_eq-flipped : (xs ys : List ℕ) → bytes_eq xs ys ≡ bytes_eq ys xs
 bytes_eq-flipped xs ys = same_from_decides _ _ (bytes_eq-Decides xs ys) (λ t. sym ((bytes_eq-Decides ys xs).0 t), λ e. (bytes_eq-Decides ys xs).1 (sym e))
 
--- ---- a text is looked up by its bytes
+-- ---- a string is looked up by its bytes
 
 same_key : (q k : List ℕ) → IsUtf8 q → IsUtf8 k → is_eq (slice_cmp nat_cmp q k) ≡ bytes_eq (chars k) (chars q)
 same_key q k u v = is_eq-slice_cmp q k ∙ bytes_eq_chars q k u v ∙ bytes_eq-flipped (chars q) (chars k)
@@ -62,6 +62,6 @@ pub inserted : (k : Bor (List ℕ)) (ks : Keys) (s : List ℕ) → is_among s (n
 inserted k [] s = refl
 inserted k (x ∷ ks) s = insert_step (order k x) k x ks (insert_key order ks k) s refl (inserted k ks s)
 
--- keys stay texts
-pub all_texts : (k : Bor (List ℕ)) (ks : Keys) → All (λ (x : Bor (List ℕ)). IsUtf8 x.now) ks → IsUtf8 k.now → All (λ (x : Bor (List ℕ)). IsUtf8 x.now) (insert_key order ks k)
-all_texts k ks us u = All-insert_key order k (λ x. IsUtf8 x.now) ks us u
+-- keys stay strings
+pub all_strings : (k : Bor (List ℕ)) (ks : Keys) → All (λ (x : Bor (List ℕ)). IsUtf8 x.now) ks → IsUtf8 k.now → All (λ (x : Bor (List ℕ)). IsUtf8 x.now) (insert_key order ks k)
+all_strings k ks us u = All-insert_key order k (λ x. IsUtf8 x.now) ks us u

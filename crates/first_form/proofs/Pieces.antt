@@ -1,6 +1,6 @@
 -- What a lowering does at one place of a node, and of a list after another.
 use Rattle.std.proofs.Common.{◌≡◌, refl, sym, ap, ◌∙◌, ℕ, ◌+◌, ◌*◌, ◌<◌, ◌^◌, Option, arith}
-use Rattle.es_base.specs.Order.{nodes_of}
+use Rattle.es_base.specs.Preorder.{nodes_of}
 use Rattle.es_base.specs.Tree.{Part, Parts, Node, end, more, child, list, trees}
 use Rattle.es_base.specs.declared.kind.Kind.{Kind}
 use Rattle.es_steps.specs.Parts.{at, items}
@@ -17,29 +17,29 @@ first_kept q end = refl
 first_kept q (more p end) = refl
 first_kept q (more p (more r ps)) = refl
 
-module _ (n : ℕ) (kind : Kind) (m : ℕ) (span : Option (ℕ × ℕ)) (mark : Option ℕ) where
-  pub program-lowered : (ps : Parts) → Node kind m span mark (with_at 1 (list (lowered_statements n (items (at 1 ps)))) ps) ≡ lowered_from n (Node kind m span mark ps)
+module _ (n : ℕ) (kind : Kind) (m : ℕ) (span : Option (ℕ × ℕ)) (semantic_id : Option ℕ) where
+  pub program-lowered : (ps : Parts) → Node kind m span semantic_id (with_at 1 (list (lowered_statements n (items (at 1 ps)))) ps) ≡ lowered_from n (Node kind m span semantic_id ps)
   program-lowered end = refl
   program-lowered (more p end) = refl
   program-lowered (more p (more q ps)) = refl
 
-  pub class-lowered : (ps : Parts) → child (Node kind m span mark (with_at 2 (lowered_body n (at 2 ps)) ps)) ≡ lowered_statement n (child (Node kind m span mark ps))
+  pub class-lowered : (ps : Parts) → child (Node kind m span semantic_id (with_at 2 (lowered_body n (at 2 ps)) ps)) ≡ lowered_statement n (child (Node kind m span semantic_id ps))
   class-lowered end = refl
   class-lowered (more p end) = refl
   class-lowered (more p (more q end)) = refl
   class-lowered (more p (more q (more r ps))) = refl
 
-  pub body-lowered : (ps : Parts) → child (Node kind m span mark (with_at 0 (list (lowered_elements n (items (at 0 ps)))) ps)) ≡ lowered_body n (child (Node kind m span mark ps))
+  pub body-lowered : (ps : Parts) → child (Node kind m span semantic_id (with_at 0 (list (lowered_elements n (items (at 0 ps)))) ps)) ≡ lowered_body n (child (Node kind m span semantic_id ps))
   body-lowered end = refl
   body-lowered (more p ps) = refl
 
-  pub class-size : (ps : Parts) → body_size (at 2 ps) ≡ statement_size (child (Node kind m span mark ps))
+  pub class-size : (ps : Parts) → body_size (at 2 ps) ≡ statement_size (child (Node kind m span semantic_id ps))
   class-size end = refl
   class-size (more p end) = refl
   class-size (more p (more q end)) = refl
   class-size (more p (more q (more r ps))) = refl
 
-  pub body-size-at : (ps : Parts) → elements_size (items (at 0 ps)) ≡ body_size (child (Node kind m span mark ps))
+  pub body-size-at : (ps : Parts) → elements_size (items (at 0 ps)) ≡ body_size (child (Node kind m span semantic_id ps))
   body-size-at end = refl
   body-size-at (more p ps) = refl
 
@@ -65,14 +65,14 @@ lowers-all n whole done next was = sym (followed_by-end done) ∙ was.same
 -- ---- fields one after another
 
 fields_size-more : (p : Part) (rest : Parts) → fields_size (more p rest) ≡ fields_size (more p end) + fields_size rest
-fields_size-more (child (Node kind m span mark ps)) rest = omega arith
+fields_size-more (child (Node kind m span semantic_id ps)) rest = omega arith
 fields_size-more p rest = omega arith
 
 no-more : (n : ℕ) (rest : Parts) → trees (definitions_from n rest) ≡ trees (definitions_from (n + 0) rest)
 no-more n rest = ap (λ k. trees (definitions_from k rest)) (omega arith)
 
 definitions_from-more : (n : ℕ) (p : Part) (rest : Parts) → trees (definitions_from n (more p rest)) ≡ followed_by (trees (definitions_from n (more p end))) (trees (definitions_from (n + fields_size (more p end)) rest))
-definitions_from-more n (child (Node kind m span mark ps)) rest = ap (λ k. followed_by (trees (definitions_from n (more (child (Node kind m span mark ps)) end))) (trees (definitions_from k rest))) (omega arith)
+definitions_from-more n (child (Node kind m span semantic_id ps)) rest = ap (λ k. followed_by (trees (definitions_from n (more (child (Node kind m span semantic_id ps)) end))) (trees (definitions_from k rest))) (omega arith)
 definitions_from-more n p rest = no-more n rest
 
 -- those before `left` are defined by `done`, and `next` is the next number

@@ -1,6 +1,6 @@
 -- Rows of members: of no, one or more parts.
 use Rattle.std.proofs.Common.{◌≡◌, refl, ℕ, ◌<◌, ◌≤◌, List, [], ◌∷◌, length, None, false, arith}
-use Rattle.es_base.specs.Tree.{Part, Parts, end, more, truth}
+use Rattle.es_base.specs.Tree.{Part, Parts, end, more, boolean}
 use Rattle.es_plain.specs.View.{plain_part, plain_parts}
 use Rattle.es_plain.specs.declared.plain.Part as code
 use Rattle.es_steps.specs.FirstForm.{is_plain_field}
@@ -22,12 +22,12 @@ only_long (p ∷ q ∷ ps) long = refl
 -- ---- the members of a field
 
 three_parts : (names : List Text) (p q r : Part) → is_plain_field names (more p (more q (more r end))) ≡ false
-three_parts names p q (truth false) = refl
+three_parts names p q (boolean false) = refl
 three_parts names p q r = refl
 
 five_parts : (names : List Text) (p q r s t : Part) (ps : Parts) → is_plain_field names (more p (more q (more r (more s (more t ps))))) ≡ false
-five_parts names p q (truth false) (truth false) t ps = refl
-five_parts names p q (truth false) s t ps = refl
+five_parts names p q (boolean false) (boolean false) t ps = refl
+five_parts names p q (boolean false) s t ps = refl
 five_parts names p q r s t ps = refl
 
 pub field_short : (names : List Text) (ps : List code.Part) → length ps < 4 → is_plain_field names (plain_parts ps) ≡ false

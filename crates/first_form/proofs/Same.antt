@@ -4,11 +4,11 @@ use Rattle.std.specs.Prelude.{◌≡◌, ℕ, ◌+◌, List, [], ◌++◌, Bool,
 use Rattle.std.proofs.Common.{refl, sym, ap, ap₂, ◌∙◌, ◌≤◌, arith}
 use Rattle.std.proofs.lemmas.Bool.{le-leb}
 use Rattle.es_base.specs.Conforms.{conforms}
-use Rattle.es_base.specs.Order.{nodes, numbered_from}
+use Rattle.es_base.specs.Preorder.{nodes, numbered_from}
 use Rattle.es_base.specs.Tree as tree
 use Rattle.es_base.specs.Tree.{Tree, Part, Parts, Node, trees}
 use Rattle.es_base.specs.declared.table.Place.{Place}
-use Rattle.es_steps.proofs.FirstMeaning.{joined-done, unmade-found, plain-name}
+use Rattle.es_steps.proofs.FirstMeaning.{joined-done, not_generated-found, plain-name}
 use Rattle.es_steps.proofs.PlainClasses.{IsPlain, a_value}
 use Rattle.es_steps.specs.Code.{Codes, value, define, steps, function, constructor, done, and}
 use Rattle.es_steps.specs.Context.{Context, found_kind, in_function, in_element}
@@ -27,7 +27,7 @@ use Rattle.es_steps.specs.Values.{Text, ConstantOf, StringOf, Undefined, ThisOf,
 use Rattle.first_form.proofs.Constructions.{Fields, no_fields, with_field, ArePlain, field_codes, definition_codes, plain_form, lowered_codes, pair_of_classes, ArePairs, lowered_classes_mean}
 use Rattle.first_form.proofs.Declared.{lexical-definitions, names-definitions, names-lowered, written-lowered, functions-lowered, declaring-lowered}
 use Rattle.first_form.proofs.Shaped.{IsValue, no_value, a_literal, a_reference, a_key, a_field, AreFields, a_body, a_name as a_class_name, a_class, AreClasses, IsProgram, a_program, first_form-shaped}
-use Rattle.first_form.specs.Lowering.{key_text, value_from, definitions_from, lowered_elements, lowered_statements, lowered}
+use Rattle.first_form.specs.Lowering.{key_string, value_from, definitions_from, lowered_elements, lowered_statements, lowered}
 
 -- ---- numbers
 
@@ -51,27 +51,27 @@ module _ (first : ℕ) (written_names : List ℕ) (names : List Declaration) (m 
   in_constructor n = in_function n (in_class n)
 
   abbrev fields_of : ℕ → Parts → Fields
-  fields_of n (tree.more (tree.child (Node kind i span mark ps)) rest) = with_field (key_text (at 0 ps)) (value_or_undefined (read_part (in_value n) (at 1 ps))) (fields_of n rest)
+  fields_of n (tree.more (tree.child (Node kind i span semantic_id ps)) rest) = with_field (key_string (at 0 ps)) (value_or_undefined (read_part (in_value n) (at 1 ps))) (fields_of n rest)
   fields_of n ps = no_fields
 
   value-plain : (n : ℕ) (v : Part) → IsValue v → IsPlain (value_or_undefined (read_part (in_value n) v))
   value-plain n v no_value = a_value Undefined
-  value-plain n v (a_literal i span mark w) = a_value (ConstantOf (constant_of w))
-  value-plain n v (a_reference i span mark s) = plain-name (in_value n) i s (found_kind written_names s (declared s names)) (unmade-found written_names s (declared s names))
+  value-plain n v (a_literal i span semantic_id w) = a_value (ConstantOf (constant_of w))
+  value-plain n v (a_reference i span semantic_id s) = plain-name (in_value n) i s (found_kind written_names s (declared s names)) (not_generated-found written_names s (declared s names))
 
   fields-plain : (n : ℕ) (es : Parts) → AreFields es → ArePlain (fields_of n es)
   fields-plain n tree.end h = tt
-  fields-plain n (tree.more p es) (a_field i span mark k v hk hv, h) = (value-plain n v hv, fields-plain n es h)
+  fields-plain n (tree.more p es) (a_field i span semantic_id k v hk hv, h) = (value-plain n v hv, fields-plain n es h)
 
   fields-read : (n : ℕ) (es : Parts) → AreFields es → codes_in (read_items (in_class n) es) ≡ field_codes (fields_of n es)
   fields-read n tree.end h = refl
-  fields-read n (tree.more p es) (a_field i span mark k v (a_key j jspan jmark s) hv, h) = rw (fields-read n es h) refl
+  fields-read n (tree.more p es) (a_field i span semantic_id k v (a_key j jspan j_semantic_id s) hv, h) = rw (fields-read n es h) refl
 
   -- a value reads in the constructor as in the field
   value-read : (n k : ℕ) (v : Part) → IsValue v → read (in_constructor n) (value_from k v) ≡ value_or_undefined (read_part (in_value n) v)
   value-read n k v no_value = refl
-  value-read n k v (a_literal i span mark w) = refl
-  value-read n k v (a_reference i span mark s) = refl
+  value-read n k v (a_literal i span semantic_id w) = refl
+  value-read n k v (a_reference i span semantic_id s) = refl
 
   -- where no class has the name of the helpers
   module _ (free : declared (codes "babelHelpers") names ≡ None) where
@@ -82,7 +82,7 @@ module _ (first : ℕ) (written_names : List ℕ) (names : List Declaration) (m 
 
     definitions-read : (n : ℕ) (es : Parts) → AreFields es → (k : ℕ) → first ≤ k → codes_in (read_items (in_constructor n) (trees (definitions_from k es))) ≡ definition_codes n (fields_of n es)
     definitions-read n tree.end h k new = refl
-    definitions-read n (tree.more p es) (a_field i span mark key v (a_key j jspan jmark s) hv, h) k new =
+    definitions-read n (tree.more p es) (a_field i span semantic_id key v (a_key j jspan j_semantic_id s) hv, h) k new =
         ap₂ and
         (define-read n k s (value_from (k + 7) v) new ∙ ap (λ e. steps (and (define (ThisOf n) (value (ConstantOf (StringOf s))) e) done)) (value-read n (k + 7) v hv))
         (definitions-read n es h _ (still_new k _ new))
@@ -94,15 +94,15 @@ module _ (first : ℕ) (written_names : List ℕ) (names : List Declaration) (m 
 
     elements-read : (n : ℕ) (es : Parts) → AreFields es → (k : ℕ) → first ≤ k → codes_in (read_items (in_class n) (lowered_elements k es)) ≡ lowered_codes n (k + 2) (fields_of n es)
     elements-read n tree.end h k new = refl
-    elements-read n (tree.more p es) (a_field i span mark key v hk hv, h) k new =
-        let all : AreFields (tree.more p es) = (a_field i span mark key v hk hv, h) in
+    elements-read n (tree.more p es) (a_field i span semantic_id key v hk hv, h) k new =
+        let all : AreFields (tree.more p es) = (a_field i span semantic_id key v hk hv, h) in
         ap (λ c. and c done)
         (constructor-read n k (definitions_from (k + 4) (tree.more p es)) new (lexical-definitions (tree.more p es) all (k + 4)) (names-definitions (tree.more p es) all (k + 4))
         ∙ ap (λ cs. constructor (function (k + 2) plain_form done (steps cs))) (definitions-read n (tree.more p es) all (k + 4) (still_new k 4 new)))
 
     classes-read : (ps : Parts) → AreClasses ps → (k : ℕ) → first ≤ k → ArePairs (codes_in (read_items context ps)) (codes_in (read_items context (lowered_statements k ps)))
     classes-read tree.end h k new = tt
-    classes-read (tree.more p ps) (a_class n span mark id body (a_class_name i ispan imark s other) (a_body j bspan bmark es he), h) k new = (
+    classes-read (tree.more p ps) (a_class n span semantic_id id body (a_class_name i ispan i_semantic_id s other) (a_body j bspan b_semantic_id es he), h) k new = (
       rw (joined-done (codes_in (read_items (in_class n) es)), joined-done (codes_in (read_items (in_class n) (lowered_elements k es))), fields-read n es he, elements-read n es he k new)
           (pair_of_classes n (k + 2) _ (fields_of n es) (fields-plain n es he)),
       classes-read ps h _ (still_new k _ new),
@@ -117,13 +117,13 @@ or_false false b h = refl
 -- the name of the helpers is free
 helpers-free : (ps : Parts) → AreClasses ps → declared (codes "babelHelpers") (body_names ps ++ []) ≡ None
 helpers-free tree.end h = refl
-helpers-free (tree.more p ps) (a_class n span mark id body (a_class_name i ispan imark s other) hbody, h) =
+helpers-free (tree.more p ps) (a_class n span semantic_id id body (a_class_name i ispan i_semantic_id s other) hbody, h) =
     rw (or_false (bytes_eq (codes "babelHelpers") s) _ other) (helpers-free ps h)
 
 program-means : (t : Tree) → IsProgram t → means (nodes t) class_properties_alone [] (lowered t) ≡ source_means class_properties_alone t
-program-means t (a_program m span mark s all h) =
+program-means t (a_program m span semantic_id s all h) =
     let first : ℕ = nodes t in
-    let p : IsProgram t = a_program m span mark s all h in
+    let p : IsProgram t = a_program m span semantic_id s all h in
     let c : Context = context first (written t) (body_names all ++ []) m in
     let here : Codes = codes_in (read_items c all) in
     let there : Codes = codes_in (read_items c (lowered_statements first all)) in

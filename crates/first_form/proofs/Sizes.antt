@@ -1,6 +1,6 @@
 -- A lowering makes at most nine new nodes for each node of the source.
 use Rattle.std.proofs.Common.{ℕ, zero, suc, ◌+◌, ◌*◌, ◌≤◌, arith}
-use Rattle.es_base.specs.Order.{nodes_of, nodes_of_part}
+use Rattle.es_base.specs.Preorder.{nodes_of, nodes_of_part}
 use Rattle.es_base.specs.Tree.{Part, Parts, Node, end, more, child, list}
 use Rattle.es_steps.specs.Parts.{at, items}
 use Rattle.first_form.specs.Lowering.{value_size, fields_size, elements_size, body_size, statement_size}
@@ -21,7 +21,7 @@ value-size p = omega arith
 
 pub fields-size : (ps : Parts) → fields_size ps ≤ 9 * nodes_of ps
 fields-size end = omega arith
-fields-size (more (child (Node kind m span mark ps)) rest) = omega (arith, value-size (at 1 ps), fields-size rest)
+fields-size (more (child (Node kind m span semantic_id ps)) rest) = omega (arith, value-size (at 1 ps), fields-size rest)
 fields-size (more p rest) = omega (arith, fields-size rest)
 
 pub elements-size : (ps : Parts) → elements_size ps ≤ 4 + 9 * nodes_of ps
@@ -29,9 +29,9 @@ elements-size end = omega arith
 elements-size (more p ps) = omega (arith, fields-size (more p ps))
 
 pub body-size : (p : Part) → body_size p ≤ 9 * nodes_of_part p
-body-size (child (Node kind m span mark (more p ps))) = omega (arith, elements-size (items p), items-nodes p)
+body-size (child (Node kind m span semantic_id (more p ps))) = omega (arith, elements-size (items p), items-nodes p)
 body-size p = omega arith
 
 pub statement-size : (p : Part) → statement_size p ≤ 9 * nodes_of_part p
-statement-size (child (Node kind m span mark (more id (more heritage (more body ps))))) = omega (arith, body-size body)
+statement-size (child (Node kind m span semantic_id (more id (more heritage (more body ps))))) = omega (arith, body-size body)
 statement-size p = omega arith

@@ -3,16 +3,16 @@ use Rattle.std.proofs.Common.{◌≡◌, refl, sym, ap, ◌∙◌, ℕ, ◌+◌,
 use Rattle.std.specs.Prelude.{bytes_eq, codes}
 use Rattle.std.proofs.lemmas.List.{at_drop_more}
 use Rattle.es_base.specs.Conforms.{is_among}
-use Rattle.es_base.specs.Order.{nodes}
+use Rattle.es_base.specs.Preorder.{nodes}
 use Rattle.es_base.specs.Tree.{Part, Parts, Node, end, more, child}
-use Rattle.es_base.specs.Marks.{span_of}
+use Rattle.es_base.specs.Carried.{span_of}
 use Rattle.es_base.specs.declared.kind.Kind.{Kind}
 use Rattle.es_plain.specs.View.{plain_tree, plain_part, plain_parts}
 use Rattle.es_plain.specs.declared.plain.Part as code
 use Rattle.es_plain.specs.declared.plain.Plain.{Plain}
 use Rattle.es_plain.proofs.Views.{tree_is}
 use Rattle.es_steps.specs.FirstForm.{most_nodes, unless, class_names, name_in, element_breaches, elements_breaches, statement_breaches, statements_breaches, not_yet}
-use Rattle.es_steps.specs.Parts.{at, items, text_of}
+use Rattle.es_steps.specs.Parts.{at, items, string_of}
 use Rattle.es_steps.specs.Values.{Text}
 use Rattle.first_form.specs.Least.{least_with}
 use Rattle.first_form.specs.Names.{HaveSame}
@@ -32,7 +32,7 @@ next_element names n ps i p before is =
 -- ---- names of classes
 
 names_behind : (p : Part) (ps : Parts) → class_names (more p ps) ≡ class_names (more p end) ++ class_names ps
-names_behind (child (Node Kind.ClassDeclaration n span mark (more id rest))) ps = ap (λ xs. xs ++ class_names ps) (sym (append-nil (name_in id)))
+names_behind (child (Node Kind.ClassDeclaration n span semantic_id (more id rest))) ps = ap (λ xs. xs ++ class_names ps) (sym (append-nil (name_in id)))
 names_behind p ps = refl
 
 or_turned : (a b c : Bool) → ((a || b) || c) ≡ (b || (a || c))
@@ -67,10 +67,10 @@ next_statement earlier later names n ps i p before is same =
 
 -- ---- a program
 
-in_all : (kind : Kind) (m : ℕ) (span : Option (ℕ × ℕ)) (mark : Option ℕ) (ps : Parts) (names : List Text) (foreign : List ℕ) → HaveSame names (class_names (items (at 1 ps)))
-    → least_with (least_with (least_with None (unless (bytes_eq (text_of (at 0 ps)) (codes "script") && nat_le (nodes (Node kind m span mark ps)) most_nodes) m)) (statements_breaches [] names (items (at 1 ps)))) foreign ≡ not_yet (Node kind m span mark ps) foreign
-in_all kind m span mark ps names foreign same =
-    let first = unless (bytes_eq (text_of (at 0 ps)) (codes "script") && nat_le (nodes (Node kind m span mark ps)) most_nodes) m in
+in_all : (kind : Kind) (m : ℕ) (span : Option (ℕ × ℕ)) (semantic_id : Option ℕ) (ps : Parts) (names : List Text) (foreign : List ℕ) → HaveSame names (class_names (items (at 1 ps)))
+    → least_with (least_with (least_with None (unless (bytes_eq (string_of (at 0 ps)) (codes "script") && nat_le (nodes (Node kind m span semantic_id ps)) most_nodes) m)) (statements_breaches [] names (items (at 1 ps)))) foreign ≡ not_yet (Node kind m span semantic_id ps) foreign
+in_all kind m span semantic_id ps names foreign same =
+    let first = unless (bytes_eq (string_of (at 0 ps)) (codes "script") && nat_le (nodes (Node kind m span semantic_id ps)) most_nodes) m in
     let all = statements_breaches [] (class_names (items (at 1 ps))) (items (at 1 ps)) in
     ap (λ ns. least_with (least_with (least_with None first) ns) foreign) (statements_breaches-same [] [] names (class_names (items (at 1 ps))) (λ s. refl) same (items (at 1 ps)))
     ∙ ap (λ n. least_with n foreign) (sym (least_with_append None first all))
@@ -78,12 +78,12 @@ in_all kind m span mark ps names foreign same =
     ∙ sym (least_is ((first ++ all) ++ foreign))
 
 pub in_program : (t : Plain) (names : List Text) (foreign : List ℕ) (holds : Bool) (ps : List code.Part)
-    → holds ≡ (bytes_eq (text_of (at 0 (plain_parts t.parts))) (codes "script") && nat_le (nodes (plain_tree t)) most_nodes) → plain_parts ps ≡ items (at 1 (plain_parts t.parts)) → HaveSame names (class_names (plain_parts ps))
+    → holds ≡ (bytes_eq (string_of (at 0 (plain_parts t.parts))) (codes "script") && nat_le (nodes (plain_tree t)) most_nodes) → plain_parts ps ≡ items (at 1 (plain_parts t.parts)) → HaveSame names (class_names (plain_parts ps))
     → least_with (least_with (least_with None (unless holds t.node_id.0)) (statements_breaches [] names (plain_parts ps))) foreign ≡ not_yet (plain_tree t) foreign
 in_program t names foreign holds ps small body same =
     let parts = plain_parts t.parts in
     ap (λ b. least_with (least_with (least_with None (unless b t.node_id.0)) (statements_breaches [] names (plain_parts ps))) foreign) small
-    ∙ ap (λ qs. least_with (least_with (least_with None (unless (bytes_eq (text_of (at 0 parts)) (codes "script") && nat_le (nodes (plain_tree t)) most_nodes) t.node_id.0)) (statements_breaches [] names qs)) foreign) body
-    ∙ ap (λ u. least_with (least_with (least_with None (unless (bytes_eq (text_of (at 0 parts)) (codes "script") && nat_le (nodes u) most_nodes) t.node_id.0)) (statements_breaches [] names (items (at 1 parts)))) foreign) (tree_is t)
-    ∙ in_all t.kind t.node_id.0 (span_of t.span) t.mark parts names foreign (λ s. same s ∙ ap (λ qs. is_among s (class_names qs)) body)
+    ∙ ap (λ qs. least_with (least_with (least_with None (unless (bytes_eq (string_of (at 0 parts)) (codes "script") && nat_le (nodes (plain_tree t)) most_nodes) t.node_id.0)) (statements_breaches [] names qs)) foreign) body
+    ∙ ap (λ u. least_with (least_with (least_with None (unless (bytes_eq (string_of (at 0 parts)) (codes "script") && nat_le (nodes u) most_nodes) t.node_id.0)) (statements_breaches [] names (items (at 1 parts)))) foreign) (tree_is t)
+    ∙ in_all t.kind t.node_id.0 (span_of t.span) t.semantic_id parts names foreign (λ s. same s ∙ ap (λ qs. is_among s (class_names qs)) body)
     ∙ ap (λ u. not_yet u foreign) (sym (tree_is t))

@@ -1,4 +1,4 @@
--- A set of texts, as a list: two lists that have the same texts are one set.
+-- A set of strings, as a list: two lists that have the same strings are one set.
 use Rattle.std.specs.Prelude.{◌≡◌, List}
 use Rattle.es_base.specs.Conforms.{is_among}
 use Rattle.es_steps.specs.Values.{Text}

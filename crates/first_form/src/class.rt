@@ -6,17 +6,17 @@ ghost use Rattle.es_base.specs.Tree.{end, more};
 ghost use Rattle.es_steps.specs.FirstForm.{element_breaches, elements_breaches, body_breaches, is_new_name, name_in, class_names, statement_breaches};
 ghost use Rattle.es_plain.specs.View.{plain_part, plain_parts};
 ghost use Rattle.first_form.specs.Least.{number_in, least_with};
-ghost use Rattle.first_form.specs.Members.{only, text_in, is_new_text, class_breaches};
+ghost use Rattle.first_form.specs.Members.{only, string_in, is_new_string, class_breaches};
 
 use crate::field::is_field;
 use crate::least::{lower, unless};
-use crate::members::{is_present, items_of, only_text};
+use crate::members::{is_present, items_of, only_string};
 use crate::names::Names;
 use es_base::ids::NodeId;
 use es_base::kind::Kind;
 use es_base::name::Name;
 use es_plain::plain::Part;
-use es_plain::texts::is_among;
+use es_plain::strings::is_among;
 
 /// The least number, where the nodes of a statement count that are not as the first form asks: `earlier`
 /// has the names of the classes before it, `names` those of all classes, and `least` is the least number
@@ -110,20 +110,20 @@ fn is_new_name(earlier: &Names, id: &Part) -> bool
 
 /// Whether the only one of these parts is a name that such a class may have.
 fn is_new_binding(earlier: &Names, parts: &[Part]) -> bool
-    ensures { result ≡ option_map_or (is_new_text earlier.now) (text_in (only (plain_parts parts.now))) false }
+    ensures { result ≡ option_map_or (is_new_string earlier.now) (string_in (only (plain_parts parts.now))) false }
 {
-    match only_text(parts) {
-        Some(name) => is_new_text(earlier, name),
+    match only_string(parts) {
+        Some(name) => is_new_string(earlier, name),
         None => false,
     }
 }
 
 /// Whether the name is none of these, and none that a lowered program uses.
-fn is_new_text(earlier: &Names, name: &Name) -> bool
-    ensures { result ≡ is_new_text earlier.now name.now }
+fn is_new_string(earlier: &Names, name: &Name) -> bool
+    ensures { result ≡ is_new_string earlier.now name.now }
 {
-    let text = name.as_str();
-    !(earlier.has(text) || is_among(text, &["babelHelpers", "WeakMap", "WeakSet", "Object"]))
+    let string = name.as_str();
+    !(earlier.has(string) || is_among(string, &["babelHelpers", "WeakMap", "WeakSet", "Object"]))
 }
 
 /// The name of the class that the statement is; nothing for any other statement.
@@ -139,7 +139,7 @@ pub fn class_name(part: &Part) -> Option<&Name>
     }
 }
 
-/// The text that is the first part of a node; nothing for any other part.
+/// The string that is the first part of a node; nothing for any other part.
 fn name_in(id: &Part) -> Option<&Name>
     ensures { option_to_list (option_map (λ s. s.now) result) ≡ name_in (plain_part id.now) }
 {

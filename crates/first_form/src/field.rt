@@ -5,18 +5,18 @@ ghost use Rattle.std.specs.Option.{option_map_or};
 ghost use Rattle.std.specs.Str.{chars};
 ghost use Rattle.es_steps.specs.FirstForm.{is_plain_literal, is_plain_name, is_plain_value, is_plain_key, is_plain_field, is_field};
 ghost use Rattle.es_plain.specs.View.{plain_part, plain_parts};
-ghost use Rattle.first_form.specs.Members.{only, text_in, literal_in, is_key_text};
+ghost use Rattle.first_form.specs.Members.{only, string_in, literal_in, is_key_string};
 
-use crate::members::{is_false, only_literal, only_text};
+use crate::members::{is_false, only_literal, only_string};
 use crate::names::Names;
 use es_base::kind::Kind;
 use es_base::literal::LiteralValue;
 use es_base::name::Name;
 use es_plain::plain::{Part, Plain};
-use es_plain::texts::is_word;
+use es_plain::strings::is_word;
 
 /// Whether the name is this word.
-pub fn is_text(name: &Name, word: &str) -> bool
+pub fn is_string(name: &Name, word: &str) -> bool
     ensures { result ≡ bytes_eq name.now (chars word.now) }
 {
     is_word(word, name.as_str())
@@ -64,10 +64,10 @@ fn is_plain_key(key: &Part) -> bool
 
 /// Whether the only one of these parts is a name other than `constructor`.
 fn is_key_name(parts: &[Part]) -> bool
-    ensures { result ≡ option_map_or is_key_text (text_in (only (plain_parts parts.now))) false }
+    ensures { result ≡ option_map_or is_key_string (string_in (only (plain_parts parts.now))) false }
 {
-    match only_text(parts) {
-        Some(name) => !is_text(name, "constructor"),
+    match only_string(parts) {
+        Some(name) => !is_string(name, "constructor"),
         None => false,
     }
 }
@@ -99,22 +99,22 @@ fn is_literal_value(parts: &[Part]) -> bool
 
 /// Whether the only one of these parts is such a name.
 fn is_name_value(names: &Names, parts: &[Part]) -> bool
-    ensures { result ≡ option_map_or (is_plain_name names.now) (text_in (only (plain_parts parts.now))) false }
+    ensures { result ≡ option_map_or (is_plain_name names.now) (string_in (only (plain_parts parts.now))) false }
 {
-    match only_text(parts) {
+    match only_string(parts) {
         Some(name) => is_plain_name(names, name),
         None => false,
     }
 }
 
-/// Whether the literal is a string, a number, a truth value or null.
+/// Whether the literal is a string, a number, a boolean or null.
 fn is_plain_literal(value: &LiteralValue) -> bool
     ensures { result ≡ is_plain_literal value.now }
 {
     match value {
-        LiteralValue::Text { .. }
+        LiteralValue::String { .. }
         | LiteralValue::Number { .. }
-        | LiteralValue::Bool(_)
+        | LiteralValue::Boolean(_)
         | LiteralValue::Null => true,
         LiteralValue::BigInt { .. } | LiteralValue::RegExp { .. } => false,
     }
@@ -124,5 +124,5 @@ fn is_plain_literal(value: &LiteralValue) -> bool
 fn is_plain_name(names: &Names, name: &Name) -> bool
     ensures { result ≡ is_plain_name names.now name.now }
 {
-    !(names.has(name.as_str()) || is_text(name, "arguments"))
+    !(names.has(name.as_str()) || is_string(name, "arguments"))
 }

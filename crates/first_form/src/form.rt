@@ -1,16 +1,16 @@
 // Whether a program is of the first form: the least number of a node that is not as the form asks.
 
 ghost use Rattle.std.specs.Prelude.{◌≡◌, [], ◌∷◌, ◌++◌, ◌&&◌, nat_le, bytes_eq, codes, map, option_map, IfOk, OnOk};
-ghost use Rattle.es_base.specs.Order.{nodes};
+ghost use Rattle.es_base.specs.Preorder.{nodes};
 ghost use Rattle.es_base.specs.Tree.{end, more};
 ghost use Rattle.es_steps.specs.FirstForm.{most_nodes, class_names, statements_breaches, not_yet};
-ghost use Rattle.es_steps.specs.Parts.{at, items, text_of};
+ghost use Rattle.es_steps.specs.Parts.{at, items, string_of};
 ghost use Rattle.es_plain.specs.View.{plain_tree, plain_part, plain_parts};
 ghost use Rattle.first_form.specs.Least.{number_in, least_with};
 ghost use Rattle.first_form.specs.Names.{HaveSame};
 
 use crate::class::{class_name, statement_breaches};
-use crate::field::is_text;
+use crate::field::is_string;
 use crate::least::{least_of, unless};
 use crate::members::items_of;
 use crate::names::Names;
@@ -22,7 +22,7 @@ use std::alloc::{AllocError, Global};
 /// The least number of a node that is not as the first form asks; nothing where the program is of the
 /// form. `foreign` are the numbers of nodes that have members outside the table, which count as well.
 /// Takes time in proportion to the program, but for the logarithm of the number of its classes. Fails
-/// for want of memory alone.
+/// on allocation failure alone.
 pub fn not_yet(
     alloc: Global,
     tree: &Plain,
@@ -39,27 +39,27 @@ pub fn not_yet(
 
 /// Whether the program is a script that is not too large.
 fn is_small_script(tree: &Plain) -> bool
-    ensures { result ≡ (bytes_eq (text_of (at 0 (plain_parts tree.now.parts))) (codes "script") && nat_le (nodes (plain_tree tree.now)) most_nodes) }
+    ensures { result ≡ (bytes_eq (string_of (at 0 (plain_parts tree.now.parts))) (codes "script") && nat_le (nodes (plain_tree tree.now)) most_nodes) }
 {
     is_script(tree.parts.as_slice()) && is_small(tree)
 }
 
 /// Whether these are the members of a script.
 fn is_script(parts: &[Part]) -> bool
-    ensures { result ≡ bytes_eq (text_of (at 0 (plain_parts parts.now))) (codes "script") }
+    ensures { result ≡ bytes_eq (string_of (at 0 (plain_parts parts.now))) (codes "script") }
 {
     match parts {
-        [source_type, ..] => is_script_text(source_type),
+        [source_type, ..] => is_script_string(source_type),
         _ => false,
     }
 }
 
-/// Whether the part is the text `script`.
-fn is_script_text(source_type: &Part) -> bool
-    ensures { result ≡ bytes_eq (text_of (plain_part source_type.now)) (codes "script") }
+/// Whether the part is the string `script`.
+fn is_script_string(source_type: &Part) -> bool
+    ensures { result ≡ bytes_eq (string_of (plain_part source_type.now)) (codes "script") }
 {
     match source_type {
-        Part::Text(name) => is_text(name, "script"),
+        Part::Text(name) => is_string(name, "script"),
         _ => false,
     }
 }
@@ -75,7 +75,7 @@ fn statements_of(parts: &[Part]) -> &[Part]
     }
 }
 
-/// The names of the classes among these statements. Fails for want of memory alone.
+/// The names of the classes among these statements. Fails on allocation failure alone.
 fn class_names<'a>(alloc: Global, statements: &'a [Part]) -> Result<Names<'a>, AllocError>
     ensures { IfOk result (λ names. HaveSame names (class_names (plain_parts statements.now))) }
 {
@@ -86,7 +86,7 @@ fn class_names<'a>(alloc: Global, statements: &'a [Part]) -> Result<Names<'a>, A
     Ok(names)
 }
 
-/// Adds the name of the class, if the statement is one. Fails for want of memory alone.
+/// Adds the name of the class, if the statement is one. Fails on allocation failure alone.
 fn add_class<'a>(names: &mut Names<'a>, part: &'a Part) -> Result<(), AllocError>
     ensures { OnOk result (HaveSame names.new (class_names (more (plain_part part.now) end) ++ names.old)) }
 {
@@ -97,7 +97,7 @@ fn add_class<'a>(names: &mut Names<'a>, part: &'a Part) -> Result<(), AllocError
 }
 
 /// The least number, where those of the nodes in these statements count that are not as the first form
-/// asks: the classes of the program have these names. Fails for want of memory alone.
+/// asks: the classes of the program have these names. Fails on allocation failure alone.
 fn statements_breaches(
     alloc: Global,
     statements: &[Part],

@@ -8,7 +8,7 @@ mod least;
 pub mod lower;
 #[cfg(test)]
 mod lower_tests;
-pub mod made;
+pub mod generated;
 mod members;
 mod names;
 mod size;

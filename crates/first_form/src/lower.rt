@@ -1,22 +1,22 @@
 // The lowering of programs of the first form: each class with fields gets a constructor that defines
 // them in order, before an empty body. The nodes of the source are moved and keep their numbers; new
-// nodes are numbered in reading order, from the number of the nodes of the source on. A part of a
+// nodes are numbered in preorder, from the number of the nodes of the source on. A part of a
 // shape that the form does not have is kept, or left out, as the definitions say.
 //
 // A function that takes `n` gives numbers from `n` on, and answers the number that comes next. After
 // an `Err` what was to be lowered is lowered in part, and is of no use.
 
 ghost use Rattle.std.specs.Prelude.{◌≡◌, ◌+◌, ◌*◌, ◌<◌, ◌≤◌, ◌^◌, IfOk, OnOk};
-ghost use Rattle.es_base.specs.Order.{nodes, nodes_of, nodes_of_part};
+ghost use Rattle.es_base.specs.Preorder.{nodes, nodes_of, nodes_of_part};
 ghost use Rattle.es_base.specs.Tree.{end, more, child, absent, trees};
 ghost use Rattle.es_plain.specs.View.{plain_tree, plain_part, plain_parts};
 ghost use Rattle.es_steps.specs.FirstForm.{most_nodes};
 ghost use Rattle.es_steps.specs.Made.{define_at};
-ghost use Rattle.es_steps.specs.Parts.{at, items, text_of};
-ghost use Rattle.first_form.specs.Lowering.{key_text, value_from, value_size, field_size, definitions_from, fields_size, lowered_elements, elements_size, lowered_body, body_size, lowered_statement, statement_size, lowered_statements, lowered_from, lowered};
+ghost use Rattle.es_steps.specs.Parts.{at, items, string_of};
+ghost use Rattle.first_form.specs.Lowering.{key_string, value_from, value_size, field_size, definitions_from, fields_size, lowered_elements, elements_size, lowered_body, body_size, lowered_statement, statement_size, lowered_statements, lowered_from, lowered};
 ghost use Rattle.first_form.specs.Places.{with_at, followed_by};
 
-use crate::made::{constructor_at, define_at, void_at};
+use crate::generated::{constructor_at, define_at, void_at};
 use es_base::list::List;
 use es_base::name::Name;
 use es_plain::plain::{Part, Plain, child_part, list_part};
@@ -180,32 +180,32 @@ fn add_definition(
 #[tactic(auto, using(crate::proofs::Pieces::first_kept))]
 fn definition(alloc: Global, mut parts: List<Part>, n: u32) -> Result<(Plain, u32), AllocError>
     requires { n + 9 < 2 ^ 32 }
-    ensures tree { IfOk result (λ r. plain_tree r.0 ≡ define_at n (key_text (at 0 (plain_parts parts))) (value_from (n + 7) (at 1 (plain_parts parts)))) }
+    ensures tree { IfOk result (λ r. plain_tree r.0 ≡ define_at n (key_string (at 0 (plain_parts parts))) (value_from (n + 7) (at 1 (plain_parts parts)))) }
     ensures next { IfOk result (λ r. r.1 ≡ n + field_size (plain_parts parts)) }
 {
     let value = replace_part(&mut parts, 1, Part::Absent);
-    let key = key_text(alloc, replace_part(&mut parts, 0, Part::Absent))?;
+    let key = key_string(alloc, replace_part(&mut parts, 0, Part::Absent))?;
     let next = n + 7 + value_size(&value);
     let value = value_from(alloc, value, n + 7)?;
     Ok((define_at(alloc, n, key, value)?, next))
 }
 
-/// The text of a key; the empty one for what is no key.
-fn key_text(alloc: Global, key: Part) -> Result<Name, AllocError>
-    ensures { IfOk result (λ s. s ≡ key_text (plain_part key)) }
+/// The string of a key; the empty one for what is no key.
+fn key_string(alloc: Global, key: Part) -> Result<Name, AllocError>
+    ensures { IfOk result (λ s. s ≡ key_string (plain_part key)) }
 {
     match key {
         Part::Child(tree) => {
             let Plain { mut parts, .. } = tree;
-            text_of(alloc, replace_part(&mut parts, 0, Part::Absent))
+            string_of(alloc, replace_part(&mut parts, 0, Part::Absent))
         }
         _ => Name::new(alloc, ""),
     }
 }
 
-/// A text; the empty one for any other part.
-fn text_of(alloc: Global, part: Part) -> Result<Name, AllocError>
-    ensures { IfOk result (λ s. s ≡ text_of (plain_part part)) }
+/// A string; the empty one for any other part.
+fn string_of(alloc: Global, part: Part) -> Result<Name, AllocError>
+    ensures { IfOk result (λ s. s ≡ string_of (plain_part part)) }
 {
     match part {
         Part::Text(name) => Ok(name),

@@ -1,4 +1,4 @@
-// The nodes that a lowering makes: numbered in reading order, and with no place in the source.
+// The nodes that a lowering makes: numbered in preorder, and with no place in the source.
 
 ghost use Rattle.std.specs.Prelude.{◌≡◌, ℕ, ◌+◌, ◌<◌, ◌^◌, List, IfOk};
 ghost use Rattle.std.specs.Str.{chars};
@@ -13,8 +13,8 @@ use es_base::list::List;
 use es_base::literal::LiteralValue;
 use es_base::name::Name;
 use es_plain::plain::{
-    Part, Plain, absent_part, child_part, list_part, literal_part, no_text_part, plain_node,
-    text_part, truth_part,
+    Part, Plain, absent_part, child_part, list_part, literal_part, no_string_part, plain_node,
+    string_part, boolean_part,
 };
 use std::alloc::{AllocError, Global};
 
@@ -25,19 +25,19 @@ fn node(kind: Kind, number: u32, parts: Vec<Part>) -> Plain
     plain_node(kind, NodeId(number), None, None, List::from_vec(parts))
 }
 
-/// A node whose one part is this text.
-pub fn named(alloc: Global, kind: Kind, number: u32, text: &str) -> Result<Plain, AllocError>
-    ensures { IfOk result (λ t. plain_tree t ≡ named kind number (chars text.now)) }
+/// A node whose one part is this string.
+pub fn named(alloc: Global, kind: Kind, number: u32, string: &str) -> Result<Plain, AllocError>
+    ensures { IfOk result (λ t. plain_tree t ≡ named kind number (chars string.now)) }
 {
-    let name = text_part(Name::new(alloc, text)?);
+    let name = string_part(Name::new(alloc, string)?);
     Ok(node(kind, number, vec![in alloc; name]?))
 }
 
 /// The literal of this string.
-pub fn string_literal(alloc: Global, number: u32, text: Name) -> Result<Plain, AllocError>
-    ensures { IfOk result (λ t. plain_tree t ≡ string_literal number text) }
+pub fn string_literal(alloc: Global, number: u32, string: Name) -> Result<Plain, AllocError>
+    ensures { IfOk result (λ t. plain_tree t ≡ string_literal number string) }
 {
-    let value = LiteralValue::Text { text, raw: None };
+    let value = LiteralValue::String { string, raw: None };
     Ok(node(Kind::Literal, number, vec![in alloc; literal_part(value)]?))
 }
 
@@ -55,7 +55,7 @@ pub fn void_at(alloc: Global, number: u32) -> Result<Plain, AllocError>
     requires { number + 1 < 2 ^ 32 }
     ensures { IfOk result (λ t. plain_tree t ≡ void_at number) }
 {
-    let operator = text_part(Name::new(alloc, "void")?);
+    let operator = string_part(Name::new(alloc, "void")?);
     let zero = number_literal(alloc, number + 1, Name::new(alloc, "0")?)?;
     let parts = vec![in alloc; operator, child_part(zero)]?;
     Ok(node(Kind::UnaryExpression, number, parts))
@@ -72,8 +72,8 @@ fn callee_in(alloc: Global, number: u32) -> Result<Plain, AllocError>
     let parts = vec![in alloc;
         child_part(object),
         child_part(property),
-        truth_part(false),
-        truth_part(false),
+        boolean_part(false),
+        boolean_part(false),
     ]?;
     Ok(node(Kind::MemberExpression, number + 2, parts))
 }
@@ -102,9 +102,9 @@ pub fn define_at(alloc: Global, number: u32, key: Name, value: Plain) -> Result<
 {
     let callee = callee_in(alloc, number)?;
     let arguments = arguments_in(alloc, number, key, value)?;
-    let parts = vec![in alloc; child_part(callee), list_part(arguments), truth_part(false)]?;
+    let parts = vec![in alloc; child_part(callee), list_part(arguments), boolean_part(false)]?;
     let call = node(Kind::CallExpression, number + 1, parts);
-    let parts = vec![in alloc; child_part(call), no_text_part()]?;
+    let parts = vec![in alloc; child_part(call), no_string_part()]?;
     Ok(node(Kind::ExpressionStatement, number, parts))
 }
 
@@ -122,8 +122,8 @@ fn function_in(alloc: Global, number: u32, statements: List<Part>) -> Result<Pla
         absent_part(),
         list_part(List::new(alloc)),
         child_part(body),
-        truth_part(false),
-        truth_part(false),
+        boolean_part(false),
+        boolean_part(false),
     ]?;
     Ok(node(Kind::FunctionExpression, number + 2, parts))
 }
@@ -144,9 +144,9 @@ pub fn constructor_at(
     let parts = vec![in alloc;
         child_part(key),
         child_part(function),
-        text_part(Name::new(alloc, "constructor")?),
-        truth_part(false),
-        truth_part(false),
+        string_part(Name::new(alloc, "constructor")?),
+        boolean_part(false),
+        boolean_part(false),
     ]?;
     Ok(node(Kind::MethodDefinition, number, parts))
 }

@@ -3,7 +3,7 @@
 ghost use Rattle.std.specs.Prelude.{◌≡◌, option_map};
 ghost use Rattle.es_plain.specs.View.{plain_part, plain_parts};
 ghost use Rattle.es_steps.specs.Parts.{items, is_present};
-ghost use Rattle.first_form.specs.Members.{only, text_in, literal_in, is_false};
+ghost use Rattle.first_form.specs.Members.{only, string_in, literal_in, is_false};
 
 use es_base::literal::LiteralValue;
 use es_base::name::Name;
@@ -20,9 +20,9 @@ pub fn only(parts: &[Part]) -> Option<&Part>
     }
 }
 
-/// The text that is the only part.
-pub fn only_text(parts: &[Part]) -> Option<&Name>
-    ensures { option_map (λ s. s.now) result ≡ text_in (only (plain_parts parts.now)) }
+/// The string that is the only part.
+pub fn only_string(parts: &[Part]) -> Option<&Name>
+    ensures { option_map (λ s. s.now) result ≡ string_in (only (plain_parts parts.now)) }
 {
     match only(parts) {
         Some(Part::Text(name)) => Some(name),
@@ -40,12 +40,12 @@ pub fn only_literal(parts: &[Part]) -> Option<&LiteralValue>
     }
 }
 
-/// Whether the part is the truth value that is false.
+/// Whether the part is the boolean that is false.
 pub fn is_false(part: &Part) -> bool
     ensures { result ≡ is_false (plain_part part.now) }
 {
     match part {
-        Part::Truth(value) => !*value,
+        Part::Boolean(value) => !*value,
         _ => false,
     }
 }

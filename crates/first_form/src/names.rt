@@ -9,11 +9,11 @@ use std::alloc::{AllocError, Global};
 use std::collections::BTreeSet;
 use std::marker::Model;
 
-/// Names, which contracts see as a list of texts in some order. To look one up takes the logarithm of
+/// Names, which contracts see as a list of strings in some order. To look one up takes the logarithm of
 /// their number.
 #[derive(Drop)]
 pub struct Names<'a> {
-    texts: BTreeSet<&'a str>,
+    strings: BTreeSet<&'a str>,
 }
 
 impl<'a> Model for Names<'a> {
@@ -23,9 +23,9 @@ impl<'a> Model for Names<'a> {
 
     ghost Value = { List (List ℕ) };
 
-    ghost view = { λ n. map (λ k. chars k.now) n.texts.keys };
+    ghost view = { λ n. map (λ k. chars k.now) n.strings.keys };
 
-    ghost invariant = { λ n. All (λ k. IsUtf8 k.now) n.texts.keys };
+    ghost invariant = { λ n. All (λ k. IsUtf8 k.now) n.strings.keys };
 }
 
 impl<'a> Names<'a> {
@@ -34,23 +34,23 @@ impl<'a> Names<'a> {
         ensures { result ≡ [] }
     {
         Names {
-            texts: BTreeSet::new(alloc),
+            strings: BTreeSet::new(alloc),
         }
     }
 
-    /// Whether the text is one of the names.
-    pub fn has(&self, text: &str) -> bool
-        ensures { result ≡ is_among (chars text.now) self.now }
+    /// Whether the string is one of the names.
+    pub fn has(&self, string: &str) -> bool
+        ensures { result ≡ is_among (chars string.now) self.now }
     {
-        self.texts.contains(text)
+        self.strings.contains(string)
     }
 
-    /// Adds the text. Fails for want of memory alone.
-    pub fn insert(&mut self, text: &'a str) -> Result<(), AllocError>
-        ensures ok { OnOk result (HaveSame self.new (chars text.now ∷ self.old)) }
+    /// Adds the string. Fails on allocation failure alone.
+    pub fn insert(&mut self, string: &'a str) -> Result<(), AllocError>
+        ensures ok { OnOk result (HaveSame self.new (chars string.now ∷ self.old)) }
         ensures err { OnErr result (self.new ≡ self.old) }
     {
-        self.texts.insert(text)?;
+        self.strings.insert(string)?;
         Ok(())
     }
 }

@@ -1,7 +1,7 @@
 // Whether a program is too large.
 
 ghost use Rattle.std.specs.Prelude.{◌≡◌, ◌+◌, ◌<◌, nat_le, MatchOption};
-ghost use Rattle.es_base.specs.Order.{nodes, nodes_of, nodes_of_part};
+ghost use Rattle.es_base.specs.Preorder.{nodes, nodes_of, nodes_of_part};
 ghost use Rattle.es_plain.specs.View.{plain_tree, plain_part, plain_parts};
 ghost use Rattle.es_steps.specs.FirstForm.{most_nodes};
 
@@ -40,7 +40,7 @@ fn room_after_part(part: &Part, room: u32) -> Option<u32>
     match part {
         Part::Child(tree) => room_after_tree(tree, room),
         Part::List(all) => room_after_parts(all.as_slice(), room),
-        Part::Absent | Part::Text(_) | Part::NoText | Part::Truth(_) | Part::Literal(_) => {
+        Part::Absent | Part::Text(_) | Part::NoString | Part::Boolean(_) | Part::Literal(_) => {
             Some(room)
         }
     }

@@ -1,5 +1,5 @@
 // The least number of a node that is not as the first form asks, in small programs whose nodes were
-// numbered by hand, in reading order.
+// numbered by hand, in preorder.
 
 use crate::form::not_yet;
 use es_base::ids::NodeId;
@@ -8,8 +8,8 @@ use es_base::list::List;
 use es_base::literal::LiteralValue;
 use es_base::name::Name;
 use es_plain::plain::{
-    Part, Plain, absent_part, child_part, list_part, literal_part, no_text_part, plain_node,
-    text_part, truth_part,
+    Part, Plain, absent_part, child_part, list_part, literal_part, no_string_part, plain_node,
+    string_part, boolean_part,
 };
 use std::alloc::{AllocError, Global};
 use std::test::Fail;
@@ -20,7 +20,7 @@ fn node(kind: Kind, number: u32, parts: Vec<Part>) -> Plain {
 
 /// A node that has a name alone.
 fn named(alloc: Global, kind: Kind, number: u32, name: &str) -> Result<Part, AllocError> {
-    let parts = vec![in alloc; text_part(Name::new(alloc, name)?)]?;
+    let parts = vec![in alloc; string_part(Name::new(alloc, name)?)]?;
     Ok(child_part(node(kind, number, parts)))
 }
 
@@ -49,7 +49,7 @@ fn field_of(
     computed: bool,
     fixed: bool,
 ) -> Result<Part, AllocError> {
-    let parts = vec![in alloc; key, value, truth_part(computed), truth_part(fixed)]?;
+    let parts = vec![in alloc; key, value, boolean_part(computed), boolean_part(fixed)]?;
     Ok(child_part(node(Kind::PropertyDefinition, 4, parts)))
 }
 
@@ -86,7 +86,7 @@ fn class(alloc: Global, name: &str, element: Part) -> Result<Part, AllocError> {
 }
 
 fn program(alloc: Global, source_type: &str, statements: Vec<Part>) -> Result<Plain, AllocError> {
-    let source_type = text_part(Name::new(alloc, source_type)?);
+    let source_type = string_part(Name::new(alloc, source_type)?);
     let parts = vec![in alloc; source_type, list_part(List::from_vec(statements))]?;
     Ok(node(Kind::Program, 0, parts))
 }
@@ -126,7 +126,7 @@ fn plain_class(alloc: Global) -> Result<Part, AllocError> {
 /// `a;`, with numbers from 7 on.
 fn expression_statement(alloc: Global) -> Result<Part, AllocError> {
     let expression = named(alloc, Kind::IdentifierReference, 8, "a")?;
-    let parts = vec![in alloc; expression, no_text_part()]?;
+    let parts = vec![in alloc; expression, no_string_part()]?;
     Ok(child_part(node(Kind::ExpressionStatement, 7, parts)))
 }
 
@@ -139,8 +139,8 @@ fn function(alloc: Global) -> Result<Part, AllocError> {
         absent_part(),
         parameters,
         body,
-        truth_part(false),
-        truth_part(false),
+        boolean_part(false),
+        boolean_part(false),
     ]?;
     Ok(child_part(node(Kind::FunctionExpression, 6, parts)))
 }
@@ -149,8 +149,8 @@ fn function(alloc: Global) -> Result<Part, AllocError> {
 fn method(alloc: Global) -> Result<Part, AllocError> {
     let key = named(alloc, Kind::IdentifierName, 5, "m")?;
     let value = function(alloc)?;
-    let kind = text_part(Name::new(alloc, "method")?);
-    let parts = vec![in alloc; key, value, kind, truth_part(false), truth_part(false)]?;
+    let kind = string_part(Name::new(alloc, "method")?);
+    let parts = vec![in alloc; key, value, kind, boolean_part(false), boolean_part(false)]?;
     Ok(child_part(node(Kind::MethodDefinition, 4, parts)))
 }
 
@@ -229,8 +229,8 @@ fn fields(rt: HostRuntime) -> Result<(), Fail> {
 
 /// `class C { x = 1n }`.
 fn bigint(alloc: Global) -> Result<Option<NodeId>, AllocError> {
-    let text = Name::new(alloc, "1")?;
-    of_value(alloc, literal(alloc, LiteralValue::BigInt { text })?)
+    let string = Name::new(alloc, "1")?;
+    of_value(alloc, literal(alloc, LiteralValue::BigInt { string })?)
 }
 
 #[test]

@@ -13,13 +13,13 @@ use Rattle.lower_cli.specs.declared.status.Status.{Status}
 use Rattle.lower_io.specs.Held.{Extends}
 
 -- what was said and written whole is the cause of its status
-pub written-cause : (o : Option Options) (left : Option (List ℕ)) (before now : ℕ) (held after : Option (List ℕ)) (first last : ℕ) (status : Status) (text : List ℕ)
-    → IsSaid o left before now status text → Extends held after text → Cause o left before now held after first last status
-written-cause None left before now held after first last Status.BadWords text said gained = record { text = text; said = said; gained = gained }
-written-cause None left before now held after first last status text said gained = absurd said
-written-cause (Some o) left before now held after first last Status.WriteFault text said gained = absurd said
-written-cause (Some o) left before now held after first last Status.NoMemory text said gained = absurd said
-written-cause (Some o) left before now held after first last status text said gained = record { text = text; said = said; gained = gained }
+pub written-cause : (o : Option Options) (left : Option (List ℕ)) (before now : ℕ) (held after : Option (List ℕ)) (first last : ℕ) (status : Status) (string : List ℕ)
+    → IsSaid o left before now status string → Extends held after string → Cause o left before now held after first last status
+written-cause None left before now held after first last Status.BadWords string said gained = record { string = string; said = said; gained = gained }
+written-cause None left before now held after first last status string said gained = absurd said
+written-cause (Some o) left before now held after first last Status.WriteFault string said gained = absurd said
+written-cause (Some o) left before now held after first last Status.NoMemory string said gained = absurd said
+written-cause (Some o) left before now held after first last status string said gained = record { string = string; said = said; gained = gained }
 
 -- ---- completeness
 
@@ -36,8 +36,8 @@ err_ok e = cc
 same_value : (b : List ℕ) (l : IsLowerable b) (d : Data) → read_text b ≡ Some d → d ≡ l.d
 same_value b l d e = same_some (sym e ∙ l.value)
 
-no_fault : (b : List ℕ) (l : IsLowerable b) (d : Data) (fault : Fault) {B : Type 0} → read_text b ≡ Some d → read Numbers.InOrder d root 0 ≡ Err fault → B
-no_fault b l d fault e f = err_ok (sym f ∙ ap (λ v. read Numbers.InOrder v root 0) (same_value b l d e) ∙ l.tree)
+no_fault : (b : List ℕ) (l : IsLowerable b) (d : Data) (fault : Fault) {B : Type 0} → read_text b ≡ Some d → read Numbers.Preorder d root 0 ≡ Err fault → B
+no_fault b l d fault e f = err_ok (sym f ∙ ap (λ v. read Numbers.Preorder v root 0) (same_value b l d e) ∙ l.tree)
 
 abbrev read_or : Read Tree → Result (Read Tree) Fault → Read Tree
 read_or r (Ok x) = x
@@ -46,19 +46,19 @@ read_or r (Err fault) = r
 read_parts : (r s : Read Tree) → Path (Result (Read Tree) Fault) (Ok r) (Ok s) → (r.value ≡ s.value) × (r.foreign ≡ s.foreign)
 read_parts r s e = (ap (λ x. (read_or r x).value) e, ap (λ x. (read_or r x).foreign) e)
 
-same_program : (b : List ℕ) (l : IsLowerable b) (d : Data) (p : Tree) (foreign : List ℕ) → read_text b ≡ Some d → read Numbers.InOrder d root 0 ≡ Ok (record { value = p; foreign = foreign }) → (p ≡ l.p) × (foreign ≡ [])
+same_program : (b : List ℕ) (l : IsLowerable b) (d : Data) (p : Tree) (foreign : List ℕ) → read_text b ≡ Some d → read Numbers.Preorder d root 0 ≡ Ok (record { value = p; foreign = foreign }) → (p ≡ l.p) × (foreign ≡ [])
 same_program b l d p foreign e f =
-    read_parts (record { value = p; foreign = foreign }) (record { value = l.p; foreign = [] }) (sym f ∙ ap (λ v. read Numbers.InOrder v root 0) (same_value b l d e) ∙ l.tree)
+    read_parts (record { value = p; foreign = foreign }) (record { value = l.p; foreign = [] }) (sym f ∙ ap (λ v. read Numbers.Preorder v root 0) (same_value b l d e) ∙ l.tree)
 
 -- such bytes are neither no tree nor of another form
-no_refusal : (o : Options) (b : List ℕ) (l : IsLowerable b) (text : List ℕ) {B : Type 0} → Says o b Status.Refused text → B
-no_refusal o b l text of =
+no_refusal : (o : Options) (b : List ℕ) (l : IsLowerable b) (string : List ℕ) {B : Type 0} → Says o b Status.Refused string → B
+no_refusal o b l string of =
     let same = same_program b l of.d of.says.p of.says.foreign of.value of.says.tree in
     none_some (sym l.form ∙ sym (ap₂ not_yet same.0 same.1) ∙ of.says.says.least)
 
-no_want : (o : Options) (b : List ℕ) (l : IsLowerable b) (text : List ℕ) {B : Type 0} → Says o b Status.NotATree text → B
-no_want o b l text (inl none) = none_some (sym (none.0 l.utf8) ∙ l.value)
-no_want o b l text (inr of) = no_fault b l of.d of.says.fault of.value of.says.first
+no_want : (o : Options) (b : List ℕ) (l : IsLowerable b) (string : List ℕ) {B : Type 0} → Says o b Status.NotATree string → B
+no_want o b l string (inl none) = none_some (sym (none.0 l.utf8) ∙ l.value)
+no_want o b l string (inr of) = no_fault b l of.d of.says.fault of.value of.says.first
 
 too_many : (x b : List ℕ) {B : Type 0} → x ≡ b → most_bytes < length x → length b ≤ most_bytes → B
 too_many x b same more few = absurd (omega (arith, subst (λ (y : List ℕ). most_bytes < length y) same more, few))
@@ -73,8 +73,8 @@ cause-complete (Some o) left before now held after first last Status.BadWords c 
 cause-complete (Some o) left before now held after first last Status.ReadFault c = λ b words told l unread unwritten. absurd (unread c.said.0)
 cause-complete (Some o) None before now held after first last status c = λ b words told l unread unwritten. none_some told
 cause-complete (Some o) (Some x) before now held after first last Status.TooLong c = λ b words told l unread unwritten. too_many x b (same_some told) c.said.0 l.few
-cause-complete (Some o) (Some x) before now held after first last Status.Refused c = λ b words told l unread unwritten. no_refusal o b l c.text (subst (λ (y : List ℕ). Says o y Status.Refused c.text) (same_some told) c.said.1)
-cause-complete (Some o) (Some x) before now held after first last Status.NotATree c = λ b words told l unread unwritten. no_want o b l c.text (subst (λ (y : List ℕ). Says o y Status.NotATree c.text) (same_some told) c.said.1)
+cause-complete (Some o) (Some x) before now held after first last Status.Refused c = λ b words told l unread unwritten. no_refusal o b l c.string (subst (λ (y : List ℕ). Says o y Status.Refused c.string) (same_some told) c.said.1)
+cause-complete (Some o) (Some x) before now held after first last Status.NotATree c = λ b words told l unread unwritten. no_want o b l c.string (subst (λ (y : List ℕ). Says o y Status.NotATree c.string) (same_some told) c.said.1)
 
 -- ---- the main statement
 
@@ -85,7 +85,7 @@ cause-done o left before now held after first last status c is b old new told ha
   where
     done : (o : Option Options) (left held after : Option (List ℕ)) → IsWritten o left before now held after Status.Done → left ≡ Some b → held ≡ Some old → after ≡ Some new → HasLowered o b old new
     done None left held after w told had has = absurd w.said
-    done (Some o) left held after w told had has = whole o w.text (subst (λ (l : Option (List ℕ)). IsSaid (Some o) l before now Status.Done w.text) told w.said) (subst (λ (h : Option (List ℕ)). Extends h (Some new) w.text) had (subst (λ (a : Option (List ℕ)). Extends held a w.text) has w.gained))
+    done (Some o) left held after w told had has = whole o w.string (subst (λ (l : Option (List ℕ)). IsSaid (Some o) l before now Status.Done w.string) told w.said) (subst (λ (h : Option (List ℕ)). Extends h (Some new) w.string) had (subst (λ (a : Option (List ℕ)). Extends held a w.string) has w.gained))
       where
-        whole : (o : Options) (text : List ℕ) → IsSaid (Some o) (Some b) before now Status.Done text → Extends (Some old) (Some new) text → HasLowered (Some o) b old new
-        whole o text said gained = record { options = o; words = refl; few = said.0; text = text; gained = gained; lowered = said.1 }
+        whole : (o : Options) (string : List ℕ) → IsSaid (Some o) (Some b) before now Status.Done string → Extends (Some old) (Some new) string → HasLowered (Some o) b old new
+        whole o string said gained = record { options = o; words = refl; few = said.0; string = string; gained = gained; lowered = said.1 }

@@ -5,7 +5,7 @@ use Rattle.es_base.specs.Conforms.{conforms}
 use Rattle.es_base.specs.Tree.{Tree}
 use Rattle.es_base.specs.declared.ids.NodeId.{NodeId}
 use Rattle.es_base.specs.declared.table.Place.{Place}
-use Rattle.es_members.specs.Marked.{marks_fit}
+use Rattle.es_members.specs.Marked.{semantic_ids_fit}
 use Rattle.es_members.specs.Standing.{Fits}
 use Rattle.es_steps.specs.FirstForm.{breaches, least, not_yet}
 use Rattle.lower_cli.specs.Outcome.{IsOfForm}
@@ -34,4 +34,4 @@ none-of_form t foreign r none e = let empty = none_empty t foreign r none e in (
 
 pub fits-conform : (p : Place) (t : Tree) → Fits p t → conforms p t ≡ true
 unfolding Fits
-fits-conform p t h = (and_parts (conforms p t) (marks_fit t) h).0
+fits-conform p t h = (and_parts (conforms p t) (semantic_ids_fit t) h).0

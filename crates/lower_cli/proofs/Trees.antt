@@ -2,7 +2,7 @@
 use Rattle.std.proofs.Common.{◌≡◌, refl, sym, ap, ◌∙◌, ℕ, List, [], true, Option, Some, None, true≢false}
 use Rattle.serde_json.specs.Written.{compact_text}
 use Rattle.es_base.specs.Conforms.{conforms}
-use Rattle.es_base.specs.Order.{nodes, numbered_from}
+use Rattle.es_base.specs.Preorder.{nodes, numbered_from}
 use Rattle.es_base.specs.Tree.{Tree}
 use Rattle.es_base.specs.declared.table.Place.{Place}
 use Rattle.es_lowered.specs.Lowered.{write_lowered}
@@ -24,15 +24,15 @@ there : (m : Option Meaning) → has_meaning m ≡ true → (x : Meaning) × (m 
 there (Some x) e = (x, refl)
 there None e = absurd (true≢false (sym e))
 
-lowered-tree : (l : Lowering) (t : Tree) (text : List ℕ) → conforms Place.Program t ≡ true → t ≡ numbered_from 0 t → is_first_form t [] ≡ true
-    → text ≡ line (compact_text (write_lowered (lowered_by l t) [] [] [])) → IsLoweredTree (options_for l) t text
-lowered-tree Lowering.Nothing t text fits turn form written =
+lowered-tree : (l : Lowering) (t : Tree) (string : List ℕ) → conforms Place.Program t ≡ true → t ≡ numbered_from 0 t → is_first_form t [] ≡ true
+    → string ≡ line (compact_text (write_lowered (lowered_by l t) [] [] [])) → IsLoweredTree (options_for l) t string
+lowered-tree Lowering.Nothing t string fits turn form written =
     let m = there (source_means no_options t) (first_form_law (nodes t) no_options t [] fits form) in
     record { q = t; written = written; owed = source-owes t turn; meaning = m.0; source = m.1; same = m.1 }
-lowered-tree Lowering.ClassProperties t text fits turn form written =
+lowered-tree Lowering.ClassProperties t string fits turn form written =
     let m = there (source_means class_properties_alone t) (first_form_law (nodes t) class_properties_alone t [] fits form) in
     record { q = lowered t; written = written; owed = lowered-owes t fits form turn; meaning = m.0; source = m.1; same = lowered-means t fits form turn ∙ m.1 }
 
-pub lowered-text : (l : Lowering) (t r : Tree) (text : List ℕ) → conforms Place.Program t ≡ true → t ≡ numbered_from 0 t → is_first_form t [] ≡ true
-    → r ≡ lowered_by l t → text ≡ line (compact_text (write_lowered r [] [] [])) → IsLoweredTree (options_for l) t text
-lowered-text l t r text fits turn form is written = lowered-tree l t text fits turn form (written ∙ ap (λ u. line (compact_text (write_lowered u [] [] []))) is)
+pub lowered-string : (l : Lowering) (t r : Tree) (string : List ℕ) → conforms Place.Program t ≡ true → t ≡ numbered_from 0 t → is_first_form t [] ≡ true
+    → r ≡ lowered_by l t → string ≡ line (compact_text (write_lowered r [] [] [])) → IsLoweredTree (options_for l) t string
+lowered-string l t r string fits turn form is written = lowered-tree l t string fits turn form (written ∙ ap (λ u. line (compact_text (write_lowered u [] [] []))) is)

@@ -1,4 +1,4 @@
--- What is written of a lowered program with no made name, no warning and no shape, and that a value read from few
+-- What is written of a lowered program with no generated name, no warning and no shape, and that a value read from few
 -- bytes can be counted.
 use Rattle.std.proofs.Common.{◌≡◌, refl, ap, ◌∙◌, subst, ℕ, ◌+◌, ◌<◌, ◌≤◌, ◌^◌, List, [], ◌∷◌, ◌++◌, length, false, Some, Result, Ok, Err, IfOk, arith}
 use Rattle.std.specs.List.Sorted.{IsPermutation}
@@ -31,14 +31,14 @@ written-value v t w = w.written
     ∙ ap (λ told. write_lowered t [] told []) (none_permuted w.told w.told_in_order.same)
 
 -- what was written with no names
-pub nothing-made : {E : Type 0} (result : Result Value E) (t : Tree) (names : List LedgerEntry) → names ≡ [] → IfOk result (λ v. Writes v t names [] []) → IfOk result (λ v. view v ≡ write_lowered t [] [] [])
-nothing-made (Ok v) t names none w = written-value v t (subst (λ (ns : List LedgerEntry). Writes v t ns [] []) none w)
-nothing-made (Err e) t names none w = tt
+pub nothing-generated : {E : Type 0} (result : Result Value E) (t : Tree) (names : List LedgerEntry) → names ≡ [] → IfOk result (λ v. Writes v t names [] []) → IfOk result (λ v. view v ≡ write_lowered t [] [] [])
+nothing-generated (Ok v) t names none w = written-value v t (subst (λ (ns : List LedgerEntry). Writes v t ns [] []) none w)
+nothing-generated (Err e) t names none w = tt
 
 -- the text of such a value, and a line feed
 pub written-line : (v : Value) (t : Tree) (bytes : List ℕ) → view v ≡ write_lowered t [] [] [] → (has_float (view v) ≡ false → bytes ≡ compact_text (view v))
     → bytes ++ 10 ∷ [] ≡ line (compact_text (write_lowered t [] [] []))
-written-line v t bytes is text = ap line (text (ap has_float is ∙ lowered_no_float t [] [] []) ∙ ap compact_text is)
+written-line v t bytes is string = ap line (string (ap has_float is ∙ lowered_no_float t [] [] []) ∙ ap compact_text is)
 
 pub few-values : (b : List ℕ) (d : Data) → length b ≤ most_bytes → read_text b ≡ Some d → values d + 1 < 2 ^ 32
 few-values b d few e = omega (arith, few, values-read_text b d e)

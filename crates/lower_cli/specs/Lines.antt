@@ -5,7 +5,7 @@ use Rattle.es_reading.specs.Fault.{Fault, not_a_tree, float_at}
 use Rattle.es_reading.specs.declared.fault.What.{What}
 
 abbrev pub line : List ℕ → List ℕ
-line text = text ++ 10 ∷ []
+line string = string ++ 10 ∷ []
 
 abbrev pub what_word : What → List ℕ
 what_word What.NotANode = codes "NotANode"

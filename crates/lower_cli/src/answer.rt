@@ -2,7 +2,7 @@
 
 ghost use Rattle.std.specs.Prelude.{◌≡◌, ◌≤◌, ◌<◌, ◌+◌, ◌^◌, IfOk, IfErr, Ok, [], length, string_bytes, true, false};
 ghost use Rattle.es_base.specs.Conforms.{conforms};
-ghost use Rattle.es_base.specs.Order.{numbered_from};
+ghost use Rattle.es_base.specs.Preorder.{numbered_from};
 ghost use Rattle.es_base.specs.declared.table.Place.{Place};
 ghost use Rattle.es_plain.specs.View.{plain_tree};
 ghost use Rattle.es_lowered.specs.Lowered.{write_lowered};
@@ -36,10 +36,10 @@ use serde_json::Value;
 use std::alloc::{AllocError, Global};
 
 /// What is said of these bytes, of which there are at most 67,108,864: the lowered tree with the status
-/// `Done`, or why there is none with `NotATree` or `Refused`. Fails for want of memory alone.
+/// `Done`, or why there is none with `NotATree` or `Refused`. Fails on allocation failure alone.
 pub fn answer(alloc: Global, lowering: Lowering, bytes: &[u8]) -> Result<Said, AllocError>
     requires { length bytes.now ≤ most_bytes }
-    ensures { IfOk result (λ s. Says (options_for lowering) bytes.now s.status (string_bytes s.text)) }
+    ensures { IfOk result (λ s. Says (options_for lowering) bytes.now s.status (string_bytes s.string)) }
 {
     match Value::from_slice(alloc, bytes) {
         Ok(value) => of_value(alloc, lowering, value),
@@ -49,7 +49,7 @@ pub fn answer(alloc: Global, lowering: Lowering, bytes: &[u8]) -> Result<Said, A
 
 /// That the bytes are no JSON, unless there was not enough memory to know.
 fn of_error(alloc: Global, is_memory: bool) -> Result<Said, AllocError>
-    ensures { IfOk result (λ s. (is_memory ≡ false) × ((s.status ≡ Status.NotATree) × (string_bytes s.text ≡ json_line))) }
+    ensures { IfOk result (λ s. (is_memory ≡ false) × ((s.status ≡ Status.NotATree) × (string_bytes s.string ≡ json_line))) }
 {
     if is_memory {
         return Err(AllocError);
@@ -60,7 +60,7 @@ fn of_error(alloc: Global, is_memory: bool) -> Result<Said, AllocError>
 /// What is said of a value.
 fn of_value(alloc: Global, lowering: Lowering, value: Value) -> Result<Said, AllocError>
     requires { values (view value) + 1 < 2 ^ 32 }
-    ensures { IfOk result (λ s. SaysOfValue (options_for lowering) (view value) s.status (string_bytes s.text)) }
+    ensures { IfOk result (λ s. SaysOfValue (options_for lowering) (view value) s.status (string_bytes s.string)) }
 {
     match tree_of(alloc, value) {
         Ok((tree, foreign)) => of_tree(alloc, lowering, tree, foreign.as_slice()),
@@ -72,26 +72,26 @@ fn of_value(alloc: Global, lowering: Lowering, value: Value) -> Result<Said, All
 /// value, which takes most of the memory, is let go.
 fn tree_of(alloc: Global, value: Value) -> Result<(Plain, List<NodeId>), ReadError>
     requires { values (view value) + 1 < 2 ^ 32 }
-    ensures ok { IfOk result (λ r. read Numbers.InOrder (view value) root 0 ≡ Ok (record { value = plain_tree r.0; foreign = ids r.1 })) }
+    ensures ok { IfOk result (λ r. read Numbers.Preorder (view value) root 0 ≡ Ok (record { value = plain_tree r.0; foreign = ids r.1 })) }
     ensures fits { IfOk result (λ r. Fits Place.Program (plain_tree r.0)) }
-    ensures in_order { IfOk result (λ r. plain_tree r.0 ≡ numbered_from 0 (plain_tree r.0)) }
-    ensures err { IfErr result (λ e. Tells e (read Numbers.InOrder (view value) root 0)) }
+    ensures preorder { IfOk result (λ r. plain_tree r.0 ≡ numbered_from 0 (plain_tree r.0)) }
+    ensures err { IfErr result (λ e. Tells e (read Numbers.Preorder (view value) root 0)) }
 {
-    read_tree(alloc, &value, Numbers::InOrder)
+    read_tree(alloc, &value, Numbers::Preorder)
 }
 
 /// The fault of a value that is no program.
 fn of_fault(alloc: Global, error: ReadError) -> Result<Said, AllocError>
-    ensures { IfOk result (λ s. (s.status ≡ Status.NotATree) × TellsLine error (string_bytes s.text)) }
+    ensures { IfOk result (λ s. (s.status ≡ Status.NotATree) × TellsLine error (string_bytes s.string)) }
 {
-    let text = match error {
+    let string = match error {
         ReadError::NoMemory => return Err(AllocError),
         ReadError::NotATree { at, what } => not_a_tree_line(alloc, at, what)?,
         ReadError::Float { at } => float_line(alloc, at)?,
     };
     Ok(Said {
         status: Status::NotATree,
-        text,
+        string,
     })
 }
 
@@ -103,17 +103,17 @@ fn of_tree(
     foreign: &[NodeId],
 ) -> Result<Said, AllocError>
     requires fits { conforms Place.Program (plain_tree tree) ≡ true }
-    requires in_order { plain_tree tree ≡ numbered_from 0 (plain_tree tree) }
-    ensures { IfOk result (λ s. SaysOfTree (options_for lowering) (plain_tree tree) (ids foreign.now) s.status (string_bytes s.text)) }
+    requires preorder { plain_tree tree ≡ numbered_from 0 (plain_tree tree) }
+    ensures { IfOk result (λ s. SaysOfTree (options_for lowering) (plain_tree tree) (ids foreign.now) s.status (string_bytes s.string)) }
 {
     match lower_form(alloc, lowering, tree, foreign) {
         Ok(lowered) => Ok(Said {
             status: Status::Done,
-            text: text_of(alloc, lowered)?,
+            string: text_of(alloc, lowered)?,
         }),
         Err(LowerError::NotYet { node }) => Ok(Said {
             status: Status::Refused,
-            text: not_yet_line(alloc, node)?,
+            string: not_yet_line(alloc, node)?,
         }),
         Err(LowerError::NoMemory) => Err(AllocError),
     }
@@ -145,13 +145,13 @@ fn lower_by(alloc: Global, lowering: Lowering, tree: Plain) -> Result<Plain, All
     }
 }
 
-/// The text of a lowered program with no made name, warning or shape, and a line feed.
+/// The text of a lowered program with no generated name, warning or shape, and a line feed.
 fn text_of(alloc: Global, tree: Plain) -> Result<String, AllocError>
     ensures { IfOk result (λ s. string_bytes s ≡ line (compact_text (write_lowered (plain_tree tree) [] [] []))) }
 {
-    let mut text = value_of(alloc, tree)?.to_string(alloc)?;
-    text.push('\n')?;
-    Ok(text)
+    let mut string = value_of(alloc, tree)?.to_string(alloc)?;
+    string.push('\n')?;
+    Ok(string)
 }
 
 /// The value of such a program. The tree is let go.

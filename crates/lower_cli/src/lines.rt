@@ -29,7 +29,7 @@ pub fn not_a_tree_line(alloc: Global, at: u32, what: What) -> Result<String, All
     format!(in alloc; "not a tree: {word} at {at}\n")
 }
 
-/// The line for a float where no node stands. Fails for want of memory alone.
+/// The line for a float where no node stands. Fails on allocation failure alone.
 pub fn float_line(alloc: Global, at: u32) -> Result<String, AllocError>
     ensures { IfOk result (λ s. string_bytes s ≡ fault_line (float_at at)) }
 {
@@ -37,7 +37,7 @@ pub fn float_line(alloc: Global, at: u32) -> Result<String, AllocError>
 }
 
 /// The line for a tree that is not of the form that is lowered yet, with the number of the least node that
-/// is not. Fails for want of memory alone.
+/// is not. Fails on allocation failure alone.
 pub fn not_yet_line(alloc: Global, node: NodeId) -> Result<String, AllocError>
     ensures { IfOk result (λ s. string_bytes s ≡ not_yet_line node.0) }
 {

@@ -10,7 +10,7 @@ mod status;
 #[cfg(test)]
 mod tests;
 #[cfg(test)]
-mod texts;
+mod strings;
 mod words;
 
 use crate::run::run;

@@ -22,7 +22,7 @@ const MOST_BYTES: usize = 67_108_864;
 ///
 /// With `Done` the sink has gained the compact JSON text of the lowered tree, with its names, warnings and
 /// shapes, and a line feed: nothing that the options lower is left in that tree, its new numbers are those
-/// of reading order, and it means what the source's tree means. `NoMemory` comes before anything is
+/// of preorder, and it means what the source's tree means. `NoMemory` comes before anything is
 /// written, `WriteFault` only where the sink failed, and then it has gained a part; with each other status
 /// it has gained a line that tells the cause.
 pub fn run<S: Source, K: Sink>(
@@ -54,15 +54,15 @@ fn read_and_write<S: Source, K: Sink>(
         Ok(said) => said,
         Err(_) => return Status::NoMemory,
     };
-    match write_all(sink, said.text.as_bytes()) {
+    match write_all(sink, said.string.as_bytes()) {
         Ok(()) => said.status,
         Err(_) => Status::WriteFault,
     }
 }
 
-/// What is said of these words and this source. Fails for want of memory alone.
+/// What is said of these words and this source. Fails on allocation failure alone.
 fn said_of<S: Source>(alloc: Global, words: &[String], source: &mut S) -> Result<Said, AllocError>
-    ensures said { IfOk result (λ s. IsSaid (options_of (map string_bytes words.now)) (S.left source.old) (S.faults source.old) (S.faults source.new) s.status (string_bytes s.text)) }
+    ensures said { IfOk result (λ s. IsSaid (options_of (map string_bytes words.now)) (S.left source.old) (S.faults source.old) (S.faults source.new) s.status (string_bytes s.string)) }
     ensures later { S.faults source.old ≤ S.faults source.new }
 {
     let Some(lowering) = lowering_of(words) else {

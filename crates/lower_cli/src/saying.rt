@@ -9,15 +9,15 @@ use std::alloc::{AllocError, Global};
 #[derive(Drop)]
 pub struct Said {
     pub status: Status,
-    pub text: String,
+    pub string: String,
 }
 
-/// This text with this status. Fails for want of memory alone.
-pub fn say(alloc: Global, status: Status, text: &str) -> Result<Said, AllocError>
-    ensures { IfOk result (λ s. (s.status ≡ status) × (string_bytes s.text ≡ text.now)) }
+/// This text with this status. Fails on allocation failure alone.
+pub fn say(alloc: Global, status: Status, string: &str) -> Result<Said, AllocError>
+    ensures { IfOk result (λ s. (s.status ≡ status) × (string_bytes s.string ≡ string.now)) }
 {
     Ok(Said {
         status,
-        text: String::from_str(alloc, text)?,
+        string: String::from_str(alloc, string)?,
     })
 }

@@ -4,7 +4,7 @@
 ghost use Rattle.std.specs.Prelude.{◌<◌};
 
 use crate::run::run;
-use crate::texts::{
+use crate::strings::{
     empty, empty_written, no_field, no_field_written, one_field, one_field_kept, one_field_lowered,
     two_classes, two_classes_lowered, two_fields, two_fields_lowered,
 };
@@ -37,7 +37,7 @@ fn words_of(alloc: Global, words: &[&str]) -> Result<Vec<String>, AllocError> {
 fn run_on(
     alloc: Global,
     words: &[&str],
-    text: &str,
+    string: &str,
     reads: Pace,
     writes: Pace,
 ) -> Result<(u8, String), AllocError>
@@ -45,7 +45,7 @@ fn run_on(
     requires writes_some { 0 < writes.step }
 {
     let words = words_of(alloc, words)?;
-    let bytes = text.as_bytes().to_vec(alloc)?;
+    let bytes = string.as_bytes().to_vec(alloc)?;
     let mut source = BytesSource::new(bytes, reads.step, reads.fails.to_vec(alloc)?);
     let mut sink = BytesSink::new(alloc, ROOM, writes.step, writes.fails.to_vec(alloc)?)?;
     let status = run(alloc, words.as_slice(), &mut source, &mut sink);
@@ -56,42 +56,42 @@ fn run_on(
 }
 
 /// The same, where each call moves all that it can, and none fails.
-fn run_whole(alloc: Global, words: &[&str], text: &str) -> Result<(u8, String), AllocError> {
+fn run_whole(alloc: Global, words: &[&str], string: &str) -> Result<(u8, String), AllocError> {
     let pace = Pace {
         step: ROOM,
         fails: &[],
     };
-    run_on(alloc, words, text, pace, pace)
+    run_on(alloc, words, string, pace, pace)
 }
 
 #[test]
 fn a_field_is_defined_in_a_constructor(rt: HostRuntime) -> Result<(), Fail> {
-    let (status, text) = run_whole(rt.alloc(), &["--class-properties"], one_field())?;
-    assert_eq!(rt; text.as_str(), one_field_lowered());
+    let (status, string) = run_whole(rt.alloc(), &["--class-properties"], one_field())?;
+    assert_eq!(rt; string.as_str(), one_field_lowered());
     assert_eq!(rt; status, 0);
     Ok(())
 }
 
 #[test]
 fn fields_are_defined_in_order_and_without_a_value_as_void(rt: HostRuntime) -> Result<(), Fail> {
-    let (status, text) = run_whole(rt.alloc(), &["--class-properties"], two_fields())?;
-    assert_eq!(rt; text.as_str(), two_fields_lowered());
+    let (status, string) = run_whole(rt.alloc(), &["--class-properties"], two_fields())?;
+    assert_eq!(rt; string.as_str(), two_fields_lowered());
     assert_eq!(rt; status, 0);
     Ok(())
 }
 
 #[test]
 fn a_class_without_fields_stays(rt: HostRuntime) -> Result<(), Fail> {
-    let (status, text) = run_whole(rt.alloc(), &["--class-properties"], no_field())?;
-    assert_eq!(rt; text.as_str(), no_field_written());
+    let (status, string) = run_whole(rt.alloc(), &["--class-properties"], no_field())?;
+    assert_eq!(rt; string.as_str(), no_field_written());
     assert_eq!(rt; status, 0);
     Ok(())
 }
 
 #[test]
 fn each_class_gets_a_constructor(rt: HostRuntime) -> Result<(), Fail> {
-    let (status, text) = run_whole(rt.alloc(), &["--class-properties"], two_classes())?;
-    assert_eq!(rt; text.as_str(), two_classes_lowered());
+    let (status, string) = run_whole(rt.alloc(), &["--class-properties"], two_classes())?;
+    assert_eq!(rt; string.as_str(), two_classes_lowered());
     assert_eq!(rt; status, 0);
     Ok(())
 }
@@ -104,8 +104,8 @@ fn without_words_a_program_comes_back(rt: HostRuntime) -> Result<(), Fail> {
         (one_field(), one_field_kept()),
     ];
     for (program, written) in programs {
-        let (status, text) = run_whole(rt.alloc(), &[], program)?;
-        assert_eq!(rt; text.as_str(), written);
+        let (status, string) = run_whole(rt.alloc(), &[], program)?;
+        assert_eq!(rt; string.as_str(), written);
         assert_eq!(rt; status, 0);
     }
     Ok(())
@@ -114,8 +114,8 @@ fn without_words_a_program_comes_back(rt: HostRuntime) -> Result<(), Fail> {
 #[test]
 fn a_word_that_is_repeated_counts_once(rt: HostRuntime) -> Result<(), Fail> {
     let words = ["--class-properties", "--class-properties"];
-    let (status, text) = run_whole(rt.alloc(), &words, one_field())?;
-    assert_eq!(rt; text.as_str(), one_field_lowered());
+    let (status, string) = run_whole(rt.alloc(), &words, one_field())?;
+    assert_eq!(rt; string.as_str(), one_field_lowered());
     assert_eq!(rt; status, 0);
     Ok(())
 }
@@ -124,12 +124,12 @@ fn a_word_that_is_repeated_counts_once(rt: HostRuntime) -> Result<(), Fail> {
 fn words_outside_the_grammar(rt: HostRuntime) -> Result<(), Fail> {
     for word in ["--minify", "--class-propertie", "--class-propertiess", ""] {
         for words in [[word, "--class-properties"], ["--class-properties", word]] {
-            let (status, text) = run_whole(rt.alloc(), &words, one_field())?;
-            assert_eq!(rt; text.as_str(), "bad words\n", "at {word}");
+            let (status, string) = run_whole(rt.alloc(), &words, one_field())?;
+            assert_eq!(rt; string.as_str(), "bad words\n", "at {word}");
             assert_eq!(rt; status, 2);
         }
-        let (status, text) = run_whole(rt.alloc(), &[word], one_field())?;
-        assert_eq!(rt; text.as_str(), "bad words\n", "at {word}");
+        let (status, string) = run_whole(rt.alloc(), &[word], one_field())?;
+        assert_eq!(rt; string.as_str(), "bad words\n", "at {word}");
         assert_eq!(rt; status, 2);
     }
     Ok(())
@@ -137,7 +137,7 @@ fn words_outside_the_grammar(rt: HostRuntime) -> Result<(), Fail> {
 
 #[test]
 fn bytes_that_are_no_program(rt: HostRuntime) -> Result<(), Fail> {
-    let texts = [
+    let strings = [
         ("{", "not a tree: json\n"),
         (
             r#"{"type":"Program","sourceType":"script","body":[3]}"#,
@@ -160,12 +160,12 @@ fn bytes_that_are_no_program(rt: HostRuntime) -> Result<(), Fail> {
             "not a tree: float at 2\n",
         ),
     ];
-    for (program, line) in texts {
-        let (status, text) = run_whole(rt.alloc(), &["--class-properties"], program)?;
-        assert_eq!(rt; text.as_str(), line);
+    for (program, line) in strings {
+        let (status, string) = run_whole(rt.alloc(), &["--class-properties"], program)?;
+        assert_eq!(rt; string.as_str(), line);
         assert_eq!(rt; status, 3);
-        let (status, text) = run_whole(rt.alloc(), &[], program)?;
-        assert_eq!(rt; text.as_str(), line);
+        let (status, string) = run_whole(rt.alloc(), &[], program)?;
+        assert_eq!(rt; string.as_str(), line);
         assert_eq!(rt; status, 3);
     }
     Ok(())
@@ -173,7 +173,7 @@ fn bytes_that_are_no_program(rt: HostRuntime) -> Result<(), Fail> {
 
 #[test]
 fn programs_outside_the_form(rt: HostRuntime) -> Result<(), Fail> {
-    let texts = [
+    let strings = [
         // class D extends C {}
         (
             r#"{"type":"Program","body":[{"type":"ClassDeclaration","id":{"type":"Identifier","name":"D"},"superClass":{"type":"Identifier","name":"C"},"body":{"type":"ClassBody","body":[]}}],"sourceType":"script"}"#,
@@ -194,12 +194,12 @@ fn programs_outside_the_form(rt: HostRuntime) -> Result<(), Fail> {
             "refused: NotYet at 0\n",
         ),
     ];
-    for (program, line) in texts {
-        let (status, text) = run_whole(rt.alloc(), &["--class-properties"], program)?;
-        assert_eq!(rt; text.as_str(), line);
+    for (program, line) in strings {
+        let (status, string) = run_whole(rt.alloc(), &["--class-properties"], program)?;
+        assert_eq!(rt; string.as_str(), line);
         assert_eq!(rt; status, 1);
-        let (status, text) = run_whole(rt.alloc(), &[], program)?;
-        assert_eq!(rt; text.as_str(), line);
+        let (status, string) = run_whole(rt.alloc(), &[], program)?;
+        assert_eq!(rt; string.as_str(), line);
         assert_eq!(rt; status, 1);
     }
     Ok(())
@@ -216,7 +216,7 @@ fn byte_by_byte_and_in_pieces(rt: HostRuntime) -> Result<(), Fail> {
             step: write,
             fails: &[],
         };
-        let (status, text) = run_on(
+        let (status, string) = run_on(
             rt.alloc(),
             &["--class-properties"],
             two_classes(),
@@ -224,7 +224,7 @@ fn byte_by_byte_and_in_pieces(rt: HostRuntime) -> Result<(), Fail> {
             writes,
         )?;
         assert_eq!(rt;
-            text.as_str(),
+            string.as_str(),
             two_classes_lowered(),
             "at {read} and {write}"
         );
@@ -250,12 +250,12 @@ fn run_where_read_fails(alloc: Global, call: u64) -> Result<(u8, String), AllocE
 fn a_source_that_fails_at_each_of_its_calls(rt: HostRuntime) -> Result<(), Fail> {
     // five calls give its 318 bytes, and the sixth tells the end
     for call in 1..7 {
-        let (status, text) = run_where_read_fails(rt.alloc(), call)?;
-        assert_eq!(rt; text.as_str(), "read fault\n", "at call {call}");
+        let (status, string) = run_where_read_fails(rt.alloc(), call)?;
+        assert_eq!(rt; string.as_str(), "read fault\n", "at call {call}");
         assert_eq!(rt; status, 4);
     }
-    let (status, text) = run_where_read_fails(rt.alloc(), 7)?;
-    assert_eq!(rt; text.as_str(), one_field_lowered());
+    let (status, string) = run_where_read_fails(rt.alloc(), 7)?;
+    assert_eq!(rt; string.as_str(), one_field_lowered());
     assert_eq!(rt; status, 0);
     Ok(())
 }
@@ -275,9 +275,9 @@ fn run_where_write_fails(alloc: Global, call: u64) -> Result<(u8, String), Alloc
 
 #[test]
 fn a_sink_that_fails_at_its_third_call(rt: HostRuntime) -> Result<(), Fail> {
-    let (status, text) = run_where_write_fails(rt.alloc(), 3)?;
+    let (status, string) = run_where_write_fails(rt.alloc(), 3)?;
     let part = one_field_lowered().as_bytes().get(..128).ok_or("short")?;
-    assert_eq!(rt; text.as_bytes(), part);
+    assert_eq!(rt; string.as_bytes(), part);
     assert_eq!(rt; status, 5);
     Ok(())
 }
@@ -286,16 +286,16 @@ fn a_sink_that_fails_at_its_third_call(rt: HostRuntime) -> Result<(), Fail> {
 fn a_sink_that_fails_at_each_of_its_calls(rt: HostRuntime) -> Result<(), Fail> {
     // sixteen calls take the 1010 bytes
     for taken in 0..16 {
-        let (status, text) = run_where_write_fails(rt.alloc(), taken as u64 + 1)?;
+        let (status, string) = run_where_write_fails(rt.alloc(), taken as u64 + 1)?;
         let part = one_field_lowered()
             .as_bytes()
             .get(..64 * taken)
             .ok_or("short")?;
-        assert_eq!(rt; text.as_bytes(), part, "after {taken} calls");
+        assert_eq!(rt; string.as_bytes(), part, "after {taken} calls");
         assert_eq!(rt; status, 5);
     }
-    let (status, text) = run_where_write_fails(rt.alloc(), 17)?;
-    assert_eq!(rt; text.as_str(), one_field_lowered());
+    let (status, string) = run_where_write_fails(rt.alloc(), 17)?;
+    assert_eq!(rt; string.as_str(), one_field_lowered());
     assert_eq!(rt; status, 0);
     Ok(())
 }
@@ -315,8 +315,8 @@ fn run_surely(alloc: Global, bytes: Vec<u8>) -> Result<(u8, String), AllocError>
 #[test]
 fn a_source_and_a_sink_that_never_fail(rt: HostRuntime) -> Result<(), Fail> {
     let alloc = rt.alloc();
-    let (status, text) = run_surely(alloc, one_field().as_bytes().to_vec(alloc)?)?;
-    assert_eq!(rt; text.as_str(), one_field_lowered());
+    let (status, string) = run_surely(alloc, one_field().as_bytes().to_vec(alloc)?)?;
+    assert_eq!(rt; string.as_str(), one_field_lowered());
     assert_eq!(rt; status, 0);
     Ok(())
 }
@@ -324,8 +324,8 @@ fn a_source_and_a_sink_that_never_fail(rt: HostRuntime) -> Result<(), Fail> {
 #[test]
 fn one_byte_more_than_is_read(rt: HostRuntime) -> Result<(), Fail> {
     let alloc = rt.alloc();
-    let (status, text) = run_surely(alloc, vec![in alloc; b' '; 67_108_865]?)?;
-    assert_eq!(rt; text.as_str(), "too long\n");
+    let (status, string) = run_surely(alloc, vec![in alloc; b' '; 67_108_865]?)?;
+    assert_eq!(rt; string.as_str(), "too long\n");
     assert_eq!(rt; status, 7);
     Ok(())
 }

@@ -1,5 +1,5 @@
 // Texts of programs, as a parser of ESTree gives them, and what is written of them, written out by hand:
-// the new nodes have the numbers from that of the source's nodes on, in reading order.
+// the new nodes have the numbers from that of the source's nodes on, in preorder.
 
 /// The script without statements.
 pub fn empty() -> &'static str {

@@ -3,7 +3,7 @@
 ghost use Rattle.std.specs.Prelude.{◌≡◌, map, option_map, string_bytes};
 ghost use Rattle.lower_cli.specs.Words.{options_of, options_for, all_class_properties, is_class_properties};
 
-use es_plain::texts::is_word;
+use es_plain::strings::is_word;
 
 /// What is lowered.
 #[derive(Debug, Clone, Copy, PartialEq, Eq)]

@@ -17,7 +17,7 @@ pub struct Room {
 impl Room {
     ghost use Rattle.lower_io.specs.Room.{IsEmptyRoom, Adds, room_bytes};
 
-    /// Room for `size` bytes. Fails for want of memory alone.
+    /// Room for `size` bytes. Fails on allocation failure alone.
     pub fn new(alloc: Global, size: usize) -> Result<Room, AllocError>
         ensures { IfOk result (λ room. IsEmptyRoom room size) }
     {

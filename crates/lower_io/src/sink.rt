@@ -44,7 +44,7 @@ impl BytesSink {
 
     /// A sink with room for `room` bytes that takes at most `step` bytes in a call. The calls fail whose
     /// numbers, counted from 1, stand in `fail`. It tells the bytes that it holds until those that a call
-    /// takes don't fit; they are dropped, and from then on it tells nothing. Fails for want of memory alone.
+    /// takes don't fit; they are dropped, and from then on it tells nothing. Fails on allocation failure alone.
     pub fn new(
         alloc: Global,
         room: usize,
@@ -116,7 +116,7 @@ impl SureSink {
     ghost use Rattle.lower_io.specs.Room.{IsEmptyRoom, room_bytes};
 
     /// A sink with room for `room` bytes. It tells the bytes that it holds until a piece doesn't fit; that
-    /// is dropped, and from then on it tells nothing. Fails for want of memory alone.
+    /// is dropped, and from then on it tells nothing. Fails on allocation failure alone.
     pub fn new(alloc: Global, room: usize) -> Result<SureSink, AllocError>
         ensures held { IfOk result (λ sink. ⟦<SureSink as Sink>⟧.held sink ≡ Some []) }
         ensures faults { IfOk result (λ sink. ⟦<SureSink as Sink>⟧.faults sink ≡ 0) }

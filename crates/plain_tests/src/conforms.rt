@@ -8,8 +8,8 @@ use es_base::literal::LiteralValue;
 use es_base::name::Name;
 use es_base::table::Place;
 use es_plain::plain::{
-    Part, Plain, absent_part, child_part, list_part, literal_part, plain_node, text_part,
-    truth_part,
+    Part, Plain, absent_part, child_part, list_part, literal_part, plain_node, string_part,
+    boolean_part,
 };
 use std::alloc::{AllocError, Global};
 use std::test::Fail;
@@ -20,20 +20,20 @@ fn node(kind: Kind, parts: Vec<Part>) -> Plain {
 
 /// A node of a kind that has a name alone.
 fn named(alloc: Global, kind: Kind, name: &str) -> Result<Plain, AllocError> {
-    Ok(node(kind, vec![in alloc; text_part(Name::new(alloc, name)?)]?))
+    Ok(node(kind, vec![in alloc; string_part(Name::new(alloc, name)?)]?))
 }
 
 /// `a.a`, or `a?.a`.
 fn member(alloc: Global, optional: bool) -> Result<Plain, AllocError> {
     let object = child_part(reference(alloc)?);
     let property = child_part(named(alloc, Kind::IdentifierName, "a")?);
-    let parts = vec![in alloc; object, property, truth_part(false), truth_part(optional)]?;
+    let parts = vec![in alloc; object, property, boolean_part(false), boolean_part(optional)]?;
     Ok(node(Kind::MemberExpression, parts))
 }
 
 /// An operator between two nodes.
 fn operation(alloc: Global, kind: Kind, operator: &str, left: Plain) -> Result<Plain, AllocError> {
-    let operator = text_part(Name::new(alloc, operator)?);
+    let operator = string_part(Name::new(alloc, operator)?);
     let right = child_part(reference(alloc)?);
     let parts = vec![in alloc; operator, child_part(left), right]?;
     Ok(node(kind, parts))
@@ -118,16 +118,16 @@ fn a_pattern_is_assigned_by_the_plain_operator(rt: HostRuntime) -> Result<(), Fa
 }
 
 #[test]
-fn a_template_has_one_text_more_than_expressions(rt: HostRuntime) -> Result<(), Fail> {
+fn a_template_has_one_string_more_than_expressions(rt: HostRuntime) -> Result<(), Fail> {
     let alloc = rt.alloc();
-    let raw = text_part(Name::new(alloc, "")?);
-    let cooked = text_part(Name::new(alloc, "")?);
-    let text = node(
+    let raw = string_part(Name::new(alloc, "")?);
+    let cooked = string_part(Name::new(alloc, "")?);
+    let string = node(
         Kind::TemplateElement,
-        vec![in alloc; raw, cooked, truth_part(true)]?,
+        vec![in alloc; raw, cooked, boolean_part(true)]?,
     );
-    let texts = List::from_vec(vec![in alloc; child_part(text)]?);
-    let parts = vec![in alloc; list_part(texts), list_part(List::new(alloc))]?;
+    let strings = List::from_vec(vec![in alloc; child_part(string)]?);
+    let parts = vec![in alloc; list_part(strings), list_part(List::new(alloc))]?;
     assert!(rt; node(Kind::TemplateLiteral, parts).conforms(Place::Expression));
     let parts = vec![in alloc; list_part(List::new(alloc)), list_part(List::new(alloc))]?;
     assert!(rt; !node(Kind::TemplateLiteral, parts).conforms(Place::Expression));
@@ -156,8 +156,8 @@ fn an_export_names_references_where_it_has_no_source(rt: HostRuntime) -> Result<
 
 /// The source `"a"` of an export.
 fn source(alloc: Global) -> Result<Part, AllocError> {
-    let value = LiteralValue::Text {
-        text: Name::new(alloc, "a")?,
+    let value = LiteralValue::String {
+        string: Name::new(alloc, "a")?,
         raw: None,
     };
     Ok(child_part(node(Kind::Literal, vec![in alloc; literal_part(value)]?)))
@@ -173,7 +173,7 @@ fn number_conforms(alloc: Global, raw: &str) -> Result<bool, AllocError> {
 }
 
 #[test]
-fn texts_are_of_their_sorts(rt: HostRuntime) -> Result<(), Fail> {
+fn strings_are_of_their_sorts(rt: HostRuntime) -> Result<(), Fail> {
     let alloc = rt.alloc();
     for (raw, is) in [
         (".5", true),

@@ -6,4 +6,4 @@ mod conforms;
 #[cfg(test)]
 mod plain;
 #[cfg(test)]
-mod texts;
+mod strings;

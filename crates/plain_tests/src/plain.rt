@@ -1,7 +1,7 @@
 // The plain tree of `a;`, whose numbers were worked out by hand from the table of kinds.
 
 ghost use Rattle.std.specs.Prelude.{◌≡◌, IfOk};
-ghost use Rattle.es_base.specs.Order.{nodes};
+ghost use Rattle.es_base.specs.Preorder.{nodes};
 ghost use Rattle.es_plain.specs.View.{plain_tree};
 
 use es_base::ids::{NodeId, Span};
@@ -10,8 +10,8 @@ use es_base::list::List;
 use es_base::literal::LiteralValue;
 use es_base::name::Name;
 use es_plain::plain::{
-    Part, Plain, absent_part, child_part, list_part, literal_part, no_text_part, plain_node,
-    text_part, truth_part,
+    Part, Plain, absent_part, child_part, list_part, literal_part, no_string_part, plain_node,
+    string_part, boolean_part,
 };
 use std::alloc::{AllocError, Global};
 use std::test::Fail;
@@ -21,7 +21,7 @@ pub fn reference(alloc: Global) -> Result<Plain, AllocError>
     ensures { IfOk result (λ t. nodes (plain_tree t) ≡ 1) }
 {
     let mut parts = List::new(alloc);
-    parts.push(text_part(Name::new(alloc, "a")?))?;
+    parts.push(string_part(Name::new(alloc, "a")?))?;
     Ok(plain_node(
         Kind::IdentifierReference,
         NodeId::DUMMY,
@@ -36,7 +36,7 @@ fn statement(alloc: Global) -> Result<Plain, AllocError>
 {
     let mut parts = List::new(alloc);
     parts.push(child_part(reference(alloc)?))?;
-    parts.push(no_text_part())?;
+    parts.push(no_string_part())?;
     Ok(plain_node(Kind::ExpressionStatement, NodeId::DUMMY, None, None, parts))
 }
 
@@ -47,7 +47,7 @@ pub fn program(alloc: Global) -> Result<Plain, AllocError>
     let mut body = List::new(alloc);
     body.push(child_part(statement(alloc)?))?;
     let mut parts = List::new(alloc);
-    parts.push(text_part(Name::new(alloc, "script")?))?;
+    parts.push(string_part(Name::new(alloc, "script")?))?;
     parts.push(list_part(body))?;
     Ok(plain_node(Kind::Program, NodeId(0), None, None, parts))
 }
@@ -89,13 +89,13 @@ fn old_numbers_stay(rt: HostRuntime) -> Result<(), Fail> {
 fn parts_are_taken_apart(rt: HostRuntime) -> Result<(), Fail> {
     let alloc = rt.alloc();
     assert_eq!(rt;
-        text_part(Name::new(alloc, "a")?)
-            .into_text()
+        string_part(Name::new(alloc, "a")?)
+            .into_string()
             .ok_or("text")?
             .as_str(),
         "a"
     );
-    assert_eq!(rt; truth_part(true).into_truth(), Some(true));
+    assert_eq!(rt; boolean_part(true).into_boolean(), Some(true));
     assert_eq!(rt;
         list_part(List::new(alloc)).into_list().ok_or("list")?.len(),
         0
@@ -109,7 +109,7 @@ fn parts_are_taken_apart(rt: HostRuntime) -> Result<(), Fail> {
     let child = child_part(reference(alloc)?).into_child().ok_or("child")?;
     assert_eq!(rt; child.kind, Kind::IdentifierReference);
     assert_eq!(rt; child.span, Some(Span { start: 0, end: 1 }));
-    assert_eq!(rt; child.mark, Some(0));
+    assert_eq!(rt; child.semantic_id, Some(0));
     assert!(rt; absent_part().into_child().is_none());
     Ok(())
 }

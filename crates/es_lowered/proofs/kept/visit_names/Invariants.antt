@@ -1,8 +1,8 @@
 use Rattle.std.proofs.Common.{drop, map}
-use Rattle.es_lowered.specs.Lowered.{NamesAreTexts, NumbersFit}
+use Rattle.es_lowered.specs.Lowered.{NamesAreStrings, NumbersFit}
 use Rattle.es_lowered.proofs.kept.visit_names.Given as goal
 
 abbrev pub invariant-loop-entry : goal.invariant-loop-entry
 invariant-loop-entry l =
-    (NamesAreTexts (map (λ e. e.now) (drop l.entry-index l.entries)) → NamesAreTexts (map (λ e. e.now) l.entries))
+    (NamesAreStrings (map (λ e. e.now) (drop l.entry-index l.entries)) → NamesAreStrings (map (λ e. e.now) l.entries))
     × (NumbersFit (map (λ e. e.now) (drop l.entry-index l.entries)) → NumbersFit (map (λ e. e.now) l.entries))

@@ -11,5 +11,5 @@ child_at-callee-requires c = (Place.ExpressionOrSuper, member Kind.CallExpressio
 pub list_at-arguments-requires : goal.list_at-arguments-requires
 list_at-arguments-requires c = (Place.ExpressionOrSpread, inl (member Kind.CallExpression _ 1 (Sort.List Place.ExpressionOrSpread) c.requires refl))
 
-pub truth_at-optional-requires : goal.truth_at-optional-requires
-truth_at-optional-requires c = member Kind.CallExpression _ 2 Sort.Truth c.requires refl
+pub boolean_at-optional-requires : goal.boolean_at-optional-requires
+boolean_at-optional-requires c = member Kind.CallExpression _ 2 Sort.Boolean c.requires refl

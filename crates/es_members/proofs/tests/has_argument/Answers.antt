@@ -5,5 +5,5 @@ use Rattle.es_base.specs.declared.table.Sort.{Sort}
 use Rattle.es_members.proofs.OfKind.{member}
 use Rattle.es_members.proofs.tests.has_argument.Goals as goal
 
-pub maybe_child_at-requires : goal.maybe_child_at-requires
-maybe_child_at-requires c = (Place.Expression, member Kind.ReturnStatement _ 0 (Sort.Maybe Place.Expression) c.requires refl)
+pub nullable_child_at-requires : goal.nullable_child_at-requires
+nullable_child_at-requires c = (Place.Expression, member Kind.ReturnStatement _ 0 (Sort.Nullable Place.Expression) c.requires refl)

@@ -4,5 +4,5 @@ use Rattle.es_base.specs.declared.table.Sort.{Sort}
 use Rattle.es_members.proofs.OfKind.{member}
 use Rattle.es_members.proofs.tests.name_of.Goals as goal
 
-pub text_at-requires : goal.text_at-requires
-text_at-requires c = (Sort.Name, (refl, member Kind.IdentifierReference _ 0 Sort.Name c.requires refl))
+pub string_at-requires : goal.string_at-requires
+string_at-requires c = (Sort.Name, (refl, member Kind.IdentifierReference _ 0 Sort.Name c.requires refl))

@@ -1,5 +1,5 @@
 use Rattle.std.proofs.Common.{◌≡◌, ◌+◌, drop}
-use Rattle.es_base.specs.Order.{nodes_of}
+use Rattle.es_base.specs.Preorder.{nodes_of}
 use Rattle.es_plain.specs.View.{plain_parts}
 use Rattle.es_plain.proofs.count.+count.Given as goal
 

@@ -4,7 +4,7 @@ use Rattle.serde_json.specs.View.{view, items_view}
 use Rattle.serde_json.specs.Find.{get, as_array}
 use Rattle.serde_json.specs.declared.value.Value.{Value}
 use Rattle.es_base.specs.Table.{Field, field_of, members_of}
-use Rattle.es_base.specs.Order.{nodes_of, nodes_of_part}
+use Rattle.es_base.specs.Preorder.{nodes_of, nodes_of_part}
 use Rattle.es_base.specs.Tree.{Tree, Node, list}
 use Rattle.es_plain.specs.View.{plain_tree, plain_part, plain_parts}
 use Rattle.es_reading.specs.Reading.{kind_of, number_of, finds, each, members_in, member_of}
@@ -87,8 +87,8 @@ read_members-returns-clause-bound t c = omega (arith, c.loop-member.invariant.bo
 pub read_member-read_child-requires : goal.read_member-read_child-requires
 read_member-read_child-requires t c = (omega (arith, falls 5 (view c.args.value.now) c.args.member.name.now _ (omega arith) c.get.ensures), omega (arith, ap values_there c.get.ensures, c.requires))
 
-pub read_member-read_child-requires-in-Maybe : goal.read_member-read_child-requires-in-Maybe
-read_member-read_child-requires-in-Maybe t c = (omega (arith, falls 5 (view c.args.value.now) c.args.member.name.now _ (omega arith) c.get-in-Maybe.ensures), omega (arith, ap values_there c.get-in-Maybe.ensures, c.requires))
+pub read_member-read_child-requires-in-Nullable : goal.read_member-read_child-requires-in-Nullable
+read_member-read_child-requires-in-Nullable t c = (omega (arith, falls 5 (view c.args.value.now) c.args.member.name.now _ (omega arith) c.get-in-Nullable.ensures), omega (arith, ap values_there c.get-in-Nullable.ensures, c.requires))
 
 pub read_member-read_child-requires-in-Key : goal.read_member-read_child-requires-in-Key
 read_member-read_child-requires-in-Key t c = (omega (arith, falls 5 (view c.args.value.now) c.args.member.name.now _ (omega arith) c.get-in-Key.ensures), omega (arith, ap values_there c.get-in-Key.ensures, c.requires))
@@ -102,11 +102,11 @@ read_member-read_list-requires-in-List t c = (omega (arith, falls 6 (view c.args
 pub read_member-returns-in_ok-leaf_of-in_default : goal.read_member-returns-in_ok-leaf_of-in_default
 read_member-returns-in_ok-leaf_of-in_default t c =
     let d = view c.args.value.now in
-    let made = c.in_ok-leaf_of-in_default.ensures in
-    let none = ap nodes_of_part made ∙ walk.leaf_nodes d c.args.member.name.now c.args.member.sort in
+    let generated = c.in_ok-leaf_of-in_default.ensures in
+    let none = ap nodes_of_part generated ∙ walk.leaf_nodes d c.args.member.name.now c.args.member.sort in
     let b = c.in_default in
     record {
-      part = walk.alone_read _ _ _ _ _ (walk.leaf_member (finds c.args.reader.numbers d) d c.args.parent c.args.member.name.now c.args.member.sort c.args.at b.not-Child b.not-Maybe b.not-Key b.not-List b.not-Some b.not-Holes) made refl;
+      part = walk.alone_read _ _ _ _ _ (walk.leaf_member (finds c.args.reader.numbers d) d c.args.parent c.args.member.name.now c.args.member.sort c.args.at b.not-Child b.not-Nullable b.not-Key b.not-List b.not-Some b.not-Holes) generated refl;
       next = omega (arith, none);
       bound = omega arith;
       err = tt;

@@ -1,7 +1,7 @@
 use Rattle.std.proofs.Common.{◌≡◌, ℕ, ◌+◌, ◌*◌, ◌≤◌, map, drop, option_map}
 use Rattle.serde_json.specs.View.{view, items_view}
 use Rattle.serde_json.specs.Data.{depth, items_depth}
-use Rattle.es_base.specs.Order.{nodes_of}
+use Rattle.es_base.specs.Preorder.{nodes_of}
 use Rattle.es_base.specs.Table.{field_of}
 use Rattle.es_plain.specs.View.{plain_parts}
 use Rattle.es_reading.proofs.Depths.{falls_to}

@@ -6,5 +6,5 @@ use Rattle.es_reading.proofs.tree.read_tree.Goals as goal
 pub returns-clause-fits : goal.returns-clause-fits
 returns-clause-fits c = given_fits c.args.numbers (view c.args.value.now) root 0 _ _ _ c.in_ok-tree.ensures.tree
 
-pub returns-clause-in_order : goal.returns-clause-in_order
-returns-clause-in_order c is = given_in_order c.args.numbers (view c.args.value.now) root 0 _ _ _ c.in_ok-tree.ensures.tree is
+pub returns-clause-preorder : goal.returns-clause-preorder
+returns-clause-preorder c is = given_in_order c.args.numbers (view c.args.value.now) root 0 _ _ _ c.in_ok-tree.ensures.tree is

@@ -7,5 +7,5 @@ use Rattle.es_writing.proofs.kinds.put_more.Goals as goal
 
 pub returns-in-ArrowFunctionExpression : goal.returns-in-ArrowFunctionExpression
 returns-in-ArrowFunctionExpression c =
-    subst (λ (es : List Entry). OnOk c.put_truth-in-ArrowFunctionExpression.result (members_view c.put_truth-in-ArrowFunctionExpression.new.object.entries ≡ put_all (members_view c.args.object.now.entries) es))
-    (arrow_entries c.args.kind (plain_parts c.args.parts.now) c.is_block.result c.in-ArrowFunctionExpression.is c.is_block.ensures) c.put_truth-in-ArrowFunctionExpression.ensures
+    subst (λ (es : List Entry). OnOk c.put_boolean-in-ArrowFunctionExpression.result (members_view c.put_boolean-in-ArrowFunctionExpression.new.object.entries ≡ put_all (members_view c.args.object.now.entries) es))
+    (arrow_entries c.args.kind (plain_parts c.args.parts.now) c.is_block.result c.in-ArrowFunctionExpression.is c.is_block.ensures) c.put_boolean-in-ArrowFunctionExpression.ensures

@@ -5,7 +5,7 @@ use Rattle.serde_json.specs.View.{members_view}
 use Rattle.es_base.specs.Table.{field_of}
 use Rattle.es_plain.specs.View.{plain_parts}
 use Rattle.es_writing.specs.Writing.{Entry, put_all}
-use Rattle.es_writing.proofs.InOrder.{row_on, row_done, items_on, items_done}
+use Rattle.es_writing.proofs.Preorder.{row_on, row_done, items_on, items_done}
 use Rattle.es_writing.proofs.Parts.{short_row}
 use Rattle.es_writing.proofs.Sizes.{parts_size, size_of_tree, size_of_child, size_of_list, size_of_item}
 use Rattle.es_writing.proofs.Whole.{node_written}

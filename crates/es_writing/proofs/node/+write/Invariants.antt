@@ -3,7 +3,7 @@ use Rattle.serde_json.specs.View.{view, members_view}
 use Rattle.es_base.specs.Table.{field_of}
 use Rattle.es_plain.specs.View.{plain_tree, plain_part, plain_parts}
 use Rattle.es_writing.specs.Writing.{put_all, write_fields, write_items}
-use Rattle.es_writing.proofs.InOrder.{before}
+use Rattle.es_writing.proofs.Preorder.{before}
 use Rattle.es_writing.proofs.Sizes.{tree_size, part_size, parts_size}
 use Rattle.es_writing.proofs.node.+write.Given as goal
 

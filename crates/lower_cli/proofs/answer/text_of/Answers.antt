@@ -6,4 +6,4 @@ use Rattle.lower_cli.proofs.answer.text_of.Goals as goal
 
 pub returns : goal.returns
 unfolding encode_utf8
-returns c = c.in_ok-push.ensures.bytes ∙ written-line c.in_ok-value_of.field-0 (plain_tree c.args.tree) _ c.in_ok-value_of.ensures c.in_ok-text.ensures.text
+returns c = c.in_ok-push.ensures.bytes ∙ written-line c.in_ok-value_of.field-0 (plain_tree c.args.tree) _ c.in_ok-value_of.ensures c.in_ok-string.ensures.string

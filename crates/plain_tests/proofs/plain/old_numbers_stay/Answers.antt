@@ -1,5 +1,5 @@
 use Rattle.std.proofs.Common.{arith}
-use Rattle.es_base.proofs.OrderLemmas.{news-fits}
+use Rattle.es_base.proofs.PreorderLemmas.{news-fits}
 use Rattle.es_plain.specs.View.{plain_tree}
 use Rattle.plain_tests.proofs.plain.old_numbers_stay.Goals as goal
 

@@ -1,6 +1,6 @@
 use Rattle.std.proofs.Common.{◌∙◌}
 use Rattle.es_base.proofs.NumberedLemmas.{EachOnce-old_zero}
-use Rattle.es_base.proofs.OrderLemmas.{fits-zero, renumbered-zero}
+use Rattle.es_base.proofs.PreorderLemmas.{fits-zero, renumbered-zero}
 use Rattle.es_plain.specs.View.{plain_tree}
 use Rattle.es_plain.proofs.plain.Plain.number.Goals as goal
 

@@ -5,4 +5,4 @@ use Rattle.first_form.proofs.NameSets.{looked_up}
 use Rattle.first_form.proofs.names.Names.has.Goals as goal
 
 pub returns : goal.returns
-returns c = c.contains.ensures ∙ looked_up c.args.text.now c.self.inside.texts.keys c.utf8.text c.self.invariant ∙ ap (is_among (chars c.args.text.now)) c.self.view_is
+returns c = c.contains.ensures ∙ looked_up c.args.string.now c.self.inside.strings.keys c.utf8.string c.self.invariant ∙ ap (is_among (chars c.args.string.now)) c.self.view_is

@@ -1,2 +1,0 @@
-pub mod Makers
-pub mod Rolled

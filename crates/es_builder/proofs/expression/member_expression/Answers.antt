@@ -1,8 +1,0 @@
-use Rattle.std.proofs.Common.{◌∙◌, ap}
-use Rattle.es_builder.proofs.Makers.{held_tree}
-use Rattle.es_syntax.specs.View.{expression_tree, member_expression_node}
-use Rattle.es_syntax.proofs.Views.{expression_tree-MemberExpression}
-use Rattle.es_builder.proofs.expression.member_expression.Goals as goal
-
-pub returns : goal.returns
-returns c = λ t h. expression_tree-MemberExpression _ ∙ ap (member_expression_node expression_tree) c.in_ok-in_box.ensures ∙ held_tree (member_expression_node expression_tree) c.in_ok-x.was h

@@ -1,8 +1,0 @@
-use Rattle.std.proofs.Common.{refl}
-use Rattle.es_base.specs.Tree.{text}
-use Rattle.es_base.specs.declared.kind.Kind.{Kind}
-use Rattle.es_builder.proofs.Makers.{held, more_same, same_node}
-use Rattle.es_builder.proofs.node.foreign.Goals as goal
-
-pub returns : goal.returns
-returns c = λ p hp. same_node Kind.Foreign c.args.head refl (more_same (held text c.in_ok-kind.was hp) refl)

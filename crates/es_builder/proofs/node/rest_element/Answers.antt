@@ -1,9 +1,0 @@
-use Rattle.std.proofs.Common.{refl}
-use Rattle.es_base.specs.declared.kind.Kind.{Kind}
-use Rattle.es_builder.specs.Made.{one}
-use Rattle.es_builder.proofs.Makers.{held, more_same, same_node}
-use Rattle.es_syntax.specs.View.{pattern_tree}
-use Rattle.es_builder.proofs.node.rest_element.Goals as goal
-
-pub returns : goal.returns
-returns c = λ p hp. same_node Kind.RestElement c.args.head refl (more_same (held (one pattern_tree) c.in_ok-argument.was hp) refl)

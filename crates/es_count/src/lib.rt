@@ -1,4 +1,0 @@
-// A walk over typed trees that counts nodes.
-#![tactic(auto, using(es_syntax::proofs::Views::views))]
-
-pub mod count;

@@ -1,9 +1,0 @@
-use Rattle.std.proofs.Common.{◌≡◌, map, take, drop, option_map}
-use Rattle.es_base.specs.Tree.{child, trees}
-use Rattle.es_number.specs.Given.{given_parts, after_parts}
-use Rattle.es_syntax.specs.View.{template_element_node}
-use Rattle.es_number.proofs.Numbers.{joined}
-use Rattle.es_renumber.proofs.number.number_template_elements.Given as goal
-
-abbrev pub invariant-loop-i : goal.invariant-loop-i
-invariant-loop-i l = (joined (λ x. child (template_element_node x)) (take l.i l.all) (given_parts l.numbers (trees (map template_element_node (drop l.i l.all)))) ≡ given_parts l.fn.first (trees (map template_element_node l.initial.all))) × (after_parts l.numbers (trees (map template_element_node (drop l.i l.all))) ≡ after_parts l.fn.first (trees (map template_element_node l.initial.all)))
