@@ -242,3 +242,9 @@ pub fn all_of_set(set: Words) -> &'static [Word]
     for w in FIXED_WORDS: code += f'        Words::{w} => &[Word::{w}],\n'
     code += '    }\n}\n'
     write('src/word.rt', code, BASE)
+    lemmas = spec_head('The characters of a word are its bytes: words are ASCII.')
+    lemmas += 'use Rattle.std.proofs.Common.{◌≡◌, refl}\nuse Rattle.std.specs.Str.{chars}\nuse Rattle.es_base.specs.Words.{word_string}\n' + ''.join(f'use {D}.operator.{x}.{{{x}}}\n' for x in WORDS) + f'use {D}.operator.Word.{{Word}}\n'
+    lemmas += '\npub chars-word_string : (w : Word) → chars (word_string w) ≡ word_string w\nunfolding chars\n'
+    for w in WORDS: lemmas += ''.join(f'chars-word_string (Word.{w} {w}.{v}) = refl\n' for v, _ in WORDS[w][1])
+    for w in FIXED_WORDS: lemmas += f'chars-word_string Word.{w} = refl\n'
+    write('proofs/WordLemmas.antt', lemmas, BASE)

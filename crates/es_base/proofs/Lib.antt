@@ -3,3 +3,4 @@ pub mod NumberedLemmas
 pub mod PreorderLemmas
 pub mod Spelled
 pub mod Spelling
+pub mod WordLemmas

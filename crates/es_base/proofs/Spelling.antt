@@ -9,7 +9,9 @@ use Rattle.std.proofs.lemmas.Slice.Eq.{bytes_eq-Decides, starts_is}
 use Rattle.std.proofs.lemmas.Bool.Decides.{same_from_decides, Decides-eqb, nat_tests}
 use Rattle.es_base.specs.Conforms.{begins_with}
 use Rattle.es_base.specs.Table.{words_of}
-use Rattle.es_base.specs.Words.{all_of_set, is_of_set}
+use Rattle.es_base.specs.Words.{all_of_set, is_of_set, word_string}
+use Rattle.es_base.specs.declared.operator.Word.{Word}
+use Rattle.es_base.proofs.WordLemmas.{chars-word_string}
 use Rattle.es_base.specs.declared.table.Words.{Words}
 
 -- two texts are the same bytes where they are the same characters
@@ -77,3 +79,7 @@ empty_name (b ∷ bs) (c ∷ cs) e u is empty = empty ∙ no_zero (length (b ∷
 pub each_of_set : (set : Words) → list_all (is_of_set set) (all_of_set set) ≡ true
 each_of_set Words.SourceType = refl
 each_of_set _ = refl
+
+-- a string that a word is written as has its bytes for its characters
+pub chars_of_word : (w : Word) (s : List ℕ) → word_string w ≡ s → word_string w ≡ chars s
+chars_of_word w s is = sym (chars-word_string w) ∙ ap chars is

@@ -33,12 +33,12 @@ pub fn is_among(string: &str, words: &[&str]) -> bool
 }
 
 /// The word of the set that is written so, if there is one.
-#[tactic(auto, using(crate::proofs::Spelling::words_of_chars, crate::proofs::Spelling::each_of_set))]
+#[tactic(auto, using(crate::proofs::Spelling::each_of_set, crate::proofs::Spelling::chars_of_word))]
 pub fn word_of(string: &str, set: Words) -> Option<Word>
-    ensures by_chars { is_some result ≡ is_among (chars string.now) (words_of set) }
-    ensures by_bytes { is_some result ≡ is_among string.now (words_of set) }
+    ensures some { is_some result ≡ is_among string.now (words_of set) }
     ensures set { IfSome result (λ w. is_of_set set w ≡ true) }
-    ensures written { IfSome result (λ w. word_string w ≡ string.now) }
+    ensures bytes { IfSome result (λ w. word_string w ≡ string.now) }
+    ensures chars { IfSome result (λ w. word_string w ≡ chars string.now) }
 {
     for word in all_of_set(set) {
         if is_word(string, word_str(*word)) {

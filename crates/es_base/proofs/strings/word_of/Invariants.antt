@@ -6,6 +6,6 @@ use Rattle.es_base.proofs.strings.word_of.Given as goal
 
 abbrev pub invariant-loop-word : goal.invariant-loop-word
 invariant-loop-word l = record {
-  by_bytes : is_among l.string (map word_string (drop l.word-index l.word-items)) ≡ is_among l.string (map word_string (all_of_set l.fn.set));
+  some : is_among l.string (map word_string (drop l.word-index l.word-items)) ≡ is_among l.string (map word_string (all_of_set l.fn.set));
   set : list_all (is_of_set l.fn.set) (drop l.word-index l.word-items) ≡ true;
 }
