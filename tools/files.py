@@ -4,7 +4,7 @@ import re
 import sys
 
 CRATES = sys.argv[1]
-BASE = 'es_base'
+BASE, NODE, LAYER = 'es_base', 'es_node', 'es_tree'
 
 
 def snake(name): return re.sub(r'(?<!^)(?=[A-Z])', '_', name).lower()

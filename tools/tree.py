@@ -4,10 +4,15 @@
 usage: tree.py CRATES
 
 CRATES is the folder of the crates. Written are
-- in `es_base` the kinds, the words and the table (src/kind.rt, operator.rt, word.rt, table.rt, specs/Table.antt, Words.antt).
+- in `es_base` the kinds, the words and the table (src/kind.rt, operator.rt, word.rt, table.rt, specs/Table.antt, Words.antt,
+  proofs/WordLemmas.antt);
+- in `es_node` how parts are read, taken apart and put together (src/parts.rt, room.rt).
 `rt fmt` lays them out; the gate proves them.
 """
+from print_parts import write_parts, write_room
 from print_table import KINDS, write_table
 
 write_table()
+write_parts()
+write_room()
 print(len(KINDS), 'kinds')

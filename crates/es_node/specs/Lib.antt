@@ -1,0 +1,4 @@
+pub mod Bearing
+pub mod Falls
+pub mod Stored
+pub mod View
