@@ -1,5 +1,0 @@
-use Rattle.lower_cli.proofs.Written.{few-values}
-use Rattle.lower_cli.proofs.answer.answer.Goals as goal
-
-pub of_value-requires : goal.of_value-requires
-of_value-requires c = few-values _ _ c.requires c.in-Ok.ensures.ok.1

@@ -1,8 +1,0 @@
-use Rattle.es_plain.specs.View.{plain_tree}
-use Rattle.lower_cli.proofs.Trees.{lowered-string}
-use Rattle.lower_cli.proofs.answer.of_tree.Goals as goal
-
-pub returns-in_ok-text_of-in-Ok : goal.returns-in_ok-text_of-in-Ok
-returns-in_ok-text_of-in-Ok c =
-    let form = c.in-Ok.ensures.ok.0 in
-    (form.0, lowered-string c.args.lowering (plain_tree c.args.tree) (plain_tree c.in-Ok.lowered) _ c.requires.fits c.requires.preorder form.1 c.in-Ok.ensures.ok.1 c.in_ok-text_of-in-Ok.ensures)

@@ -1,0 +1,166 @@
+-- What a run ends with, and why: the tree of the bytes, what is written of it, and the cause of each status.
+use Rattle.std.specs.Prelude.{◌≡◌, ◌≤◌, ◌<◌, List, [], ◌++◌, ℕ, length, Option, Some, None, IfSome, Ok, Err, IsUtf8, ◌⊎◌, is_some, true}
+use Rattle.serde_json.specs.Data.{Data}
+use Rattle.serde_json.specs.Read.{read as read_text}
+use Rattle.serde_json.specs.Written.{compact_text}
+use Rattle.es_base.specs.Preorder.{nodes}
+use Rattle.es_base.specs.Tree.{Tree}
+use Rattle.es_lowered.specs.Lowered.{write_lowered}
+use Rattle.es_reading.specs.Fault.{Fault, not_a_tree, float_at}
+use Rattle.es_reading.specs.Reading.{read, root}
+use Rattle.es_reading.specs.declared.fault.ReadError.{ReadError}
+use Rattle.es_reading.specs.declared.numbers.Numbers.{Numbers}
+use Rattle.es_steps.specs.FirstForm.{not_yet, is_first_form}
+use Rattle.es_steps.specs.Lowered.{IsLowered}
+use Rattle.es_steps.specs.Meaning.{Meaning, means, source_means}
+use Rattle.es_steps.specs.Options.{Options}
+use Rattle.es_steps.specs.Told.{shapes}
+use Rattle.es_steps.specs.declared.error.LowerError.{LowerError}
+use Rattle.lower_run.specs.Lines.{line, bad_arguments_line, read_fault_line, too_long_line, json_line, fault_line, not_yet_line}
+use Rattle.lower_run.specs.declared.status.Status.{Status}
+use Rattle.lower_io.specs.Causes.{Rose}
+use Rattle.lower_io.specs.Held.{Extends, ExtendsInPart}
+
+-- more bytes than this are not read
+abbrev pub most_bytes : ℕ
+most_bytes = 67108864
+
+-- ---- what is written of a program
+
+-- the text of the tree q that p was lowered to, with no generated name and no warning, and with the shapes of p; and what q
+-- owes: nothing that the options lower is left, every generated name has its declaration, and q means what p means
+pub record IsLoweredTree (o : Options) (p : Tree) (text : List ℕ) : Type 0 where
+  pub q : Tree
+  pub written : text ≡ line (compact_text (write_lowered q [] [] (shapes p)))
+  pub owed : IsLowered (nodes p) o [] p q
+  pub meaning : Meaning
+  pub source : source_means o p ≡ Some meaning
+  pub same : means (nodes p) o [] q ≡ Some meaning
+
+-- the line that names the least node that is not as the form asks
+pub record IsNotYet (p : Tree) (foreign : List ℕ) (text : List ℕ) : Type 0 where
+  pub node : ℕ
+  pub least : not_yet p foreign ≡ Some node
+  pub written : text ≡ not_yet_line node
+
+-- a program is of the first form, and none of its nodes has members outside the table
+abbrev pub IsOfForm : Tree → List ℕ → Type 0
+IsOfForm p foreign = (foreign ≡ []) × (is_first_form p [] ≡ true)
+
+-- it is refused by its least node that is not as the form asks, but for allocation failure
+abbrev pub IsRefused : Tree → List ℕ → LowerError → Type 0
+IsRefused p foreign LowerError.NoMemory = Unit
+IsRefused p foreign (LowerError.NotYet node) = not_yet p foreign ≡ Some node.0
+
+-- of a program, and its nodes that have members outside the table
+abbrev pub IsOutputOfTree : Options → Tree → List ℕ → Status → List ℕ → Type 0
+IsOutputOfTree o p foreign Status.Done text = (foreign ≡ []) × IsLoweredTree o p text
+IsOutputOfTree o p foreign Status.Refused text = IsNotYet p foreign text
+IsOutputOfTree o p foreign status text = ⊥
+
+-- ---- of a value
+
+-- it is this program, numbered in preorder
+pub record IsOfTree (o : Options) (d : Data) (status : Status) (text : List ℕ) : Type 0 where
+  pub p : Tree
+  pub foreign : List ℕ
+  pub tree : read Numbers.Preorder d root 0 ≡ Ok (record { value = p; foreign = foreign })
+  pub output : IsOutputOfTree o p foreign status text
+
+-- it is none, and this is its first fault in preorder
+pub record IsFaultLine (d : Data) (text : List ℕ) : Type 0 where
+  pub fault : Fault
+  pub first : read Numbers.Preorder d root 0 ≡ Err fault
+  pub written : text ≡ fault_line fault
+
+-- the line of an error that is no allocation failure
+abbrev pub IsLineOf : ReadError → List ℕ → Type 0
+IsLineOf ReadError.NoMemory text = ⊥
+IsLineOf (ReadError.NotATree at what) text = text ≡ fault_line (not_a_tree at what)
+IsLineOf (ReadError.Float at) text = text ≡ fault_line (float_at at)
+
+abbrev pub IsOutputOfValue : Options → Data → Status → List ℕ → Type 0
+IsOutputOfValue o d Status.NotATree text = IsFaultLine d text
+IsOutputOfValue o d status text = IsOfTree o d status text
+
+-- ---- of bytes
+
+-- the bytes are JSON text of this value
+pub record IsOfValue (o : Options) (b : List ℕ) (status : Status) (text : List ℕ) : Type 0 where
+  pub d : Data
+  pub utf8 : IsUtf8 b
+  pub value : read_text b ≡ Some d
+  pub output : IsOutputOfValue o d status text
+
+-- the bytes are no JSON text
+abbrev pub HasNoValue : List ℕ → Type 0
+HasNoValue b = IsUtf8 b → read_text b ≡ None
+
+-- the output for the bytes under the options, with each status that depends on the bytes alone
+abbrev pub IsOutputOfBytes : Options → List ℕ → Status → List ℕ → Type 0
+IsOutputOfBytes o b Status.NotATree text = (HasNoValue b × (text ≡ json_line)) ⊎ IsOfValue o b Status.NotATree text
+IsOutputOfBytes o b status text = IsOfValue o b status text
+
+-- ---- what is said, by the arguments, of a source that may tell its bytes
+
+-- what is said with each status, by the options that the arguments give, of a source that told these bytes, whose faults were
+-- and are this many
+abbrev pub IsOutputOfSource : Option Options → Option (List ℕ) → ℕ → ℕ → Status → List ℕ → Type 0
+IsOutputOfSource None left before now Status.BadArguments text = text ≡ bad_arguments_line
+IsOutputOfSource None left before now status text = ⊥
+IsOutputOfSource (Some o) left before now Status.BadArguments text = ⊥
+IsOutputOfSource (Some o) left before now Status.WriteFault text = ⊥
+IsOutputOfSource (Some o) left before now Status.NoMemory text = ⊥
+IsOutputOfSource (Some o) left before now Status.ReadFault text = Rose before now × (text ≡ read_fault_line)
+IsOutputOfSource (Some o) left before now Status.TooLong text = IfSome left (λ b. most_bytes < length b) × (text ≡ too_long_line)
+IsOutputOfSource (Some o) left before now status text = IfSome left (λ b. (length b ≤ most_bytes) × IsOutputOfBytes o b status text)
+
+-- ---- the causes of the statuses
+
+-- what was said with this status was written whole: the sink, where it tells what it holds, holds what it held and then
+-- this text
+pub record IsWritten (o : Option Options) (left : Option (List ℕ)) (before now : ℕ) (held after : Option (List ℕ)) (status : Status) : Type 0 where
+  pub text : List ℕ
+  pub output : IsOutputOfSource o left before now status text
+  pub gained : Extends held after text
+
+-- what was said with some status was written in part
+pub record IsPartlyWritten (o : Option Options) (left : Option (List ℕ)) (before now : ℕ) (held after : Option (List ℕ)) : Type 0 where
+  pub status : Status
+  pub text : List ℕ
+  pub output : IsOutputOfSource o left before now status text
+  pub part : ExtendsInPart held after text
+
+-- why a run ends with this status: options, the bytes that the source told and its faults before and after, what the sink
+-- held and holds and its faults before and after
+abbrev pub Cause : Option Options → Option (List ℕ) → ℕ → ℕ → Option (List ℕ) → Option (List ℕ) → ℕ → ℕ → Status → Type 0
+Cause o left before now held after first last Status.NoMemory = Extends held after []
+Cause o left before now held after first last Status.WriteFault = Rose first last × IsPartlyWritten o left before now held after
+Cause o left before now held after first last status = IsWritten o left before now held after status
+
+-- ---- completeness
+
+-- the bytes are JSON text of this program, which is of the form
+pub record IsLowerable (b : List ℕ) : Type 0 where
+  pub few : length b ≤ most_bytes
+  pub utf8 : IsUtf8 b
+  pub d : Data
+  pub value : read_text b ≡ Some d
+  pub p : Tree
+  pub tree : read Numbers.Preorder d root 0 ≡ Ok (record { value = p; foreign = [] })
+  pub form : not_yet p [] ≡ None
+
+-- of such bytes, with arguments of the grammar, and where neither the source nor the sink failed, nothing is answered but that
+-- the tree was written, or that memory ran out
+abbrev pub Complete : Option Options → Option (List ℕ) → ℕ → ℕ → ℕ → ℕ → Status → Type 0
+Complete o left before now first last status = (b : List ℕ) → is_some o ≡ true → left ≡ Some b → IsLowerable b → ¬ Rose before now → ¬ Rose first last → (status ≡ Status.Done) ⊎ (status ≡ Status.NoMemory)
+
+-- the main statement, of a source and a sink that tell their bytes: the arguments are in the grammar, the source had these
+-- bytes, and the sink holds what it held, followed by the text of what their tree was lowered to
+pub record HasLowered (o : Option Options) (b held now : List ℕ) : Type 0 where
+  pub options : Options
+  pub arguments : o ≡ Some options
+  pub few : length b ≤ most_bytes
+  pub text : List ℕ
+  pub gained : now ≡ held ++ text
+  pub lowered : IsOfValue options b Status.Done text

@@ -1,0 +1,46 @@
+// The lines that the program writes where it gives no tree.
+
+ghost use Rattle.std.specs.Prelude.{◌≡◌, IfOk, string_bytes};
+ghost use Rattle.es_reading.specs.Fault.{not_a_tree, float_at};
+ghost use Rattle.lower_run.specs.Lines.{fault_line, not_yet_line, what_name};
+
+use es_base::ids::NodeId;
+use es_reading::fault::What;
+use std::alloc::{AllocError, Global};
+
+/// The word for what is wrong with a value.
+fn what_name(what: What) -> &'static str
+    ensures { result.now ≡ what_name what }
+{
+    match what {
+        What::NotANode => "NotANode",
+        What::UnknownKind => "UnknownKind",
+        What::WrongPlace => "WrongPlace",
+        What::BadMember => "BadMember",
+    }
+}
+
+/// The line for a value that is no tree: what is wrong, and the number of the node. Fails for want of
+/// memory alone.
+pub fn not_a_tree_line(alloc: Global, at: u32, what: What) -> Result<String, AllocError>
+    ensures { IfOk result (λ s. string_bytes s ≡ fault_line (not_a_tree at what)) }
+{
+    let argument = what_name(what);
+    format!(in alloc; "not a tree: {word} at {at}\n")
+}
+
+/// The line for a float where no node stands. Fails on allocation failure alone.
+pub fn float_line(alloc: Global, at: u32) -> Result<String, AllocError>
+    ensures { IfOk result (λ s. string_bytes s ≡ fault_line (float_at at)) }
+{
+    format!(in alloc; "not a tree: float at {at}\n")
+}
+
+/// The line for a tree that is not of the form that is lowered yet, with the number of the least node that
+/// is not. Fails on allocation failure alone.
+pub fn not_yet_line(alloc: Global, node: NodeId) -> Result<String, AllocError>
+    ensures { IfOk result (λ s. string_bytes s ≡ not_yet_line node.0) }
+{
+    let at = node.0;
+    format!(in alloc; "refused: NotYet at {at}\n")
+}

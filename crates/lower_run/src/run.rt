@@ -1,0 +1,77 @@
+// The run: from the bytes of a source to what a sink gets.
+
+ghost use Rattle.std.specs.Prelude.{◌≡◌, ◌≤◌, IfOk, List, ℕ, [], Some, map, string_bytes};
+ghost use Rattle.lower_run.specs.Outcome.{IsOutputOfSource, Cause, Complete, HasLowered};
+ghost use Rattle.lower_run.specs.Arguments.{options_of};
+ghost use Rattle.lower_run.specs.declared.status.Status.{Status};
+
+use crate::answer::answer;
+use crate::output::{Output, output_with};
+use crate::status::Status;
+use crate::arguments::lowering_of;
+use lower_io::sink::Sink;
+use lower_io::source::Source;
+use lower_io::whole::{ReadStop, read_all, write_all};
+use std::alloc::{AllocError, Global};
+
+/// More bytes than this are not read.
+const MOST_BYTES: usize = 67_108_864;
+
+/// Reads the source to its end, lowers the tree that its bytes are, and writes the lowered tree, or why
+/// there is none, to the sink. The arguments are none, or `--class-properties` once or more.
+///
+/// With `Done` the sink has gained the compact JSON text of the lowered tree, with its names, warnings and
+/// shapes, and a line feed: nothing that the options lower is left in that tree, its new numbers are those
+/// of preorder, and it means what the source's tree means. `NoMemory` comes before anything is
+/// written, `WriteFault` only where the sink failed, and then it has gained a part; with each other status
+/// it has gained a line that tells the cause.
+pub fn run<S: Source, K: Sink>(
+    alloc: Global,
+    arguments: &[String],
+    source: &mut S,
+    sink: &mut K,
+) -> Status
+    ensures done { result ≡ Status.Done → (b held now : List ℕ) → S.left source.old ≡ Some b → K.held sink.old ≡ Some held → K.held sink.new ≡ Some now → HasLowered (options_of (map string_bytes arguments.now)) b held now }
+    ensures cause { Cause (options_of (map string_bytes arguments.now)) (S.left source.old) (S.faults source.old) (S.faults source.new) (K.held sink.old) (K.held sink.new) (K.faults sink.old) (K.faults sink.new) result }
+    ensures complete { Complete (options_of (map string_bytes arguments.now)) (S.left source.old) (S.faults source.old) (S.faults source.new) (K.faults sink.old) (K.faults sink.new) result }
+    ensures source_later { S.faults source.old ≤ S.faults source.new }
+    ensures sink_later { K.faults sink.old ≤ K.faults sink.new }
+{
+    read_and_write(alloc, arguments, source, sink)
+}
+
+fn read_and_write<S: Source, K: Sink>(
+    alloc: Global,
+    arguments: &[String],
+    source: &mut S,
+    sink: &mut K,
+) -> Status
+    ensures cause { Cause (options_of (map string_bytes arguments.now)) (S.left source.old) (S.faults source.old) (S.faults source.new) (K.held sink.old) (K.held sink.new) (K.faults sink.old) (K.faults sink.new) result }
+    ensures source_later { S.faults source.old ≤ S.faults source.new }
+    ensures sink_later { K.faults sink.old ≤ K.faults sink.new }
+{
+    let output = match output_of(alloc, arguments, source) {
+        Ok(output) => output,
+        Err(_) => return Status::NoMemory,
+    };
+    match write_all(sink, output.text.as_bytes()) {
+        Ok(()) => output.status,
+        Err(_) => Status::WriteFault,
+    }
+}
+
+/// The output for these arguments and this source. Fails on allocation failure alone.
+fn output_of<S: Source>(alloc: Global, arguments: &[String], source: &mut S) -> Result<Output, AllocError>
+    ensures output { IfOk result (λ s. IsOutputOfSource (options_of (map string_bytes arguments.now)) (S.left source.old) (S.faults source.old) (S.faults source.new) s.status (string_bytes s.text)) }
+    ensures later { S.faults source.old ≤ S.faults source.new }
+{
+    let Some(lowering) = lowering_of(arguments) else {
+        return output_with(alloc, Status::BadArguments, "bad words\n");
+    };
+    match read_all(alloc, source, MOST_BYTES) {
+        Ok(bytes) => answer(alloc, lowering, bytes.as_slice()),
+        Err(ReadStop::NoMemory) => Err(AllocError),
+        Err(ReadStop::Failed) => output_with(alloc, Status::ReadFault, "read fault\n"),
+        Err(ReadStop::TooLong) => output_with(alloc, Status::TooLong, "too long\n"),
+    }
+}
