@@ -11,7 +11,7 @@ use Rattle.es_steps.specs.Options.{Options}
 use Rattle.es_steps.specs.Parts.{at, is_true}
 use Rattle.es_steps.specs.References.{declared, has_number}
 use Rattle.es_steps.specs.Scopes.{ClassName, no_class, declares, own_name, Declaration, names_at}
-use Rattle.es_steps.specs.Values.{Text, Bound}
+use Rattle.es_steps.specs.Values.{String, Bound}
 use Rattle.es_steps.proofs.Mapped.{mapped, mapped_parts, mapped_class_name, mapped_declaration, mapped_option, mapped_name_kind, mapped_context, Renames}
 use Rattle.es_steps.proofs.PartsMapped.{cond-mapped, append-mapped, string_at-mapped, is_true_at-mapped}
 use Rattle.es_steps.proofs.ReferencesMapped.{declared-mapped, has_number-mapped, number_of-mapped, written-mapped}
@@ -28,7 +28,7 @@ module _ {first : ℕ} {f : ℕ → ℕ} (r : Renames first f) where
   declared_kind-mapped written b (declares n) = unless_written-mapped written b (MeansClass n)
   declared_kind-mapped written b (own_name n) = refl
 
-  found_kind-mapped : (written : List ℕ) (s : Text) (d : Option Declaration) → found_kind (map f written) s (mapped_option (mapped_declaration f) d) ≡ mapped_name_kind f (found_kind written s d)
+  found_kind-mapped : (written : List ℕ) (s : String) (d : Option Declaration) → found_kind (map f written) s (mapped_option (mapped_declaration f) d) ≡ mapped_name_kind f (found_kind written s d)
   found_kind-mapped written s None = refl
   found_kind-mapped written s (Some d) = declared_kind-mapped written d.number d.class_name
 
@@ -36,7 +36,7 @@ module _ {first : ℕ} {f : ℕ → ℕ} (r : Renames first f) where
   generated_or-mapped (Some g) kind = refl
   generated_or-mapped None kind = refl
 
-  pub name_kind-mapped : (c : Context) (s : Text) → name_kind (mapped_context f c) s ≡ mapped_name_kind f (name_kind c s)
+  pub name_kind-mapped : (c : Context) (s : String) → name_kind (mapped_context f c) s ≡ mapped_name_kind f (name_kind c s)
   name_kind-mapped c s = rw (declared-mapped f s c.names, found_kind-mapped c.written s (declared s c.names)) (generated_or-mapped (generated_as s c.ledger) (found_kind c.written s (declared s c.names)))
 
   -- ---- the start

@@ -7,11 +7,11 @@ use Rattle.es_base.specs.Numbered.{is_new}
 use Rattle.es_steps.proofs.EvaluationMapped.{Follows, value_behind-mapped, no_meaning-follows, gives-follows, event-follows, bind-follows, ev-follows, ev-mapped, ev_all-follows, ev_target-follows, ev_callee-follows, ev_initializers-follows}
 use Rattle.es_steps.proofs.Mapped.{mapped_option, mapped_nullable, mapped_given, mapped_environment, mapped_run, mapped_code, mapped_target, mapped_callee, mapped_codes, mapped_listed, mapped_parameter, mapped_method, mapped_entry, mapped_nullable_entry, mapped_entries, Renames}
 use Rattle.es_steps.specs.Code.{Code, Codes, Target, Callee, FunctionForm, binding, rest_binding, member, assign, compound, logical, logical_assign, update, call, construct, sequence, operation, define, steps, function, class_code, field, method, constructor, static_block, to_name, to_member, plain, on_member, done, and}
-use Rattle.es_steps.specs.Context.{Made}
+use Rattle.es_steps.specs.Context.{Generated}
 use Rattle.es_steps.specs.Entries.{Parameter, Method, Listed, Entry, target_name, assigned_in, assigned_in_target, assigned_in_callee, assigned_in_all, is_string_among, without, joined_parameter, parameters_of, if_simple, ev_body, ev_construction, listed, value_in, after_run, function_entry, class_entry, some_value, heritage_in, method_with, methods_in, Entries, behind_code, behind_all, behind_target, behind_callee, entries, target_entries, callee_entries, all_entries, held_entries, element_entries, element_entry}
 use Rattle.es_steps.specs.Evaluation.{Environment, Run, Evaluation, gives, ev, ev_initializers}
 use Rattle.es_steps.specs.Events.{SuperAll}
-use Rattle.es_steps.specs.Values.{Text, Value, Undefined, ThisOf}
+use Rattle.es_steps.specs.Values.{String, Value, Undefined, ThisOf}
 
 -- the entry of a function whose call begins in environment s, and that of a class whose construction does; e is the
 -- environment of the class
@@ -25,7 +25,7 @@ module _ (f : ℕ → ℕ) where
   -- ---- the generated names and that a code assigns
 
   target_name-mapped : (to : Target) → target_name (mapped_target f to) ≡ target_name to
-  target_name-mapped (to_name m s (Made g)) = refl
+  target_name-mapped (to_name m s (Generated g)) = refl
   target_name-mapped to = refl
 
   mutual
@@ -62,11 +62,11 @@ module _ (f : ℕ → ℕ) where
     assigned_in_all-mapped done = refl
     assigned_in_all-mapped (and e es) = rw (assigned_in-mapped e, assigned_in_all-mapped es) refl
 
-  kept-mapped : (b : Bool) (p : Text × Value) (ps : Environment) → cond b (mapped_environment f ps) (mapped_given f p ∷ mapped_environment f ps) ≡ mapped_environment f (cond b ps (p ∷ ps))
+  kept-mapped : (b : Bool) (p : String × Value) (ps : Environment) → cond b (mapped_environment f ps) (mapped_given f p ∷ mapped_environment f ps) ≡ mapped_environment f (cond b ps (p ∷ ps))
   kept-mapped true p ps = refl
   kept-mapped false p ps = refl
 
-  pub without-mapped : (names : List Text) (s : Environment) → without names (mapped_environment f s) ≡ mapped_environment f (without names s)
+  pub without-mapped : (names : List String) (s : Environment) → without names (mapped_environment f s) ≡ mapped_environment f (without names s)
   without-mapped names [] = refl
   without-mapped names (p ∷ ps) = rw (without-mapped names ps) (kept-mapped (is_string_among p.0 names) p (without names ps))
 
@@ -136,7 +136,7 @@ module _ (f : ℕ → ℕ) where
   heritage_in-mapped s done = refl
   heritage_in-mapped s (and h hs) = ap some_value (value_of-mapped s h) ∙ some_value-mapped (value_in (ev h s))
 
-  method_with-mapped : (is_static : Bool) (kind : Text) (k : Option Value) (g : Code) (ms : Option (List Method)) → method_with is_static kind (mapped_nullable f k) (mapped_code f g) (mapped_option mapped_methods ms) ≡ mapped_option mapped_methods (method_with is_static kind k g ms)
+  method_with-mapped : (is_static : Bool) (kind : String) (k : Option Value) (g : Code) (ms : Option (List Method)) → method_with is_static kind (mapped_nullable f k) (mapped_code f g) (mapped_option mapped_methods ms) ≡ mapped_option mapped_methods (method_with is_static kind k g ms)
   method_with-mapped is_static kind (Some k) (function g form ps body) (Some ms) = refl
   method_with-mapped is_static kind k g ms = refl
 

@@ -4,10 +4,10 @@ use Rattle.std.proofs.Common.{◌∙◌, ap}
 use Rattle.es_base.specs.declared.ledger.GeneratedKind.{GeneratedKind}
 use Rattle.es_steps.proofs.Mapped.{mapped_option, mapped_name_kind, mapped_value, mapped_values, mapped_nullable, mapped_event, mapped_events, mapped_environment, mapped_run, mapped_ready, mapped_code, mapped_target, mapped_callee, mapped_codes}
 use Rattle.es_steps.specs.Code.{Code, Codes, Target, Callee, FieldForm, defines, sets, leaves_out, nothing, no_rule, value, spelled, binding, rest_binding, name, helper, member, assign, compound, logical, logical_assign, update, call, construct, sequence, operation, piece, template_string, define, steps, function, class_code, field, method, constructor, static_block, to_name, to_member, no_target, plain, on_member, done, and}
-use Rattle.es_steps.specs.Context.{NameKind, Fixed, Changing, MeansClass, Made}
+use Rattle.es_steps.specs.Context.{NameKind, Fixed, Changing, MeansClass, Generated}
 use Rattle.es_steps.specs.Evaluation.{Environment, Run, Evaluation, no_meaning, gives, event, run_behind, go_on, bind, settle_run, settle, held_run, held, quiet_run, quiet, found, give_found, read_generated, read_name, stands_for, write_generated, write_name, Ready, ready_name, ready_member, read_ready, write_ready, initialized, last_of, new_or_former, ev, ev_target, ev_callee, ev_all, ev_held, ev_keys, ev_key, ev_statics, ev_static, ev_initializers, ev_initializer}
 use Rattle.es_steps.specs.Events.{Place, RightOf, Part, Event, Throw, Events, none, then, is_throw, throws, behind, value_behind}
-use Rattle.es_steps.specs.Values.{Text, Value, Undefined}
+use Rattle.es_steps.specs.Values.{String, Value, Undefined}
 
 -- a write whose value is what is written
 abbrev write_and_give : Ready → Value → Evaluation
@@ -92,7 +92,7 @@ module _ (f : ℕ → ℕ) where
   found_or-mapped true v w = refl
   found_or-mapped false v w = refl
 
-  pub found-mapped : (t : Text) (s : Environment) → found t (mapped_environment f s) ≡ mapped_nullable f (found t s)
+  pub found-mapped : (t : String) (s : Environment) → found t (mapped_environment f s) ≡ mapped_nullable f (found t s)
   found-mapped t [] = refl
   found-mapped t (p ∷ ps) = rw (found-mapped t ps) (found_or-mapped (bytes_eq t p.0) p.1 (found t ps))
 
@@ -100,33 +100,33 @@ module _ (f : ℕ → ℕ) where
   give_found-mapped None s = refl
   give_found-mapped (Some v) s = refl
 
-  found-follows : (t : Text) → Follows f (λ s. give_found (found t s) s) (λ s. give_found (found t s) s)
+  found-follows : (t : String) → Follows f (λ s. give_found (found t s) s) (λ s. give_found (found t s) s)
   found-follows t = record { on = λ s. ap (λ v. give_found v (mapped_environment f s)) (found-mapped t s) ∙ give_found-mapped (found t s) s }
 
-  read_generated-follows : (g : GeneratedKind) (t : Text) → Follows f (read_generated g t) (read_generated g t)
+  read_generated-follows : (g : GeneratedKind) (t : String) → Follows f (read_generated g t) (read_generated g t)
   read_generated-follows GeneratedKind.Temp t = found-follows t
   read_generated-follows GeneratedKind.Param t = found-follows t
   read_generated-follows g t = no_meaning-follows
 
-  pub read_name-follows : (m : ℕ) (t : Text) (kind : NameKind) → Follows f (read_name m t kind) (read_name (f m) t (mapped_name_kind f kind))
+  pub read_name-follows : (m : ℕ) (t : String) (kind : NameKind) → Follows f (read_name m t kind) (read_name (f m) t (mapped_name_kind f kind))
   read_name-follows m t (Fixed b) = gives-follows _
   read_name-follows m t (Changing r) = event-follows _ _
   read_name-follows m t (MeansClass n) = gives-follows _
-  read_name-follows m t (Made g) = read_generated-follows g t
+  read_name-follows m t (Generated g) = read_generated-follows g t
 
-  stands_for-follows : (t : Text) (v : Value) → Follows f (stands_for t v) (stands_for t (mapped_value f v))
+  stands_for-follows : (t : String) (v : Value) → Follows f (stands_for t v) (stands_for t (mapped_value f v))
   stands_for-follows t v = record { on = λ s. refl }
 
-  write_generated-follows : (g : GeneratedKind) (t : Text) (v : Value) → Follows f (write_generated g t v) (write_generated g t (mapped_value f v))
+  write_generated-follows : (g : GeneratedKind) (t : String) (v : Value) → Follows f (write_generated g t v) (write_generated g t (mapped_value f v))
   write_generated-follows GeneratedKind.Temp t v = stands_for-follows t v
   write_generated-follows GeneratedKind.Param t v = stands_for-follows t v
   write_generated-follows g t v = no_meaning-follows
 
-  pub write_name-follows : (t : Text) (kind : NameKind) (v : Value) → Follows f (write_name t kind v) (write_name t (mapped_name_kind f kind) (mapped_value f v))
+  pub write_name-follows : (t : String) (kind : NameKind) (v : Value) → Follows f (write_name t kind v) (write_name t (mapped_name_kind f kind) (mapped_value f v))
   write_name-follows t (Fixed b) v = event-follows _ _
   write_name-follows t (Changing r) v = event-follows _ _
   write_name-follows t (MeansClass n) v = no_meaning-follows
-  write_name-follows t (Made g) v = write_generated-follows g t v
+  write_name-follows t (Generated g) v = write_generated-follows g t v
 
   pub read_ready-follows : (t : Ready) → Follows f (read_ready t) (read_ready (mapped_ready f t))
   read_ready-follows (ready_name m s kind) = read_name-follows m s kind

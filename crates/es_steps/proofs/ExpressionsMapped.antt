@@ -7,7 +7,7 @@ use Rattle.es_steps.specs.Context.{Context, NameKind, Changing, MeansClass, name
 use Rattle.es_steps.specs.Events.{Mark, Operand, Word, Flag, Key, Prototype, OfKind}
 use Rattle.es_steps.specs.Expressions.{operation_of, the_code, literal_code, name_or_arguments, name_code, cooked_of, template_code, spelling_of, meta_code, key_code, is_helper_object, helper_or, member_code, target_of, is_logical, without_sign, assignment_code, update_code, void_code, delete_code, unary_code, logical_code, known_object, define_on, helper_call, is_call_or_bind, call_of, call_code, new_code, conditional_code, is_prototype, key_marks, property_code}
 use Rattle.es_steps.specs.Members.{Member, Members, code, list, string, literal, end, more, at, codes_of, word_of, flag_of}
-use Rattle.es_steps.specs.Values.{Text, StringOf, Value, ConstantOf, ThisOf, Free}
+use Rattle.es_steps.specs.Values.{String, StringOf, Value, ConstantOf, ThisOf, Free}
 use Rattle.es_steps.proofs.ContextMapped.{name_kind-mapped}
 use Rattle.es_steps.proofs.Mapped.{Renames, mapped_context, mapped_code, mapped_codes, mapped_target, mapped_member, mapped_members, mapped_nullable, mapped_name_kind}
 use Rattle.es_steps.proofs.MembersMapped.{at-mapped, operands-mapped, marks-mapped, word_at-mapped, flag_at-mapped, codes_at-mapped}
@@ -36,7 +36,7 @@ module _ (f : ℕ → ℕ) where
   pub literal_at-mapped : (i : ℕ) (ps : Members) → literal_code (at i (mapped_members f ps)) ≡ mapped_code f (literal_code (at i ps))
   literal_at-mapped i ps = ap literal_code (at-mapped f i ps) ∙ literal_code-mapped (at i ps)
 
-  pub name_or_arguments-mapped : (c : Context) (m : ℕ) (s : Text) (kind : NameKind) → name_or_arguments (mapped_context f c) (f m) s (mapped_name_kind f kind) ≡ mapped_code f (name_or_arguments c m s kind)
+  pub name_or_arguments-mapped : (c : Context) (m : ℕ) (s : String) (kind : NameKind) → name_or_arguments (mapped_context f c) (f m) s (mapped_name_kind f kind) ≡ mapped_code f (name_or_arguments c m s kind)
   name_or_arguments-mapped c m s (Changing (Free spelling)) = cond-mapped (bytes_eq s (codes "arguments")) (value c.arguments) (name m s (Changing (Free spelling)))
   name_or_arguments-mapped c m s kind = refl
 
@@ -82,10 +82,10 @@ module _ (f : ℕ → ℕ) where
   target_at-mapped : (i : ℕ) (ps : Members) → target_of (the_code (at i (mapped_members f ps))) ≡ mapped_target f (target_of (the_code (at i ps)))
   target_at-mapped i ps = ap target_of (the_code_at-mapped i ps) ∙ target_of-mapped (the_code (at i ps))
 
-  abbrev assignment_of : ℕ → Text → Target → Code → Code
+  abbrev assignment_of : ℕ → String → Target → Code → Code
   assignment_of m operator to right = cond (bytes_eq operator (codes "=")) (assign to right) (cond (is_logical operator) (logical_assign m (without_sign operator) to right) (compound m (without_sign operator) to right))
 
-  assignment_of-mapped : (m : ℕ) (operator : Text) (to : Target) (right : Code) → assignment_of (f m) operator (mapped_target f to) (mapped_code f right) ≡ mapped_code f (assignment_of m operator to right)
+  assignment_of-mapped : (m : ℕ) (operator : String) (to : Target) (right : Code) → assignment_of (f m) operator (mapped_target f to) (mapped_code f right) ≡ mapped_code f (assignment_of m operator to right)
   assignment_of-mapped m operator to right =
       let logically : Code = logical_assign m (without_sign operator) to right in
       let compoundly : Code = compound m (without_sign operator) to right in
@@ -110,10 +110,10 @@ module _ (f : ℕ → ℕ) where
   delete_code-mapped m (value (ThisOf k)) whole = refl
   delete_code-mapped m e whole = refl
 
-  abbrev unary_of : ℕ → Text → Code → Code → Code
+  abbrev unary_of : ℕ → String → Code → Code → Code
   unary_of m operator e whole = cond (bytes_eq operator (codes "void")) (void_code e whole) (cond (bytes_eq operator (codes "delete")) (delete_code m e whole) whole)
 
-  unary_of-mapped : (m : ℕ) (operator : Text) (e whole : Code) → unary_of (f m) operator (mapped_code f e) (mapped_code f whole) ≡ mapped_code f (unary_of m operator e whole)
+  unary_of-mapped : (m : ℕ) (operator : String) (e whole : Code) → unary_of (f m) operator (mapped_code f e) (mapped_code f whole) ≡ mapped_code f (unary_of m operator e whole)
   unary_of-mapped m operator e whole =
       rw (void_code-mapped e whole, delete_code-mapped m e whole, cond-mapped (bytes_eq operator (codes "delete")) (delete_code m e whole) whole)
       (cond-mapped (bytes_eq operator (codes "void")) (void_code e whole) (cond (bytes_eq operator (codes "delete")) (delete_code m e whole) whole))
@@ -137,7 +137,7 @@ module _ (f : ℕ → ℕ) where
   define_on-mapped None k v = refl
   define_on-mapped (Some o) k v = refl
 
-  helper_call-mapped : (s : Text) (arguments : Codes) → helper_call s (mapped_codes f arguments) ≡ mapped_code f (helper_call s arguments)
+  helper_call-mapped : (s : String) (arguments : Codes) → helper_call s (mapped_codes f arguments) ≡ mapped_code f (helper_call s arguments)
   helper_call-mapped s (and o (and k (and v done))) =
       rw (known_object-mapped o, define_on-mapped (known_object o) k v)
       (cond-mapped (bytes_eq s (codes "defineProperty")) (define_on (known_object o) k v) no_rule)
@@ -155,10 +155,10 @@ module _ (f : ℕ → ℕ) where
 
   -- ---- objects
 
-  is_prototype-mapped : (s : Text) (ps : Members) → is_prototype s (mapped_members f ps) ≡ is_prototype s ps
+  is_prototype-mapped : (s : String) (ps : Members) → is_prototype s (mapped_members f ps) ≡ is_prototype s ps
   is_prototype-mapped s ps = rw (word_at-mapped f 2 ps, flag_at-mapped f 3 ps, flag_at-mapped f 4 ps)
 
-  prototype_or_key-mapped : (s : Text) (ps : Members) → cond (is_prototype s (mapped_members f ps)) Prototype (Key (StringOf s)) ∷ [] ≡ cond (is_prototype s ps) Prototype (Key (StringOf s)) ∷ []
+  prototype_or_key-mapped : (s : String) (ps : Members) → cond (is_prototype s (mapped_members f ps)) Prototype (Key (StringOf s)) ∷ [] ≡ cond (is_prototype s ps) Prototype (Key (StringOf s)) ∷ []
   prototype_or_key-mapped s ps = ap (λ b. cond b Prototype (Key (StringOf s)) ∷ []) (is_prototype-mapped s ps)
 
   key_marks-mapped : (k : Code) (ps : Members) → key_marks (mapped_code f k) (mapped_members f ps) ≡ key_marks k ps
@@ -183,7 +183,7 @@ module _ {first : ℕ} {f : ℕ → ℕ} (r : Renames first f) (c : Context) (e 
   pub new_here-mapped : (b : ℕ) → new_here (mapped_context f c) (f b) ≡ new_here c b
   new_here-mapped b = rw e (r.new b)
 
-  pub name_code-mapped : (m : ℕ) (s : Text) → name_code (mapped_context f c) (f m) s ≡ mapped_code f (name_code c m s)
+  pub name_code-mapped : (m : ℕ) (s : String) → name_code (mapped_context f c) (f m) s ≡ mapped_code f (name_code c m s)
   name_code-mapped m s = ap (name_or_arguments (mapped_context f c) (f m) s) (name_kind-mapped r c s) ∙ name_or_arguments-mapped f c m s (name_kind c s)
 
   is_helper_object-mapped : (o : Code) → is_helper_object (mapped_context f c) (mapped_code f o) ≡ is_helper_object c o

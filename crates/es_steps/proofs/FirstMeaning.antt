@@ -23,7 +23,7 @@ use Rattle.es_steps.specs.Reading.{read, read_part, read_parts, read_items}
 use Rattle.es_steps.specs.References.{has_number, declared}
 use Rattle.es_steps.specs.Scopes.{ClassName, no_class, declares, own_name, Declaration}
 use Rattle.es_steps.specs.Statements.{value_or_undefined, field_code, elements_of, class_of}
-use Rattle.es_steps.specs.Values.{Text, ConstantOf, Undefined, Bound, Free}
+use Rattle.es_steps.specs.Values.{String, ConstantOf, Undefined, Bound, Free}
 use Rattle.es_steps.proofs.PlainClasses.{IsNotGenerated, fixed, changing, means_class, IsPlain, a_value, a_name, IsField, plain_field, AreFields, IsClass, plain_class, AreClasses, classes_mean}
 
 pub no_false : {A : Type 0} → false ≡ true → A
@@ -57,11 +57,11 @@ not_generated-declared written b no_class = not_generated-unless_written written
 not_generated-declared written b (declares n) = not_generated-unless_written written b (MeansClass n) (means_class n)
 not_generated-declared written b (own_name n) = means_class n
 
-pub not_generated-found : (written : List ℕ) (s : Text) (d : Option Declaration) → IsNotGenerated (found_kind written s d)
+pub not_generated-found : (written : List ℕ) (s : String) (d : Option Declaration) → IsNotGenerated (found_kind written s d)
 not_generated-found written s None = changing (Free s)
 not_generated-found written s (Some d) = not_generated-declared written d.number d.class_name
 
-pub plain-name : (c : Context) (m : ℕ) (s : Text) (kind : NameKind) → IsNotGenerated kind → IsPlain (name_or_arguments c m s kind)
+pub plain-name : (c : Context) (m : ℕ) (s : String) (kind : NameKind) → IsNotGenerated kind → IsPlain (name_or_arguments c m s kind)
 plain-name c m s kind (fixed b) = a_name m s (Fixed b) (fixed b)
 plain-name c m s kind (changing (Bound b)) = a_name m s (Changing (Bound b)) (changing (Bound b))
 plain-name c m s kind (changing (Free t)) = chosen (bytes_eq s (codes "arguments"))
@@ -72,17 +72,17 @@ plain-name c m s kind (changing (Free t)) = chosen (bytes_eq s (codes "arguments
 plain-name c m s kind (means_class n) = a_name m s (MeansClass n) (means_class n)
 
 -- no name was made
-plain-name_code : (c : Context) (m : ℕ) (s : Text) → c.ledger ≡ [] → IsPlain (name_code c m s)
+plain-name_code : (c : Context) (m : ℕ) (s : String) → c.ledger ≡ [] → IsPlain (name_code c m s)
 plain-name_code c m s l = rw l (plain-name c m s (found_kind c.written s (declared s c.names)) (not_generated-found c.written s (declared s c.names)))
 
-plain-value : (names : List Text) (c : Context) (v : Part) → c.ledger ≡ [] → is_plain_value names v ≡ true → IsPlain (value_or_undefined (read_part c v))
+plain-value : (names : List String) (c : Context) (v : Part) → c.ledger ≡ [] → is_plain_value names v ≡ true → IsPlain (value_or_undefined (read_part c v))
 plain-value names c tree.absent l h = a_value Undefined
 plain-value names c (tree.child (Node Kind.Literal m span semantic_id (tree.more (tree.literal v) tree.end))) l h = a_value (ConstantOf (constant_of v))
 plain-value names c (tree.child (Node Kind.IdentifierReference m span semantic_id (tree.more (tree.string s) tree.end))) l h = plain-name_code c m s l
 plain-value names c p l h = no_false h
 
 data IsSpelled : Member → Type 0 where
-  spelled_key : (s : Text) → IsSpelled (code (spelled s))
+  spelled_key : (s : String) → IsSpelled (code (spelled s))
 
 spelled-key : (c : Context) (k : Part) → is_plain_key k ≡ true → IsSpelled (read_part c k)
 spelled-key c (tree.child (Node Kind.IdentifierName m span semantic_id (tree.more (tree.string s) tree.end))) h = spelled_key s
@@ -93,17 +93,17 @@ spelled-key c p h = no_false h
 field-of : (c : Context) (k v : Member) → IsSpelled k → IsPlain (value_or_undefined v) → IsField (field_code c (more k (more v (more (boolean false) (more (boolean false) end)))))
 field-of c k v (spelled_key s) p = plain_field _ _ _ p
 
-field-read : (names : List Text) (c : Context) (m : ℕ) (ps : Parts) → c.ledger ≡ [] → is_plain_field names ps ≡ true → IsField (field_code c (read_parts (inside c Kind.PropertyDefinition m ps) ps))
+field-read : (names : List String) (c : Context) (m : ℕ) (ps : Parts) → c.ledger ≡ [] → is_plain_field names ps ≡ true → IsField (field_code c (read_parts (inside c Kind.PropertyDefinition m ps) ps))
 field-read names c m (tree.more k (tree.more v (tree.more (tree.boolean false) (tree.more (tree.boolean false) tree.end)))) l h =
     let plain = and_parts (is_plain_key k) (is_plain_value names v) h in
     field-of c _ _ (spelled-key _ k plain.0) (plain-value names _ v l plain.1)
 field-read names c m ps l h = no_false h
 
-element-read : (names : List Text) (c : Context) (t : Tree) → c.ledger ≡ [] → no_numbers (element_breaches names (tree.child t)) ≡ true → IsField (read c t)
+element-read : (names : List String) (c : Context) (t : Tree) → c.ledger ≡ [] → no_numbers (element_breaches names (tree.child t)) ≡ true → IsField (read c t)
 element-read names c (Node Kind.PropertyDefinition m span semantic_id ps) l h = field-read names c m ps l (unless_true (is_plain_field names ps) m h)
 element-read names c (Node kind m span semantic_id ps) l h = no_false h
 
-elements-read : (names : List Text) (c : Context) (ps : Parts) → c.ledger ≡ [] → items_conform false Place.ClassElement ps ≡ true → no_numbers (elements_breaches names ps) ≡ true → AreFields (codes_in (read_items c ps))
+elements-read : (names : List String) (c : Context) (ps : Parts) → c.ledger ≡ [] → items_conform false Place.ClassElement ps ≡ true → no_numbers (elements_breaches names ps) ≡ true → AreFields (codes_in (read_items c ps))
 elements-read names c tree.end l f h = tt
 elements-read names c (tree.more (tree.child t) ps) l f h =
     let fits = and_parts (conforms Place.ClassElement t) ((not (is_rest (tree.child t)) || is_end ps) && items_conform false Place.ClassElement ps) f in
@@ -115,7 +115,7 @@ elements-read names c (tree.more p ps) l f h = no_false f
 -- ---- classes
 
 -- a class body is one list
-body-read : (names : List Text) (c : Context) (t : Tree) → c.ledger ≡ [] → conforms Place.ClassBody t ≡ true → no_numbers (body_breaches names (tree.child t)) ≡ true → AreFields (elements_of (code (read c t)))
+body-read : (names : List String) (c : Context) (t : Tree) → c.ledger ≡ [] → conforms Place.ClassBody t ≡ true → no_numbers (body_breaches names (tree.child t)) ≡ true → AreFields (elements_of (code (read c t)))
 body-read names c (Node Kind.ClassBody m span semantic_id (tree.more (tree.list es) tree.end)) l f h =
     let fits = and_parts (items_conform false Place.ClassElement es) true f in
     rw (joined-done (codes_in (read_items c es))) (elements-read names c es l fits.0 h)
@@ -124,11 +124,11 @@ body-read names c (Node Kind.ClassBody m span semantic_id (tree.more p (tree.mor
 body-read names c (Node Kind.ClassBody m span semantic_id (tree.more p tree.end)) l f h = no_false f
 body-read names c (Node kind m span semantic_id ps) l f h = no_false f
 
-class-read : (names : List Text) (c : Context) (computed : Bool) (n : ℕ) (id : Member) (body : Part) → c.ledger ≡ [] → part_conforms computed (Sort.Child Place.ClassBody) body ≡ true → no_numbers (body_breaches names body) ≡ true → IsClass (class_of true n (more id (more absent (more (read_part c body) end))))
+class-read : (names : List String) (c : Context) (computed : Bool) (n : ℕ) (id : Member) (body : Part) → c.ledger ≡ [] → part_conforms computed (Sort.Child Place.ClassBody) body ≡ true → no_numbers (body_breaches names body) ≡ true → IsClass (class_of true n (more id (more absent (more (read_part c body) end))))
 class-read names c computed n id (tree.child t) l f h = plain_class n _ _ (body-read names c t l f h)
 class-read names c computed n id p l f h = no_false f
 
-statement-read : (earlier names : List Text) (c : Context) (t : Tree) → c.ledger ≡ [] → conforms Place.Statement t ≡ true → no_numbers (statement_breaches earlier names (tree.child t)) ≡ true → IsClass (read c t)
+statement-read : (earlier names : List String) (c : Context) (t : Tree) → c.ledger ≡ [] → conforms Place.Statement t ≡ true → no_numbers (statement_breaches earlier names (tree.child t)) ≡ true → IsClass (read c t)
 statement-read earlier names c (Node Kind.ClassDeclaration n span semantic_id (tree.more id (tree.more tree.absent (tree.more body tree.end)))) l f h =
     let computed : Bool = boolean_at (codes "computed") (members_of Kind.ClassDeclaration) (tree.more id (tree.more tree.absent (tree.more body tree.end))) in
     let fits = and_parts (part_conforms computed (Sort.Nullable Place.BindingIdentifier) id) (part_conforms computed (Sort.Child Place.ClassBody) body && true) f in
@@ -139,10 +139,10 @@ statement-read earlier names c (Node Kind.ClassDeclaration n span semantic_id (t
     no_false (and_parts (is_new_name earlier id) false (unless_true (is_new_name earlier id && false) n free.0)).1
 statement-read earlier names c (Node kind n span semantic_id ps) l f h = no_false h
 
-statements-read : (earlier names : List Text) (c : Context) (ps : Parts) → c.ledger ≡ [] → items_conform false Place.Statement ps ≡ true → no_numbers (statements_breaches earlier names ps) ≡ true → AreClasses (codes_in (read_items c ps))
+statements-read : (earlier names : List String) (c : Context) (ps : Parts) → c.ledger ≡ [] → items_conform false Place.Statement ps ≡ true → no_numbers (statements_breaches earlier names ps) ≡ true → AreClasses (codes_in (read_items c ps))
 statements-read earlier names c tree.end l f h = tt
 statements-read earlier names c (tree.more (tree.child t) ps) l f h =
-    let more_names : List Text = class_names (tree.more (tree.child t) tree.end) ++ earlier in
+    let more_names : List String = class_names (tree.more (tree.child t) tree.end) ++ earlier in
     let fits = and_parts (conforms Place.Statement t) ((not (is_rest (tree.child t)) || is_end ps) && items_conform false Place.Statement ps) f in
     let rest = and_parts (not (is_rest (tree.child t)) || is_end ps) (items_conform false Place.Statement ps) fits.1 in
     let free = both_empty (statement_breaches earlier names (tree.child t)) (statements_breaches more_names names ps) h in

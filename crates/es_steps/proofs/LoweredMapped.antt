@@ -16,7 +16,7 @@ use Rattle.es_steps.specs.Options.{Options}
 use Rattle.es_steps.specs.Parts.{at, items, string_of}
 use Rattle.es_steps.specs.References.{Reference, resolve}
 use Rattle.es_steps.specs.Standing.{generated_class, generated_classes, all_old}
-use Rattle.es_steps.specs.Values.{Text, Referent, Bound, Free}
+use Rattle.es_steps.specs.Values.{String, Referent, Bound, Free}
 
 both : (a b : Bool) → (a && b) ≡ true → (a ≡ true) × (b ≡ true)
 both true b e = (refl, e)
@@ -52,10 +52,10 @@ module _ {first : ℕ} {f : ℕ → ℕ} (renames : Renames first f) where
 
   -- ---- a generated name that is declared in a scope
 
-  declaring_number-mapped : (s : Text) (t : Tree) → declaring_number s (mapped f t) ≡ map f (declaring_number s t)
+  declaring_number-mapped : (s : String) (t : Tree) → declaring_number s (mapped f t) ≡ map f (declaring_number s t)
   declaring_number-mapped s (Node kind b span semantic_id ps) = rw (string_at-mapped f 0 ps) (cond-mapped _ (b ∷ []) refl)
 
-  declaring_numbers-mapped : (s : Text) (ts : List Tree) → declaring_numbers s (map (mapped f) ts) ≡ map f (declaring_numbers s ts)
+  declaring_numbers-mapped : (s : String) (ts : List Tree) → declaring_numbers s (map (mapped f) ts) ≡ map f (declaring_numbers s ts)
   declaring_numbers-mapped s [] = refl
   declaring_numbers-mapped s (t ∷ ts) = append-mapped _ _ (declaring_number-mapped s t) (declaring_numbers-mapped s ts)
 
@@ -63,36 +63,36 @@ module _ {first : ℕ} {f : ℕ → ℕ} (renames : Renames first f) where
   is_bound_to-mapped b (Bound k) = renames.apart b k
   is_bound_to-mapped b (Free s) = refl
 
-  all_mean-mapped : (s : Text) (b : ℕ) (rs : List Reference) → all_mean s (f b) (map (mapped_reference f) rs) ≡ all_mean s b rs
+  all_mean-mapped : (s : String) (b : ℕ) (rs : List Reference) → all_mean s (f b) (map (mapped_reference f) rs) ≡ all_mean s b rs
   all_mean-mapped s b [] = refl
   all_mean-mapped s b (r ∷ rs) = rw (is_bound_to-mapped b r.to, all_mean-mapped s b rs) refl
 
-  is_one_new-mapped : (s : Text) (q : Tree) (bs : List ℕ) → is_one_new first s (mapped f q) (map f bs) ≡ is_one_new first s q bs
+  is_one_new-mapped : (s : String) (q : Tree) (bs : List ℕ) → is_one_new first s (mapped f q) (map f bs) ≡ is_one_new first s q bs
   is_one_new-mapped s q [] = refl
   is_one_new-mapped s q (b ∷ []) = rw (renames.new b, resolve-mapped f q, all_mean-mapped s b (resolve q)) refl
   is_one_new-mapped s q (b ∷ c ∷ bs) = refl
 
-  declared_in_scope-mapped : (s : Text) (q : Tree) → is_one_new first s (mapped f q) (declaring_numbers s (preorder (mapped f q))) ≡ is_one_new first s q (declaring_numbers s (preorder q))
+  declared_in_scope-mapped : (s : String) (q : Tree) → is_one_new first s (mapped f q) (declaring_numbers s (preorder (mapped f q))) ≡ is_one_new first s q (declaring_numbers s (preorder q))
   declared_in_scope-mapped s q = rw (preorder-mapped f q, declaring_numbers-mapped s (preorder q)) (is_one_new-mapped s q (declaring_numbers s (preorder q)))
 
   -- ---- a private name
 
-  private_key-mapped : (s : Text) (p : Part) → private_key first s (mapped_part f p) ≡ map f (private_key first s p)
+  private_key-mapped : (s : String) (p : Part) → private_key first s (mapped_part f p) ≡ map f (private_key first s p)
   private_key-mapped s (child (Node kind m span semantic_id (more (child (Node Kind.PrivateIdentifier d dspan d_semantic_id ds)) ps))) = rw (renames.new d, string_at-mapped f 0 ds) (cond-mapped _ (d ∷ []) refl)
   private_key-mapped s p = refl
 
-  private_keys-mapped : (s : Text) (ps : Parts) → private_keys first s (mapped_parts f ps) ≡ map f (private_keys first s ps)
+  private_keys-mapped : (s : String) (ps : Parts) → private_keys first s (mapped_parts f ps) ≡ map f (private_keys first s ps)
   private_keys-mapped s end = refl
   private_keys-mapped s (more p ps) = append-mapped _ _ (private_key-mapped s p) (private_keys-mapped s ps)
 
-  keys_of_body-mapped : (s : Text) (p : Part) → keys_of_body first s (mapped_part f p) ≡ map f (keys_of_body first s p)
+  keys_of_body-mapped : (s : String) (p : Part) → keys_of_body first s (mapped_part f p) ≡ map f (keys_of_body first s p)
   keys_of_body-mapped s (child (Node Kind.ClassBody m span semantic_id ps)) = rw (at-mapped f 0 ps, items-mapped f (at 0 ps)) (private_keys-mapped s (items (at 0 ps)))
   keys_of_body-mapped s p = refl
 
-  keys_of_class-mapped : (n : ℕ) (s : Text) (t : Tree) → is_old first n ≡ true → keys_of_class first n s (mapped f t) ≡ map f (keys_of_class first n s t)
+  keys_of_class-mapped : (n : ℕ) (s : String) (t : Tree) → is_old first n ≡ true → keys_of_class first n s (mapped f t) ≡ map f (keys_of_class first n s t)
   keys_of_class-mapped n s (Node kind m span semantic_id ps) old = rw (nat_eq-left_old n m old, at-mapped f 2 ps) (cond-mapped (nat_eq n m) _ (keys_of_body-mapped s (at 2 ps)))
 
-  keys_in-mapped : (n : ℕ) (s : Text) (ts : List Tree) → is_old first n ≡ true → keys_in first n s (map (mapped f) ts) ≡ map f (keys_in first n s ts)
+  keys_in-mapped : (n : ℕ) (s : String) (ts : List Tree) → is_old first n ≡ true → keys_in first n s (map (mapped f) ts) ≡ map f (keys_in first n s ts)
   keys_in-mapped n s [] old = refl
   keys_in-mapped n s (t ∷ ts) old = append-mapped _ _ (keys_of_class-mapped n s t old) (keys_in-mapped n s ts old)
 
@@ -101,12 +101,12 @@ module _ {first : ℕ} {f : ℕ → ℕ} (renames : Renames first f) where
   is_one-mapped (k ∷ []) = refl
   is_one-mapped (k ∷ l ∷ ks) = refl
 
-  declared_in_class-mapped : (n : ℕ) (s : Text) (q : Tree) → is_old first n ≡ true → is_one (keys_in first n s (preorder (mapped f q))) ≡ is_one (keys_in first n s (preorder q))
+  declared_in_class-mapped : (n : ℕ) (s : String) (q : Tree) → is_old first n ≡ true → is_one (keys_in first n s (preorder (mapped f q))) ≡ is_one (keys_in first n s (preorder q))
   declared_in_class-mapped n s q old = rw (preorder-mapped f q, keys_in-mapped n s (preorder q) old) (is_one-mapped (keys_in first n s (preorder q)))
 
   -- ---- all generated names
 
-  declared_by_kind-mapped : (q : Tree) (s : Text) (g : GeneratedKind) (ns : List ℕ) → all_old first (generated_class g ++ ns) ≡ true → (declared_by_kind first (mapped f q) s g ≡ declared_by_kind first q s g) × (all_old first ns ≡ true)
+  declared_by_kind-mapped : (q : Tree) (s : String) (g : GeneratedKind) (ns : List ℕ) → all_old first (generated_class g ++ ns) ≡ true → (declared_by_kind first (mapped f q) s g ≡ declared_by_kind first q s g) × (all_old first ns ≡ true)
   declared_by_kind-mapped q s (GeneratedKind.Private n) ns old =
       let apart : (is_old first n.0 ≡ true) × (all_old first ns ≡ true) = both _ _ old in
       (declared_in_class-mapped n.0 s q apart.0, apart.1)
@@ -124,7 +124,7 @@ module _ {first : ℕ} {f : ℕ → ℕ} (renames : Renames first f) where
   class_name_at-mapped n (Node Kind.ClassDeclaration m span semantic_id (more (child (Node kind b bspan b_semantic_id bs)) ps)) old = rw (nat_eq-right_old n m old) refl
   class_name_at-mapped n t old = refl
 
-  declares_class-mapped : (n : ℕ) (s : Text) (ts : List Tree) → all_old first (map number_of ts) ≡ true → declares_class (f n) s ts ≡ declares_class n s ts
+  declares_class-mapped : (n : ℕ) (s : String) (ts : List Tree) → all_old first (map number_of ts) ≡ true → declares_class (f n) s ts ≡ declares_class n s ts
   declares_class-mapped n s [] old = refl
   declares_class-mapped n s (t ∷ ts) old =
       let apart : (is_old first (number_of t) ≡ true) × (all_old first (map number_of ts) ≡ true) = both _ _ old in

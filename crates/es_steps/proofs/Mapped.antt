@@ -4,7 +4,7 @@ use Rattle.es_base.specs.Numbered.{is_new, is_old}
 use Rattle.es_base.specs.Tree as tree
 use Rattle.es_base.specs.Tree.{Tree, Part, Parts, Node}
 use Rattle.es_steps.specs.Code.{Code, Codes, Target, Callee, nothing, no_rule, value, spelled, binding, rest_binding, name, helper, member, assign, compound, logical, logical_assign, update, call, construct, sequence, operation, piece, template_string, define, steps, function, class_code, field, method, constructor, static_block, to_name, to_member, no_target, plain, on_member, done, and}
-use Rattle.es_steps.specs.Context.{Context, NameKind, Fixed, Changing, MeansClass, Made}
+use Rattle.es_steps.specs.Context.{Context, NameKind, Fixed, Changing, MeansClass, Generated}
 use Rattle.es_steps.specs.Entries.{Parameter, Method, Listed, Entry, FunctionEntry, ClassEntry, Entries}
 use Rattle.es_steps.specs.Evaluation.{Environment, Run, Ready, ready_name, ready_member}
 use Rattle.es_steps.specs.Events.{Event, ReadName, SetName, Get, Set, Define, Call, Construct, Operate, Update, SuperAll, Throw, Held, Events, none, then}
@@ -12,7 +12,7 @@ use Rattle.es_steps.specs.Meaning.{Meaning, DeclarationKind}
 use Rattle.es_steps.specs.Members.{Member, Members, code, absent, list, string, no_string, boolean, literal, end, more}
 use Rattle.es_steps.specs.References.{Reference}
 use Rattle.es_steps.specs.Scopes.{ClassName, no_class, declares, own_name, Declaration}
-use Rattle.es_steps.specs.Values.{Value, ConstantOf, Undefined, BindingOf, FunctionOf, ClassOf, ThisOf, ArgumentsOf, NewTargetOf, ResultOf, FormerOf, Referent, Bound, Free, Text}
+use Rattle.es_steps.specs.Values.{Value, ConstantOf, Undefined, BindingOf, FunctionOf, ClassOf, ThisOf, ArgumentsOf, NewTargetOf, ResultOf, FormerOf, Referent, Bound, Free, String}
 
 abbrev pub mapped_option : {A B : Type 0} → (A → B) → Option A → Option B
 mapped_option f None = None
@@ -68,7 +68,7 @@ module _ (f : ℕ → ℕ) where
   mapped_name_kind (Fixed b) = Fixed (f b)
   mapped_name_kind (Changing r) = Changing (mapped_referent r)
   mapped_name_kind (MeansClass n) = MeansClass (f n)
-  mapped_name_kind (Made g) = Made g
+  mapped_name_kind (Generated g) = Generated g
 
   -- ---- values, events
 
@@ -109,7 +109,7 @@ module _ (f : ℕ → ℕ) where
     mapped_events none = none
     mapped_events (then e es) = then (mapped_event e) (mapped_events es)
 
-  abbrev pub mapped_given : Text × Value → Text × Value
+  abbrev pub mapped_given : String × Value → String × Value
   mapped_given p = (p.0, mapped_value p.1)
 
   abbrev pub mapped_environment : Environment → Environment

@@ -12,7 +12,7 @@ use Rattle.es_steps.specs.Evaluation.{Environment, Run, Evaluation, gives, run_b
 use Rattle.es_steps.specs.Events.{Events}
 use Rattle.es_steps.specs.Law.{has_meaning}
 use Rattle.es_steps.specs.Meaning.{with_entry, whole, with_all, means_of}
-use Rattle.es_steps.specs.Values.{Text, Value, Undefined, ClassOf, ThisOf, Referent}
+use Rattle.es_steps.specs.Values.{String, Value, Undefined, ClassOf, ThisOf, Referent}
 
 -- ---- evaluations that have a run in each environment, which ends in the same environment
 
@@ -63,9 +63,9 @@ pub data IsNotGenerated : NameKind → Type 0 where
 
 pub data IsPlain : Code → Type 0 where
   a_value : (v : Value) → IsPlain (value v)
-  a_name : (m : ℕ) (s : Text) (kind : NameKind) → IsNotGenerated kind → IsPlain (name m s kind)
+  a_name : (m : ℕ) (s : String) (kind : NameKind) → IsNotGenerated kind → IsPlain (name m s kind)
 
-read_name-stays : (m : ℕ) (s : Text) (kind : NameKind) → IsNotGenerated kind → Stays (read_name m s kind)
+read_name-stays : (m : ℕ) (s : String) (kind : NameKind) → IsNotGenerated kind → Stays (read_name m s kind)
 read_name-stays m s kind (fixed b) env = refl
 read_name-stays m s kind (changing r) env = refl
 read_name-stays m s kind (means_class n) env = refl

@@ -7,7 +7,7 @@ use Rattle.es_base.specs.Tree.{Tree, Part, Parts, Node, end, more, child, list}
 use Rattle.es_steps.specs.Parts.{at, string_of}
 use Rattle.es_steps.specs.References.{declared, referent, Reference, is_target, is_reference, reference, references, references_in, part_references, item_references, resolve, has_number, numbers_of, if_bound, assigned, is_declared, repeated, is_for_each, written_by, written_by_all, written}
 use Rattle.es_steps.specs.Scopes.{Declaration, names_at, scope_form, scope_names, var_part}
-use Rattle.es_steps.specs.Values.{Text, Referent, Bound, Free}
+use Rattle.es_steps.specs.Values.{String, Referent, Bound, Free}
 use Rattle.es_steps.proofs.Mapped.{mapped, mapped_part, mapped_parts, mapped_declaration, mapped_declarations, mapped_option, mapped_reference, mapped_referent, Renames}
 use Rattle.es_steps.proofs.PartsMapped.{cond-mapped, append-mapped, at-mapped, string_at-mapped}
 use Rattle.es_steps.proofs.ScopesMapped.{names_at-mapped, scope_names-mapped, var_part-mapped}
@@ -33,15 +33,15 @@ module _ (f : ℕ → ℕ) where
 
   -- ---- resolution
 
-  pub declared-mapped : (s : Text) (ds : List Declaration) → declared s (mapped_declarations f ds) ≡ mapped_option (mapped_declaration f) (declared s ds)
+  pub declared-mapped : (s : String) (ds : List Declaration) → declared s (mapped_declarations f ds) ≡ mapped_option (mapped_declaration f) (declared s ds)
   declared-mapped s [] = refl
   declared-mapped s (d ∷ ds) = cond-mapped (mapped_option (mapped_declaration f)) (bytes_eq s d.spelling) _ _ refl (declared-mapped s ds)
 
-  referent-mapped : (s : Text) (d : Option Declaration) → referent s (mapped_option (mapped_declaration f) d) ≡ mapped_referent f (referent s d)
+  referent-mapped : (s : String) (d : Option Declaration) → referent s (mapped_option (mapped_declaration f) d) ≡ mapped_referent f (referent s d)
   referent-mapped s None = refl
   referent-mapped s (Some d) = refl
 
-  reference-mapped : (names : List Declaration) (target : Bool) (m : ℕ) (s : Text) → reference (mapped_declarations f names) target (f m) s ≡ map (mapped_reference f) (reference names target m s)
+  reference-mapped : (names : List Declaration) (target : Bool) (m : ℕ) (s : String) → reference (mapped_declarations f names) target (f m) s ≡ map (mapped_reference f) (reference names target m s)
   reference-mapped names target m s = rw (declared-mapped s names, referent-mapped s (declared s names)) refl
 
   mutual
@@ -87,7 +87,7 @@ module _ (f : ℕ → ℕ) where
   assigned-mapped [] = refl
   assigned-mapped (r ∷ rs) = append-mapped f _ _ (if_bound-mapped r.writes r.to) (assigned-mapped rs)
 
-  is_declared-mapped : (s : Text) (ds : List Declaration) → is_declared s (mapped_declarations f ds) ≡ is_declared s ds
+  is_declared-mapped : (s : String) (ds : List Declaration) → is_declared s (mapped_declarations f ds) ≡ is_declared s ds
   is_declared-mapped s [] = refl
   is_declared-mapped s (d ∷ ds) = ap (λ b. bytes_eq s d.spelling || b) (is_declared-mapped s ds)
 

@@ -6,7 +6,7 @@ use Rattle.es_steps.specs.Lowered.{nothing_left}
 use Rattle.es_steps.specs.Lists.{script_of_class, script_with_parameter, x, y, z, number}
 use Rattle.es_steps.specs.Meaning.{means, source_means}
 use Rattle.es_steps.specs.Options.{class_properties_alone}
-use Rattle.es_steps.specs.Made.{number_literal}
+use Rattle.es_steps.specs.Generated.{number_literal}
 use Rattle.es_steps.specs.Rows.{one_field, one_field_lowered, one_field_with, two_fields, two_fields_swapped, two_fields_with, lowered_means, means_as_written}
 use Rattle.es_steps.specs.Values.{BindingOf, ThisOf, ResultOf, Undefined, Free}
 use Rattle.es_steps.specs.WiderRows.{shadowed, shadowed_with}

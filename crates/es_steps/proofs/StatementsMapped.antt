@@ -3,13 +3,13 @@ use Rattle.std.specs.Prelude.{◌≡◌, ℕ, Bool, true, false, cond, not, ◌&
 use Rattle.std.proofs.Common.{refl, ap, ◌∙◌}
 use Rattle.es_base.specs.declared.kind.Kind.{Kind}
 use Rattle.es_steps.specs.Code.{Code, Codes, FunctionForm, no_rule, value, binding, operation, steps, function, method, constructor, done, and}
-use Rattle.es_steps.specs.Context.{Context, Fixed, Made, new_here}
+use Rattle.es_steps.specs.Context.{Context, Fixed, Generated, new_here}
 use Rattle.es_steps.specs.Events.{OfKind}
 use Rattle.es_steps.specs.Expressions.{the_code, key_code}
 use Rattle.es_steps.specs.Members.{Member, Members, code, absent, more, at, from, before, operands_of, marks, codes_of, word_of, flag_of}
 use Rattle.es_steps.specs.Options.{Options}
 use Rattle.es_steps.specs.Statements.{held_from, case_code, for_each_code, declarator_of, declarator_code, function_of, function_code, arrow_code, rest_code, declared_by, elements_of, class_of, value_or_undefined, is_name_or_length, is_absent, field_form, field_code, method_code}
-use Rattle.es_steps.specs.Values.{Text, StringOf, ConstantOf}
+use Rattle.es_steps.specs.Values.{String, StringOf, ConstantOf}
 use Rattle.es_steps.proofs.ExpressionsMapped.{new_here-mapped, cond-mapped, the_code_at-mapped, key_code-mapped}
 use Rattle.es_steps.proofs.Mapped.{Renames, mapped_option, mapped_context, mapped_code, mapped_codes, mapped_member, mapped_members}
 use Rattle.es_steps.proofs.MembersMapped.{at-mapped, from-mapped, before-mapped, joined-mapped, operands-mapped, operands_at-mapped, marks-mapped, codes_in-mapped, codes_at-mapped, word_at-mapped, flag_at-mapped}
@@ -34,8 +34,8 @@ module _ (f : ℕ → ℕ) where
   for_each_code-mapped kind m ps = refl
 
   declarator_of-mapped : (new : Bool) (c : Code) (p : Member) → declarator_of new (mapped_code f c) (mapped_member f p) ≡ mapped_code f (declarator_of new c p)
-  declarator_of-mapped new (binding b s (Made g)) (code e) = refl
-  declarator_of-mapped new (binding b s (Made g)) p = refl
+  declarator_of-mapped new (binding b s (Generated g)) (code e) = refl
+  declarator_of-mapped new (binding b s (Generated g)) p = refl
   declarator_of-mapped true c p = refl
   declarator_of-mapped false (binding b s kind) (code e) = refl
   declarator_of-mapped false c p = refl
@@ -52,7 +52,7 @@ module _ (f : ℕ → ℕ) where
   -- ---- classes
 
   declared_by-mapped : (is_declaration : Bool) (p : Member) → declared_by is_declaration (mapped_member f p) ≡ mapped_option f (declared_by is_declaration p)
-  declared_by-mapped true (code (binding b s (Made g))) = refl
+  declared_by-mapped true (code (binding b s (Generated g))) = refl
   declared_by-mapped is_declaration p = refl
 
   elements_of-mapped : (p : Member) → elements_of (mapped_member f p) ≡ mapped_codes f (elements_of p)
@@ -82,10 +82,10 @@ module _ (f : ℕ → ℕ) where
   field_code-mapped c ps =
       rw (flag_at-mapped f 2 ps, flag_at-mapped f 3 ps, the_code_at-mapped f 0 ps, at-mapped f 1 ps, field_form-mapped c.options (flag_of (at 3 ps)) (the_code (at 0 ps)) (at 1 ps), key_code-mapped f (flag_of (at 2 ps)) (the_code (at 0 ps)), value_or_undefined-mapped (at 1 ps))
 
-  abbrev method_of : Bool → Text → Bool → Code → Code → Code
+  abbrev method_of : Bool → String → Bool → Code → Code → Code
   method_of is_static kind computed k g = cond (bytes_eq kind (codes "constructor")) (constructor g) (method is_static kind (key_code computed k) g)
 
-  method_of-mapped : (is_static : Bool) (kind : Text) (computed : Bool) (k g : Code) → method_of is_static kind computed (mapped_code f k) (mapped_code f g) ≡ mapped_code f (method_of is_static kind computed k g)
+  method_of-mapped : (is_static : Bool) (kind : String) (computed : Bool) (k g : Code) → method_of is_static kind computed (mapped_code f k) (mapped_code f g) ≡ mapped_code f (method_of is_static kind computed k g)
   method_of-mapped is_static kind computed k g =
       rw (key_code-mapped f computed k)
       (cond-mapped f (bytes_eq kind (codes "constructor")) (constructor g) (method is_static kind (key_code computed k) g))

@@ -3,7 +3,7 @@
 use Rattle.std.specs.Prelude.{ℕ, List, Bool, Option}
 use Rattle.es_steps.specs.Context.{NameKind}
 use Rattle.es_steps.specs.Events.{Mark, Operation}
-use Rattle.es_steps.specs.Values.{Text, Value}
+use Rattle.es_steps.specs.Values.{String, Value}
 
 pub record FunctionForm : Type 0 where
   pub is_arrow : Bool
@@ -23,17 +23,17 @@ mutual
     no_rule : Code
     value : (v : Value) → Code
     -- a name that is not evaluated: a label, a key that is not computed
-    spelled : (s : Text) → Code
-    binding : (b : ℕ) (s : Text) (kind : NameKind) → Code
-    rest_binding : (b : ℕ) (s : Text) (kind : NameKind) → Code
-    name : (m : ℕ) (s : Text) (kind : NameKind) → Code
-    helper : (s : Text) → Code
+    spelled : (s : String) → Code
+    binding : (b : ℕ) (s : String) (kind : NameKind) → Code
+    rest_binding : (b : ℕ) (s : String) (kind : NameKind) → Code
+    name : (m : ℕ) (s : String) (kind : NameKind) → Code
+    helper : (s : String) → Code
     member : (m : ℕ) (object key : Code) → Code
     assign : (to : Target) (right : Code) → Code
-    compound : (m : ℕ) (operator : Text) (to : Target) (right : Code) → Code
-    logical : (m : ℕ) (operator : Text) (left right : Code) → Code
-    logical_assign : (m : ℕ) (operator : Text) (to : Target) (right : Code) → Code
-    update : (m : ℕ) (operator : Text) (prefix : Bool) (to : Target) → Code
+    compound : (m : ℕ) (operator : String) (to : Target) (right : Code) → Code
+    logical : (m : ℕ) (operator : String) (left right : Code) → Code
+    logical_assign : (m : ℕ) (operator : String) (to : Target) (right : Code) → Code
+    update : (m : ℕ) (operator : String) (prefix : Bool) (to : Target) → Code
     call : (m : ℕ) (callee : Callee) (arguments : Codes) → Code
     construct : (m : ℕ) (callee : Code) (arguments : Codes) → Code
     sequence : (all : Codes) → Code
@@ -41,7 +41,7 @@ mutual
     operation : (m : ℕ) (operation : Operation) (operands held : Codes) → Code
     -- a part of an operation that is no operand itself: its marks and its operands
     piece : (marks : List Mark) (operands : Codes) → Code
-    template_string : (raw : Text) (cooked : Option Text) → Code
+    template_string : (raw : String) (cooked : Option String) → Code
     -- the helper `defineProperty` on an object that is known
     define : (object : Value) (key right : Code) → Code
     steps : (all : Codes) → Code
@@ -49,13 +49,13 @@ mutual
     class_code : (n : ℕ) (declared : Option ℕ) (heritage elements : Codes) → Code
     -- elements of a class
     field : (is_static : Bool) (form : FieldForm) (key right : Code) → Code
-    method : (is_static : Bool) (kind : Text) (key function : Code) → Code
+    method : (is_static : Bool) (kind : String) (key function : Code) → Code
     constructor : (function : Code) → Code
     static_block : (all : Codes) → Code
 
   -- what is assigned to
   pub data Target : Type 0 where
-    to_name : (m : ℕ) (s : Text) (kind : NameKind) → Target
+    to_name : (m : ℕ) (s : String) (kind : NameKind) → Target
     to_member : (m : ℕ) (object key : Code) → Target
     no_target : Target
 

@@ -10,14 +10,14 @@ use Rattle.es_steps.specs.Options.{Options}
 use Rattle.es_steps.specs.Parts.{at, string_of, is_true}
 use Rattle.es_steps.specs.References.{declared, has_number}
 use Rattle.es_steps.specs.Scopes.{ClassName, no_class, declares, own_name, Declaration, names_at}
-use Rattle.es_steps.specs.Values.{Text, Value, Undefined, ClassOf, ThisOf, ArgumentsOf, NewTargetOf, Referent, Bound, Free}
+use Rattle.es_steps.specs.Values.{String, Value, Undefined, ClassOf, ThisOf, ArgumentsOf, NewTargetOf, Referent, Bound, Free}
 
 -- What a name is: a binding that is not written, one that is or a free name, a class, or a generated name.
 pub data NameKind : Type 0 where
   Fixed : (b : ℕ) → NameKind
   Changing : (r : Referent) → NameKind
   MeansClass : (n : ℕ) → NameKind
-  Made : (g : GeneratedKind) → NameKind
+  Generated : (g : GeneratedKind) → NameKind
 
 pub record Context : Type 0 where
   -- the number of the first node that is new
@@ -39,7 +39,7 @@ abbrev pub new_here : Context → ℕ → Bool
 new_here c m = is_new c.first_new m
 
 -- the first entry of the ledger with this spelling
-abbrev pub generated_as : Text → List LedgerEntry → Option GeneratedKind
+abbrev pub generated_as : String → List LedgerEntry → Option GeneratedKind
 generated_as s [] = None
 generated_as s (e ∷ es) = cond (bytes_eq s e.name) (Some e.kind) (generated_as s es)
 
@@ -51,15 +51,15 @@ declared_kind written b no_class = unless_written written b (Fixed b)
 declared_kind written b (declares n) = unless_written written b (MeansClass n)
 declared_kind written b (own_name n) = MeansClass n
 
-abbrev pub found_kind : List ℕ → Text → Option Declaration → NameKind
+abbrev pub found_kind : List ℕ → String → Option Declaration → NameKind
 found_kind written s None = Changing (Free s)
 found_kind written s (Some d) = declared_kind written d.number d.class_name
 
 abbrev pub generated_or : Option GeneratedKind → NameKind → NameKind
-generated_or (Some g) kind = Made g
+generated_or (Some g) kind = Generated g
 generated_or None kind = kind
 
-abbrev pub name_kind : Context → Text → NameKind
+abbrev pub name_kind : Context → String → NameKind
 name_kind c s = generated_or (generated_as s c.ledger) (found_kind c.written s (declared s c.names))
 
 -- ---- inside a node

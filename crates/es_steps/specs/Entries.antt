@@ -3,10 +3,10 @@
 use Rattle.std.specs.Prelude.{ℕ, List, [], ◌∷◌, ◌++◌, Bool, true, false, cond, ◌||◌, bytes_eq, Option, Some, None}
 use Rattle.es_base.specs.Numbered.{is_new}
 use Rattle.es_steps.specs.Code.{Code, Codes, Target, Callee, FunctionForm, binding, rest_binding, member, assign, compound, logical, logical_assign, update, call, construct, sequence, operation, define, steps, function, class_code, field, method, constructor, static_block, to_name, to_member, plain, on_member, done, and}
-use Rattle.es_steps.specs.Context.{Made}
+use Rattle.es_steps.specs.Context.{Generated}
 use Rattle.es_steps.specs.Evaluation.{Environment, Run, Evaluation, no_meaning, gives, event, bind, ev, ev_all, ev_target, ev_callee, ev_initializers}
 use Rattle.es_steps.specs.Events.{Events, SuperAll, value_behind}
-use Rattle.es_steps.specs.Values.{Text, Value, Undefined, ThisOf}
+use Rattle.es_steps.specs.Values.{String, Value, Undefined, ThisOf}
 
 pub record Parameter : Type 0 where
   pub number : ℕ
@@ -14,7 +14,7 @@ pub record Parameter : Type 0 where
 
 pub record Method : Type 0 where
   pub is_static : Bool
-  pub kind : Text
+  pub kind : String
   pub key : Value
   pub function : ℕ
 
@@ -29,12 +29,12 @@ pub data Entry : Type 0 where
 
 -- ---- the generated names and that a code assigns
 
-abbrev pub target_name : Target → List Text
-target_name (to_name m s (Made g)) = s ∷ []
+abbrev pub target_name : Target → List String
+target_name (to_name m s (Generated g)) = s ∷ []
 target_name to = []
 
 abbrev mutual
-  pub assigned_in : Code → List Text
+  pub assigned_in : Code → List String
   assigned_in (member m o k) = assigned_in o ++ assigned_in k
   assigned_in (assign to e) = target_name to ++ (assigned_in_target to ++ assigned_in e)
   assigned_in (compound m op to e) = target_name to ++ (assigned_in_target to ++ assigned_in e)
@@ -55,24 +55,24 @@ abbrev mutual
   assigned_in (static_block es) = assigned_in_all es
   assigned_in e = []
 
-  pub assigned_in_target : Target → List Text
+  pub assigned_in_target : Target → List String
   assigned_in_target (to_member m o k) = assigned_in o ++ assigned_in k
   assigned_in_target to = []
 
-  pub assigned_in_callee : Callee → List Text
+  pub assigned_in_callee : Callee → List String
   assigned_in_callee (plain e) = assigned_in e
   assigned_in_callee (on_member m o k) = assigned_in o ++ assigned_in k
 
-  pub assigned_in_all : Codes → List Text
+  pub assigned_in_all : Codes → List String
   assigned_in_all done = []
   assigned_in_all (and e es) = assigned_in e ++ assigned_in_all es
 
-abbrev pub is_string_among : Text → List Text → Bool
+abbrev pub is_string_among : String → List String → Bool
 is_string_among s [] = false
 is_string_among s (x ∷ xs) = bytes_eq s x || is_string_among s xs
 
 -- an environment without these names
-abbrev pub without : List Text → Environment → Environment
+abbrev pub without : List String → Environment → Environment
 without names [] = []
 without names (p ∷ ps) = cond (is_string_among p.0 names) (without names ps) (p ∷ without names ps)
 
@@ -137,7 +137,7 @@ abbrev pub heritage_in : Environment → Codes → Option (Option Value)
 heritage_in env done = Some None
 heritage_in env (and h hs) = some_value (value_in (ev h env))
 
-abbrev pub method_with : Bool → Text → Option Value → Code → Option (List Method) → Option (List Method)
+abbrev pub method_with : Bool → String → Option Value → Code → Option (List Method) → Option (List Method)
 method_with is_static kind (Some k) (function f form parameters body) (Some ms) = Some (record { is_static = is_static; kind = kind; key = k; function = f } ∷ ms)
 method_with is_static kind k f ms = None
 

@@ -4,13 +4,13 @@ use Rattle.std.specs.Prelude.{ℕ, suc, List, [], ◌∷◌, Bool, true, false, 
 use Rattle.es_base.specs.declared.kind.Kind.{Kind}
 use Rattle.es_base.specs.declared.ledger.GeneratedKind.{GeneratedKind}
 use Rattle.es_steps.specs.Code.{Code, Codes, Target, Callee, FieldForm, defines, sets, leaves_out, nothing, no_rule, value, spelled, binding, rest_binding, name, helper, member, assign, compound, logical, logical_assign, update, call, construct, sequence, operation, piece, template_string, define, steps, function, class_code, field, method, constructor, static_block, to_name, to_member, no_target, plain, on_member, done, and}
-use Rattle.es_steps.specs.Context.{NameKind, Fixed, Changing, MeansClass, Made}
+use Rattle.es_steps.specs.Context.{NameKind, Fixed, Changing, MeansClass, Generated}
 use Rattle.es_steps.specs.Events.{Operation, OfKind, Operand, Word, Place, RightOf, Part, Event, ReadName, SetName, Get, Set, Define, Call, Construct, Operate, Update, Held, Events, none, then, behind, value_behind}
-use Rattle.es_steps.specs.Values.{Text, Value, Undefined, BindingOf, FunctionOf, ClassOf, ThisOf, ResultOf, FormerOf, Bound}
+use Rattle.es_steps.specs.Values.{String, Value, Undefined, BindingOf, FunctionOf, ClassOf, ThisOf, ResultOf, FormerOf, Bound}
 
 -- the values of temporaries, the last given first
 abbrev pub Environment : Type 0
-Environment = List (Text × Value)
+Environment = List (String × Value)
 
 -- what an evaluation is: its events, its value, the environment behind it
 pub record Run : Type 0 where
@@ -69,7 +69,7 @@ quiet a env = quiet_run env (a env)
 
 -- ---- names
 
-abbrev pub found : Text → Environment → Option Value
+abbrev pub found : String → Environment → Option Value
 found s [] = None
 found s (p ∷ ps) = cond (bytes_eq s p.0) (Some p.1) (found s ps)
 
@@ -77,35 +77,35 @@ abbrev pub give_found : Option Value → Evaluation
 give_found None = no_meaning
 give_found (Some v) = gives v
 
-abbrev pub read_generated : GeneratedKind → Text → Evaluation
+abbrev pub read_generated : GeneratedKind → String → Evaluation
 read_generated GeneratedKind.Temp s env = give_found (found s env) env
 read_generated GeneratedKind.Param s env = give_found (found s env) env
 read_generated g s env = None
 
-abbrev pub read_name : ℕ → Text → NameKind → Evaluation
+abbrev pub read_name : ℕ → String → NameKind → Evaluation
 read_name m s (Fixed b) = gives (BindingOf b)
 read_name m s (Changing r) = event (ReadName m r) (ResultOf m)
 read_name m s (MeansClass n) = gives (ClassOf n)
-read_name m s (Made g) = read_generated g s
+read_name m s (Generated g) = read_generated g s
 
-abbrev pub stands_for : Text → Value → Evaluation
+abbrev pub stands_for : String → Value → Evaluation
 stands_for s v env = Some (record { events = none; value = v; after = (s, v) ∷ env })
 
-abbrev pub write_generated : GeneratedKind → Text → Value → Evaluation
+abbrev pub write_generated : GeneratedKind → String → Value → Evaluation
 write_generated GeneratedKind.Temp s v = stands_for s v
 write_generated GeneratedKind.Param s v = stands_for s v
 write_generated g s v = no_meaning
 
-abbrev pub write_name : Text → NameKind → Value → Evaluation
+abbrev pub write_name : String → NameKind → Value → Evaluation
 write_name s (Fixed b) v = event (SetName (Bound b) v) v
 write_name s (Changing r) v = event (SetName r v) v
 write_name s (MeansClass n) v = no_meaning
-write_name s (Made g) v = write_generated g s v
+write_name s (Generated g) v = write_generated g s v
 
 -- ---- targets whose operands have their values
 
 pub data Ready : Type 0 where
-  ready_name : (m : ℕ) (s : Text) (kind : NameKind) → Ready
+  ready_name : (m : ℕ) (s : String) (kind : NameKind) → Ready
   ready_member : (m : ℕ) (o k : Value) → Ready
 
 abbrev pub read_ready : Ready → Evaluation
@@ -128,10 +128,10 @@ last_of v [] = v
 last_of v (w ∷ ws) = last_of w ws
 
 -- the operation of a compound assignment is that of the binary expression
-abbrev pub binary : Text → Operation
+abbrev pub binary : String → Operation
 binary operator = OfKind Kind.BinaryExpression (Word operator ∷ Operand ∷ Operand ∷ [])
 
-abbrev pub operator_step : ℕ → Text → Value → Value → Evaluation
+abbrev pub operator_step : ℕ → String → Value → Value → Evaluation
 operator_step m operator a b = event (Operate m (binary operator) (a ∷ b ∷ [])) (ResultOf m)
 
 abbrev pub new_or_former : Bool → ℕ → Value

@@ -2,14 +2,14 @@
 -- m is the node that does it.)
 use Rattle.std.specs.Prelude.{ℕ, List, Bool, true, false, ◌||◌, cond, Option}
 use Rattle.es_base.specs.declared.kind.Kind.{Kind}
-use Rattle.es_steps.specs.Values.{Text, Constant, Value, Referent, Undefined}
+use Rattle.es_steps.specs.Values.{String, Constant, Value, Referent, Undefined}
 
 -- What a kind of operation has beside its operands, member by member: where an operand stands, strings, truth
 -- values, empty places, keys that are not computed, and where a list begins and ends.
 pub data Mark : Type 0 where
   Operand : Mark
   Empty : Mark
-  Word : (string : Text) → Mark
+  Word : (string : String) → Mark
   Flag : (boolean : Bool) → Mark
   Key : (key : Constant) → Mark
   Opens : Mark
@@ -23,7 +23,7 @@ pub data Operation : Type 0 where
 
 -- Which part of a node it is that may run or not, or again: the right side of an operator, or the i-th such part.
 pub data Place : Type 0 where
-  RightOf : (operator : Text) → Place
+  RightOf : (operator : String) → Place
   Part : (i : ℕ) → Place
 
 mutual
@@ -36,7 +36,7 @@ mutual
     Call : (m : ℕ) (callee : Value) (receiver : Option Value) (arguments : List Value) → Event
     Construct : (m : ℕ) (callee : Value) (arguments : List Value) → Event
     Operate : (m : ℕ) (operation : Operation) (operands : List Value) → Event
-    Update : (m : ℕ) (operator : Text) (old : Value) → Event
+    Update : (m : ℕ) (operator : String) (old : Value) → Event
     -- the parent of class n is constructed with all arguments
     SuperAll : (n : ℕ) → Event
     -- an access that always throws; no form raises it yet

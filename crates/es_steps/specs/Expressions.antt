@@ -7,7 +7,7 @@ use Rattle.es_steps.specs.Code.{Code, Codes, Target, no_rule, value, spelled, bi
 use Rattle.es_steps.specs.Context.{Context, NameKind, Changing, MeansClass, name_kind, new_here}
 use Rattle.es_steps.specs.Events.{Mark, Operand, Word, Flag, Key, Prototype, OfKind, Delete}
 use Rattle.es_steps.specs.Members.{Member, Members, code, list, string, literal, end, more, at, operands, marks, codes_of, word_of, flag_of}
-use Rattle.es_steps.specs.Values.{Text, Constant, StringOf, NumberOf, BigIntOf, RegExpOf, BooleanOf, Null, RawTemplate, Value, ConstantOf, Undefined, ClassOf, ThisOf, Free}
+use Rattle.es_steps.specs.Values.{String, Constant, StringOf, NumberOf, BigIntOf, RegExpOf, BooleanOf, Null, RawTemplate, Value, ConstantOf, Undefined, ClassOf, ThisOf, Free}
 
 -- the rule of all kinds that have none of their own: the operands in order, then the operation
 abbrev pub operation_of : Kind → ℕ → Members → Code
@@ -32,18 +32,18 @@ literal_code (literal v) = value (ConstantOf (constant_of v))
 literal_code p = no_rule
 
 -- a free `arguments` is that of the function around
-abbrev pub name_or_arguments : Context → ℕ → Text → NameKind → Code
+abbrev pub name_or_arguments : Context → ℕ → String → NameKind → Code
 name_or_arguments c m s (Changing (Free spelling)) = cond (bytes_eq s (codes "arguments")) (value c.arguments) (name m s (Changing (Free spelling)))
 name_or_arguments c m s kind = name m s kind
 
-abbrev pub name_code : Context → ℕ → Text → Code
+abbrev pub name_code : Context → ℕ → String → Code
 name_code c m s = name_or_arguments c m s (name_kind c s)
 
-abbrev pub cooked_of : Member → Option Text
+abbrev pub cooked_of : Member → Option String
 cooked_of (string s) = Some s
 cooked_of p = None
 
-abbrev pub template_constant : Text → Option Text → Constant
+abbrev pub template_constant : String → Option String → Constant
 template_constant raw None = RawTemplate raw
 template_constant raw (Some s) = StringOf s
 
@@ -52,7 +52,7 @@ abbrev pub template_code : ℕ → Members → Code
 template_code m (more (list (more (code (template_string raw cooked)) end)) (more (list end) end)) = value (ConstantOf (template_constant raw cooked))
 template_code m ps = operation_of Kind.TemplateLiteral m ps
 
-abbrev pub spelling_of : Member → Text
+abbrev pub spelling_of : Member → String
 spelling_of (code (spelled s)) = s
 spelling_of p = []
 
@@ -90,18 +90,18 @@ target_of (binding m s kind) = to_name m s kind
 target_of (member m o k) = to_member m o k
 target_of c = no_target
 
-abbrev pub is_logical : Text → Bool
+abbrev pub is_logical : String → Bool
 is_logical operator = bytes_eq operator (codes "||=") || (bytes_eq operator (codes "&&=") || bytes_eq operator (codes "??="))
 
 -- the operator of an assignment without its `=`
-abbrev pub without_sign : Text → Text
+abbrev pub without_sign : String → String
 without_sign [] = []
 without_sign (a ∷ []) = []
 without_sign (a ∷ b ∷ bs) = a ∷ without_sign (b ∷ bs)
 
 abbrev pub assignment_code : ℕ → Members → Code
 assignment_code m ps =
-    let operator : Text = word_of (at 0 ps) in
+    let operator : String = word_of (at 0 ps) in
     let to : Target = target_of (the_code (at 1 ps)) in
     let right : Code = the_code (at 2 ps) in
     cond (bytes_eq operator (codes "=")) (assign to right) (cond (is_logical operator) (logical_assign m (without_sign operator) to right) (compound m (without_sign operator) to right))
@@ -145,7 +145,7 @@ define_on None k v = no_rule
 define_on (Some o) k v = define o k v
 
 -- a call of a helper: `defineProperty` of an object, a key and a value alone has a rule yet
-abbrev pub helper_call : Text → Codes → Code
+abbrev pub helper_call : String → Codes → Code
 helper_call s (and o (and k (and v done))) = cond (bytes_eq s (codes "defineProperty")) (define_on (known_object o) k v) no_rule
 helper_call s arguments = no_rule
 
@@ -171,7 +171,7 @@ conditional_code m ps = operation m (OfKind Kind.ConditionalExpression (marks ps
 
 -- ---- objects
 
-abbrev pub is_prototype : Text → Members → Bool
+abbrev pub is_prototype : String → Members → Bool
 is_prototype s ps = bytes_eq s (codes "__proto__") && (bytes_eq (word_of (at 2 ps)) (codes "init") && not (flag_of (at 3 ps) || flag_of (at 4 ps)))
 
 abbrev pub key_marks : Code → Members → List Mark

@@ -8,7 +8,7 @@ pub mod FirstForm
 pub mod Law
 pub mod Lists
 pub mod Lowered
-pub mod Made
+pub mod Generated
 pub mod Meaning
 pub mod Members
 pub mod Options

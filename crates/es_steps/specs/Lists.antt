@@ -4,7 +4,7 @@ use Rattle.es_base.specs.declared.kind.Kind.{Kind}
 use Rattle.es_steps.specs.Entries.{ClassEntry}
 use Rattle.es_steps.specs.Events.{Events, none, Operation, OfKind, Word, Operand}
 use Rattle.es_steps.specs.Meaning.{Meaning, DeclarationKind, ParameterName}
-use Rattle.es_steps.specs.Values.{Text, Value, ConstantOf, StringOf, NumberOf, Undefined}
+use Rattle.es_steps.specs.Values.{String, Value, ConstantOf, StringOf, NumberOf, Undefined}
 
 -- a script of the one class, number 1, whose construction has this list, with these bindings beside
 abbrev pub script_with : List (ℕ × DeclarationKind) → Events → Option Meaning
@@ -42,7 +42,7 @@ y = ConstantOf (StringOf (codes "y"))
 abbrev pub z : Value
 z = ConstantOf (StringOf (codes "z"))
 
-abbrev pub number : Text → Value
+abbrev pub number : String → Value
 number raw = ConstantOf (NumberOf raw)
 
 abbrev pub sum : Operation

@@ -13,7 +13,7 @@ use Rattle.es_steps.specs.Options.{Options}
 use Rattle.es_steps.specs.Parts.{at, items, string_of}
 use Rattle.es_steps.specs.References.{Reference, resolve, has_number}
 use Rattle.es_steps.specs.Scopes.{is_binding_identifier}
-use Rattle.es_steps.specs.Values.{Text, Referent, Bound}
+use Rattle.es_steps.specs.Values.{String, Referent, Bound}
 
 -- ---- nothing that the options lower is left
 
@@ -37,10 +37,10 @@ nothing_left o q = none_lowered o (preorder q)
 -- ---- each generated name has one declaration, which is new, and all its references mean it
 
 -- the declaring identifiers of this spelling
-abbrev pub declaring_number : Text → Tree → List ℕ
+abbrev pub declaring_number : String → Tree → List ℕ
 declaring_number s (Node kind b span semantic_id ps) = cond (is_binding_identifier kind && bytes_eq s (string_of (at 0 ps))) (b ∷ []) []
 
-abbrev pub declaring_numbers : Text → List Tree → List ℕ
+abbrev pub declaring_numbers : String → List Tree → List ℕ
 declaring_numbers s [] = []
 declaring_numbers s (t ∷ ts) = declaring_number s t ++ declaring_numbers s ts
 
@@ -49,31 +49,31 @@ is_bound_to b (Bound k) = nat_eq b k
 is_bound_to b r = false
 
 -- all references of this spelling mean this declaration
-abbrev pub all_mean : Text → ℕ → List Reference → Bool
+abbrev pub all_mean : String → ℕ → List Reference → Bool
 all_mean s b [] = true
 all_mean s b (r ∷ rs) = (not (bytes_eq s r.spelling) || is_bound_to b r.to) && all_mean s b rs
 
-abbrev pub is_one_new : ℕ → Text → Tree → List ℕ → Bool
+abbrev pub is_one_new : ℕ → String → Tree → List ℕ → Bool
 is_one_new first s q (b ∷ []) = is_new first b && all_mean s b (resolve q)
 is_one_new first s q bs = false
 
 -- the new private identifiers of this spelling that are keys in the body of class n
-abbrev pub private_key : ℕ → Text → Part → List ℕ
+abbrev pub private_key : ℕ → String → Part → List ℕ
 private_key first s (child (Node kind m span semantic_id (more (child (Node Kind.PrivateIdentifier d dspan d_semantic_id ds)) ps))) = cond (is_new first d && bytes_eq s (string_of (at 0 ds))) (d ∷ []) []
 private_key first s p = []
 
-abbrev pub private_keys : ℕ → Text → Parts → List ℕ
+abbrev pub private_keys : ℕ → String → Parts → List ℕ
 private_keys first s end = []
 private_keys first s (more p ps) = private_key first s p ++ private_keys first s ps
 
-abbrev pub keys_of_body : ℕ → Text → Part → List ℕ
+abbrev pub keys_of_body : ℕ → String → Part → List ℕ
 keys_of_body first s (child (Node Kind.ClassBody m span semantic_id ps)) = private_keys first s (items (at 0 ps))
 keys_of_body first s p = []
 
-abbrev pub keys_of_class : ℕ → ℕ → Text → Tree → List ℕ
+abbrev pub keys_of_class : ℕ → ℕ → String → Tree → List ℕ
 keys_of_class first n s (Node kind m span semantic_id ps) = cond (nat_eq n m) (keys_of_body first s (at 2 ps)) []
 
-abbrev pub keys_in : ℕ → ℕ → Text → List Tree → List ℕ
+abbrev pub keys_in : ℕ → ℕ → String → List Tree → List ℕ
 keys_in first n s [] = []
 keys_in first n s (t ∷ ts) = keys_of_class first n s t ++ keys_in first n s ts
 
@@ -82,7 +82,7 @@ is_one (d ∷ []) = true
 is_one ds = false
 
 -- a private name is declared in the body of its class, each other name in a scope
-abbrev pub declared_by_kind : ℕ → Tree → Text → GeneratedKind → Bool
+abbrev pub declared_by_kind : ℕ → Tree → String → GeneratedKind → Bool
 declared_by_kind first q s (GeneratedKind.Private n) = is_one (keys_in first n.0 s (preorder q))
 declared_by_kind first q s kind = is_one_new first s q (declaring_numbers s (preorder q))
 
@@ -93,11 +93,11 @@ names_declared first (e ∷ es) q = declared_by_kind first q e.name e.kind && na
 -- ---- each new declaration is accounted for
 
 -- the identifier that is the own name of class expression n, where p declares a class n of that name
-abbrev pub class_name_at : ℕ → Tree → List Text
+abbrev pub class_name_at : ℕ → Tree → List String
 class_name_at n (Node Kind.ClassDeclaration m span semantic_id (more (child (Node kind b bspan b_semantic_id bs)) ps)) = cond (nat_eq n m) (string_of (at 0 bs) ∷ []) []
 class_name_at n t = []
 
-abbrev pub declares_class : ℕ → Text → List Tree → Bool
+abbrev pub declares_class : ℕ → String → List Tree → Bool
 declares_class n s [] = false
 declares_class n s (t ∷ ts) = is_among s (class_name_at n t) || declares_class n s ts
 

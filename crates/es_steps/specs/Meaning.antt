@@ -16,12 +16,12 @@ use Rattle.es_steps.specs.Parts.{at, string_of}
 use Rattle.es_steps.specs.Reading.{read}
 use Rattle.es_steps.specs.References.{written}
 use Rattle.es_steps.specs.Scopes.{is_binding_identifier}
-use Rattle.es_steps.specs.Values.{Text, ThisOf, ArgumentsOf, NewTargetOf}
+use Rattle.es_steps.specs.Values.{String, ThisOf, ArgumentsOf, NewTargetOf}
 
 -- ---- what declaring identifiers declare
 
 pub data DeclarationKind : Type 0 where
-  Variable : (word : Text) → DeclarationKind
+  Variable : (word : String) → DeclarationKind
   FunctionName : DeclarationKind
   ParameterName : DeclarationKind
   CaughtName : DeclarationKind
@@ -105,7 +105,7 @@ whole [] = Some []
 whole (p ∷ ps) = with_entry p.0 p.1 (whole ps)
 
 pub record Meaning : Type 0 where
-  pub source_type : Text
+  pub source_type : String
   pub program : Listed
   -- of functions and classes, by number
   pub entries : List (ℕ × Entry)
@@ -115,7 +115,7 @@ pub record Meaning : Type 0 where
 abbrev pub start : ℕ → Options → List LedgerEntry → Tree → Context
 start first_new options ledger t = record { first_new = first_new; ledger = ledger; options = options; written = written t; names = []; this = ThisOf (number_of t); new_target = NewTargetOf (number_of t); arguments = ArgumentsOf (number_of t); class = number_of t; constructs = false }
 
-abbrev pub source_type_of : Tree → Text
+abbrev pub source_type_of : Tree → String
 source_type_of (Node kind m span semantic_id ps) = string_of (at 0 ps)
 
 abbrev pub with_all : ℕ → List LedgerEntry → Tree → Option Listed → Option (List (ℕ × Entry)) → Option Meaning

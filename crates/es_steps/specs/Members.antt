@@ -3,14 +3,14 @@ use Rattle.std.specs.Prelude.{ℕ, zero, suc, List, [], ◌∷◌, ◌++◌, Boo
 use Rattle.es_base.specs.declared.literal.LiteralValue.{LiteralValue}
 use Rattle.es_steps.specs.Code.{Code, Codes, piece, spelled, template_string, done, and, joined}
 use Rattle.es_steps.specs.Events.{Mark, Operand, Empty, Word, Flag, Opens, Closes}
-use Rattle.es_steps.specs.Values.{Text}
+use Rattle.es_steps.specs.Values.{String}
 
 mutual
   pub data Member : Type 0 where
     code : (c : Code) → Member
     absent : Member
     list : (all : Members) → Member
-    string : (s : Text) → Member
+    string : (s : String) → Member
     no_string : Member
     boolean : (b : Bool) → Member
     literal : (v : LiteralValue) → Member
@@ -43,7 +43,7 @@ inner_operands (spelled s) = done
 inner_operands (template_string raw cooked) = done
 inner_operands c = and c done
 
-abbrev pub marks_of_string : Option Text → List Mark
+abbrev pub marks_of_string : Option String → List Mark
 marks_of_string None = Empty ∷ []
 marks_of_string (Some s) = Word s ∷ []
 
@@ -90,7 +90,7 @@ abbrev mutual
   codes_of (list ps) = codes_in ps
   codes_of p = done
 
-abbrev pub word_of : Member → Text
+abbrev pub word_of : Member → String
 word_of (string s) = s
 word_of p = []
 

@@ -5,7 +5,7 @@ use Rattle.es_base.specs.Preorder.{preorder}
 use Rattle.es_base.specs.Tree.{Tree, Part, Parts, Node, end, more, child, list}
 use Rattle.es_base.specs.declared.kind.Kind.{Kind}
 use Rattle.es_steps.specs.Parts.{at, items, string_of, is_true}
-use Rattle.es_steps.specs.Values.{Text}
+use Rattle.es_steps.specs.Values.{String}
 
 -- ---- the private members of a program
 
@@ -18,15 +18,15 @@ pub data PrivateKind : Type 0 where
 -- the number is that of the key, which declares it
 pub record PrivateMember : Type 0 where
   pub number : ℕ
-  pub spelling : Text
+  pub spelling : String
   pub body : ℕ
   pub is_static : Bool
   pub kind : PrivateKind
 
-abbrev pub member : ℕ → Text → ℕ → Bool → PrivateKind → PrivateMember
+abbrev pub member : ℕ → String → ℕ → Bool → PrivateKind → PrivateMember
 member d s n is_static kind = record { number = d; spelling = s; body = n; is_static = is_static; kind = kind }
 
-abbrev pub method_kind : Text → PrivateKind
+abbrev pub method_kind : String → PrivateKind
 method_kind s = cond (bytes_eq s (codes "get")) a_getter (cond (bytes_eq s (codes "set")) a_setter a_method)
 
 -- an element of the class body n whose key is a private name declares a member
@@ -59,14 +59,14 @@ private_members t = members_of_all (preorder t)
 
 pub record PrivateUse : Type 0 where
   pub number : ℕ
-  pub spelling : Text
+  pub spelling : String
   -- the class body, or none where no class body around declares it
   pub body : Option ℕ
 
-abbrev pub used : ℕ → Text → Option ℕ → PrivateUse
+abbrev pub used : ℕ → String → Option ℕ → PrivateUse
 used m s body = record { number = m; spelling = s; body = body }
 
-abbrev pub declaring_body : Text → List PrivateMember → Option ℕ
+abbrev pub declaring_body : String → List PrivateMember → Option ℕ
 declaring_body s [] = None
 declaring_body s (d ∷ ds) = cond (bytes_eq s d.spelling) (Some d.body) (declaring_body s ds)
 

@@ -9,21 +9,21 @@ use Rattle.es_base.specs.declared.kind.Kind.{Kind}
 use Rattle.es_base.specs.declared.table.Sort.{Sort}
 use Rattle.es_steps.specs.Parts.{at, string_of}
 use Rattle.es_steps.specs.Scopes.{Declaration, names_at, scope_form, scope_names, var_part}
-use Rattle.es_steps.specs.Values.{Text, Referent, Bound, Free}
+use Rattle.es_steps.specs.Values.{String, Referent, Bound, Free}
 
 -- the first of this spelling: of the nearest scope, and there of the first declaring identifier
-abbrev pub declared : Text → List Declaration → Option Declaration
+abbrev pub declared : String → List Declaration → Option Declaration
 declared s [] = None
 declared s (d ∷ ds) = cond (bytes_eq s d.spelling) (Some d) (declared s ds)
 
-abbrev pub referent : Text → Option Declaration → Referent
+abbrev pub referent : String → Option Declaration → Referent
 referent s None = Free s
 referent s (Some d) = Bound d.number
 
 -- a reference that stands where something is assigned to writes
 pub record Reference : Type 0 where
   pub number : ℕ
-  pub spelling : Text
+  pub spelling : String
   pub to : Referent
   pub writes : Bool
 
@@ -39,7 +39,7 @@ abbrev pub is_reference : Kind → Bool
 is_reference Kind.IdentifierReference = true
 is_reference kind = false
 
-abbrev pub reference : List Declaration → Bool → ℕ → Text → List Reference
+abbrev pub reference : List Declaration → Bool → ℕ → String → List Reference
 reference names target m s = record { number = m; spelling = s; to = referent s (declared s names); writes = target } ∷ []
 
 -- the references of a tree in preorder, where these names are seen
@@ -81,7 +81,7 @@ abbrev pub assigned : List Reference → List ℕ
 assigned [] = []
 assigned (r ∷ rs) = if_bound r.writes r.to ++ assigned rs
 
-abbrev pub is_declared : Text → List Declaration → Bool
+abbrev pub is_declared : String → List Declaration → Bool
 is_declared s [] = false
 is_declared s (d ∷ ds) = bytes_eq s d.spelling || is_declared s ds
 

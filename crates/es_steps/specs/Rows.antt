@@ -2,18 +2,18 @@
 use Rattle.std.specs.Prelude.{ℕ, ◌+◌, List, [], ◌∷◌, false, codes, Option}
 use Rattle.es_base.specs.Tree.{Tree, Part, end, more, child, absent, list, string, boolean, trees}
 use Rattle.es_base.specs.declared.kind.Kind.{Kind}
-use Rattle.es_steps.specs.Made.{node, named, number_literal, constructor_at, define_at, void_at}
+use Rattle.es_steps.specs.Generated.{node, named, number_literal, constructor_at, define_at, void_at}
 use Rattle.es_steps.specs.Meaning.{Meaning, means, source_means}
 use Rattle.es_steps.specs.Options.{class_properties_alone}
-use Rattle.es_steps.specs.Values.{Text}
+use Rattle.es_steps.specs.Values.{String}
 
 abbrev pub program : List Tree → Tree
 program ts = node Kind.Program 0 (more (string (codes "script")) (more (list (trees ts)) end))
 
-abbrev pub class_at : ℕ → Text → List Tree → Tree
+abbrev pub class_at : ℕ → String → List Tree → Tree
 class_at n s es = node Kind.ClassDeclaration n (more (child (named Kind.BindingIdentifier (n + 1) s)) (more absent (more (child (node Kind.ClassBody (n + 2) (more (list (trees es)) end))) end)))
 
-abbrev pub field_at : ℕ → Text → Part → Tree
+abbrev pub field_at : ℕ → String → Part → Tree
 field_at m s v = node Kind.PropertyDefinition m (more (child (named Kind.IdentifierName (m + 1) s)) (more v (more (boolean false) (more (boolean false) end))))
 
 -- ---- `class C { x = 1 }`, and `class C { constructor() { B.defineProperty(this, "x", 1); } }`

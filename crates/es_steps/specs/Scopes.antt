@@ -7,7 +7,7 @@ use Rattle.es_base.specs.declared.kind.Kind.{Kind}
 use Rattle.es_base.specs.declared.table.Place.{Place}
 use Rattle.es_base.specs.declared.table.Sort.{Sort}
 use Rattle.es_steps.specs.Parts.{at, items, block_items, string_of}
-use Rattle.es_steps.specs.Values.{Text}
+use Rattle.es_steps.specs.Values.{String}
 
 -- The class that a name is the name of: a declaration's, seen around it, or the own name of an expression.
 pub data ClassName : Type 0 where
@@ -16,7 +16,7 @@ pub data ClassName : Type 0 where
   own_name : (n : ℕ) → ClassName
 
 pub record Declaration : Type 0 where
-  pub spelling : Text
+  pub spelling : String
   -- of the declaring identifier
   pub number : ℕ
   pub class_name : ClassName

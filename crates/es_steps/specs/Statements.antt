@@ -2,7 +2,7 @@
 use Rattle.std.specs.Prelude.{ℕ, Bool, true, false, cond, not, ◌&&◌, ◌||◌, codes, bytes_eq, Option, Some, None}
 use Rattle.es_base.specs.declared.kind.Kind.{Kind}
 use Rattle.es_steps.specs.Code.{Code, Codes, FunctionForm, FieldForm, defines, sets, leaves_out, nothing, no_rule, value, spelled, binding, rest_binding, assign, operation, steps, function, class_code, field, method, constructor, to_name, done, and, joined}
-use Rattle.es_steps.specs.Context.{Context, Fixed, Made, new_here}
+use Rattle.es_steps.specs.Context.{Context, Fixed, Generated, new_here}
 use Rattle.es_steps.specs.Events.{OfKind}
 use Rattle.es_steps.specs.Expressions.{the_code, key_code}
 use Rattle.es_steps.specs.Members.{Member, Members, code, absent, more, at, from, before, operands, operands_of, marks, codes_in, codes_of, word_of, flag_of}
@@ -26,8 +26,8 @@ for_each_code kind m ps = no_rule
 
 -- a new declaration of a name that was not made has no rule yet
 abbrev pub declarator_of : Bool → Code → Member → Code
-declarator_of new (binding b s (Made g)) (code e) = assign (to_name b s (Made g)) e
-declarator_of new (binding b s (Made g)) p = nothing
+declarator_of new (binding b s (Generated g)) (code e) = assign (to_name b s (Generated g)) e
+declarator_of new (binding b s (Generated g)) p = nothing
 declarator_of true c p = no_rule
 declarator_of false (binding b s kind) (code e) = assign (to_name b s kind) e
 declarator_of false (binding b s kind) p = binding b s kind
@@ -56,7 +56,7 @@ rest_code c = no_rule
 
 -- the identifier that declares a class for the code around it, unless it is a generated name
 abbrev pub declared_by : Bool → Member → Option ℕ
-declared_by true (code (binding b s (Made g))) = None
+declared_by true (code (binding b s (Generated g))) = None
 declared_by true (code (binding b s kind)) = Some b
 declared_by is_declaration p = None
 

@@ -2,19 +2,19 @@
 -- known by where it comes from. (The values are those of ECMA-262, 6.1; to know one by its origin is our own.)
 use Rattle.std.specs.Prelude.{ℕ, List, Bool}
 
-abbrev pub Text : Type 0
-Text = List ℕ
+abbrev pub String : Type 0
+String = List ℕ
 
 -- A literal, or what is alike: the name of a property, a template without expressions.
 pub data Constant : Type 0 where
-  StringOf : (string : Text) → Constant
-  NumberOf : (raw : Text) → Constant
-  BigIntOf : (string : Text) → Constant
-  RegExpOf : (pattern flags : Text) → Constant
+  StringOf : (string : String) → Constant
+  NumberOf : (raw : String) → Constant
+  BigIntOf : (string : String) → Constant
+  RegExpOf : (pattern flags : String) → Constant
   BooleanOf : (boolean : Bool) → Constant
   Null : Constant
   -- a template without expressions whose string has no cooked form
-  RawTemplate : (raw : Text) → Constant
+  RawTemplate : (raw : String) → Constant
 
 -- A binding is known by its first declaring identifier; functions, classes and operations by their nodes.
 pub data Value : Type 0 where
@@ -35,4 +35,4 @@ pub data Value : Type 0 where
 -- What a name refers to: a binding, or, where no scope holds its spelling, that spelling.
 pub data Referent : Type 0 where
   Bound : (b : ℕ) → Referent
-  Free : (spelling : Text) → Referent
+  Free : (spelling : String) → Referent

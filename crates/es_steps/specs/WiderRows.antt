@@ -6,9 +6,9 @@ use Rattle.es_base.specs.declared.kind.Kind.{Kind}
 use Rattle.es_base.specs.declared.ledger.GeneratedKind.{GeneratedKind}
 use Rattle.es_base.specs.declared.ledger.LedgerEntry.{LedgerEntry}
 use Rattle.es_steps.specs.Options.{Options}
-use Rattle.es_steps.specs.Made.{node, named, number_literal, string_literal}
+use Rattle.es_steps.specs.Generated.{node, named, number_literal, string_literal}
 use Rattle.es_steps.specs.Rows.{program, class_at, field_at}
-use Rattle.es_steps.specs.Values.{Text}
+use Rattle.es_steps.specs.Values.{String}
 
 abbrev pub sets_fields : Options
 sets_fields = record { class_properties = true; static_blocks = false; sets_fields = true; removes_fields = false }
@@ -19,7 +19,7 @@ both_routes = record { class_properties = true; static_blocks = true; sets_field
 abbrev pub statement : ℕ → Tree → Tree
 statement m e = node Kind.ExpressionStatement m (more (child e) (more no_string end))
 
-abbrev pub reference : ℕ → Text → Tree
+abbrev pub reference : ℕ → String → Tree
 reference m s = named Kind.IdentifierReference m s
 
 abbrev pub this_at : ℕ → Tree
@@ -31,7 +31,7 @@ call_at m f es = node Kind.CallExpression m (more (child f) (more (list (trees e
 abbrev pub member_at : ℕ → Tree → Tree → Bool → Tree
 member_at m o k computed = node Kind.MemberExpression m (more (child o) (more (child k) (more (boolean computed) (more (boolean false) end))))
 
-abbrev pub assignment_at : ℕ → Text → Tree → Tree → Tree
+abbrev pub assignment_at : ℕ → String → Tree → Tree → Tree
 assignment_at m operator to e = node Kind.AssignmentExpression m (more (string operator) (more (child to) (more (child e) end)))
 
 abbrev pub keyed_field : ℕ → Tree → Bool → Bool → Tree → Tree
@@ -42,14 +42,14 @@ abbrev pub constructor_of : ℕ → ℕ → ℕ → ℕ → List Tree → List T
 constructor_of m key f body ps ts =
     node Kind.MethodDefinition m (more (child (named Kind.IdentifierName key (codes "constructor"))) (more (child (node Kind.FunctionExpression f (more absent (more (list (trees ps)) (more (child (node Kind.BlockStatement body (more (list (trees ts)) end))) (more (boolean false) (more (boolean false) end))))))) (more (string (codes "constructor")) (more (boolean false) (more (boolean false) end)))))
 
-abbrev pub let_at : ℕ → Text → Tree
+abbrev pub let_at : ℕ → String → Tree
 let_at m s = node Kind.VariableDeclaration m (more (string (codes "let")) (more (list (trees (node Kind.VariableDeclarator (m + 1) (more (child (named Kind.BindingIdentifier (m + 2) s)) (more absent end)) ∷ []))) end))
 
 -- `babelHelpers.defineProperty(o, k, v);`, with numbers from m on but for o, k and v
 abbrev pub define_on_at : ℕ → Tree → Tree → Tree → Tree
 define_on_at m o k v = statement m (call_at (m + 1) (member_at (m + 2) (reference (m + 3) (codes "babelHelpers")) (named Kind.IdentifierName (m + 4) (codes "defineProperty")) false) (o ∷ k ∷ v ∷ []))
 
-abbrev pub generated : Text → GeneratedKind → LedgerEntry
+abbrev pub generated : String → GeneratedKind → LedgerEntry
 generated s kind = record { name = s; kind = kind }
 
 -- ---- `class A { x = y; constructor(y) { this.z = y; } }`, and the parameter under another name
@@ -57,7 +57,7 @@ generated s kind = record { name = s; kind = kind }
 abbrev pub shadowed : Tree
 shadowed = program (class_at 1 (codes "A") (keyed_field 4 (named Kind.IdentifierName 5 (codes "x")) false false (reference 6 (codes "y")) ∷ constructor_of 7 8 9 11 (named Kind.BindingIdentifier 10 (codes "y") ∷ []) (statement 12 (assignment_at 13 (codes "=") (member_at 14 (this_at 15) (named Kind.IdentifierName 16 (codes "z")) false) (reference 17 (codes "y"))) ∷ []) ∷ []) ∷ [])
 
-abbrev pub shadowed_with : Text → Tree
+abbrev pub shadowed_with : String → Tree
 shadowed_with y = program (class_at 1 (codes "A") (constructor_of 7 8 9 11 (named Kind.BindingIdentifier 10 y ∷ []) (define_on_at 18 (this_at 23) (string_literal 24 (codes "x")) (reference 6 (codes "y")) ∷ statement 12 (assignment_at 13 (codes "=") (member_at 14 (this_at 15) (named Kind.IdentifierName 16 (codes "z")) false) (reference 17 y)) ∷ []) ∷ []) ∷ [])
 
 -- ---- `class C { x = 1 }` where fields are set: `class C { constructor() { this.x = 1; } }`
@@ -107,19 +107,19 @@ compound_row = program (statement 1 (assignment_at 2 (codes "+=") (member_at 3 (
 
 -- ---- `class A { #x; #y; f = class extends o.#y { static get #y() {} g = #x in o; h = o.#y; }; k = o.#z; }`
 
-abbrev pub private_field_at : ℕ → Text → Part → Tree
+abbrev pub private_field_at : ℕ → String → Part → Tree
 private_field_at m s v = node Kind.PropertyDefinition m (more (child (named Kind.PrivateIdentifier (m + 1) s)) (more v (more (boolean false) (more (boolean false) end))))
 
 -- `static get #s() {}`, with numbers from m on
-abbrev pub private_getter_at : ℕ → Text → Tree
+abbrev pub private_getter_at : ℕ → String → Tree
 private_getter_at m s = node Kind.MethodDefinition m (more (child (named Kind.PrivateIdentifier (m + 1) s)) (more (child (node Kind.FunctionExpression (m + 2) (more absent (more (list end) (more (child (node Kind.BlockStatement (m + 3) (more (list end) end))) (more (boolean false) (more (boolean false) end))))))) (more (string (codes "get")) (more (boolean false) (more (boolean true) end)))))
 
 -- `o.#s`, with numbers from m on
-abbrev pub private_read_at : ℕ → Text → Tree
+abbrev pub private_read_at : ℕ → String → Tree
 private_read_at m s = node Kind.PrivateField m (more (child (reference (m + 1) (codes "o"))) (more (child (named Kind.PrivateIdentifier (m + 2) s)) (more (boolean false) (more (boolean false) end))))
 
 -- `#s in o`, with numbers from m on
-abbrev pub private_in_at : ℕ → Text → Tree
+abbrev pub private_in_at : ℕ → String → Tree
 private_in_at m s = node Kind.PrivateIn m (more (string (codes "in")) (more (child (named Kind.PrivateIdentifier (m + 1) s)) (more (child (reference (m + 2) (codes "o"))) end)))
 
 abbrev pub nested_privates : Tree

@@ -5,7 +5,7 @@ ghost use Rattle.es_steps.specs.Events.{then, none, Define, ReadName, Set, Get, 
 ghost use Rattle.es_steps.specs.Law.{SemanticIdsLaw, PrivateSemanticIdsLaw, RenumberingLaw, ClausesLaw, FirstFormLaw, DefineLaw};
 ghost use Rattle.es_steps.specs.Lists.{script_of_class, script_with_parameter, script_of, x, y, z, number, sum};
 ghost use Rattle.es_steps.specs.Lowered.{nothing_left};
-ghost use Rattle.es_steps.specs.Made.{number_literal};
+ghost use Rattle.es_steps.specs.Generated.{number_literal};
 ghost use Rattle.es_steps.specs.Meaning.{means, source_means};
 ghost use Rattle.es_steps.specs.Options.{class_properties_alone, no_options};
 ghost use Rattle.es_steps.specs.PrivateNames.{a_field, a_getter, member, private_members, used, resolve_privates};

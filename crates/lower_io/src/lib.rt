@@ -8,6 +8,4 @@ mod room;
 pub mod sink;
 pub mod source;
 pub mod standard;
-#[cfg(test)]
-mod tests;
 pub mod whole;
