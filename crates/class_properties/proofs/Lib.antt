@@ -2,6 +2,7 @@ pub mod Constructions
 pub mod Declared
 pub mod Kept
 pub mod Laid
+pub mod Mapped
 pub mod Numbered
 pub mod Owed
 pub mod Renumbered
