@@ -1,7 +1,7 @@
 -- No part has more nodes than all together: what a walk down a tree needs to end.
 use Rattle.std.proofs.Common.{◌≡◌, List, [], ◌∷◌, ℕ, zero, suc, ◌<◌, ◌≤◌, ◌+◌, arith, length, Option, get_or}
 use Rattle.es_base.specs.Preorder.{nodes, nodes_of, nodes_of_part}
-use Rattle.es_base.specs.Tree.{Tree, Node, child, nullable, trees, nullable_trees}
+use Rattle.es_base.specs.Tree.{Tree, Node, nullable, trees, nullable_trees}
 use Rattle.es_node.specs.View.{part_of, parts_of, parts_in}
 use Rattle.es_node.specs.declared.node.Part as code
 
