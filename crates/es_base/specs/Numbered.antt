@@ -38,7 +38,3 @@ EachOnce ks = IsDistinct nat_eq ks
 pub record IsNumbered (first : ℕ) (t : Tree) : Type 0 where
   pub once : EachOnce (numbers t)
   pub consecutive : AreConsecutive first (new_numbers first t)
-
--- the number of a node that has none yet
-abbrev pub unnumbered : ℕ
-unnumbered = 4294967295
