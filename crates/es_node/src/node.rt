@@ -8,6 +8,9 @@ use es_base::name::Name;
 use es_base::operator::Word;
 use std::marker::Model;
 
+mod count;
+mod number;
+
 /// A node of a syntax tree (ESTree up to ES2022), which contracts see as a tree of the definitions. What
 /// stands at its members has the shapes that the table of kinds says, and it has a semantic id only where
 /// its kind bears one.

@@ -1,0 +1,11 @@
+pub mod Constructions
+pub mod Declared
+pub mod Kept
+pub mod Laid
+pub mod Mapped
+pub mod Numbered
+pub mod Owed
+pub mod Renumbered
+pub mod Same
+pub mod Shaped
+pub mod Small

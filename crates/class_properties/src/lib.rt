@@ -1,0 +1,4 @@
+//! The lowering of class properties.
+#![tactic(auto)]
+
+pub mod class;

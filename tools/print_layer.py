@@ -1,0 +1,265 @@
+"""Prints the typed layer over `Node`: for each kind its tree by its members (specs), a struct of them, owned and borrowed,
+and a maker (code)."""
+import re
+from files import BASE, NODE, code_head, snake, spec_head, write
+from kinds import FIXED_WORDS, ROWS, WORDS
+from print_parts import NUMBERS, SHAPES
+
+# module of kinds.py: (its crate, what its file has)
+MODULES = {
+    'program': ('es_tree', 'The root.'),
+    'foreign': ('es_tree', 'What the trees here do not describe.'),
+    'expression': ('es_expression', 'Expressions.'),
+    'identifier': ('es_expression', 'Identifiers.'),
+    'literal': ('es_expression', 'Literals.'),
+    'class': ('es_declaration', 'Classes and their elements.'),
+    'function': ('es_declaration', 'Functions.'),
+    'pattern': ('es_declaration', 'Patterns that declare, and patterns that are assigned to.'),
+    'module': ('es_declaration', 'Imports and exports.'),
+    'statement': ('es_statement', 'Statements.'),
+}
+# sort of a member: the name of its shape in `es_node`
+SHAPE_OF = {
+    'Child': 'child', 'Key': 'child', 'Nullable': 'nullable', 'List': 'list', 'NonEmptyList': 'list', 'ListWithHoles': 'list_with_holes',
+    'Name': 'string', 'Raw': 'string', 'Type': 'string', 'NullableString': 'nullable_string', 'Cooked': 'nullable_string',
+    'Boolean': 'boolean', 'Literal': 'literal',
+}
+# shape: (its type in specs, its part in code)
+PARTS = {
+    'child': ('Tree', 'Part::Child({})'), 'nullable': ('Option Tree', 'nullable_part({})'),
+    'list': ('List Tree', 'Part::List({})'), 'list_with_holes': ('List (Option Tree)', 'Part::Holes({})'),
+    'string': ('List ℕ', 'Part::String({})'), 'nullable_string': ('Option (List ℕ)', 'nullable_string_part({})'),
+    'boolean': ('Bool', 'Part::Boolean({})'), 'literal': ('LiteralValue', 'Part::Literal({})'),
+}
+
+
+class Member:
+    """A member: how it is read (`as_..` and `into_..` of `Part`), what holds it, and its part in specs and in code."""
+
+    def __init__(self, estree, field, sort):
+        self.is_field, self.name, self.is_word = field is not None, field or estree, sort[0] == 'Word'
+        if self.is_word:
+            word = sort[1]
+            self.method, self.owned, self.borrowed, self.spec_type = snake(word), word, word, word
+            self.spec_part, self.code_part = f'string ({snake(word)}_string {{}})', f'Part::Word(Word::{word}({{}}))'
+        elif sort[0] == 'Only':
+            word = sort[1]
+            self.method, self.spec_part, self.code_part = snake(word), f'string (codes "{FIXED_WORDS[word][0]}")', f'Part::Word(Word::{word})'
+        elif sort[0] == 'False':
+            self.method, self.spec_part, self.code_part = 'false', 'boolean false', 'Part::Boolean(false)'
+        else:
+            self.method = SHAPE_OF[sort[0]]
+            _, lent, self.owned, tree, _, _ = SHAPES[self.method]
+            self.borrowed = lent.replace('&', "&'a ")
+            self.spec_part = tree.replace('literal', 'literal_part')
+            self.spec_type, self.code_part = PARTS[self.method]
+
+    def seen(self, value):
+        """what the borrowed member is to a contract"""
+        if self.borrowed.startswith('&'): return f'{value}.now'
+        return f'(option_map (λ x. x.now) {value})' if '&' in self.borrowed else value
+
+
+class Form:
+    """A kind with its members."""
+
+    def __init__(self, kind, row):
+        self.kind, self.name, self.ref = kind, snake(kind), f'{kind}Ref'
+        _, self.kinds, bears, self.doc, members = row
+        self.id, self.id_type = bears or (None, None)
+        self.members = [Member(*m) for m in members]
+        self.fields = [m for m in self.members if m.is_field]
+        # words are read last: where a word is known to be one of its set, fewer proofs find the shapes of other parts
+        self.read = sorted(self.fields, key=lambda m: m.is_word)
+        self.count = NUMBERS[len(members)]
+        # a program has the numbers of its foreign nodes beside its tree
+        self.has_foreign = kind == 'Program'
+
+    def number(self): return self.id.replace('_id', '_number')
+
+    def tree(self, value, seen=lambda m, x: x):
+        """the tree of a struct's value"""
+        semantic_id = [f'({self.number()} {value}.{self.id})'] if self.id else []
+        return ' '.join([self.name, f'{value}.node_id.0', f'(span_of {value}.span)'] + semantic_id + [seen(m, f'{value}.{m.name}') for m in self.fields])
+
+    def seen_tree(self, value): return self.tree(value, Member.seen)
+
+
+def spec(form):
+    arguments = [('node_id', 'ℕ'), ('span', 'Option (ℕ × ℕ)')] + ([(form.id, 'Option ℕ')] if form.id else []) + [(m.name, m.spec_type) for m in form.fields]
+    parts = 'end'
+    for m in reversed(form.members):
+        parts = f'more ({m.spec_part.format(m.name)}) {parts if parts == "end" else f"({parts})"}'
+    parts = parts if parts == 'end' else f'({parts})'
+    return f'''
+-- {form.doc}
+abbrev pub {form.name} : {' → '.join(t for _, t in arguments)} → Tree
+{form.name} {' '.join(n for n, _ in arguments)} = Node Kind.{form.kind} node_id span {form.id or 'None'} {parts}
+'''
+
+
+def clauses(form, tree, foreign):
+    """the clauses of a conversion: the tree alone, and of a program its foreign nodes too"""
+    return f'ensures tree {{ {tree} }}\n        ensures foreign {{ {foreign} }}' if form.has_foreign else f'ensures {{ {tree} }}'
+
+
+def struct_fields(form, types, foreign):
+    out = '    pub node_id: NodeId,\n    pub span: Option<Span>,\n'
+    if form.id: out += f'    pub {form.id}: Option<{form.id_type}>,\n'
+    out += ''.join(f'    pub {m.name}: {t},\n' for m, t in zip(form.fields, types))
+    if form.has_foreign: out += f'    /// The numbers of its foreign nodes.\n    pub foreign: {foreign},\n'
+    return out
+
+
+def owned(form):
+    names = ', '.join(m.name for m in form.members)
+    pattern = names if len(form.members) == 1 else f'({names})'
+    constants = ''.join(f'        {m.name}.into_{m.method}();\n' for m in form.members if not m.is_field)
+    semantic_id = f'{form.id}: {form.id}_of(contents.semantic_id), ' if form.id else ''
+    fields = ''.join(f'{m.name}: {m.name}.into_{m.method}(), ' for m in form.read)
+    parts = ', '.join(m.code_part.format(f'self.{m.name}') for m in form.members)
+    node = f'Node::new(Kind::{form.kind}, Contents {{ node_id: self.node_id, span: self.span, semantic_id: {f"{form.number()}(self.{form.id})" if form.id else "None"}, parts }})'
+    parameter, given, answer, result = ('', '', 'Node', 'result')
+    if form.has_foreign: parameter, given, answer, result, node = ', foreign: List<NodeId>', 'foreign, ', '(Node, List<NodeId>)', 'result.0', f'({node}, self.foreign)'
+    return f'''
+/// {form.doc}
+#[derive(Drop)]
+pub struct {form.kind} {{
+{struct_fields(form, [m.owned for m in form.fields], 'List<NodeId>')}    emptied_parts: List<Part>,
+    ghost part_count: {{ length emptied_parts ≡ {len(form.members)} }},
+}}
+
+impl {form.kind} {{
+    /// Takes a node of this kind apart.
+    pub fn from_node(node: Node{parameter}) -> {form.kind}
+        requires {{ kind_of node ≡ Kind.{form.kind} }}
+        {clauses(form, f'node ≡ {form.tree("result")}', 'result.foreign ≡ foreign')}
+    {{
+        let contents = node.into_contents();
+        let mut emptied_parts = contents.parts;
+        let {pattern} = take_{form.count}(&mut emptied_parts);
+{constants}        {form.kind} {{ node_id: contents.node_id, span: contents.span, {semantic_id}{fields}{given}emptied_parts }}
+    }}
+
+    /// Puts the node together again. Takes no memory.
+    pub fn into_node(self) -> {answer}
+        {clauses(form, f'{result} ≡ {form.tree("self")}', 'result.1 ≡ self.foreign')}
+    {{
+        let mut parts = self.emptied_parts;
+        put_{form.count}(&mut parts, {parts});
+        {node}
+    }}
+{into_expression(form)}}}
+'''
+
+
+def into_expression(form):
+    """a declaration as an expression"""
+    if not form.kind.endswith('Declaration') or len(form.kinds) != 2: return ''
+    to = Form(form.kinds[1], (None, form.kinds, (form.id, form.id_type), form.doc, []))
+    to.fields = form.fields
+    names = ['node_id', 'span'] + ([form.id] if form.id else []) + [m.name for m in form.fields] + ['emptied_parts']
+    return f'''
+    /// The same as an expression: the kind alone changes.
+    pub fn into_expression(self) -> {to.kind}
+        ensures {{ {to.tree('result')} ≡ of_kind Kind.{to.kind} ({form.tree('self')}) }}
+    {{
+        {to.kind} {{ {', '.join(f'{n}: self.{n}' for n in names)} }}
+    }}
+'''
+
+
+def borrowed(form):
+    names = ', '.join(m.name for m in form.members)
+    constants = ''.join(f'                {m.name}.as_{m.method}();\n' for m in form.members if not m.is_field)
+    semantic_id = f'{form.id}: {form.id}_of(node.semantic_id()), ' if form.id else ''
+    fields = ''.join(f'{m.name}: {m.name}.as_{m.method}(), ' for m in form.read)
+    parameter, given = (", foreign: &'a [NodeId]", 'foreign, ') if form.has_foreign else ('', '')
+    value = f'{form.ref} {{ node_id: node.node_id(), span: node.span(), {semantic_id}{fields}{given}}}'
+    arm = f'{{\n{constants}                {value}\n            }}' if constants else value
+    return f'''
+/// `{form.kind}`, borrowed.
+#[derive(Clone, Copy)]
+pub struct {form.ref}<'a> {{
+{struct_fields(form, [m.borrowed for m in form.fields], "&'a [NodeId]")}}}
+
+impl<'a> {form.ref}<'a> {{
+    /// Reads a node of this kind.
+    pub fn from_node(node: &'a Node{parameter}) -> {form.ref}<'a>
+        requires {{ kind_of node.now ≡ Kind.{form.kind} }}
+        {clauses(form, f'node.now ≡ {form.seen_tree("result")}', 'result.foreign.now ≡ foreign.now')}
+    {{
+        match node.parts() {{
+            [{names}] => {arm},
+            _ => unreachable!(),
+        }}
+    }}
+}}
+'''
+
+
+def maker(form):
+    tree = ' '.join([form.name, 'unnumbered', 'None'] + (['None'] if form.id else []) + [m.name for m in form.fields])
+    parts = ', '.join(m.code_part.format(m.name) for m in form.members)
+    return f'''
+/// Makes a node of this kind, which has no number yet: {form.doc[:1].lower() + form.doc[1:]}
+/// Fails on allocation failure alone.
+pub fn make_{form.name}(alloc: Global{''.join(f', {m.name}: {m.owned}' for m in form.fields)}) -> Result<Node, AllocError>
+    ensures {{ IfOk result (λ t. t ≡ {tree}) }}
+{{
+    let parts = {f'vec![in alloc; {parts}]?' if parts else 'Vec::new(alloc)'};
+    Ok(Node::new(Kind::{form.kind}, Contents {{ node_id: NodeId::DUMMY, span: None, semantic_id: None, parts: List::from_vec(parts) }}))
+}}
+'''
+
+
+def import_lines(body, sources, line):
+    """the lines of the names that the body has"""
+    out = ''
+    for path, names in sources:
+        used = [n for n in names if re.search(r'\b' + re.escape(n.split(' as ')[-1]) + r'\b' if n[0].isalnum() else re.escape(n.strip('◌')), body)]
+        if used: out += line(path, used)
+    return out
+
+
+def code_imports(body, specs_of, forms):
+    numbers = ['scope_number', 'symbol_number', 'reference_number']
+    ghost = import_lines('\n'.join(x for x in body.split('\n') if re.search(r'requires|ensures|ghost', x)), [
+        ('Rattle.std.specs.Prelude', ['◌≡◌', 'IfOk', 'None', 'length', 'option_map']),
+        (f'Rattle.{BASE}.specs.Carried', ['span_of'] + numbers),
+        (f'Rattle.{BASE}.specs.Numbered', ['unnumbered']),
+        (f'Rattle.{BASE}.specs.Tree', ['of_kind']),
+        (f'Rattle.{BASE}.specs.declared.kind.Kind', ['Kind']),
+        (f'Rattle.{NODE}.specs.View', ['kind_of']),
+        (specs_of, [form.name for form in forms]),
+    ], lambda path, names: f'ghost use {path}.{{{", ".join(names)}}};\n')
+    ids = ['NodeId', 'Span', 'ScopeId', 'SymbolId', 'ReferenceId']
+    code = import_lines(body, [
+        ('es_base::ids', ids), ('es_base::kind', ['Kind']), ('es_base::list', ['List']), ('es_base::literal', ['LiteralValue']), ('es_base::name', ['Name']),
+        ('es_base::operator', sorted(list(WORDS) + ['Word'])), ('es_node::node', ['Contents', 'Node', 'Part']),
+        ('es_node::parts', ['nullable_part', 'nullable_string_part']),
+        ('es_node::room', [f'{way}_{n}' for way in ('put', 'take') for n in NUMBERS]),
+        ('es_node::semantic_ids', [f'{x}_id_of' for x in ('scope', 'symbol', 'reference')] + [f'{n}(' for n in numbers]),
+        ('std::alloc', ['AllocError', 'Global']),
+    ], lambda path, names: f'use {path}::{{{", ".join(n.strip("(") for n in names)}}};\n')
+    return ghost + '\n' + code
+
+
+def spec_imports(body):
+    declared = f'Rattle.{BASE}.specs.declared'
+    return import_lines(body, [
+        ('Rattle.std.specs.Prelude', ['ℕ', 'List', 'Bool', 'false', 'Option', 'None', 'codes']),
+        (f'Rattle.{BASE}.specs.Tree', ['Tree', 'Node', 'end', 'more', 'child', 'list', 'string', 'boolean', 'literal as literal_part', 'trees', 'nullable_trees', 'nullable', 'nullable_string']),
+        (f'Rattle.{BASE}.specs.Words', [f'{snake(w)}_string' for w in WORDS]),
+        (f'{declared}.kind.Kind', ['Kind']), (f'{declared}.literal.LiteralValue', ['LiteralValue']),
+    ] + [(f'{declared}.operator.{w}', [w]) for w in WORDS], lambda path, names: f'use {path}.{{{", ".join(names)}}}\n')
+
+
+def write_layer():
+    for module, (crate, what) in MODULES.items():
+        forms = [Form(kind, row) for row in ROWS.values() if row[0] == module for kind in row[1]]
+        specs, file = ''.join(map(spec, forms)), module.capitalize()
+        lines = '\n'.join(x for x in specs.split('\n') if not x.startswith('--'))
+        write(f'specs/{file}.antt', spec_head(what[:-1] + ': the tree of each kind by its members (ESTree; the order of members is our own).') + spec_imports(lines) + specs, crate)
+        body = ''.join((owned(f) + borrowed(f) if f.members else '') + maker(f) for f in forms)
+        write(f'src/{module}.rt', code_head(what + ' Each kind has a struct of its members, which keeps the emptied list of its\n// node\'s parts, the same borrowed, and a maker.') + '\n' + code_imports(body, f'Rattle.{crate}.specs.{file}', forms) + body, crate)
