@@ -210,7 +210,7 @@ class Matcher {
     const [first, ...rest] = places.filter(n => n);
     if (!first) { if (isIdentifier(s) || isType(s, 'ThisExpression')) k(); return; }
     if (this.isKept(first) && rest.every(n => isIdentifier(n, first.left.name))) this.match(s, first.right, k);
-    if (rest.every(n => same(n, first))) this.match(s, first, k);
+    if (rest.every(n => same(n, first)) && (!rest.length || isCopied(first))) this.match(s, first, k);
   }
 
   assignment(s, o, k) {
@@ -651,6 +651,8 @@ class Matcher {
   }
 }
 
+// what may stand twice: it has no event
+function isCopied(n) { return ['Identifier', 'ThisExpression', 'Literal'].includes(n.type) || (isType(n, 'TemplateLiteral') && !n.expressions.length); }
 // the helper itself, not called
 function helperValue(n, name) { return isMember(n, name) && isIdentifier(n.object, 'babelHelpers'); }
 // whether a class stands in a form, outside functions

@@ -1,12 +1,6 @@
-// Numbers worked rows: for each row, a source and what it is lowered to, it prints the two trees with their numbers.
+// Numbers worked rows: of each it prints the source and what it is lowered to, as trees with their numbers (README.md).
 //
-//   node number-rows.js ROWS [--out FOLDER] [--only NAME] [--list]
-//
-// ROWS is a file of JSON, or a module of node with a member `rows`: objects with `id`, `words` (the options), `input` and `out`
-// (source texts, in which `B.` stands for `babelHelpers.`), and `type: "module"` where it is one. `generated`, `outside`, `outsideBy`
-// and `warnings`, where they are given, are compared with what is printed. A row's name, and what else must be told of it, stands in
-// rows.json beside this file, by its source and options; docs of its members are in README.md. FOLDER gets, for each row,
-// `NAME.source.json` and `NAME.output.json` (docs/JSON.md) and `specs/Name.antt`.
+//   node number-rows.js [ROWS] [--out FOLDER] [--only NAME] [--show] [--list]
 const fs = require('fs');
 const path = require('path');
 const { annotate, preorder } = require('./table.js');
@@ -71,11 +65,11 @@ function texts(row, r) {
   const out = {
     [`${r.name}.source.json`]: compact(json(r.source)),
     [`${r.name}.output.json`]: compact(lowered),
-    [`specs/${name}.antt`]: moduleText({ name: r.name, source: row.input, output: row.out }, r.source, r.output, r.ledger, r.options),
+    [`specs/rows/${name}.antt`]: moduleText({ name: r.name, source: row.input, output: row.out }, r.source, r.output, r.ledger, r.options),
   };
   if (row.text && row.text !== out[`${r.name}.output.json`]) throw new Error('the text differs from that of the row');
   // the module and the JSON are the same trees
-  const again = readModule(out[`specs/${name}.antt`]);
+  const again = readModule(out[`specs/rows/${name}.antt`]);
   for (const what of ['source', 'output']) {
     const tree = plain(annotate(JSON.parse(out[`${r.name}.${what}.json`]), 'Program'));
     if (!equal(tree, again[what])) throw new Error(`the module and the JSON differ in the ${what}`);
@@ -83,30 +77,53 @@ function texts(row, r) {
   return out;
 }
 
+// the rows of rows.json, with what the file `given` has of them
+function rowsOf(given) {
+  const table = JSON.parse(fs.readFileSync(path.join(__dirname, 'rows.json'), 'utf8'));
+  if (!given) return table.map(told => [told.name, asGiven(told), told]);
+  const file = path.resolve(given), value = file.endsWith('.json') ? JSON.parse(fs.readFileSync(file, 'utf8')) : require(file);
+  const key = (words, input, type) => JSON.stringify([words, input, type || 'script']);
+  const names = new Map(table.map(told => [key(told.options, told.source, told.type), told]));
+  const withTrees = (Array.isArray(value) ? value : value.rows).filter(row => typeof row.input === 'string' && row.out);
+  return withTrees.map(row => [row.id, row, names.get(key(row.words, row.input, row.type))]);
+}
+const asGiven = told => ({ words: told.options, input: told.source, out: told.output, type: told.type, generated: told.generated, warnings: told.warnings, text: told.text });
+
+function write(folder, files) {
+  for (const [name, text] of Object.entries(files)) {
+    const at = path.join(folder, name);
+    fs.mkdirSync(path.dirname(at), { recursive: true });
+    fs.writeFileSync(at, text);
+  }
+}
+const line = r => `${preorder(r.source).length} -> ${preorder(r.output).length} nodes, generated ${r.ledger.map(e => `${e.name} ${e.kind}${e.number === undefined ? '' : ' ' + e.number}`).join(', ') || 'none'}`;
+// the nodes of both trees with their numbers and places
+function show(r) {
+  for (const what of ['source', 'output']) {
+    console.log(what);
+    for (const n of preorder(r[what])) console.log(`  ${String(n.num).padStart(3)} ${n.nodeKind} ${n.name ?? n.operator ?? (n.literal ? n.literal.value ?? n.literal.raw : '')}  ${n.path}`);
+  }
+}
+
 function main() {
   const args = process.argv.slice(2), option = name => { const i = args.indexOf(name); return i < 0 ? null : args.splice(i, 2)[1]; };
-  const folder = option('--out'), only = option('--only'), list = args.includes('--list');
-  const file = path.resolve(args.filter(a => !a.startsWith('--'))[0]);
-  const given = file.endsWith('.json') ? JSON.parse(fs.readFileSync(file, 'utf8')) : require(file);
-  const table = JSON.parse(fs.readFileSync(path.join(__dirname, 'rows.json'), 'utf8'));
-  const key = (words, input, type) => JSON.stringify([words, input, type || 'script']);
-  const names = new Map(table.map(t => [key(t.options, t.source, t.type), t]));
+  const folder = option('--out'), only = option('--only'), has = flag => args.includes(flag);
   let failed = 0;
   const modules = [];
-  for (const row of Array.isArray(given) ? given : given.rows) {
-    if (typeof row.input !== 'string' || !row.out) continue;
-    const told = names.get(key(row.words, row.input, row.type));
-    if (!told) { if (!only) console.log(`${row.id}: rows.json has no name for it`); continue; }
+  for (const [id, row, told] of rowsOf(args.find(a => !a.startsWith('--')))) {
+    if (!told) { if (!only) console.log(`${id}: rows.json has no name for it`); continue; }
     if (only && told.name !== only) continue;
-    if (list) { console.log(`${row.id}: ${told.name}`); continue; }
+    if (has('--list')) { console.log(`${id}: ${told.name}`); continue; }
     try {
+      if (told.output !== row.out) throw new Error('the output differs from that of rows.json');
       const r = numberRow(row, told), files = texts(row, r);
-      if (folder) for (const [name, text] of Object.entries(files)) { const at = path.join(folder, name); fs.mkdirSync(path.dirname(at), { recursive: true }); fs.writeFileSync(at, text); }
-      modules.push(...Object.keys(files).filter(f => f.endsWith('.antt')).map(f => path.basename(f, '.antt')));
-      console.log(`${row.id}: ${told.name}: ${preorder(r.source).length} -> ${preorder(r.output).length} nodes, generated ${r.ledger.map(e => `${e.name} ${e.kind}${e.number === undefined ? '' : ' ' + e.number}`).join(', ') || 'none'}`);
-    } catch (e) { failed++; console.log(`${row.id}: ${told.name}: FAILED: ${process.env.TRACE ? e.stack : e.message}`); }
+      if (folder) write(folder, files);
+      if (has('--show')) show(r);
+      modules.push(path.basename(Object.keys(files)[2], '.antt'));
+      console.log(`${id}: ${told.name}: ${line(r)}`);
+    } catch (e) { failed++; console.log(`${id}: ${told.name}: FAILED: ${process.env.TRACE ? e.stack : e.message}`); }
   }
-  if (folder && modules.length && !only) fs.writeFileSync(path.join(folder, 'specs', 'rows.antt'), modules.sort().map(m => `pub mod ${m}\n`).join(''));
+  if (folder && modules.length && !only) write(folder, { 'specs/rows.antt': modules.sort().map(m => `pub mod ${m}\n`).join('') });
   console.log(`${modules.length} printed, ${failed} failed`);
   process.exit(failed ? 1 : 0);
 }

@@ -48,13 +48,13 @@ const generatedJson = ({ name, kind, number }) => ({ name, kind: WORDS[kind][0],
 // ---- a module
 
 const codes = s => `(codes ${JSON.stringify(s)})`;
-// items before a last one, each in its own brackets: `more a (more b end)`
-function chain(items, last, by) { return items.reduceRight((rest, item) => (rest === last ? `${by(item)} ${last}` : `${by(item)} (${rest})`), last); }
+// `more a (more b end)`
+const chained = ps => ps.reduceRight((rest, p) => `more ${p} ${rest === 'end' ? rest : `(${rest})`}`, 'end');
 
 function term(n) { return `node Kind.${n.nodeKind} ${n.num} ${parts(n)}`; }
 function parts(n) {
   const ps = MEMBERS[n.nodeKind].map(m => part(n, m));
-  return ps.length ? `(${ps.reduceRight((rest, p) => `more ${p} ${rest === 'end' ? rest : `(${rest})`}`, 'end')})` : 'end';
+  return ps.length ? `(${chained(ps)})` : 'end';
 }
 function part(n, { name, sort }) {
   const v = n[name];
@@ -62,7 +62,7 @@ function part(n, { name, sort }) {
   if (LISTS.has(sort)) {
     if (!v.length) return '(list end)';
     if (v.every(x => x)) return `(list (trees (${v.map(x => `${term(x)} ∷ `).join('')}[])))`;
-    return `(list (${v.reduceRight((rest, x) => `more ${x ? `(child (${term(x)}))` : 'absent'} ${rest === 'end' ? rest : `(${rest})`}`, 'end')}))`;
+    return `(list (${chained(v.map(x => (x ? `(child (${term(x)}))` : 'absent')))}))`;
   }
   if (sort === 'Literal') return `(literal (${literalTerm(n.literal)}))`;
   if (sort === 'NullableString' || sort === 'Cooked') return v === null ? 'no_string' : `(string ${codes(v)})`;
@@ -89,16 +89,18 @@ function optionsTerm(o) {
   return `record { class_properties = ${o.classProperties}; static_blocks = ${o.staticBlocks}; sets_fields = ${o.sets}; removes_fields = ${o.removes} }`;
 }
 
-function imports(body) {
+function imports(text) {
+  const body = text.replace(/^--.*$/gm, '').replace(/"(?:[^"\\\n]|\\.)*"/g, '""');
   const used = (...words) => words.filter(w => new RegExp(`(^|[^\\w.])${w}(?![\\w.])`).test(body));
   const lines = [];
-  const prelude = [...used('true', 'false'), ...(/ codes /.test(body) || /\(codes/.test(body) ? ['codes'] : []), ...(/\bSome\b/.test(body) ? ['Some'] : [])];
-  lines.push(`use Rattle.std.specs.Prelude.{ℕ, List, [], ${/∷/.test(body) ? '◌∷◌, ' : ''}${[...prelude, 'None'].join(', ')}}`);
-  lines.push(`use Rattle.es_base.specs.Tree.{${['Tree', 'Parts', 'Node', ...used('end', 'more', 'child', 'absent', 'list', 'string', 'no_string', 'boolean', 'literal', 'trees')].join(', ')}}`);
+  const prelude = ['List', '[]', ...(/∷/.test(body) ? ['◌∷◌'] : []), ...used('true', 'false', 'codes', 'Some', 'None')];
+  lines.push(`use Rattle.std.specs.Prelude.{${prelude.join(', ')}}`);
+  lines.push(`use Rattle.es_base.specs.Tree.{${['Tree', ...used('end', 'more', 'child', 'absent', 'list', 'string', 'no_string', 'boolean', 'literal', 'trees')].join(', ')}}`);
   lines.push('use Rattle.es_base.specs.declared.kind.Kind.{Kind}');
   if (/GeneratedKind\./.test(body)) lines.push('use Rattle.es_base.specs.declared.ledger.GeneratedKind.{GeneratedKind}');
   lines.push('use Rattle.es_base.specs.declared.ledger.LedgerEntry.{LedgerEntry}');
   if (/literal_value\./.test(body)) lines.push('use Rattle.es_base.specs.declared.literal.LiteralValue.TheVariants as literal_value');
+  lines.push('use Rattle.es_steps.specs.Made.{node}');
   lines.push('use Rattle.es_steps.specs.Options.{Options}');
   return lines.join('\n');
 }
@@ -112,8 +114,7 @@ function moduleText(row, source, output, ledger, options) {
     `${define('generated', 'List LedgerEntry', ledger.map(entryTerm).join('') + '[]')}`,
     `${assumed.length ? `-- assumed, too: ${assumed.join(', ')}\n` : ''}${define('options', 'Options', optionsTerm(options))}`,
   ].join('\n');
-  const node = 'abbrev node : Kind → ℕ → Parts → Tree\nnode kind m ps = Node kind m None None ps\n';
-  return `-- Printed by tools/rows/number-rows.js from \`${row.name}\` of tools/rows/rows.json: a worked row, numbered.\n${imports(body)}\n\n${node}\n${body}`;
+  return `-- Printed by tools/rows/number-rows.js from \`${row.name}\` of tools/rows/rows.json: a worked row with its numbers.\n${imports(body)}\n\n${body}`;
 }
 
 // ---- reading a module again
