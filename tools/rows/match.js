@@ -129,13 +129,15 @@ class Matcher {
   isReplacedWrite(s, o) { return s.nodeKind === 'AssignmentExpression' && s.operator === '=' && this.isReplacedTarget(s.left) && o.left.nodeKind !== s.left.nodeKind; }
   isReplacedTarget(n) { return n.nodeKind === 'PrivateField' || (n.nodeKind === 'MemberExpression' && isType(n.object, 'Super')); }
 
-  // `(() => { return e; })()` and `babelHelpers.setFunctionName(f, k)`
+  // `(() => { return e; })()`, `babelHelpers.setFunctionName(f, k)` and `_key = babelHelpers.toPropertyKey(k)`
   wrapped(s, o, k) {
     const arrow = calledArrow(o), named = helper(o, 'setFunctionName', 2);
     if (arrow && isBlockStatement(arrow.body)) {
       const body = arrow.body.body, last = body[body.length - 1];
       if (isType(last, 'ReturnStatement') && last.argument && body.slice(0, -1).every(n => this.isBareDeclaration(n))) this.match(s, last.argument, k);
     }
+    const key = this.isKept(o) && helper(o.right, 'toPropertyKey', 1);
+    if (key) this.match(s, key[0], k);
     if (named && FUNCTIONS.has(s.nodeKind)) this.match(s, named[0], k);
   }
 

@@ -1,6 +1,7 @@
 // Numbers worked rows: of each it prints the source and what it is lowered to, as trees with their numbers (README.md).
 //
 //   node number-rows.js [ROWS] [--out FOLDER] [--only NAME] [--show] [--list]
+//   node number-rows.js --table FILE ..   the same with FILE in place of rows.json
 const fs = require('fs');
 const path = require('path');
 const { annotate, preorder } = require('./table.js');
@@ -57,7 +58,7 @@ function outsideOf(row, told) {
 }
 const sortedMembers = v => v.map(e => Object.fromEntries(Object.entries(e).sort()));
 
-function texts(row, r) {
+function texts(row, r, table) {
   const generated = r.ledger.map(generatedJson);
   if (row.generated && !equal(sortedMembers(row.generated), sortedMembers(generated))) throw new Error(`generated ${JSON.stringify(generated)}`);
   const lowered = { ...json(r.output), generated, warnings: r.warnings, outside: r.outside };
@@ -65,7 +66,7 @@ function texts(row, r) {
   const out = {
     [`${r.name}.source.json`]: compact(json(r.source)),
     [`${r.name}.output.json`]: compact(lowered),
-    [`specs/rows/${name}.antt`]: moduleText({ name: r.name, source: row.input, output: row.out }, r.source, r.output, r.ledger, r.options),
+    [`specs/rows/${name}.antt`]: moduleText({ name: r.name, table, source: row.input, output: row.out }, r.source, r.output, r.ledger, r.options),
   };
   if (row.text && row.text !== out[`${r.name}.output.json`]) throw new Error('the text differs from that of the row');
   // the module and the JSON are the same trees
@@ -78,8 +79,8 @@ function texts(row, r) {
 }
 
 // the rows of rows.json, with what the file `given` has of them
-function rowsOf(given) {
-  const table = JSON.parse(fs.readFileSync(path.join(__dirname, 'rows.json'), 'utf8'));
+function rowsOf(given, tableName) {
+  const table = JSON.parse(fs.readFileSync(path.resolve(__dirname, tableName), 'utf8'));
   if (!given) return table.map(told => [told.name, asGiven(told), told]);
   const file = path.resolve(given), value = file.endsWith('.json') ? JSON.parse(fs.readFileSync(file, 'utf8')) : require(file);
   const key = (words, input, type) => JSON.stringify([words, input, type || 'script']);
@@ -107,23 +108,26 @@ function show(r) {
 
 function main() {
   const args = process.argv.slice(2), option = name => { const i = args.indexOf(name); return i < 0 ? null : args.splice(i, 2)[1]; };
-  const folder = option('--out'), only = option('--only'), has = flag => args.includes(flag);
+  const folder = option('--out'), only = option('--only'), table = option('--table') || 'rows.json', has = flag => args.includes(flag);
   let failed = 0;
   const modules = [];
-  for (const [id, row, told] of rowsOf(args.find(a => !a.startsWith('--')))) {
+  for (const [id, row, told] of rowsOf(args.find(a => !a.startsWith('--')), table)) {
     if (!told) { if (!only) console.log(`${id}: rows.json has no name for it`); continue; }
     if (only && told.name !== only) continue;
     if (has('--list')) { console.log(`${id}: ${told.name}`); continue; }
     try {
       if (told.output !== row.out) throw new Error('the output differs from that of rows.json');
-      const r = numberRow(row, told), files = texts(row, r);
+      const r = numberRow(row, told), files = texts(row, r, table);
       if (folder) write(folder, files);
       if (has('--show')) show(r);
       modules.push(path.basename(Object.keys(files)[2], '.antt'));
       console.log(`${id}: ${told.name}: ${line(r)}`);
     } catch (e) { failed++; console.log(`${id}: ${told.name}: FAILED: ${process.env.TRACE ? e.stack : e.message}`); }
   }
-  if (folder && modules.length && !only) write(folder, { 'specs/rows.antt': modules.sort().map(m => `pub mod ${m}\n`).join('') });
+  if (folder && modules.length) {
+    const all = fs.readdirSync(path.join(folder, 'specs', 'rows')).sort();
+    write(folder, { 'specs/rows.antt': all.map(f => `pub mod ${path.basename(f, '.antt')}\n`).join('') });
+  }
   console.log(`${modules.length} printed, ${failed} failed`);
   process.exit(failed ? 1 : 0);
 }

@@ -114,7 +114,7 @@ function moduleText(row, source, output, ledger, options) {
     `${define('generated', 'List LedgerEntry', ledger.map(entryTerm).join('') + '[]')}`,
     `${assumed.length ? `-- assumed, too: ${assumed.join(', ')}\n` : ''}${define('options', 'Options', optionsTerm(options))}`,
   ].join('\n');
-  return `-- Printed by tools/rows/number-rows.js from \`${row.name}\` of tools/rows/rows.json: a worked row with its numbers.\n${imports(body)}\n\n${body}`;
+  return `-- Printed by tools/rows/number-rows.js from \`${row.name}\` of tools/rows/${row.table}: a worked row with its numbers.\n${imports(body)}\n\n${body}`;
 }
 
 // ---- reading a module again
