@@ -47,7 +47,7 @@ function numberRow(row, told) {
   for (const n of preorder(output)) if (n.num < nodes.length && n.literal && n.literal.tag === 'String') n.literal.raw = nodes[n.num].literal ? nodes[n.num].literal.raw : null;
   const ledger = ledgerOf(output, answers[0].ledger, nodes.length);
   check(source, output, ledger, options);
-  return { name: told.name, source, output, ledger, options, outside: outsideOf(row, told), warnings: row.warnings || [] };
+  return { name: told.name, nodes: nodes.length, source, output, ledger, options, outside: outsideOf(row, told), warnings: row.warnings || [] };
 }
 
 const equal = (a, b) => JSON.stringify(a) === JSON.stringify(b);
@@ -66,7 +66,7 @@ function texts(row, r, table) {
   const out = {
     [`${r.name}.source.json`]: compact(json(r.source)),
     [`${r.name}.output.json`]: compact(lowered),
-    [`specs/rows/${name}.antt`]: moduleText({ name: r.name, table, source: row.input, output: row.out }, r.source, r.output, r.ledger, r.options),
+    [`specs/rows/${name}.antt`]: moduleText({ name: r.name, table, source: row.input, output: row.out }, r),
   };
   if (row.text && row.text !== out[`${r.name}.output.json`]) throw new Error('the text differs from that of the row');
   // the module and the JSON are the same trees

@@ -93,7 +93,7 @@ function imports(text) {
   const body = text.replace(/^--.*$/gm, '').replace(/"(?:[^"\\\n]|\\.)*"/g, '""');
   const used = (...words) => words.filter(w => new RegExp(`(^|[^\\w.])${w}(?![\\w.])`).test(body));
   const lines = [];
-  const prelude = ['List', '[]', ...(/∷/.test(body) ? ['◌∷◌'] : []), ...used('true', 'false', 'codes', 'Some', 'None')];
+  const prelude = ['ℕ', 'List', '[]', ...(/∷/.test(body) ? ['◌∷◌'] : []), ...used('true', 'false', 'codes', 'Some', 'None')];
   lines.push(`use Rattle.std.specs.Prelude.{${prelude.join(', ')}}`);
   lines.push(`use Rattle.es_base.specs.Tree.{${['Tree', ...used('end', 'more', 'child', 'absent', 'list', 'string', 'no_string', 'boolean', 'literal', 'trees')].join(', ')}}`);
   lines.push('use Rattle.es_base.specs.declared.kind.Kind.{Kind}');
@@ -105,13 +105,15 @@ function imports(text) {
   return lines.join('\n');
 }
 
-function moduleText(row, source, output, ledger, options) {
+function moduleText(row, { source, output, ledger, options, outside, nodes }) {
   const name = row.name, define = (what, type, value) => `abbrev pub ${what}_${name} : ${type}\n${what}_${name} = ${value}\n`;
   const assumed = Object.entries(options.assumptions).filter(([key, v]) => v && key !== 'setPublicClassFields').map(([key]) => key);
   const body = [
     `-- \`${row.source}\`\n${define('source', 'Tree', term(source))}`,
+    `-- the number of its nodes\n${define('nodes', 'ℕ', nodes)}`,
     `-- \`${row.output}\`\n${define('output', 'Tree', term(output))}`,
-    `${define('generated', 'List LedgerEntry', ledger.map(entryTerm).join('') + '[]')}`,
+    define('generated', 'List LedgerEntry', ledger.map(entryTerm).join('') + '[]'),
+    `-- the numbers of its shapes\n${define('outside', 'List ℕ', outside.map(n => `${n} ∷ `).join('') + '[]')}`,
     `${assumed.length ? `-- assumed, too: ${assumed.join(', ')}\n` : ''}${define('options', 'Options', optionsTerm(options))}`,
   ].join('\n');
   return `-- Printed by tools/rows/number-rows.js from \`${row.name}\` of tools/rows/${row.table}: a worked row with its numbers.\n${imports(body)}\n\n${body}`;
