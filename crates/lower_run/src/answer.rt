@@ -4,8 +4,7 @@ ghost use Rattle.std.specs.Prelude.{◌≡◌, ◌≤◌, ◌<◌, ◌+◌, ◌^
 ghost use Rattle.es_base.specs.Conforms.{conforms};
 ghost use Rattle.es_base.specs.Preorder.{numbered_from};
 ghost use Rattle.es_base.specs.declared.table.Place.{Place};
-ghost use Rattle.es_lowered.specs.Lowered.{write_lowered};
-ghost use Rattle.es_members.specs.Standing.{Fits};
+ghost use Rattle.es_writing.specs.Lowered.{write_lowered};
 ghost use Rattle.es_reading.specs.Reading.{read, root};
 ghost use Rattle.es_reading.specs.Told.{Tells, ids, values};
 ghost use Rattle.es_reading.specs.declared.numbers.Numbers.{Numbers};
@@ -23,7 +22,7 @@ use crate::arguments::Lowering;
 use es_base::ids::NodeId;
 use es_base::ledger::Ledger;
 use es_base::list::List;
-use es_lowered::lowered::write_lowered;
+use es_writing::lowered::write_lowered;
 use es_node::node::Node;
 use es_reading::fault::ReadError;
 use es_reading::numbers::Numbers;
