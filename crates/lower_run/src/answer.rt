@@ -71,7 +71,7 @@ fn of_value(alloc: Global, lowering: Lowering, value: Value) -> Result<Output, A
 fn tree_of(alloc: Global, value: Value) -> Result<(Node, List<NodeId>), ReadError>
     requires { values (view value) + 1 < 2 ^ 32 }
     ensures ok { IfOk result (λ r. read Numbers.Preorder (view value) root 0 ≡ Ok (record { value = r.0; foreign = ids r.1 })) }
-    ensures fits { IfOk result (λ r. Fits Place.Program r.0) }
+    ensures conforms { IfOk result (λ r. conforms Place.Program r.0 ≡ true) }
     ensures preorder { IfOk result (λ r. r.0 ≡ numbered_from 0 r.0) }
     ensures err { IfErr result (λ e. Tells e (read Numbers.Preorder (view value) root 0)) }
 {
@@ -100,7 +100,7 @@ fn of_tree(
     tree: Node,
     foreign: &[NodeId],
 ) -> Result<Output, AllocError>
-    requires fits { conforms Place.Program tree ≡ true }
+    requires conforms { conforms Place.Program tree ≡ true }
     requires preorder { tree ≡ numbered_from 0 tree }
     ensures { IfOk result (λ s. IsOutputOfTree (options_for lowering) tree (ids foreign.now) s.status (string_bytes s.text)) }
 {
@@ -124,6 +124,7 @@ fn lower_form(
     tree: Node,
     foreign: &[NodeId],
 ) -> Result<Node, LowerError>
+    requires { conforms Place.Program tree ≡ true }
     ensures ok { IfOk result (λ r. IsOfForm tree (ids foreign.now) × (r ≡ lowered_by lowering tree)) }
     ensures err { IfErr result (λ e. IsRefused tree (ids foreign.now) e) }
 {
@@ -134,6 +135,7 @@ fn lower_form(
 }
 
 fn lower_by(alloc: Global, lowering: Lowering, tree: Node) -> Result<Node, AllocError>
+    requires conforms { conforms Place.Program tree ≡ true }
     requires form { is_first_form tree [] ≡ true }
     ensures { IfOk result (λ r. r ≡ lowered_by lowering tree) }
 {
