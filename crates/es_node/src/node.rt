@@ -8,8 +8,10 @@ use es_base::name::Name;
 use es_base::operator::Word;
 use std::marker::Model;
 
+mod conforms;
 mod count;
 mod number;
+mod rules;
 
 /// A node of a syntax tree (ESTree up to ES2022), which contracts see as a tree of the definitions. What
 /// stands at its members has the shapes that the table of kinds says, and it has a semantic id only where
