@@ -7,9 +7,13 @@ use es_base::literal::LiteralValue;
 use es_base::name::Name;
 use es_base::operator::Word;
 use std::marker::Model;
+use std::mem;
 
+mod clone;
+mod conforms;
 mod count;
 mod number;
+mod rules;
 
 /// A node of a syntax tree (ESTree up to ES2022), which contracts see as a tree of the definitions. What
 /// stands at its members has the shapes that the table of kinds says, and it has a semantic id only where
@@ -87,7 +91,9 @@ pub struct Contents {
 }
 
 impl Node {
-    ghost use Rattle.std.specs.Prelude.{◌≡◌, length, IsTrue, true};
+    ghost use Rattle.std.specs.Prelude.{◌≡◌, length, IsTrue, true, None, []};
+    ghost use Rattle.es_base.specs.Numbered.{unnumbered};
+    ghost use Rattle.es_base.specs.declared.kind.Kind.{Kind};
     ghost use Rattle.es_base.specs.Table.{members_of};
     ghost use Rattle.es_base.specs.Carried.{span_of};
     ghost use Rattle.es_node.specs.Bearing.{semantic_id_fits};
@@ -127,6 +133,22 @@ impl Node {
             semantic_id: self.semantic_id,
             parts: self.parts,
         }
+    }
+
+    /// Takes the tree out of its place, and leaves a placeholder there: an empty statement with no
+    /// number and no span. Allocates nothing.
+    pub fn take(&mut self) -> Node
+        ensures taken { result ≡ self.old }
+        ensures placeholder { self.new ≡ node_of Kind.EmptyStatement unnumbered None None [] }
+    {
+        let placeholder = Node {
+            kind: Kind::EmptyStatement,
+            node_id: NodeId::DUMMY,
+            span: None,
+            semantic_id: None,
+            parts: self.parts.empty_list(),
+        };
+        mem::replace(self, placeholder)
     }
 
     /// What it is.
