@@ -1,4 +1,4 @@
--- What stands at the members of an object. A text of JSON is a list of bytes, a text of a tree one of
+-- What stands at the members of an object. A string of JSON is a list of bytes, a string of a tree one of
 -- characters.
 use Rattle.std.specs.Prelude.{ℕ, ◌^◌, nat_lt, List, Bool, true, false, is_some, Option, Some, None, option_map, option_and_then, if◌then◌else◌, bytes_eq, codes}
 use Rattle.std.specs.Str.{chars}
@@ -25,7 +25,7 @@ is_true (Some b) = b
 abbrev pub is_true_at : List ℕ → Data → Bool
 is_true_at key d = is_true (boolean_at key d)
 
--- the member is this text
+-- the member is this string
 abbrev pub is_this : List ℕ → Option (List ℕ) → Bool
 is_this word None = false
 is_this word (Some s) = bytes_eq word s

@@ -13,7 +13,7 @@ use Rattle.es_reading.specs.declared.spot.Slots.{Slots}
 use Rattle.serde_json.specs.View.{view}
 use Rattle.serde_json.specs.declared.value.Value.{Value}
 
--- an error is the fault, unless memory ran out
+-- an error is the fault, unless allocation failed
 abbrev pub Tells : {T : Type 0} → ReadError → Result T Fault → Type 0
 Tells ReadError.NoMemory r = Unit
 Tells (ReadError.NotATree at what) r = r ≡ Err (not_a_tree at what)

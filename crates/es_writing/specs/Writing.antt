@@ -23,7 +23,7 @@ put_all ms (e ∷ es) = put_all (put e.0 e.1 ms) es
 abbrev pub object_of : List Entry → Data
 object_of es = object (put_all no_members es)
 
--- a text of a tree is a list of characters, one of JSON is a list of bytes
+-- a string of a tree is a list of characters, one of JSON is a list of bytes
 abbrev pub string_of : List ℕ → Data
 string_of s = json_string (encode_utf8_all s)
 
@@ -73,7 +73,7 @@ more_entries Kind.UnaryExpression ps = entry (codes "prefix") (json_boolean true
 more_entries Kind.ArrowFunctionExpression ps = entry (codes "expression") (json_boolean (not (is_block ps))) []
 more_entries kind ps = []
 
--- the texts of a template element, of which the second may be absent
+-- the strings of a template element, of which the second may be absent
 abbrev pub cooked_of : Part → Data
 cooked_of (string s) = string_of s
 cooked_of p = null

@@ -2,21 +2,32 @@
 
 ghost use Rattle.std.specs.Prelude.{◌≡◌, [], IfOk, OnOk};
 ghost use Rattle.es_base.specs.Carried.{span_of};
+ghost use Rattle.es_base.specs.Words.{word_string};
 ghost use Rattle.es_writing.specs.Writing.{entry, put_all, string_of, number_of, span_entries};
 ghost use Rattle.serde_json.specs.Data.{null, boolean as json_boolean, string as json_string};
 ghost use Rattle.serde_json.specs.View.{view, members_view};
 
 use es_base::ids::Span;
 use es_base::name::Name;
+use es_base::operator::Word;
+use es_base::word::word_str;
 use serde_json::{Map, Value};
 use std::alloc::{AllocError, Global};
 
-/// The value of a text of a tree. Fails on allocation failure alone.
+/// The value of a string of a tree. Fails on allocation failure alone.
 #[tactic(auto, using(crate::proofs::Keeping::encodes))]
 pub fn string_of(alloc: Global, string: &Name) -> Result<Value, AllocError>
     ensures { IfOk result (λ v. view v ≡ string_of string.now) }
 {
     Value::try_from_str(alloc, string.as_str())
+}
+
+/// The value of a word of the table. Fails on allocation failure alone.
+#[tactic(auto, using(crate::proofs::Keeping::word_encodes))]
+pub fn word_of(alloc: Global, word: Word) -> Result<Value, AllocError>
+    ensures { IfOk result (λ v. view v ≡ string_of (word_string word)) }
+{
+    Value::try_from_str(alloc, word_str(word))
 }
 
 /// The value of a number of a tree.
@@ -73,7 +84,7 @@ pub fn put_number(
     put_value(object, alloc, name, number_of(number))
 }
 
-/// Puts a text of a tree at this name. Fails on allocation failure alone.
+/// Puts a string of a tree at this name. Fails on allocation failure alone.
 pub fn put_string(
     object: &mut Map<String, Value>,
     alloc: Global,
@@ -85,16 +96,16 @@ pub fn put_string(
     put_value(object, alloc, name, string_of(alloc, string)?)
 }
 
-/// Puts a word at this name. Fails on allocation failure alone.
-pub fn put_word(
+/// Puts a string at this name. Fails on allocation failure alone.
+pub fn put_str(
     object: &mut Map<String, Value>,
     alloc: Global,
     name: &str,
-    word: &str,
+    string: &str,
 ) -> Result<(), AllocError>
-    ensures { OnOk result (members_view object.new.entries ≡ put_all (members_view object.old.entries) (entry name.now (json_string word.now) [])) }
+    ensures { OnOk result (members_view object.new.entries ≡ put_all (members_view object.old.entries) (entry name.now (json_string string.now) [])) }
 {
-    put_value(object, alloc, name, Value::try_from_str(alloc, word)?)
+    put_value(object, alloc, name, Value::try_from_str(alloc, string)?)
 }
 
 /// Puts in where a node stands in its source, if it stands there (ESTree, `start` and `end`). Fails for

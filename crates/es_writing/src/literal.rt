@@ -4,13 +4,13 @@ ghost use Rattle.std.specs.Prelude.{◌≡◌, IfOk, OnOk};
 ghost use Rattle.es_writing.specs.Writing.{put_all, raw_entry, boolean_string, regex_of, literal_entries};
 ghost use Rattle.serde_json.specs.View.{view, members_view};
 
-use crate::entries::{put_null, put_string, put_boolean, put_value, put_word};
+use crate::entries::{put_boolean, put_null, put_str, put_string, put_value};
 use es_base::literal::LiteralValue;
 use es_base::name::Name;
 use serde_json::{Map, Value};
 use std::alloc::{AllocError, Global};
 
-/// Puts in the value of a literal, and its text: `value` and `raw`, `bigint` or `regex`. What JSON
+/// Puts in the value of a literal, and its source text: `value` and `raw`, `bigint` or `regex`. What JSON
 /// cannot hold has the value null. Fails on allocation failure alone.
 pub fn put_literal(
     object: &mut Map<String, Value>,
@@ -21,16 +21,16 @@ pub fn put_literal(
 {
     match value {
         LiteralValue::String { value, raw } => {
-            put_string(object, alloc, "value", string)?;
+            put_string(object, alloc, "value", value)?;
             put_raw(object, alloc, raw)
         }
         LiteralValue::Number { raw } => {
             put_null(object, alloc, "value")?;
             put_string(object, alloc, "raw", raw)
         }
-        LiteralValue::BigInt { string } => {
+        LiteralValue::BigInt { digits } => {
             put_null(object, alloc, "value")?;
-            put_string(object, alloc, "bigint", string)
+            put_string(object, alloc, "bigint", digits)
         }
         LiteralValue::RegExp { pattern, flags } => {
             put_null(object, alloc, "value")?;
@@ -38,11 +38,11 @@ pub fn put_literal(
         }
         LiteralValue::Boolean(boolean) => {
             put_boolean(object, alloc, "value", *boolean)?;
-            put_word(object, alloc, "raw", boolean_string(*boolean))
+            put_str(object, alloc, "raw", boolean_string(*boolean))
         }
         LiteralValue::Null => {
             put_null(object, alloc, "value")?;
-            put_word(object, alloc, "raw", "null")
+            put_str(object, alloc, "raw", "null")
         }
     }
 }
