@@ -3,6 +3,7 @@ use Rattle.std.specs.Prelude.{nat_le}
 use Rattle.std.proofs.Common.{◌≡◌, refl, sym, ap, ap₂, ◌∙◌, subst, ℕ, ◌+◌, ◌<◌, ◌≤◌, List, [], ◌∷◌, map, Bool, true, false, arith}
 use Rattle.std.proofs.lemmas.Bool.{le-leb, lt-leb}
 use Rattle.es_base.specs.Conforms.{conforms}
+use Rattle.es_base.specs.Numbered.{unnumbered}
 use Rattle.es_base.specs.Preorder.{nodes, nodes_of, nodes_of_part, numbered_from, numbered_part, numbered_parts, one_if, news, news_of, news_of_part, renumbered, renumbered_part, renumbered_parts}
 use Rattle.es_base.specs.Tree.{Tree, Part, Parts, Node, end, more, child, absent, list, string, no_string, boolean, literal, trees}
 use Rattle.es_base.specs.declared.kind.Kind.{Kind}
@@ -10,7 +11,6 @@ use Rattle.es_base.specs.declared.table.Place.{Place}
 use Rattle.es_steps.specs.FirstForm.{is_first_form}
 use Rattle.es_steps.specs.Generated.{constructor_at, define_at, void_at}
 use Rattle.es_steps.specs.Values.{String}
-use Rattle.class_properties.specs.Scratch.{unnumbered}
 use Rattle.class_properties.specs.Lowering.{children, void_0, define_property, constructor, value_or_void, definition, lowered_elements, lowered_body, lowered_class, with_constructors, lowered}
 use Rattle.class_properties.proofs.Numbered as numbered
 use Rattle.class_properties.proofs.Small.{form-fits}

@@ -1,5 +1,5 @@
 -- The kinds of the nodes of a program of the first form.
-use Rattle.std.specs.Prelude.{◌≡◌, List, []}
+use Rattle.std.specs.Prelude.{◌≡◌, List, [], Option, Some, None, IfSome}
 use Rattle.std.specs.List.{All}
 use Rattle.es_base.specs.Tree.{Tree, Node, more, child, list}
 use Rattle.es_base.specs.declared.kind.Kind.{Kind}
@@ -11,7 +11,11 @@ abbrev pub key_of : Tree → Tree
 key_of (Node kind id span semantic_id (more (child key) ps)) = key
 key_of t = t
 
--- the body of a class, and its elements
+-- the name of a class, its body, and the elements of a body
+abbrev pub id_of : Tree → Option Tree
+id_of (Node kind id span semantic_id (more (child name) ps)) = Some name
+id_of t = None
+
 abbrev pub body_of : Tree → Tree
 body_of (Node kind id span semantic_id (more name (more super_class (more (child body) ps)))) = body
 body_of t = t
@@ -40,3 +44,8 @@ pub record IsClass (class : Tree) : Type 0 where
 pub record IsProgram (program : Tree) : Type 0 where
   pub kind : kind_of program ≡ Kind.Program
   pub classes : All IsClass (statements_of program)
+
+-- the parts of any class that conforms
+pub record HasClassParts (class : Tree) : Type 0 where
+  pub name : IfSome (id_of class) (λ id. kind_of id ≡ Kind.BindingIdentifier)
+  pub body : kind_of (body_of class) ≡ Kind.ClassBody

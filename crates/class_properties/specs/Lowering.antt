@@ -1,6 +1,7 @@
 -- What a program of the first form is lowered to: the fields of each class are defined by a constructor, in their order.
 -- (ECMA-262, 15.7.14 and 7.3.34, DefineField; the helper is Babel's.)
 use Rattle.std.specs.Prelude.{List, [], ◌∷◌, map, false, codes, Some, None}
+use Rattle.es_base.specs.Numbered.{unnumbered}
 use Rattle.es_base.specs.Preorder.{nodes, renumbered}
 use Rattle.es_base.specs.Tree.{Tree, Part, Parts, Node, end, more, child, list, trees}
 use Rattle.es_base.specs.declared.literal.LiteralValue.TheVariants as literal_value
@@ -8,7 +9,12 @@ use Rattle.es_base.specs.declared.operator.MethodDefinitionKind.{MethodDefinitio
 use Rattle.es_base.specs.declared.operator.UnaryOperator.{UnaryOperator}
 use Rattle.es_steps.specs.Parts.{at, string_of}
 use Rattle.es_steps.specs.Values.{String}
-use Rattle.class_properties.specs.Scratch.{unnumbered, method_definition, function_expression, this_expression, member_expression, unary_expression, call_expression, identifier_reference, identifier_name, literal, expression_statement, block_statement}
+use Rattle.es_declaration.specs.Class.{method_definition}
+use Rattle.es_declaration.specs.Function.{function_expression}
+use Rattle.es_expression.specs.Expression.{this_expression, member_expression, unary_expression, call_expression}
+use Rattle.es_expression.specs.Identifier.{identifier_reference, identifier_name}
+use Rattle.es_expression.specs.Literal.{literal}
+use Rattle.es_statement.specs.Statement.{expression_statement, block_statement}
 
 -- the nodes of a list
 abbrev pub children : Parts → List Tree

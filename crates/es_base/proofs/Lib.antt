@@ -1,3 +1,4 @@
+pub mod Ascii
 pub mod Conformity
 pub mod NumberedLemmas
 pub mod PreorderLemmas

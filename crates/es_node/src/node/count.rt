@@ -1,6 +1,6 @@
 // The number of nodes of a tree.
 
-ghost use Rattle.std.specs.Prelude.{◌≡◌, ◌<◌, ◌^◌};
+ghost use Rattle.std.specs.Prelude.{◌≡◌, ◌+◌, ◌<◌, ◌^◌, nat_le, MatchOption};
 ghost use Rattle.es_base.specs.Preorder.{nodes, nodes_of, nodes_of_part};
 ghost use Rattle.es_base.specs.Tree.{trees, nullable, nullable_trees};
 ghost use Rattle.es_node.specs.View.{part_of, parts_of};
@@ -13,75 +13,89 @@ impl Node {
         requires { nodes self.now < 2 ^ 32 }
         ensures { result ≡ nodes self.now }
     {
-        count_node(self)
+        match room_after_node(self, u32::MAX) {
+            Some(room) => u32::MAX - room,
+            None => unreachable!(),
+        }
+    }
+
+    /// Whether there are at most this many nodes, this one among them. Counts no further. Allocates
+    /// nothing.
+    pub fn has_at_most(&self, most: u32) -> bool
+        ensures { result ≡ nat_le (nodes self.now) most }
+    {
+        match room_after_node(self, most) {
+            Some(_) => true,
+            None => false,
+        }
     }
 }
 
+/// How many nodes there may be beside those of this one, where there may be `room` in all; nothing where
+/// it has more.
 #[cycle(count)]
 #[tactic(auto, using(crate::proofs::Below::nodes_in))]
-fn count_node(node: &Node) -> u32
-    requires { nodes node.now < 2 ^ 32 }
-    ensures { result ≡ nodes node.now }
+fn room_after_node(node: &Node, room: u32) -> Option<u32>
+    ensures { MatchOption result (room < nodes node.now) (λ left. left + nodes node.now ≡ room) }
 {
-    count_parts(node.parts()) + 1
-}
-
-#[cycle(count)]
-fn count_parts(parts: &[Part]) -> u32
-    requires { nodes_of (parts_of parts.now) < 2 ^ 32 }
-    ensures { result ≡ nodes_of (parts_of parts.now) }
-{
-    let mut count = 0;
-    for part in parts {
-        count += count_part(part);
+    if room == 0 {
+        return None;
     }
-    count
+    room_after_parts(node.parts(), room - 1)
+}
+
+/// The same of these parts.
+#[cycle(count)]
+fn room_after_parts(parts: &[Part], room: u32) -> Option<u32>
+    ensures { MatchOption result (room < nodes_of (parts_of parts.now)) (λ left. left + nodes_of (parts_of parts.now) ≡ room) }
+{
+    let mut room = room;
+    for part in parts {
+        room = room_after_part(part, room)?;
+    }
+    Some(room)
 }
 
 #[cycle(count)]
-fn count_part(part: &Part) -> u32
-    requires { nodes_of_part (part_of part.now) < 2 ^ 32 }
-    ensures { result ≡ nodes_of_part (part_of part.now) }
+fn room_after_part(part: &Part, room: u32) -> Option<u32>
+    ensures { MatchOption result (room < nodes_of_part (part_of part.now)) (λ left. left + nodes_of_part (part_of part.now) ≡ room) }
 {
     match part {
-        Part::Child(node) => count_node(node),
-        Part::List(nodes) => count_list(nodes.as_slice()),
-        Part::Holes(nodes) => count_list_with_holes(nodes.as_slice()),
-        _ => 0,
+        Part::Child(node) => room_after_node(node, room),
+        Part::List(nodes) => room_after_list(nodes.as_slice(), room),
+        Part::Holes(nodes) => room_after_list_with_holes(nodes.as_slice(), room),
+        _ => Some(room),
     }
 }
 
 #[cycle(count)]
-fn count_list(nodes: &[Node]) -> u32
-    requires { nodes_of (trees nodes.now) < 2 ^ 32 }
-    ensures { result ≡ nodes_of (trees nodes.now) }
+fn room_after_list(nodes: &[Node], room: u32) -> Option<u32>
+    ensures { MatchOption result (room < nodes_of (trees nodes.now)) (λ left. left + nodes_of (trees nodes.now) ≡ room) }
 {
-    let mut count = 0;
+    let mut room = room;
     for node in nodes {
-        count += count_node(node);
+        room = room_after_node(node, room)?;
     }
-    count
+    Some(room)
 }
 
 #[cycle(count)]
-fn count_list_with_holes(nodes: &[Option<Node>]) -> u32
-    requires { nodes_of (nullable_trees nodes.now) < 2 ^ 32 }
-    ensures { result ≡ nodes_of (nullable_trees nodes.now) }
+fn room_after_list_with_holes(nodes: &[Option<Node>], room: u32) -> Option<u32>
+    ensures { MatchOption result (room < nodes_of (nullable_trees nodes.now)) (λ left. left + nodes_of (nullable_trees nodes.now) ≡ room) }
 {
-    let mut count = 0;
+    let mut room = room;
     for node in nodes {
-        count += count_hole(node);
+        room = room_after_hole(node, room)?;
     }
-    count
+    Some(room)
 }
 
 #[cycle(count)]
-fn count_hole(node: &Option<Node>) -> u32
-    requires { nodes_of_part (nullable node.now) < 2 ^ 32 }
-    ensures { result ≡ nodes_of_part (nullable node.now) }
+fn room_after_hole(node: &Option<Node>, room: u32) -> Option<u32>
+    ensures { MatchOption result (room < nodes_of_part (nullable node.now)) (λ left. left + nodes_of_part (nullable node.now) ≡ room) }
 {
     match node {
-        Some(node) => count_node(node),
-        None => 0,
+        Some(node) => room_after_node(node, room),
+        None => Some(room),
     }
 }
