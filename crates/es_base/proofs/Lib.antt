@@ -1,4 +1,5 @@
 pub mod Conformity
+pub mod FreshNumbers
 pub mod NumberedLemmas
 pub mod PreorderLemmas
 pub mod Spelled
