@@ -1,4 +1,4 @@
-use Rattle.std.proofs.Common.{◌≡◌, ℕ, ◌+◌, ◌*◌, take}
+use Rattle.std.proofs.Common.{◌≡◌, ◌+◌, ◌*◌, take}
 use Rattle.es_base.specs.Preorder.{nodes, nodes_of, nodes_of_part}
 use Rattle.es_base.specs.Tree.{trees, nullable, nullable_trees}
 use Rattle.es_node.specs.View.{part_of, parts_of}
