@@ -19,10 +19,10 @@ use Rattle.es_reading.specs.declared.fault.What.{What}
 use Rattle.es_reading.specs.declared.numbers.Numbers.{Numbers}
 use Rattle.es_writing.specs.Writing.{write_items}
 use Rattle.es_writing.specs.Kept.{PartIsKept, AreKept}
-use Rattle.es_json_law.proofs.Floats.{floats_of_none}
-use Rattle.es_json_law.proofs.Stands.{there, Stands, AllStand}
-use Rattle.es_json_law.proofs.Texts.{word_kept, name_kept}
-use Rattle.es_json_law.proofs.Tests.{nothing_more, and_none}
+use Rattle.es_json.proofs.Floats.{floats_of_none}
+use Rattle.es_json.proofs.Stands.{there, Stands, AllStand}
+use Rattle.es_json.proofs.Strings.{word_kept, name_kept}
+use Rattle.es_json.proofs.Tests.{nothing_more, and_none}
 
 list_full : (d : Data) (name : List ℕ) (ps : Parts) → get name d ≡ there (list ps) → not (is_end ps) ≡ true → (is_some (option_and_then as_array (get name d)) && not (is_empty (option_and_then as_array (get name d)))) ≡ true
 list_full d name end at full = cc

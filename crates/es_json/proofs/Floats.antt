@@ -11,8 +11,8 @@ use Rattle.es_base.specs.declared.literal.LiteralValue.{LiteralValue}
 use Rattle.es_base.specs.declared.literal.LiteralValue.TheVariants as value
 use Rattle.es_reading.specs.Unlisted.{floats_in, floats_of, is_node_member}
 use Rattle.es_writing.specs.Writing.{Entry, put_all, type_of, raw_entry, literal_entries, span_entries, more_entries, raw_of, cooked_of, strings_of, tail_entries, kind_entries, node_of, write, write_fields, write_part, write_items, write_item}
-use Rattle.es_json_law.proofs.Found.{node_entries}
-use Rattle.es_json_law.proofs.Members.{any_member, NoEntry, no_entry_append, none_put_all}
+use Rattle.es_json.proofs.Found.{node_entries}
+use Rattle.es_json.proofs.Members.{any_member, NoEntry, no_entry_append, none_put_all}
 
 abbrev pub is_float_member : List ℕ → Data → Bool
 is_float_member key d = has_float d

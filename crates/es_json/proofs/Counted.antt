@@ -9,8 +9,8 @@ use Rattle.serde_json.specs.Data.{Num, Data, number, array, object, item, Member
 use Rattle.serde_json.specs.Read.{number_of, of_json, of_items, of_members, max_depth, read}
 use Rattle.serde_json.specs.Read.{read as read_text}
 use Rattle.es_reading.specs.Told.{values, values_of_items, values_of_members}
-use Rattle.es_json_law.proofs.Parsed.{json_values, items_values, members_values, values-parsed}
-use Rattle.es_json_law.proofs.Tokens.{tokens_fit}
+use Rattle.es_json.proofs.Parsed.{json_values, items_values, members_values, values-parsed}
+use Rattle.es_json.proofs.Tokens.{tokens_fit}
 
 abbrev AtMost : {A : Type 0} → (A → ℕ) → ℕ → Option A → Type 0
 AtMost f n None = ⊤

@@ -18,7 +18,7 @@ use Rattle.es_base.specs.declared.ledger.GeneratedKind.{GeneratedKind}
 use Rattle.es_base.specs.declared.ledger.LedgerEntry.{LedgerEntry}
 use Rattle.es_base.specs.declared.shape.Shape.{Shape}
 use Rattle.es_base.specs.declared.table.Place.{Place}
-use Rattle.es_lowered.specs.Lowered.{entry_value, warning_value, write_lowered}
+use Rattle.es_writing.specs.Lowered.{entry_value, warning_value, write_lowered}
 use Rattle.es_reading.specs.Look.{below_2_32, span_at, pair}
 use Rattle.es_reading.specs.Reading.{read, root, parent_of}
 use Rattle.es_reading.specs.Unlisted.{is_foreign_object, is_foreign_node, any_foreign}
@@ -26,16 +26,16 @@ use Rattle.es_reading.specs.declared.numbers.Numbers.{Numbers}
 use Rattle.es_writing.specs.Writing.{Entry, entry, put_all, number_of, write, write_fields}
 use Rattle.es_base.specs.Carried.{stripped, stripped_parts}
 use Rattle.es_writing.specs.Kept.{IsKept}
-use Rattle.es_json_law.proofs.Choice.{kind_chosen}
-use Rattle.es_json_law.proofs.Fits.{all_fit}
-use Rattle.es_json_law.proofs.Floats.{is_float_member, floats_are, no_floats}
-use Rattle.es_json_law.proofs.Found.{keys, get_all, found_past, node_entries}
-use Rattle.es_json_law.proofs.Good.{number_is}
-use Rattle.es_json_law.proofs.Law.{node_back, law_fields}
-use Rattle.es_json_law.proofs.Looks.{type_found, number_found, span_found, no_foreign, is_strange, strange_are}
-use Rattle.es_json_law.proofs.Members.{NoEntry, none_put_all}
-use Rattle.es_json_law.proofs.Parts.{parts_of}
-use Rattle.es_json_law.proofs.Stands.{AllStand, all_stand}
+use Rattle.es_json.proofs.Choice.{kind_chosen}
+use Rattle.es_json.proofs.Fits.{all_fit}
+use Rattle.es_json.proofs.Floats.{is_float_member, floats_are, no_floats}
+use Rattle.es_json.proofs.Found.{keys, get_all, found_past, node_entries}
+use Rattle.es_json.proofs.Good.{number_is}
+use Rattle.es_json.proofs.RoundTrip.{node_back, law_fields}
+use Rattle.es_json.proofs.Looks.{type_found, number_found, span_found, no_foreign, is_strange, strange_are}
+use Rattle.es_json.proofs.Members.{NoEntry, none_put_all}
+use Rattle.es_json.proofs.Parts.{parts_of}
+use Rattle.es_json.proofs.Stands.{AllStand, all_stand}
 
 -- ---- the members that are put in more
 

@@ -10,8 +10,8 @@ use Rattle.es_base.specs.declared.literal.LiteralValue.{LiteralValue}
 use Rattle.es_base.specs.declared.literal.LiteralValue.TheVariants as value
 use Rattle.es_writing.specs.Writing.{Entry, put_all, type_of, raw_entry, literal_entries, span_entries, more_entries, raw_of, cooked_of, strings_of, tail_entries, kind_entries, node_of, write, write_fields, write_part, write_items, write_item}
 use Rattle.es_writing.specs.Kept.{IsKept, PartIsKept, AreKept, SpanFits}
-use Rattle.es_json_law.specs.Printed.{IsPrintedWell, ItemsAreWell, MembersAreWell}
-use Rattle.es_json_law.proofs.Found.{node_entries}
+use Rattle.es_json.specs.Printed.{IsPrintedWell, ItemsAreWell, MembersAreWell}
+use Rattle.es_json.proofs.Found.{node_entries}
 
 -- ---- what is put in
 

@@ -8,7 +8,7 @@ use Rattle.es_base.specs.declared.kind.Kind.{Kind}
 use Rattle.es_base.specs.declared.table.Sort.{Sort}
 use Rattle.es_reading.specs.Unlisted.{is_listed, is_field}
 use Rattle.es_writing.specs.Writing.{Entry, kind_entries, more_entries, span_entries}
-use Rattle.es_json_law.proofs.Found.{keys}
+use Rattle.es_json.proofs.Found.{keys}
 
 -- the members of a node of such a kind are written one for one
 abbrev pub is_row : Kind → Bool

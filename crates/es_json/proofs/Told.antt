@@ -13,13 +13,13 @@ use Rattle.es_base.specs.declared.ids.Span.{Span}
 use Rattle.es_base.specs.declared.ledger.GeneratedKind.{GeneratedKind}
 use Rattle.es_base.specs.declared.ledger.LedgerEntry.{LedgerEntry}
 use Rattle.es_base.specs.declared.shape.Shape.{Shape}
-use Rattle.es_lowered.specs.Lowered.{NumbersFit, WarningsFit, entry_value, warning_value, number_in, write_lowered}
+use Rattle.es_writing.specs.Lowered.{NumbersFit, WarningsFit, entry_value, warning_value, number_in, write_lowered}
 use Rattle.es_writing.specs.Kept.{IsKept, SpanFits}
 use Rattle.es_writing.specs.Writing.{number_of}
-use Rattle.es_json_law.specs.Printed.{IsPrintedWell, ItemsAreWell}
-use Rattle.es_json_law.proofs.Lowered.{more_members}
-use Rattle.es_json_law.proofs.Texted.{one_text}
-use Rattle.es_json_law.proofs.Well.{well_put_all, written_well, short_fits}
+use Rattle.es_json.specs.Printed.{IsPrintedWell, ItemsAreWell}
+use Rattle.es_json.proofs.Lowered.{more_members}
+use Rattle.es_json.proofs.JsonText.{one_text}
+use Rattle.es_json.proofs.Well.{well_put_all, written_well, short_fits}
 
 entry_well : (name : List ℕ) (kind : GeneratedKind) → number_in kind < 2 ^ 32 → IsPrintedWell (entry_value (record { name = name; kind = kind }))
 entry_well name GeneratedKind.Temp fits = (tt, (tt, tt))

@@ -20,11 +20,11 @@ use Rattle.es_reading.specs.declared.fault.What.{What}
 use Rattle.es_reading.specs.declared.spot.Spot.{Spot}
 use Rattle.es_writing.specs.Writing.{type_of}
 use Rattle.es_writing.specs.Kept.{IsString, AreKept}
-use Rattle.es_json_law.specs.Suits.{kind_suits}
-use Rattle.es_json_law.proofs.Parts.{member_at, boolean_found, never_found, private_child, expression_child, property_child, in_word}
-use Rattle.es_json_law.proofs.Stands.{AllStand, key_form}
-use Rattle.es_json_law.proofs.Texts.{is_foreign, foreign_apart}
-use Rattle.es_json_law.proofs.Tests.{not_first}
+use Rattle.es_json.specs.Suits.{kind_suits}
+use Rattle.es_json.proofs.Parts.{member_at, boolean_found, never_found, private_child, expression_child, property_child, in_word}
+use Rattle.es_json.proofs.Stands.{AllStand, key_form}
+use Rattle.es_json.proofs.Strings.{is_foreign, foreign_apart}
+use Rattle.es_json.proofs.Tests.{not_first}
 
 -- ---- the first kind of a name that may stand at the spot
 

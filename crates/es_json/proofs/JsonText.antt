@@ -23,9 +23,9 @@ use Rattle.es_reading.specs.declared.numbers.Numbers.{Numbers}
 use Rattle.es_writing.specs.Writing.{write}
 use Rattle.es_base.specs.Carried.{stripped}
 use Rattle.es_writing.specs.Kept.{IsKept}
-use Rattle.es_json_law.specs.Printed.{NumberIsWell, IsPrintedWell, ItemsAreWell, MembersAreWell}
-use Rattle.es_json_law.proofs.Law.{program_law}
-use Rattle.es_json_law.proofs.Well.{written_well}
+use Rattle.es_json.specs.Printed.{NumberIsWell, IsPrintedWell, ItemsAreWell, MembersAreWell}
+use Rattle.es_json.proofs.RoundTrip.{program_law}
+use Rattle.es_json.proofs.Well.{written_well}
 
 -- ---- the JSON that a value is fixes the value
 

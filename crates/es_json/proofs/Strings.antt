@@ -10,7 +10,7 @@ use Rattle.es_base.specs.declared.kind.Kind.{Kind}
 use Rattle.es_base.specs.declared.table.Words.{Words}
 use Rattle.es_reading.specs.Members.{is_name, is_word}
 use Rattle.es_writing.specs.Kept.{IsString}
-use Rattle.es_json_law.proofs.Found.{bytes_same, bytes_true, bytes_apart}
+use Rattle.es_json.proofs.Found.{bytes_same, bytes_true, bytes_apart}
 
 abbrev AllSpelled : List (List ℕ) → Type 0
 AllSpelled [] = Unit

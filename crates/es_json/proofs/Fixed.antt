@@ -16,16 +16,16 @@ use Rattle.es_base.specs.declared.ledger.GeneratedKind.{GeneratedKind}
 use Rattle.es_base.specs.declared.ledger.LedgerEntry.{LedgerEntry}
 use Rattle.es_base.specs.declared.shape.Shape.{Shape}
 use Rattle.es_base.specs.declared.table.Place.{Place}
-use Rattle.es_lowered.specs.Lowered.{NamesAreStrings, written_name, signed, entry_value, warning_value, write_lowered}
+use Rattle.es_writing.specs.Lowered.{NamesAreStrings, written_name, signed, entry_value, warning_value, write_lowered}
 use Rattle.es_reading.specs.Fault.{Fault, Read}
 use Rattle.es_reading.specs.Reading.{read, root}
 use Rattle.es_reading.specs.declared.numbers.Numbers.{Numbers}
 use Rattle.es_writing.specs.Writing.{put_all, number_of, write_fields}
 use Rattle.es_base.specs.Carried.{stripped}
 use Rattle.es_writing.specs.Kept.{IsString, IsKept}
-use Rattle.es_json_law.proofs.Found.{found, get_all, node_entries}
-use Rattle.es_json_law.proofs.Lowered.{more_members, lowered_law}
-use Rattle.es_json_law.proofs.Texted.{tree_read}
+use Rattle.es_json.proofs.Found.{found, get_all, node_entries}
+use Rattle.es_json.proofs.Lowered.{more_members, lowered_law}
+use Rattle.es_json.proofs.JsonText.{tree_read}
 
 -- ---- the tree
 

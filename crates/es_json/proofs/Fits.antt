@@ -19,12 +19,12 @@ use Rattle.es_reading.specs.Reading.{place_below, parent_of, below, slots_below,
 use Rattle.es_reading.specs.declared.spot.Parent.{Parent}
 use Rattle.es_reading.specs.declared.spot.Slots.{Slots}
 use Rattle.es_reading.specs.declared.spot.Spot.{Spot}
-use Rattle.es_json_law.specs.Suits.{kind_suits, local_suits, tree_suits, Suits}
-use Rattle.es_json_law.proofs.Found.{bytes_false, bytes_apart}
-use Rattle.es_json_law.proofs.Parts.{parts_of, boolean_found, has_boolean}
-use Rattle.es_json_law.proofs.Stands.{there, AllStand}
-use Rattle.es_json_law.proofs.Rows.{is_apart}
-use Rattle.es_json_law.proofs.Tests.{not_true, not_both, nothing_more, and_none}
+use Rattle.es_json.specs.Suits.{kind_suits, local_suits, tree_suits, Suits}
+use Rattle.es_json.proofs.Found.{bytes_false, bytes_apart}
+use Rattle.es_json.proofs.Parts.{parts_of, boolean_found, has_boolean}
+use Rattle.es_json.proofs.Stands.{there, AllStand}
+use Rattle.es_json.proofs.Rows.{is_apart}
+use Rattle.es_json.proofs.Tests.{not_true, not_both, nothing_more, and_none}
 
 -- a tree that is read back at this spot
 abbrev pub Well : Spot → Tree → Type 0

@@ -16,11 +16,11 @@ use Rattle.es_base.specs.declared.table.Words.{Words}
 use Rattle.es_reading.specs.Look.{string_at, is_true, is_true_at, is_this, is_string_at, is_node_at}
 use Rattle.es_writing.specs.Writing.{type_of, write}
 use Rattle.es_writing.specs.Kept.{IsKept, PartIsKept, AreKept}
-use Rattle.es_json_law.proofs.Looks.{type_found}
-use Rattle.es_json_law.proofs.Rows.{names, is_apart}
-use Rattle.es_json_law.proofs.Stands.{there, Stands, AllStand, apart_parts}
-use Rattle.es_json_law.proofs.Texts.{foreign_apart, word_kept}
-use Rattle.es_json_law.proofs.Tests.{not_true, not_second}
+use Rattle.es_json.proofs.Looks.{type_found}
+use Rattle.es_json.proofs.Rows.{names, is_apart}
+use Rattle.es_json.proofs.Stands.{there, Stands, AllStand, apart_parts}
+use Rattle.es_json.proofs.Strings.{foreign_apart, word_kept}
+use Rattle.es_json.proofs.Tests.{not_true, not_second}
 
 -- ---- the part at a name
 

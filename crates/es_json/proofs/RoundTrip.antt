@@ -24,15 +24,15 @@ use Rattle.es_reading.proofs.Walk.{read_is}
 use Rattle.es_writing.specs.Writing.{write, write_items, write_item}
 use Rattle.es_base.specs.Carried.{stripped, stripped_part, stripped_parts}
 use Rattle.es_writing.specs.Kept.{IsString, IsKept, PartIsKept, AreKept}
-use Rattle.es_json_law.specs.Suits.{kind_suits, local_suits, Suits}
-use Rattle.es_json_law.proofs.Choice.{kind_chosen}
-use Rattle.es_json_law.proofs.Fits.{ItemFits, ItemsFit, Fits, AllFit, all_fit}
-use Rattle.es_json_law.proofs.Floats.{no_floats}
-use Rattle.es_json_law.proofs.Good.{number_is}
-use Rattle.es_json_law.proofs.Looks.{type_found, number_found, span_found, no_foreign}
-use Rattle.es_json_law.proofs.Parts.{parts_of}
-use Rattle.es_json_law.proofs.Stands.{there, Stands, AllStand, all_stand}
-use Rattle.es_json_law.proofs.Tests.{not_true, and_none}
+use Rattle.es_json.specs.Suits.{kind_suits, local_suits, Suits}
+use Rattle.es_json.proofs.Choice.{kind_chosen}
+use Rattle.es_json.proofs.Fits.{ItemFits, ItemsFit, Fits, AllFit, all_fit}
+use Rattle.es_json.proofs.Floats.{no_floats}
+use Rattle.es_json.proofs.Good.{number_is}
+use Rattle.es_json.proofs.Looks.{type_found, number_found, span_found, no_foreign}
+use Rattle.es_json.proofs.Parts.{parts_of}
+use Rattle.es_json.proofs.Stands.{there, Stands, AllStand, all_stand}
+use Rattle.es_json.proofs.Tests.{not_true, and_none}
 
 -- read with no node of TypeScript, JSX or import attributes
 abbrev plainly : {T : Type 0} → T → Result (Read T) Fault

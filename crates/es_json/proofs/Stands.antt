@@ -18,9 +18,9 @@ use Rattle.es_reading.specs.Members.{is_of_sort}
 use Rattle.es_reading.specs.Reading.{leaf_of, literal_part}
 use Rattle.es_writing.specs.Writing.{Entry, entry, string_of, type_of, number_of, more_entries, span_entries, node_of, write, write_fields, write_part, write_items}
 use Rattle.es_writing.specs.Kept.{IsString, AreStrings, PartIsKept, AreKept}
-use Rattle.es_json_law.proofs.Found.{bytes_same, bytes_apart, found, keys, get_all, found_append, found_past, entry_of, found_here, found_other, node_entries}
-use Rattle.es_json_law.proofs.Rows.{is_row, is_simple, names, is_apart, row_apart, row_own, row_entries}
-use Rattle.es_json_law.proofs.Tests.{not_true, nothing_more}
+use Rattle.es_json.proofs.Found.{bytes_same, bytes_apart, found, keys, get_all, found_append, found_past, entry_of, found_here, found_other, node_entries}
+use Rattle.es_json.proofs.Rows.{is_row, is_simple, names, is_apart, row_apart, row_own, row_entries}
+use Rattle.es_json.proofs.Tests.{not_true, nothing_more}
 
 -- what is written for a part, if anything
 abbrev pub there : Part → Option Data

@@ -16,12 +16,12 @@ use Rattle.es_reading.specs.Look.{u32_at, below_2_32, span_at, pair, is_there}
 use Rattle.es_reading.specs.Unlisted.{is_listed, is_field, is_foreign_value, foreign_among, foreign_of, has_options, is_foreign_node}
 use Rattle.es_writing.specs.Writing.{Entry, entry, put_all, type_of, number_of, literal_entries, kind_entries, more_entries, span_entries, node_of, write_fields, write_part}
 use Rattle.es_writing.specs.Kept.{SpanFits}
-use Rattle.es_json_law.proofs.Found.{found, keys, get_all, found_append, found_past, node_entries, bytes_same}
-use Rattle.es_json_law.proofs.Members.{any_member, NoEntry, no_entry_append, none_put_all}
-use Rattle.es_json_law.proofs.Rows.{is_row, is_simple, is_apart, row_own, row_listed, row_entries}
-use Rattle.es_json_law.proofs.Stands.{apart_parts, no_literal}
-use Rattle.es_json_law.proofs.Texts.{is_foreign}
-use Rattle.es_json_law.proofs.Tests.{not_true}
+use Rattle.es_json.proofs.Found.{found, keys, get_all, found_append, found_past, node_entries, bytes_same}
+use Rattle.es_json.proofs.Members.{any_member, NoEntry, no_entry_append, none_put_all}
+use Rattle.es_json.proofs.Rows.{is_row, is_simple, is_apart, row_own, row_listed, row_entries}
+use Rattle.es_json.proofs.Stands.{apart_parts, no_literal}
+use Rattle.es_json.proofs.Strings.{is_foreign}
+use Rattle.es_json.proofs.Tests.{not_true}
 
 -- ---- each member of a row is listed
 
