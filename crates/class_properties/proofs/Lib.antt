@@ -2,7 +2,7 @@ pub mod Children
 pub mod Constructions
 pub mod Declared
 pub mod Kept
-pub mod Kinds
+pub mod OfKinds
 pub mod Laid
 pub mod Leasts
 pub mod Mapped

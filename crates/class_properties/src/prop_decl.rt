@@ -1,8 +1,9 @@
 // Fields as statements of a constructor.
 
 ghost use Rattle.std.specs.Prelude.{◌≡◌, IfOk};
+ghost use Rattle.es_base.specs.Tree.{nullable};
 ghost use Rattle.class_properties.specs.Form.{IsField};
-ghost use Rattle.class_properties.specs.Lowering.{void_0, helper, define_property, definition};
+ghost use Rattle.class_properties.specs.Lowering.{void_0, helper, define_property, value_or_void, definition};
 
 use es_base::list::List;
 use es_base::literal::LiteralValue;
@@ -26,11 +27,18 @@ pub fn convert_instance_property(alloc: Global, field: Node) -> Result<Node, All
 {
     let field = PropertyDefinition::from_node(field);
     let key = IdentifierName::from_node(field.key);
-    let value = match field.value {
-        Some(value) => value,
-        None => create_void_0(alloc)?,
-    };
+    let value = value_or_void_0(alloc, field.value)?;
     create_define_property(alloc, key.name, value)
+}
+
+/// The value of a field; `void 0` where it has none.
+fn value_or_void_0(alloc: Global, value: Option<Node>) -> Result<Node, AllocError>
+    ensures { IfOk result (λ t. t ≡ value_or_void (nullable value)) }
+{
+    match value {
+        Some(value) => Ok(value),
+        None => create_void_0(alloc),
+    }
 }
 
 /// `babelHelpers.defineProperty(this, "key", value);`
@@ -40,7 +48,7 @@ fn create_define_property(alloc: Global, key: Name, value: Node) -> Result<Node,
     let callee = create_helper(alloc)?;
     let this = make_this_expression(alloc)?;
     let raw = None;
-    let key = make_literal(alloc, LiteralValue::String { string: key, raw })?;
+    let key = make_literal(alloc, LiteralValue::String { value: key, raw })?;
     let arguments = List::from_vec(vec![in alloc; this, key, value]?);
     let call = make_call_expression(alloc, callee, arguments, false)?;
     make_expression_statement(alloc, call, None)

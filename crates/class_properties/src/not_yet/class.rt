@@ -1,13 +1,13 @@
 // Which nodes of a class are not as the first form asks.
 
-ghost use Rattle.std.specs.Prelude.{◌≡◌, true, option_map, IfSome};
+ghost use Rattle.std.specs.Prelude.{◌≡◌, true, not, ◌||◌, option_map, IfSome};
 ghost use Rattle.std.specs.Option.{option_to_list};
-ghost use Rattle.es_base.specs.Conforms.{conforms};
+ghost use Rattle.es_base.specs.Conforms.{conforms, is_among};
 ghost use Rattle.es_base.specs.Tree.{end, more, child, trees, nullable};
 ghost use Rattle.es_base.specs.declared.kind.Kind.{Kind};
 ghost use Rattle.es_base.specs.declared.table.Place.{Place};
 ghost use Rattle.es_node.specs.View.{kind_of};
-ghost use Rattle.es_steps.specs.FirstForm.{elements_breaches, is_new_name, class_names, statement_breaches};
+ghost use Rattle.es_steps.specs.FirstForm.{helper_names, elements_breaches, is_new_name, class_names, statement_breaches};
 ghost use Rattle.class_properties.specs.Form.{HasClassParts};
 ghost use Rattle.class_properties.specs.Least.{number_in, least_with};
 
@@ -23,7 +23,7 @@ use es_tree::class::{ClassBodyRef, ClassDeclarationRef};
 use es_tree::identifier::BindingIdentifierRef;
 
 /// The name of the class that the statement is; nothing for any other statement.
-#[tactic(auto, using(crate::proofs::Kinds::class_parts, crate::proofs::Kinds::no_class_names))]
+#[tactic(auto, using(crate::proofs::OfKinds::class_parts, crate::proofs::OfKinds::no_class_names))]
 pub fn class_name(statement: &Node) -> Option<&Name>
     requires { conforms Place.Statement statement.now ≡ true }
     ensures { option_to_list (option_map (λ s. s.now) result) ≡ class_names (more (child statement.now) end) }
@@ -40,7 +40,7 @@ pub fn class_name(statement: &Node) -> Option<&Name>
 /// The least number, where the nodes of a statement count that are not as the first form asks: `earlier`
 /// has the names of the classes before it, `names` those of all classes, and `least` is the least number
 /// before.
-#[tactic(auto, using(crate::proofs::Kinds::class_parts, crate::proofs::Kinds::no_class_breaches))]
+#[tactic(auto, using(crate::proofs::OfKinds::class_parts, crate::proofs::OfKinds::no_class_breaches))]
 pub fn statement_breaches(
     earlier: &Names,
     names: &Names,
@@ -74,19 +74,23 @@ fn class_breaches(
     elements_breaches(names, body.body, unless(is_plain, class.node_id, least))
 }
 
-/// Whether this is the name of a class that may stand behind classes of these names: it is none of them,
-/// and none that a lowered program uses.
+/// Whether this is the name of a class that may stand behind classes of these names.
 fn is_new_name(earlier: &Names, id: Option<&Node>) -> bool
     requires { IfSome id (λ id. kind_of id.now ≡ Kind.BindingIdentifier) }
-    ensures { result ≡ is_new_name earlier.now (nullable (option_map (λ x. x.now) id)) }
+    ensures { result ≡ is_new_name earlier.now (nullable (option_map (λ x. x.now) id.entry)) }
 {
     match id {
-        Some(id) => {
-            let name = BindingIdentifierRef::from_node(id).name.as_str();
-            !(earlier.has(name) || is_among(name, &["babelHelpers", "WeakMap", "WeakSet", "Object"]))
-        }
+        Some(id) => is_new_string(earlier, BindingIdentifierRef::from_node(id).name),
         None => false,
     }
+}
+
+/// Whether the name is none of these, and none that a lowered program uses.
+fn is_new_string(earlier: &Names, name: &Name) -> bool
+    ensures { result ≡ not (is_among name.now earlier.now || is_among name.now helper_names) }
+{
+    let string = name.as_str();
+    !(earlier.has(string) || is_among(string, &["babelHelpers", "WeakMap", "WeakSet", "Object"]))
 }
 
 /// The least number, where the elements of a class count that are not as the first form asks.

@@ -1,6 +1,7 @@
 // Whether a field of a class is as the first form asks.
 
-ghost use Rattle.std.specs.Prelude.{◌≡◌, option_map};
+ghost use Rattle.std.specs.Prelude.{◌≡◌, true, bytes_eq, option_map};
+ghost use Rattle.es_base.specs.Ascii.{is_ascii};
 ghost use Rattle.es_base.specs.Tree.{child, nullable};
 ghost use Rattle.es_node.specs.View.{kind_of, parts_in};
 ghost use Rattle.es_steps.specs.FirstForm.{is_plain_literal, is_plain_name, is_plain_value, is_plain_key, is_field};
@@ -17,7 +18,7 @@ use es_tree::literal::LiteralRef;
 
 /// Whether the node is a field as the first form asks, in a program whose classes have these names: it
 /// has such a key and value, and is neither computed nor static.
-#[tactic(auto, using(crate::proofs::Kinds::no_field))]
+#[tactic(auto, using(crate::proofs::OfKinds::no_field))]
 pub fn is_field(names: &Names, element: &Node) -> bool
     ensures { result ≡ is_field names.now (kind_of element.now) (parts_in element.now) }
 {
@@ -34,22 +35,22 @@ pub fn is_field(names: &Names, element: &Node) -> bool
 }
 
 /// Whether the key is a name other than `constructor`.
-#[tactic(auto, using(crate::proofs::Kinds::no_plain_key))]
+#[tactic(auto, using(crate::proofs::OfKinds::no_plain_key))]
 fn is_plain_key(key: &Node) -> bool
     ensures { result ≡ is_plain_key (child key.now) }
 {
     match key.kind() {
         Kind::IdentifierName => {
-            !is_word(IdentifierNameRef::from_node(key).name.as_str(), "constructor")
+            !is_string(IdentifierNameRef::from_node(key).name, "constructor")
         }
         _ => false,
     }
 }
 
 /// Whether the value is absent, a literal as the first form asks, or a name that is no class's.
-#[tactic(auto, using(crate::proofs::Kinds::no_plain_value))]
+#[tactic(auto, using(crate::proofs::OfKinds::no_plain_value))]
 fn is_plain_value(names: &Names, value: Option<&Node>) -> bool
-    ensures { result ≡ is_plain_value names.now (nullable (option_map (λ x. x.now) value)) }
+    ensures { result ≡ is_plain_value names.now (nullable (option_map (λ x. x.now) value.entry)) }
 {
     let Some(value) = value else { return true };
     match value.kind() {
@@ -78,6 +79,14 @@ fn is_plain_literal(value: &LiteralValue) -> bool
 fn is_plain_name(names: &Names, name: &Name) -> bool
     ensures { result ≡ is_plain_name names.now name.now }
 {
-    let name = name.as_str();
-    !(names.has(name) || is_word(name, "arguments"))
+    !(names.has(name.as_str()) || is_string(name, "arguments"))
+}
+
+/// Whether the name is this ASCII string.
+#[tactic(auto, using(es_base::proofs::Ascii::chars_ascii))]
+fn is_string(name: &Name, string: &str) -> bool
+    requires { is_ascii string.now ≡ true }
+    ensures { result ≡ bytes_eq name.now string.now }
+{
+    is_word(string, name.as_str())
 }
