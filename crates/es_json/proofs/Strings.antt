@@ -1,4 +1,4 @@
--- Texts as characters and as bytes.
+-- Strings as characters and as bytes.
 use Rattle.std.proofs.Common.{◌≡◌, refl, sym, ap, ◌∙◌, ℕ, List, [], ◌∷◌, map, Bool, true, false, not, Some}
 use Rattle.std.specs.Prelude.{◌||◌, bytes_eq}
 use Rattle.std.specs.Char.{encode_utf8}

@@ -8,7 +8,9 @@ use es_base::name::Name;
 use es_base::operator::{LogicalOperator, Word};
 use es_base::places::is_target_place;
 use es_base::shape::Shape;
-use es_base::strings::{begins_with, is_among, is_foreign_name, is_number_string, is_word, word_of};
+use es_base::strings::{
+    begins_with, is_among, is_foreign_name, is_number_string, is_word, word_of,
+};
 use es_base::table::{Place, Sort, Words, all_kinds, estree_name, fits, members};
 use es_base::word::{all_of_set, word_str};
 use std::cmp::Ordering;
@@ -68,7 +70,9 @@ fn the_table_has_rows(rt: HostRuntime) {
     assert_eq!(rt; rows.len(), 4);
     assert_eq!(rt; rows[3].name, "await");
     assert_eq!(rt; rows[2].sort, Sort::Child(Place::Statement));
-    assert!(rt; fits(Place::ExpressionOrSuper, Kind::Super) && !fits(Place::Expression, Kind::Super));
+    assert!(rt;
+        fits(Place::ExpressionOrSuper, Kind::Super) && !fits(Place::Expression, Kind::Super)
+    );
     assert!(rt; fits(Place::Statement, Kind::ClassDeclaration));
     assert!(rt; !fits(Place::Expression, Kind::ClassDeclaration));
     assert!(rt; is_target_place(Place::ForLeft) && !is_target_place(Place::Expression));

@@ -5,4 +5,8 @@
 #[cfg(test)]
 mod base;
 #[cfg(test)]
+mod json;
+#[cfg(test)]
 mod layer;
+#[cfg(test)]
+mod programs;
