@@ -23,7 +23,7 @@ mod prop_decl;
 
 /// What a program of the first form is lowered to. Its nodes are moved and keep their numbers; new nodes
 /// have the numbers behind them, in preorder. Fails on allocation failure alone.
-#[tactic(auto, using(crate::proofs::Shaped::program_kinds, crate::proofs::Small::form_small, crate::proofs::Small::lowered_small))]
+#[tactic(auto, using(crate::proofs::Small::form_small, crate::proofs::Small::lowered_small))]
 pub fn lower(alloc: Global, program: Node) -> Result<Node, AllocError>
     requires program { conforms Place.Program program ≡ true }
     requires form { is_first_form program [] ≡ true }
@@ -36,6 +36,7 @@ pub fn lower(alloc: Global, program: Node) -> Result<Node, AllocError>
 }
 
 /// `class A { x; } class B { y; }` becomes `class A { constructor() { .. } } class B { constructor() { .. } }`.
+#[tactic(auto, using(crate::proofs::Children::children_of))]
 fn lower_program(alloc: Global, program: Node) -> Result<Node, AllocError>
     requires { IsProgram program }
     ensures { IfOk result (λ r. r ≡ with_constructors program) }
