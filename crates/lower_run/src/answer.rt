@@ -15,10 +15,12 @@ ghost use Rattle.lower_run.specs.Arguments.{options_for, lowered_by};
 ghost use Rattle.serde_json.specs.View.{view};
 ghost use Rattle.serde_json.specs.Written.{compact_text};
 
+use crate::arguments::Lowering;
 use crate::lines::{float_line, not_a_tree_line, not_yet_line};
 use crate::output::{Output, output_with};
 use crate::status::Status;
-use crate::arguments::Lowering;
+use class_properties::lower;
+use class_properties::not_yet::not_yet;
 use es_base::ids::NodeId;
 use es_base::ledger::Ledger;
 use es_base::list::List;
@@ -28,8 +30,6 @@ use es_reading::fault::ReadError;
 use es_reading::numbers::Numbers;
 use es_reading::tree::read_tree;
 use es_steps::error::LowerError;
-use class_properties::form::not_yet;
-use class_properties::lower::lower;
 use serde_json::Value;
 use std::alloc::{AllocError, Global};
 
