@@ -5,7 +5,7 @@ use Rattle.es_base.specs.declared.kind.Kind.{Kind}
 use Rattle.es_base.specs.declared.table.Member.{Member}
 use Rattle.es_node.specs.Bearing.{semantic_id_fits}
 use Rattle.es_node.specs.declared.node.Part as code
-use Rattle.es_node.specs.View.{have_shapes, has_shape, is_shaped}
+use Rattle.es_node.specs.View.{have_shapes, has_shape, has_shape_at, EachHasShape, is_shaped}
 
 pub left_of : (a b : Bool) → (a && b) ≡ true → a ≡ true
 left_of true b h = refl
@@ -51,3 +51,16 @@ member_shape ms [] i m p l h = absurd (omega arith)
 member_shape [] (q ∷ ps) i m p l h = absurd (cc)
 member_shape (n ∷ ms) (q ∷ ps) zero m p l h = left_of (has_shape n.sort q) _ h
 member_shape (n ∷ ms) (q ∷ ps) (suc i) m p l h = let e : i < length ps = omega arith in member_shape ms ps i m p e (right_of (has_shape n.sort q) _ h)
+
+has_shape_at-have_shapes : (place : ℕ) (fs : List Field) (ps : List code.Part) → have_shapes fs ps ≡ true → has_shape_at place fs ps ≡ true
+has_shape_at-have_shapes zero [] ps h = refl
+has_shape_at-have_shapes zero (f ∷ fs) [] h = refl
+has_shape_at-have_shapes zero (f ∷ fs) (p ∷ ps) h = left_of (has_shape f.sort p) _ h
+has_shape_at-have_shapes (suc place) [] ps h = refl
+has_shape_at-have_shapes (suc place) (f ∷ fs) [] h = refl
+has_shape_at-have_shapes (suc place) (f ∷ fs) (p ∷ ps) h = has_shape_at-have_shapes place fs ps (right_of (has_shape f.sort p) _ h)
+
+pub each_shaped : (kind : Kind) (semantic_id : Option ℕ) (ps : List code.Part) → is_shaped kind semantic_id ps ≡ true → EachHasShape (members_of kind) ps
+each_shaped kind semantic_id ps h =
+    let at = λ (place : ℕ). has_shape_at-have_shapes place (members_of kind) ps (shaped kind semantic_id ps h) in
+    record { first = at 0; second = at 1; third = at 2; fourth = at 3; fifth = at 4; sixth = at 5 }

@@ -97,7 +97,7 @@ impl Node {
     ghost use Rattle.es_base.specs.Table.{members_of};
     ghost use Rattle.es_base.specs.Carried.{span_of};
     ghost use Rattle.es_node.specs.Bearing.{semantic_id_fits};
-    ghost use Rattle.es_node.specs.View.{kind_of, number_in, span_in, semantic_id_in, parts_of, parts_in, node_of, have_shapes, is_shaped};
+    ghost use Rattle.es_node.specs.View.{kind_of, number_in, span_in, semantic_id_in, parts_of, parts_in, node_of, have_shapes, EachHasShape, is_shaped};
 
     /// The node of this kind with these contents, whose parts have the shapes of the kind's members.
     pub fn new(kind: Kind, contents: Contents) -> Node
@@ -120,11 +120,12 @@ impl Node {
     }
 
     /// Takes the node apart; its parts have the shapes of its kind's members.
-    #[tactic(auto, using(crate::proofs::Shapes::borne, crate::proofs::Shapes::shaped, crate::proofs::Shapes::counted))]
+    #[tactic(auto, using(crate::proofs::Shapes::borne, crate::proofs::Shapes::shaped, crate::proofs::Shapes::each_shaped, crate::proofs::Shapes::counted))]
     pub fn into_contents(self) -> Contents
         ensures view { self ≡ node_of (kind_of self) result.node_id.0 (span_of result.span) result.semantic_id result.parts }
         ensures semantic_id { semantic_id_fits (kind_of self) result.semantic_id ≡ true }
         ensures shapes { have_shapes (members_of (kind_of self)) result.parts ≡ true }
+        ensures each { EachHasShape (members_of (kind_of self)) result.parts }
         ensures count { length result.parts ≡ length (members_of (kind_of self)) }
     {
         Contents {
@@ -180,9 +181,10 @@ impl Node {
     }
 
     /// What stands at its members, in the order of the table of kinds.
-    #[tactic(auto, using(crate::proofs::Shapes::borne, crate::proofs::Shapes::shaped))]
+    #[tactic(auto, using(crate::proofs::Shapes::borne, crate::proofs::Shapes::shaped, crate::proofs::Shapes::each_shaped))]
     pub fn parts(&self) -> &[Part]
         ensures shapes { have_shapes (members_of (kind_of self.now)) result.now ≡ true }
+        ensures each { EachHasShape (members_of (kind_of self.now)) result.now }
         ensures semantic_id { semantic_id_fits (kind_of self.now) (semantic_id_in self.now) ≡ true }
         ensures list { parts_in self.now ≡ parts_of result.now }
     {
