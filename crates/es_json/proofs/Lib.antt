@@ -21,3 +21,4 @@ pub mod Told
 pub mod Turned
 pub mod Well
 pub mod Written
+pub mod OfKind

@@ -3,7 +3,6 @@
 #![tactic(auto)]
 
 pub mod law;
-pub mod program;
 pub mod read;
 pub mod write;
 

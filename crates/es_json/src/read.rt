@@ -7,12 +7,13 @@ ghost use Rattle.es_base.specs.declared.table.Place.{Place};
 ghost use Rattle.es_reading.specs.Reading.{read, root};
 ghost use Rattle.es_reading.specs.Told.{Tells, ids, values};
 ghost use Rattle.es_reading.specs.declared.numbers.Numbers.{Numbers};
+ghost use Rattle.es_json.specs.Typed.{tree_of};
 ghost use Rattle.serde_json.specs.View.{view};
 
-use crate::program::Program;
 use es_reading::fault::ReadError;
 use es_reading::numbers::Numbers;
 use es_reading::tree::read_tree;
+use es_tree::program::Program;
 use serde_json::Value;
 use std::alloc::Global;
 
@@ -24,9 +25,9 @@ use std::alloc::Global;
 /// counted, as `is_countable` tests.
 pub fn read_program(alloc: Global, value: &Value) -> Result<Program, ReadError>
     requires { values (view value.now) + 1 < 2 ^ 32 }
-    ensures ok { IfOk result (λ p. read Numbers.Preorder (view value.now) root 0 ≡ Ok (record { value = p.tree; foreign = ids p.foreign })) }
-    ensures numbered { IfOk result (λ p. IsNumbered 0 p.tree) }
-    ensures conforms { IfOk result (λ p. conforms Place.Program p.tree ≡ true) }
+    ensures ok { IfOk result (λ p. read Numbers.Preorder (view value.now) root 0 ≡ Ok (record { value = tree_of p; foreign = ids p.foreign })) }
+    ensures numbered { IfOk result (λ p. IsNumbered 0 (tree_of p)) }
+    ensures conforms { IfOk result (λ p. conforms Place.Program (tree_of p) ≡ true) }
     ensures err { IfErr result (λ e. Tells e (read Numbers.Preorder (view value.now) root 0)) }
 {
     read_as(alloc, value, Numbers::Preorder)
@@ -37,20 +38,21 @@ pub fn read_program(alloc: Global, value: &Value) -> Result<Program, ReadError>
 /// A node without a whole `node` of u32 is refused as a bad member; else as `read_program`.
 pub fn read_numbered(alloc: Global, value: &Value) -> Result<Program, ReadError>
     requires { values (view value.now) + 1 < 2 ^ 32 }
-    ensures ok { IfOk result (λ p. read Numbers.Given (view value.now) root 0 ≡ Ok (record { value = p.tree; foreign = ids p.foreign })) }
-    ensures conforms { IfOk result (λ p. conforms Place.Program p.tree ≡ true) }
+    ensures ok { IfOk result (λ p. read Numbers.Given (view value.now) root 0 ≡ Ok (record { value = tree_of p; foreign = ids p.foreign })) }
+    ensures conforms { IfOk result (λ p. conforms Place.Program (tree_of p) ≡ true) }
     ensures err { IfErr result (λ e. Tells e (read Numbers.Given (view value.now) root 0)) }
 {
     read_as(alloc, value, Numbers::Given)
 }
 
+#[tactic(auto, using(crate::proofs::OfKind::kind_of_program))]
 fn read_as(alloc: Global, value: &Value, numbers: Numbers) -> Result<Program, ReadError>
     requires { values (view value.now) + 1 < 2 ^ 32 }
-    ensures ok { IfOk result (λ p. read numbers (view value.now) root 0 ≡ Ok (record { value = p.tree; foreign = ids p.foreign })) }
-    ensures numbered { IfOk result (λ p. numbers ≡ Numbers.Preorder → IsNumbered 0 p.tree) }
-    ensures conforms { IfOk result (λ p. conforms Place.Program p.tree ≡ true) }
+    ensures ok { IfOk result (λ p. read numbers (view value.now) root 0 ≡ Ok (record { value = tree_of p; foreign = ids p.foreign })) }
+    ensures numbered { IfOk result (λ p. numbers ≡ Numbers.Preorder → IsNumbered 0 (tree_of p)) }
+    ensures conforms { IfOk result (λ p. conforms Place.Program (tree_of p) ≡ true) }
     ensures err { IfErr result (λ e. Tells e (read numbers (view value.now) root 0)) }
 {
     let (tree, foreign) = read_tree(alloc, value, numbers)?;
-    Ok(Program { tree, foreign })
+    Ok(Program::from_node(tree, foreign))
 }
