@@ -125,7 +125,7 @@ pub one_text : (d e : Data) → IsPrintedWell d → IsPrintedWell e → compact_
 one_text d e d_well e_well same =
     one_outline d e d_well e_well (one_tokens (outline d) (outline e) (sym (text_tokens d d_well) ∙ ap tokens same ∙ text_tokens e e_well))
 
--- ---- the text of a program fixes the program, but for its marks
+-- ---- the text of a program fixes the program, but for its semantic ids
 
 -- what was read, or else this tree
 abbrev pub tree_read : Tree → Result (Read Tree) Fault → Tree
@@ -135,7 +135,7 @@ tree_read t (Err e) = t
 program_back : (s t : Tree) → conforms Place.Program t ≡ true → IsKept t → tree_read s (read Numbers.Given (write t) root 0) ≡ stripped t
 program_back s t conform kept = ap (tree_read s) (program_law t conform kept)
 
--- two programs that are written as one value are one but for their marks
+-- two programs that are written as one value are one but for their semantic ids
 pub value_fixes_tree : (s t : Tree) → conforms Place.Program s ≡ true → conforms Place.Program t ≡ true → IsKept s → IsKept t → write s ≡ write t → stripped s ≡ stripped t
 value_fixes_tree s t s_conforms t_conforms s_kept t_kept same =
     sym (program_back s s s_conforms s_kept) ∙ ap (λ d. tree_read s (read Numbers.Given d root 0)) same ∙ program_back s t t_conforms t_kept

@@ -8,6 +8,7 @@ pub mod Good
 pub mod JsonText
 pub mod Looks
 pub mod Lowered
+pub mod LoweredText
 pub mod Members
 pub mod Parsed
 pub mod Parts
@@ -17,7 +18,6 @@ pub mod Stands
 pub mod Strings
 pub mod Tests
 pub mod Tokens
-pub mod Told
 pub mod Turned
 pub mod Well
 pub mod Written

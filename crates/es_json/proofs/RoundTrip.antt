@@ -1,4 +1,4 @@
--- Reading gives back what was written, but for the marks.
+-- Reading gives back what was written, but for the semantic ids.
 use Rattle.std.proofs.Common.{◌≡◌, refl, sym, ap, ap₂, ◌∙◌, ℕ, ◌+◌, List, [], ◌∷◌, ◌++◌, Bool, true, false, Option, Some, None, option_map, Result, Ok, if◌then◌else◌}
 use Rattle.std.specs.Prelude.{◌&&◌, codes, option_and_then}
 use Rattle.std.specs.Str.{chars}
@@ -78,7 +78,7 @@ string_back : (d : Data) (name : List ℕ) (s : List ℕ) → get name d ≡ the
 string_back d name s at kept = ap (λ o. alone (nullable_string (option_map chars (option_and_then as_str o)))) at ∙ ap (λ z. alone (string z)) kept
 
 mutual
-  -- a tree that conforms where it stands and suits the spot is read back, but for its marks
+  -- a tree that conforms where it stands and suits the spot is read back, but for its semantic ids
   pub law : (t : Tree) (spot : Spot) (n : ℕ) → conforms spot.place t ≡ true → IsKept t → Suits spot t → read Numbers.Given (write t) spot n ≡ Ok (record { value = stripped t; foreign = [] })
   law (Node kind id span semantic_id ps) spot n c kept suits =
       let d = write (Node kind id span semantic_id ps) in
@@ -167,6 +167,6 @@ program_suits : (t : Tree) → conforms Place.Program t ≡ true → Suits root 
 program_suits (Node Kind.Program id span semantic_id ps) c = refl
 program_suits (Node _ id span semantic_id ps) c = cc
 
--- a program that is written and read again is the same but for its marks
+-- a program that is written and read again is the same but for its semantic ids
 pub program_law : (t : Tree) → conforms Place.Program t ≡ true → IsKept t → read Numbers.Given (write t) root 0 ≡ Ok (record { value = stripped t; foreign = [] })
 program_law t c kept = law t root 0 c kept (program_suits t c)

@@ -221,7 +221,7 @@ key_form d name v rest stands key = key_form_by (form_in d) v rest stands.1 key 
   key_form_by (Some (boolean_form b)) v rest is key = let same : value.Boolean b ≡ v = cc in let no : false ≡ true = ap (λ z. is_key_literal (more (literal z) rest)) same ∙ key in cc
   key_form_by (Some null_form) v rest is key = let same : value.Null ≡ v = cc in let no : false ≡ true = ap (λ z. is_key_literal (more (literal z) rest)) same ∙ key in cc
 
--- ---- texts of templates, and leaves of nodes outside the table
+-- ---- strings of templates, and leaves of nodes outside the table
 
 template_stands : (computed : Bool) (id : ℕ) (span : Option (ℕ × ℕ)) (raw : List ℕ) (cooked : Part) (tail : Bool) (ps : Parts) → IsString raw → part_conforms computed Sort.Cooked cooked ≡ true → PartIsKept cooked → ps ≡ end
     → AllStand (node_of Kind.TemplateElement id span (more (string raw) (more cooked (more (boolean tail) ps))) (write_fields (members_of Kind.TemplateElement) (more (string raw) (more cooked (more (boolean tail) ps))))) (members_of Kind.TemplateElement) (more (string raw) (more cooked (more (boolean tail) end)))

@@ -19,12 +19,13 @@ use std::alloc::Global;
 /// The program that a value is, with its nodes numbered 0, 1, .. in preorder. (ESTree;
 /// docs/JSON.md)
 ///
-/// Where the value is no program, the error is its first fault in preorder; beside that it fails for
+/// Where the value is no program, the error is its first fault in preorder; beside that it fails on
 /// allocation failure alone. The value holds fewer than 2^32 - 1 values, itself and those at every depth
 /// counted, as `is_countable` tests.
 pub fn read_program(alloc: Global, value: &Value) -> Result<Program, ReadError>
     requires { values (view value.now) + 1 < 2 ^ 32 }
-    ensures ok { IfOk result (λ p. read Numbers.Preorder (view value.now) root 0 ≡ Ok (record { value = p.tree; foreign = ids p.foreign })) }
+    ensures ok { IfOk result (λ p.
+        read Numbers.Preorder (view value.now) root 0 ≡ Ok (record { value = p.tree; foreign = ids p.foreign })) }
     ensures numbered { IfOk result (λ p. IsNumbered 0 p.tree) }
     ensures conforms { IfOk result (λ p. conforms Place.Program p.tree ≡ true) }
     ensures err { IfErr result (λ e. Tells e (read Numbers.Preorder (view value.now) root 0)) }
@@ -37,7 +38,8 @@ pub fn read_program(alloc: Global, value: &Value) -> Result<Program, ReadError>
 /// A node without a whole `node` of u32 is refused as a bad member; else as `read_program`.
 pub fn read_numbered(alloc: Global, value: &Value) -> Result<Program, ReadError>
     requires { values (view value.now) + 1 < 2 ^ 32 }
-    ensures ok { IfOk result (λ p. read Numbers.Given (view value.now) root 0 ≡ Ok (record { value = p.tree; foreign = ids p.foreign })) }
+    ensures ok { IfOk result (λ p.
+        read Numbers.Given (view value.now) root 0 ≡ Ok (record { value = p.tree; foreign = ids p.foreign })) }
     ensures conforms { IfOk result (λ p. conforms Place.Program p.tree ≡ true) }
     ensures err { IfErr result (λ e. Tells e (read Numbers.Given (view value.now) root 0)) }
 {
@@ -46,7 +48,8 @@ pub fn read_numbered(alloc: Global, value: &Value) -> Result<Program, ReadError>
 
 fn read_as(alloc: Global, value: &Value, numbers: Numbers) -> Result<Program, ReadError>
     requires { values (view value.now) + 1 < 2 ^ 32 }
-    ensures ok { IfOk result (λ p. read numbers (view value.now) root 0 ≡ Ok (record { value = p.tree; foreign = ids p.foreign })) }
+    ensures ok { IfOk result (λ p.
+        read numbers (view value.now) root 0 ≡ Ok (record { value = p.tree; foreign = ids p.foreign })) }
     ensures numbered { IfOk result (λ p. numbers ≡ Numbers.Preorder → IsNumbered 0 p.tree) }
     ensures conforms { IfOk result (λ p. conforms Place.Program p.tree ≡ true) }
     ensures err { IfErr result (λ e. Tells e (read numbers (view value.now) root 0)) }
