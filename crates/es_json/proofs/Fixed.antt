@@ -1,5 +1,5 @@
 -- The value of a lowered program fixes what it was written from.
-use Rattle.std.proofs.Common.{◌≡◌, refl, sym, ap, ap₂, ◌∙◌, ℕ, List, [], ◌∷◌, map, true, Option, Some, None, Result, Ok, Err, if◌then◌else◌}
+use Rattle.std.proofs.Common.{◌≡◌, refl, sym, ap, ap₂, ◌∙◌, ℕ, List, [], ◌∷◌, map, true, Option, Some, None, Result, Ok, if◌then◌else◌}
 use Rattle.std.specs.Prelude.{bytes_eq, nat_eq, codes, option_and_then}
 use Rattle.std.specs.Str.{chars, encode_utf8_all}
 use Rattle.serde_json.specs.Data.{Data, Items, no_items, item, no_members, array, object}
@@ -32,11 +32,11 @@ use Rattle.es_json.proofs.JsonText.{tree_read}
 read_alike : (s t : Tree) (r : Result (Read Tree) Fault) → r ≡ Ok (record { value = s; foreign = [] }) → r ≡ Ok (record { value = t; foreign = [] }) → s ≡ t
 read_alike s t r a b = ap (tree_read s) (sym a ∙ b)
 
-pub lowered_fixes_tree : (s t : Tree) (names names' : List LedgerEntry) (told told' : List Diagnostic) (shapes shapes' : List Shape)
+pub lowered_fixes_tree : (s t : Tree) (names names' : List LedgerEntry) (warnings warnings' : List Diagnostic) (shapes shapes' : List Shape)
     → conforms Place.Program s ≡ true → conforms Place.Program t ≡ true → IsKept s → IsKept t
-    → write_lowered s names told shapes ≡ write_lowered t names' told' shapes' → stripped s ≡ stripped t
-lowered_fixes_tree s t names names' told told' shapes shapes' c c' kept kept' same =
-    read_alike (stripped s) (stripped t) (read Numbers.Given (write_lowered s names told shapes) root 0) (lowered_law s names told shapes c kept) (ap (λ d. read Numbers.Given d root 0) same ∙ lowered_law t names' told' shapes' c' kept')
+    → write_lowered s names warnings shapes ≡ write_lowered t names' warnings' shapes' → stripped s ≡ stripped t
+lowered_fixes_tree s t names names' warnings warnings' shapes shapes' c c' kept kept' same =
+    read_alike (stripped s) (stripped t) (read Numbers.Given (write_lowered s names warnings shapes) root 0) (lowered_law s names warnings shapes c kept) (ap (λ d. read Numbers.Given d root 0) same ∙ lowered_law t names' warnings' shapes' c' kept')
 
 -- ---- the lists
 
@@ -60,19 +60,19 @@ map_back : {X : Type 0} (write : X → Data) (back : Data → X) → ((x : X) �
 map_back write back is [] = refl
 map_back write back is (x ∷ xs) = ap₂ (λ y ys. y ∷ ys) (is x) (map_back write back is xs)
 
-module _ (names : List LedgerEntry) (told : List Diagnostic) (shapes : List Shape) where
-  look_more : (key : List ℕ) (t : Tree) (ds : List Data) → ((o : Option Data) → found key (more_members names told shapes) o ≡ Some (array (items_of ds))) → list_at key (write_lowered t names told shapes) ≡ ds
+module _ (names : List LedgerEntry) (warnings : List Diagnostic) (shapes : List Shape) where
+  look_more : (key : List ℕ) (t : Tree) (ds : List Data) → ((o : Option Data) → found key (more_members names warnings shapes) o ≡ Some (array (items_of ds))) → list_at key (write_lowered t names warnings shapes) ≡ ds
   look_more key (Node kind id span semantic_id ps) ds is =
       let base = put_all no_members (node_entries kind id span ps (write_fields (members_of kind) ps)) in
-      ap (λ o. items_or (option_and_then as_array o)) (get_all key (more_members names told shapes) base ∙ is (get key (object base))) ∙ items_back ds
+      ap (λ o. items_or (option_and_then as_array o)) (get_all key (more_members names warnings shapes) base ∙ is (get key (object base))) ∙ items_back ds
 
-  names_found : (t : Tree) → list_at (codes "generated") (write_lowered t names told shapes) ≡ map entry_value names
+  names_found : (t : Tree) → list_at (codes "generated") (write_lowered t names warnings shapes) ≡ map entry_value names
   names_found t = look_more (codes "generated") t (map entry_value names) (λ o. refl)
 
-  told_found : (t : Tree) → list_at (codes "warnings") (write_lowered t names told shapes) ≡ map warning_value told
-  told_found t = look_more (codes "warnings") t (map warning_value told) (λ o. refl)
+  warnings_found : (t : Tree) → list_at (codes "warnings") (write_lowered t names warnings shapes) ≡ map warning_value warnings
+  warnings_found t = look_more (codes "warnings") t (map warning_value warnings) (λ o. refl)
 
-  shapes_found : (t : Tree) → list_at (codes "outside") (write_lowered t names told shapes) ≡ map (λ s. number_of (shape_number s)) shapes
+  shapes_found : (t : Tree) → list_at (codes "outside") (write_lowered t names warnings shapes) ≡ map (λ s. number_of (shape_number s)) shapes
   shapes_found t = look_more (codes "outside") t (map (λ s. number_of (shape_number s)) shapes) (λ o. refl)
 
 abbrev number_or : Option ℕ → ℕ
@@ -98,10 +98,10 @@ shape_back : (s : Shape) → shape_in (number_of (shape_number s)) ≡ s
 shape_back Shape.S1 = refl
 shape_back _ = refl
 
-pub lowered_fixes_shapes : (s t : Tree) (names names' : List LedgerEntry) (told told' : List Diagnostic) (shapes shapes' : List Shape) → write_lowered s names told shapes ≡ write_lowered t names' told' shapes' → shapes ≡ shapes'
-lowered_fixes_shapes s t names names' told told' shapes shapes' same =
+pub lowered_fixes_shapes : (s t : Tree) (names names' : List LedgerEntry) (warnings warnings' : List Diagnostic) (shapes shapes' : List Shape) → write_lowered s names warnings shapes ≡ write_lowered t names' warnings' shapes' → shapes ≡ shapes'
+lowered_fixes_shapes s t names names' warnings warnings' shapes shapes' same =
     sym (map_back (λ s. number_of (shape_number s)) shape_in shape_back shapes)
-    ∙ ap (map shape_in) (sym (shapes_found names told shapes s) ∙ ap (list_at (codes "outside")) same ∙ shapes_found names' told' shapes' t)
+    ∙ ap (map shape_in) (sym (shapes_found names warnings shapes s) ∙ ap (list_at (codes "outside")) same ∙ shapes_found names' warnings' shapes' t)
     ∙ map_back (λ s. number_of (shape_number s)) shape_in shape_back shapes'
 
 -- ---- the warnings
@@ -120,11 +120,11 @@ warning_back d = by_span d.node d.span where
   by_span node None = refl
   by_span node (Some s) = refl
 
-pub lowered_fixes_warnings : (s t : Tree) (names names' : List LedgerEntry) (told told' : List Diagnostic) (shapes shapes' : List Shape) → write_lowered s names told shapes ≡ write_lowered t names' told' shapes' → told ≡ told'
-lowered_fixes_warnings s t names names' told told' shapes shapes' same =
-    sym (map_back warning_value warning_in warning_back told)
-    ∙ ap (map warning_in) (sym (told_found names told shapes s) ∙ ap (list_at (codes "warnings")) same ∙ told_found names' told' shapes' t)
-    ∙ map_back warning_value warning_in warning_back told'
+pub lowered_fixes_warnings : (s t : Tree) (names names' : List LedgerEntry) (warnings warnings' : List Diagnostic) (shapes shapes' : List Shape) → write_lowered s names warnings shapes ≡ write_lowered t names' warnings' shapes' → warnings ≡ warnings'
+lowered_fixes_warnings s t names names' warnings warnings' shapes shapes' same =
+    sym (map_back warning_value warning_in warning_back warnings)
+    ∙ ap (map warning_in) (sym (warnings_found names warnings shapes s) ∙ ap (list_at (codes "warnings")) same ∙ warnings_found names' warnings' shapes' t)
+    ∙ map_back warning_value warning_in warning_back warnings'
 
 -- ---- the names
 
@@ -179,9 +179,9 @@ names_back : (es : List LedgerEntry) → NamesAreStrings es → map entry_in (ma
 names_back [] kept = refl
 names_back (e ∷ es) kept = ap₂ (λ y ys. y ∷ ys) (entry_back e kept.0) (names_back es kept.1)
 
-pub lowered_fixes_names : (s t : Tree) (names names' : List LedgerEntry) (told told' : List Diagnostic) (shapes shapes' : List Shape) → NamesAreStrings names → NamesAreStrings names'
-    → write_lowered s names told shapes ≡ write_lowered t names' told' shapes' → names ≡ names'
-lowered_fixes_names s t names names' told told' shapes shapes' kept kept' same =
+pub lowered_fixes_names : (s t : Tree) (names names' : List LedgerEntry) (warnings warnings' : List Diagnostic) (shapes shapes' : List Shape) → NamesAreStrings names → NamesAreStrings names'
+    → write_lowered s names warnings shapes ≡ write_lowered t names' warnings' shapes' → names ≡ names'
+lowered_fixes_names s t names names' warnings warnings' shapes shapes' kept kept' same =
     sym (names_back names kept)
-    ∙ ap (map entry_in) (sym (names_found names told shapes s) ∙ ap (list_at (codes "generated")) same ∙ names_found names' told' shapes' t)
+    ∙ ap (map entry_in) (sym (names_found names warnings shapes s) ∙ ap (list_at (codes "generated")) same ∙ names_found names' warnings' shapes' t)
     ∙ names_back names' kept'

@@ -56,7 +56,7 @@ good_parts computed d (f ∷ fs) (more p ps) c kept stands =
     let conform = and_parts (part_conforms computed f.sort p) (parts_conform computed fs ps) c in
     and_from _ _ (good_part computed d f.name f.sort p conform.0 kept.0 stands.0) (good_parts computed d fs ps conform.1 kept.1 stands.1)
 
--- ---- a template has one text more than expressions
+-- ---- a template has one string more than expressions
 
 items_counted : (ps : Parts) → item_count (write_items ps) ≡ parts_count ps
 items_counted end = refl

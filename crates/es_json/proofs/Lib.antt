@@ -8,7 +8,9 @@ pub mod Good
 pub mod JsonText
 pub mod Looks
 pub mod Lowered
+pub mod LoweredText
 pub mod Members
+pub mod OfKind
 pub mod Parsed
 pub mod Parts
 pub mod RoundTrip
@@ -17,8 +19,6 @@ pub mod Stands
 pub mod Strings
 pub mod Tests
 pub mod Tokens
-pub mod Told
 pub mod Turned
 pub mod Well
 pub mod Written
-pub mod OfKind

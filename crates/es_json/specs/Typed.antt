@@ -4,5 +4,5 @@ use Rattle.es_base.specs.Tree.{Tree}
 use Rattle.es_tree.specs.Program.{program}
 use Rattle.es_tree.specs.declared.program.Program.{Program}
 
-abbrev pub tree_of : Program → Tree
-tree_of p = program p.node_id.0 (span_of p.span) (scope_number p.scope_id) p.source_type p.body
+abbrev pub program_tree : Program → Tree
+program_tree p = program p.node_id.0 (span_of p.span) (scope_number p.scope_id) p.source_type p.body

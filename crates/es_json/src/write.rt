@@ -16,8 +16,7 @@ use es_base::diagnostic::Diagnostic;
 use es_base::ledger::Ledger;
 use es_base::shape::Shape;
 use es_node::node::Node;
-use es_writing::lowered;
-use es_writing::node;
+use es_writing::{lowered, node};
 use serde_json::Value;
 use std::alloc::{AllocError, Global};
 
@@ -32,7 +31,8 @@ pub fn write_program(alloc: Global, program: &Node) -> Result<Value, AllocError>
     ensures value { IfOk result (λ v. view v ≡ write program.now) }
     ensures kept { IfOk result (λ v. IsKept program.now) }
     ensures no_float { IfOk result (λ v. has_float (view v) ≡ false) }
-    ensures reads_back { IfOk result (λ v. conforms Place.Program program.now ≡ true → read Numbers.Given (view v) root 0 ≡ Ok (record { value = stripped program.now; foreign = [] })) }
+    ensures reads_back { IfOk result (λ v. conforms Place.Program program.now ≡ true
+        → read Numbers.Given (view v) root 0 ≡ Ok (record { value = stripped program.now; foreign = [] })) }
 {
     node::write(alloc, program)
 }
@@ -55,7 +55,8 @@ pub fn write_lowered(
     ensures value { IfOk result (λ v. Writes v program.now ledger.now.entries warnings.now outside.now) }
     ensures kept { IfOk result (λ v. IsKept program.now) }
     ensures no_float { IfOk result (λ v. has_float (view v) ≡ false) }
-    ensures reads_back { IfOk result (λ v. conforms Place.Program program.now ≡ true → read Numbers.Given (view v) root 0 ≡ Ok (record { value = stripped program.now; foreign = [] })) }
+    ensures reads_back { IfOk result (λ v. conforms Place.Program program.now ≡ true
+        → read Numbers.Given (view v) root 0 ≡ Ok (record { value = stripped program.now; foreign = [] })) }
 {
     lowered::write_lowered(alloc, program, ledger, warnings, outside)
 }

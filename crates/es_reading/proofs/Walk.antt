@@ -1,10 +1,10 @@
 -- How the reading of a value goes on.
-use Rattle.std.proofs.Common.{◌≡◌, refl, sym, ap, ap₂, ◌∙◌, subst, ℕ, zero, suc, ◌+◌, ◌<◌, ◌≤◌, nat_eq, length, drop, get_or, List, [], ◌∷◌, ◌++◌, append_assoc, append-nil, map, Bool, true, false, ◌&&◌, Option, Some, None, option_map, option_and_then, Result, Ok, Err, Ordering, Less, Equal, Greater, arith}
+use Rattle.std.proofs.Common.{◌≡◌, refl, sym, ap, ap₂, ◌∙◌, subst, ℕ, zero, suc, ◌+◌, ◌<◌, ◌≤◌, nat_eq, length, drop, get_or, List, [], ◌∷◌, ◌++◌, append_assoc, append-nil, map, Bool, true, false, Option, Some, None, option_map, option_and_then, Result, Ok, Err, Ordering, Less, Equal, Greater, arith}
 use Rattle.std.proofs.lemmas.Bool.Decides.{same_from_decides, Decides-eqb, nat_tests}
 use Rattle.std.proofs.lemmas.List.{drop_more}
 use Rattle.std.specs.Ordering.{nat_cmp, match_ordering}
 use Rattle.std.specs.Cmp.Lexicographic.{slice_cmp}
-use Rattle.serde_json.specs.Data.{Data, null, boolean as json_boolean, number, string as json_string, array, object, Items, Members, no_members, member}
+use Rattle.serde_json.specs.Data.{Data, null, boolean as json_boolean, number, string as json_string, array, object, Members, no_members, member}
 use Rattle.serde_json.specs.Find.{get, get_member, as_array}
 use Rattle.serde_json.specs.View.{view, items_view}
 use Rattle.serde_json.specs.declared.value.Value.{Value}
@@ -20,9 +20,9 @@ use Rattle.es_node.specs.View.{part_of, parts_of, has_shape, have_shapes}
 use Rattle.es_node.specs.declared.node.Part as code
 use Rattle.es_reading.proofs.And.{left_of, right_of, both}
 use Rattle.es_reading.specs.Fault.{Fault, Read, bind}
-use Rattle.es_reading.specs.Look.{span_at, is_null, array_at}
+use Rattle.es_reading.specs.Look.{span_at, array_at}
 use Rattle.es_reading.specs.Members.{is_of_sort, are_of_sorts}
-use Rattle.es_reading.specs.Reading.{Reader, reader_of, readers_in, readers, find, finds, read, value_node, kind_of, number_of, members_in, parent_of, node_of, own_number, each, before as put_before, as_child, as_list, alone, leaf_of, literal_part, member_of, item_of, items_of, slot, is_last, read_by}
+use Rattle.es_reading.specs.Reading.{Reader, reader_of, readers_in, readers, find, finds, read, value_node, kind_of, number_of, members_in, parent_of, node_of, own_number, each, before as put_before, as_child, as_list, alone, leaf_of, literal_part, member_of, items_of, slot, is_last, read_by}
 use Rattle.es_reading.specs.Told.{Tells, Gives, item_in, values_there, values_at}
 use Rattle.es_reading.specs.Unlisted.{is_foreign_node, holds_nodes}
 use Rattle.es_reading.specs.declared.fault.ReadError.{ReadError}

@@ -1,7 +1,7 @@
 -- The value of a literal (ESTree's `Literal`, `RegExpLiteral` and `BigIntLiteral`): the first form that fits.
 use Rattle.std.specs.Prelude.{ℕ, List, Bool, true, false, ◌&&◌, Option, Some, None, option_map, option_and_then, if◌then◌else◌, bytes_eq, codes, decimal, is_some}
 use Rattle.std.specs.Str.{chars}
-use Rattle.serde_json.specs.Data.{Data, null, number, Num, unsigned, negative, float}
+use Rattle.serde_json.specs.Data.{Data, null, number, unsigned, negative}
 use Rattle.serde_json.specs.Find.{get}
 use Rattle.es_base.specs.Conforms.{is_number_string}
 use Rattle.es_base.specs.declared.literal.LiteralValue.{LiteralValue}

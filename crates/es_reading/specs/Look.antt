@@ -2,7 +2,7 @@
 -- characters.
 use Rattle.std.specs.Prelude.{ℕ, ◌^◌, nat_lt, List, Bool, true, false, is_some, Option, Some, None, option_map, option_and_then, if◌then◌else◌, bytes_eq, codes}
 use Rattle.std.specs.Str.{chars}
-use Rattle.serde_json.specs.Data.{Data, null, Num, Items}
+use Rattle.serde_json.specs.Data.{Data, null, Items}
 use Rattle.serde_json.specs.Find.{get, as_str, as_bool, as_array, as_null, as_number, as_u64}
 
 abbrev pub string_at : List ℕ → Data → Option (List ℕ)

@@ -6,11 +6,11 @@ ghost use Rattle.es_base.specs.Conforms.{key_place};
 ghost use Rattle.es_base.specs.Table.{members_of};
 ghost use Rattle.es_base.specs.Tree.{nullable};
 ghost use Rattle.es_node.specs.View.{has_shape, have_shapes, is_child, is_list, is_list_with_holes, is_nullable, part_of, parts_of};
-ghost use Rattle.es_reading.specs.Reading.{kind_of, number_in, number_of, own_number, place_below, parent_of, below, slots_below, slot, member_of, members_in, read, read_by, reader_of, finds};
+ghost use Rattle.es_reading.specs.Reading.{kind_of, number_in, number_of, own_number, place_below, parent_of, below, slots_below, slot, read, reader_of};
 ghost use Rattle.es_reading.specs.Look.{array_at, is_true_at};
 ghost use Rattle.es_reading.specs.Members.{are_good, are_of_sorts, is_of_sort};
 ghost use Rattle.es_reading.specs.Unlisted.{is_foreign_node};
-ghost use Rattle.es_reading.specs.Told.{Tells, Gives, ids, values, values_there, values_at};
+ghost use Rattle.es_reading.specs.Told.{Tells, Gives, child_in, ids, list_in, member_in, nullable_in, row_in, values, values_there, values_at};
 ghost use Rattle.serde_json.specs.Find.{get};
 ghost use Rattle.serde_json.specs.View.{view};
 
@@ -184,7 +184,8 @@ pub fn read_node(
     foreign: &mut List<NodeId>,
 ) -> Result<(Node, u32), ReadError>
     requires { at + values (view value.now) < 2 ^ 32 }
-    ensures tree { IfOk result (λ r. Gives (read reader.numbers (view value.now) spot at) r.0 (ids foreign.old) (ids foreign.new)) }
+    ensures tree { IfOk result (λ r.
+        Gives (read reader.numbers (view value.now) spot at) r.0 (ids foreign.old) (ids foreign.new)) }
     ensures next { IfOk result (λ r. r.1 ≡ at + nodes r.0) }
     ensures bound { IfOk result (λ r. r.1 ≤ at + values (view value.now)) }
     ensures err { IfErr result (λ e. Tells e (read reader.numbers (view value.now) spot at)) }
@@ -214,11 +215,13 @@ fn read_members(
 ) -> Result<(List<Part>, u32), ReadError>
     requires room { at + values_at (view value.now) (members_of parent.kind) < 2 ^ 32 }
     requires good { are_of_sorts (view value.now) (members_of parent.kind) ≡ true }
-    ensures parts { IfOk result (λ r. Gives (members_in (finds reader.numbers (view value.now)) (view value.now) parent (members_of parent.kind) at) (parts_of r.0) (ids foreign.old) (ids foreign.new)) }
+    ensures parts { IfOk result (λ r.
+        Gives (row_in reader.numbers (view value.now) parent at)
+        (parts_of r.0) (ids foreign.old) (ids foreign.new)) }
     ensures shapes { IfOk result (λ r. have_shapes (members_of parent.kind) r.0 ≡ true) }
     ensures next { IfOk result (λ r. r.1 ≡ at + nodes_of (parts_of r.0)) }
     ensures bound { IfOk result (λ r. r.1 ≤ at + values_at (view value.now) (members_of parent.kind)) }
-    ensures err { IfErr result (λ e. Tells e (members_in (finds reader.numbers (view value.now)) (view value.now) parent (members_of parent.kind) at)) }
+    ensures err { IfErr result (λ e. Tells e (row_in reader.numbers (view value.now) parent at)) }
 {
     let members = members(parent.kind);
     let mut parts = List::from_vec(Vec::with_capacity(reader.alloc, members.len())?);
@@ -243,24 +246,26 @@ fn read_member(
 ) -> Result<(Part, u32), ReadError>
     requires room { at + values_there (get member.name.now (view value.now)) < 2 ^ 32 }
     requires good { is_of_sort (view value.now) member.name.now member.sort ≡ true }
-    ensures part { IfOk result (λ r. Gives (member_of (finds reader.numbers (view value.now)) (view value.now) parent member.name.now member.sort at) (part_of r.0) (ids foreign.old) (ids foreign.new)) }
+    ensures part { IfOk result (λ r.
+        Gives (member_in reader.numbers (view value.now) parent member.name.now member.sort at)
+        (part_of r.0) (ids foreign.old) (ids foreign.new)) }
     ensures shape { IfOk result (λ r. has_shape member.sort r.0 ≡ true) }
     ensures next { IfOk result (λ r. r.1 ≡ at + nodes_of_part (part_of r.0)) }
     ensures bound { IfOk result (λ r. r.1 ≤ at + values_there (get member.name.now (view value.now))) }
-    ensures err { IfErr result (λ e. Tells e (member_of (finds reader.numbers (view value.now)) (view value.now) parent member.name.now member.sort at)) }
+    ensures err { IfErr result (λ e.
+        Tells e (member_in reader.numbers (view value.now) parent member.name.now member.sort at)) }
 {
-    let name = member.name;
     match member.sort {
         Sort::Child(place) => {
             let spot = below(parent, place_below(parent.kind, value, place));
-            read_child(reader, value_at(value, name), spot, at, foreign)
+            read_child(reader, value, member, spot, at, foreign)
         }
         Sort::Key(place) => {
             let spot = below(parent, key_place(value, place));
-            read_child(reader, value_at(value, name), spot, at, foreign)
+            read_child(reader, value, member, spot, at, foreign)
         }
         Sort::Nullable(place) => {
-            read_nullable(reader, value.get(name), below(parent, place), at, foreign)
+            read_nullable(reader, value, member, below(parent, place), at, foreign)
         }
         Sort::List(place) | Sort::NonEmptyList(place) => {
             let slots = slots_below(parent, false, place);
@@ -270,50 +275,59 @@ fn read_member(
             let slots = slots_below(parent, true, place);
             read_list_with_holes(reader, value, member, slots, at, foreign)
         }
-        sort => Ok((leaf_of(reader.alloc, value, name, sort)?, at)),
+        sort => Ok((leaf_of(reader.alloc, value, member.name, sort)?, at)),
     }
 }
 
-/// Reads a child.
+/// Reads the node at a member.
 #[cycle(read)]
 fn read_child(
     reader: Reader,
     value: &Value,
+    member: Member,
     spot: Spot,
     at: u32,
     foreign: &mut List<NodeId>,
 ) -> Result<(Part, u32), ReadError>
-    requires { at + values (view value.now) < 2 ^ 32 }
-    ensures part { IfOk result (λ r. Gives ((reader_of reader.numbers (view value.now)).item false spot at) (part_of r.0) (ids foreign.old) (ids foreign.new)) }
+    requires room { at + values_there (get member.name.now (view value.now)) < 2 ^ 32 }
+    requires good { is_some (get member.name.now (view value.now)) ≡ true }
+    ensures part { IfOk result (λ r.
+        Gives (child_in reader.numbers (view value.now) member.name.now spot at)
+        (part_of r.0) (ids foreign.old) (ids foreign.new)) }
     ensures shape { IfOk result (λ r. is_child r.0 ≡ true) }
     ensures next { IfOk result (λ r. r.1 ≡ at + nodes_of_part (part_of r.0)) }
-    ensures bound { IfOk result (λ r. r.1 ≤ at + values (view value.now)) }
-    ensures err { IfErr result (λ e. Tells e ((reader_of reader.numbers (view value.now)).item false spot at)) }
+    ensures bound { IfOk result (λ r. r.1 ≤ at + values_there (get member.name.now (view value.now))) }
+    ensures err { IfErr result (λ e.
+        Tells e (child_in reader.numbers (view value.now) member.name.now spot at)) }
 {
-    let (node, next) = read_node(reader, value, spot, at, foreign)?;
+    let (node, next) = read_node(reader, value_at(value, member.name), spot, at, foreign)?;
     Ok((Part::Child(node), next))
 }
 
-/// Reads a child that may be absent or null.
+/// Reads the node at a member, or none where the member is absent or null.
 #[cycle(read)]
 fn read_nullable(
     reader: Reader,
-    found: Option<&Value>,
+    value: &Value,
+    member: Member,
     spot: Spot,
     at: u32,
     foreign: &mut List<NodeId>,
 ) -> Result<(Part, u32), ReadError>
-    requires { at + values_there (option_map (λ v. view v.now) found) < 2 ^ 32 }
-    ensures part { IfOk result (λ r. Gives (read_by (option_map (reader_of reader.numbers) (option_map (λ v. view v.now) found.entry)) (λ k. k.item true spot at)) (part_of r.0) (ids foreign.old) (ids foreign.new)) }
+    requires { at + values_there (get member.name.now (view value.now)) < 2 ^ 32 }
+    ensures part { IfOk result (λ r.
+        Gives (nullable_in reader.numbers (view value.now) member.name.now spot at)
+        (part_of r.0) (ids foreign.old) (ids foreign.new)) }
     ensures shape { IfOk result (λ r. is_nullable r.0 ≡ true) }
     ensures next { IfOk result (λ r. r.1 ≡ at + nodes_of_part (part_of r.0)) }
-    ensures bound { IfOk result (λ r. r.1 ≤ at + values_there (option_map (λ v. view v.now) found.entry)) }
-    ensures err { IfErr result (λ e. Tells e (read_by (option_map (reader_of reader.numbers) (option_map (λ v. view v.now) found.entry)) (λ k. k.item true spot at))) }
+    ensures bound { IfOk result (λ r. r.1 ≤ at + values_there (get member.name.now (view value.now))) }
+    ensures err { IfErr result (λ e.
+        Tells e (nullable_in reader.numbers (view value.now) member.name.now spot at)) }
 {
-    match found {
+    match value.get(member.name) {
         None => Ok((Part::Absent, at)),
-        Some(value) => {
-            let (node, next) = read_nullable_node(reader, value, spot, at, foreign)?;
+        Some(found) => {
+            let (node, next) = read_nullable_node(reader, found, spot, at, foreign)?;
             Ok((nullable_part(node), next))
         }
     }
@@ -329,7 +343,9 @@ fn read_nullable_node(
     foreign: &mut List<NodeId>,
 ) -> Result<(Option<Node>, u32), ReadError>
     requires { at + values (view value.now) < 2 ^ 32 }
-    ensures part { IfOk result (λ r. Gives ((reader_of reader.numbers (view value.now)).item true spot at) (nullable r.0) (ids foreign.old) (ids foreign.new)) }
+    ensures part { IfOk result (λ r.
+        Gives ((reader_of reader.numbers (view value.now)).item true spot at)
+        (nullable r.0) (ids foreign.old) (ids foreign.new)) }
     ensures next { IfOk result (λ r. r.1 ≡ at + nodes_of_part (nullable r.0)) }
     ensures bound { IfOk result (λ r. r.1 ≤ at + values (view value.now)) }
     ensures err { IfErr result (λ e. Tells e ((reader_of reader.numbers (view value.now)).item true spot at)) }
@@ -354,11 +370,14 @@ fn read_list(
     requires room { at + values_there (get member.name.now (view value.now)) < 2 ^ 32 }
     requires good { is_some (array_at member.name.now (view value.now)) ≡ true }
     requires full { slots.holes ≡ false }
-    ensures part { IfOk result (λ r. Gives (read_by (finds reader.numbers (view value.now) member.name.now) (λ k. k.items slots at)) (part_of r.0) (ids foreign.old) (ids foreign.new)) }
+    ensures part { IfOk result (λ r.
+        Gives (list_in reader.numbers (view value.now) member.name.now slots at)
+        (part_of r.0) (ids foreign.old) (ids foreign.new)) }
     ensures shape { IfOk result (λ r. is_list r.0 ≡ true) }
     ensures next { IfOk result (λ r. r.1 ≡ at + nodes_of_part (part_of r.0)) }
     ensures bound { IfOk result (λ r. r.1 ≤ at + values_there (get member.name.now (view value.now))) }
-    ensures err { IfErr result (λ e. Tells e (read_by (finds reader.numbers (view value.now) member.name.now) (λ k. k.items slots at))) }
+    ensures err { IfErr result (λ e.
+        Tells e (list_in reader.numbers (view value.now) member.name.now slots at)) }
 {
     let items = items_at(value, member.name);
     let mut nodes = List::from_vec(Vec::with_capacity(reader.alloc, items.len())?);
@@ -385,11 +404,14 @@ fn read_list_with_holes(
     requires room { at + values_there (get member.name.now (view value.now)) < 2 ^ 32 }
     requires good { is_some (array_at member.name.now (view value.now)) ≡ true }
     requires holes { slots.holes ≡ true }
-    ensures part { IfOk result (λ r. Gives (read_by (finds reader.numbers (view value.now) member.name.now) (λ k. k.items slots at)) (part_of r.0) (ids foreign.old) (ids foreign.new)) }
+    ensures part { IfOk result (λ r.
+        Gives (list_in reader.numbers (view value.now) member.name.now slots at)
+        (part_of r.0) (ids foreign.old) (ids foreign.new)) }
     ensures shape { IfOk result (λ r. is_list_with_holes r.0 ≡ true) }
     ensures next { IfOk result (λ r. r.1 ≡ at + nodes_of_part (part_of r.0)) }
     ensures bound { IfOk result (λ r. r.1 ≤ at + values_there (get member.name.now (view value.now))) }
-    ensures err { IfErr result (λ e. Tells e (read_by (finds reader.numbers (view value.now) member.name.now) (λ k. k.items slots at))) }
+    ensures err { IfErr result (λ e.
+        Tells e (list_in reader.numbers (view value.now) member.name.now slots at)) }
 {
     let items = items_at(value, member.name);
     let mut nodes = List::from_vec(Vec::with_capacity(reader.alloc, items.len())?);

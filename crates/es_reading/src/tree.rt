@@ -23,7 +23,7 @@ use std::alloc::Global;
 /// The tree of a program, and the numbers of its nodes that have a member of TypeScript, JSX or import
 /// attributes, in preorder. (ESTree, off the table of kinds; docs/JSON.md)
 ///
-/// Where the value is no tree, the first fault in preorder; beside that it fails for allocation failure
+/// Where the value is no tree, the first fault in preorder; beside that it fails on allocation failure
 /// alone. The value holds fewer than 2^32 - 1 values, itself and those at every depth counted.
 pub fn read_tree(
     alloc: Global,

@@ -4,7 +4,7 @@ use Rattle.std.proofs.lemmas.List.{drop_more, drop_all}
 use Rattle.serde_json.specs.Data.{Data, Items, no_items, item, Members, put}
 use Rattle.serde_json.specs.View.{view, items_view}
 use Rattle.serde_json.specs.declared.value.Value.{Value}
-use Rattle.es_base.specs.Tree.{Tree, Parts, end, more, child, nullable, trees, nullable_trees}
+use Rattle.es_base.specs.Tree.{Tree, Parts, end, more, nullable, trees, nullable_trees}
 use Rattle.es_base.specs.Table.{Field, field_of}
 use Rattle.es_base.specs.declared.table.Member.{Member}
 use Rattle.es_node.specs.View.{part_of, parts_of}

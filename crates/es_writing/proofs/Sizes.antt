@@ -1,5 +1,5 @@
 -- How large a tree is: the measure of the walks. Each step into a tree leaves room for the steps that stay at it.
-use Rattle.std.proofs.Common.{◌≡◌, refl, ap, ℕ, zero, suc, ◌+◌, ◌<◌, ◌≤◌, List, [], ◌∷◌, length, get_or, Option, Some, None, arith}
+use Rattle.std.proofs.Common.{◌≡◌, ap, ℕ, zero, suc, ◌+◌, ◌<◌, ◌≤◌, List, [], ◌∷◌, length, get_or, Option, Some, arith}
 use Rattle.es_base.specs.Tree.{Tree, Part as tree_part, Parts, Node, end, more, child, list, nullable, trees, nullable_trees}
 use Rattle.es_node.specs.View.{part_of, parts_of, parts_in}
 use Rattle.es_node.specs.declared.node.Part.{Part}

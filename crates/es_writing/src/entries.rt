@@ -3,9 +3,9 @@
 ghost use Rattle.std.specs.Prelude.{◌≡◌, [], IfOk, OnOk};
 ghost use Rattle.es_base.specs.Carried.{span_of};
 ghost use Rattle.es_base.specs.Words.{word_string};
-ghost use Rattle.es_writing.specs.Writing.{entry, put_all, string_of, number_of, span_entries};
+ghost use Rattle.es_writing.specs.Writing.{Puts, entry, string_of, number_of, span_entries};
 ghost use Rattle.serde_json.specs.Data.{null, boolean as json_boolean, string as json_string};
-ghost use Rattle.serde_json.specs.View.{view, members_view};
+ghost use Rattle.serde_json.specs.View.{view};
 
 use es_base::ids::Span;
 use es_base::name::Name;
@@ -44,7 +44,7 @@ pub fn put_value(
     name: &str,
     value: Value,
 ) -> Result<(), AllocError>
-    ensures { OnOk result (members_view object.new.entries ≡ put_all (members_view object.old.entries) (entry name.now (view value) [])) }
+    ensures { OnOk result (Puts object.old.entries object.new.entries (entry name.now (view value) [])) }
 {
     serde_json::put(object, alloc, name, value)
 }
@@ -55,7 +55,7 @@ pub fn put_null(
     alloc: Global,
     name: &str,
 ) -> Result<(), AllocError>
-    ensures { OnOk result (members_view object.new.entries ≡ put_all (members_view object.old.entries) (entry name.now null [])) }
+    ensures { OnOk result (Puts object.old.entries object.new.entries (entry name.now null [])) }
 {
     put_value(object, alloc, name, Value::Null)
 }
@@ -67,7 +67,7 @@ pub fn put_boolean(
     name: &str,
     boolean: bool,
 ) -> Result<(), AllocError>
-    ensures { OnOk result (members_view object.new.entries ≡ put_all (members_view object.old.entries) (entry name.now (json_boolean boolean) [])) }
+    ensures { OnOk result (Puts object.old.entries object.new.entries (entry name.now (json_boolean boolean) [])) }
 {
     put_value(object, alloc, name, Value::from(boolean))
 }
@@ -79,7 +79,7 @@ pub fn put_number(
     name: &str,
     number: u32,
 ) -> Result<(), AllocError>
-    ensures { OnOk result (members_view object.new.entries ≡ put_all (members_view object.old.entries) (entry name.now (number_of number) [])) }
+    ensures { OnOk result (Puts object.old.entries object.new.entries (entry name.now (number_of number) [])) }
 {
     put_value(object, alloc, name, number_of(number))
 }
@@ -91,7 +91,7 @@ pub fn put_string(
     name: &str,
     string: &Name,
 ) -> Result<(), AllocError>
-    ensures { OnOk result (members_view object.new.entries ≡ put_all (members_view object.old.entries) (entry name.now (string_of string.now) [])) }
+    ensures { OnOk result (Puts object.old.entries object.new.entries (entry name.now (string_of string.now) [])) }
 {
     put_value(object, alloc, name, string_of(alloc, string)?)
 }
@@ -103,7 +103,7 @@ pub fn put_str(
     name: &str,
     string: &str,
 ) -> Result<(), AllocError>
-    ensures { OnOk result (members_view object.new.entries ≡ put_all (members_view object.old.entries) (entry name.now (json_string string.now) [])) }
+    ensures { OnOk result (Puts object.old.entries object.new.entries (entry name.now (json_string string.now) [])) }
 {
     put_value(object, alloc, name, Value::try_from_str(alloc, string)?)
 }
@@ -115,7 +115,7 @@ pub fn put_span(
     alloc: Global,
     span: Option<Span>,
 ) -> Result<(), AllocError>
-    ensures { OnOk result (members_view object.new.entries ≡ put_all (members_view object.old.entries) (span_entries (span_of span))) }
+    ensures { OnOk result (Puts object.old.entries object.new.entries (span_entries (span_of span))) }
 {
     if let Some(span) = span {
         put_number(object, alloc, "start", span.start)?;

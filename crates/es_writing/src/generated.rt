@@ -3,8 +3,8 @@
 ghost use Rattle.std.specs.Prelude.{◌≡◌, ◌<◌, ◌^◌, IfOk, OnOk, map};
 ghost use Rattle.es_writing.specs.Lowered.{NamesFit, WritesInOrder, entry_cmp, entry_value, kind_word, number_entries, number_in, written_name};
 ghost use Rattle.es_writing.specs.Kept.{IsString};
-ghost use Rattle.es_writing.specs.Writing.{put_all, string_of};
-ghost use Rattle.serde_json.specs.View.{view, members_view};
+ghost use Rattle.es_writing.specs.Writing.{Puts, string_of};
+ghost use Rattle.serde_json.specs.View.{view};
 
 use crate::entries::{put_number, put_str, put_value, string_of};
 use crate::order::{arranged, number_in};
@@ -95,7 +95,7 @@ fn put_kind_number(
     alloc: Global,
     kind: GeneratedKind,
 ) -> Result<(), AllocError>
-    ensures { OnOk result (members_view object.new.entries ≡ put_all (members_view object.old.entries) (number_entries kind)) }
+    ensures { OnOk result (Puts object.old.entries object.new.entries (number_entries kind)) }
 {
     match kind {
         GeneratedKind::ClassTemp(id)

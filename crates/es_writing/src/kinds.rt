@@ -4,8 +4,8 @@ ghost use Rattle.std.specs.Prelude.{◌≡◌, IfOk, OnOk, codes};
 ghost use Rattle.es_base.specs.declared.kind.Kind.{Kind};
 ghost use Rattle.es_base.specs.Tree.{absent, end, more};
 ghost use Rattle.es_node.specs.View.{part_of, parts_of};
-ghost use Rattle.es_writing.specs.Writing.{put_all, type_of, is_block, more_entries, raw_of, cooked_of, strings_of, tail_entries, entry};
-ghost use Rattle.serde_json.specs.View.{view, members_view};
+ghost use Rattle.es_writing.specs.Writing.{Puts, type_of, is_block, more_entries, raw_of, cooked_of, strings_of, tail_entries, entry};
+ghost use Rattle.serde_json.specs.View.{view};
 
 use crate::entries::{put_boolean, put_value, string_of, word_of};
 use es_base::kind::Kind;
@@ -43,7 +43,7 @@ pub fn put_more(
     kind: Kind,
     parts: &[Part],
 ) -> Result<(), AllocError>
-    ensures { OnOk result (members_view object.new.entries ≡ put_all (members_view object.old.entries) (more_entries kind (parts_of parts.now))) }
+    ensures { OnOk result (Puts object.old.entries object.new.entries (more_entries kind (parts_of parts.now))) }
 {
     match kind {
         Kind::UnaryExpression => put_boolean(object, alloc, "prefix", true),
@@ -82,14 +82,15 @@ pub fn put_template(
     cooked: &Part,
     tail: &[Part],
 ) -> Result<(), AllocError>
-    ensures { OnOk result (members_view object.new.entries ≡ put_all (members_view object.old.entries) (entry (codes "value") (strings_of (part_of raw.now) (part_of cooked.now)) (tail_entries (parts_of tail.now)))) }
+    ensures { OnOk result (Puts object.old.entries object.new.entries
+        (entry (codes "value") (strings_of (part_of raw.now) (part_of cooked.now)) (tail_entries (parts_of tail.now)))) }
 {
     put_value(object, alloc, "value", strings_of(alloc, raw, cooked)?)?;
     put_tail(object, alloc, tail)
 }
 
 fn put_tail(object: &mut Map<String, Value>, alloc: Global, tail: &[Part]) -> Result<(), AllocError>
-    ensures { OnOk result (members_view object.new.entries ≡ put_all (members_view object.old.entries) (tail_entries (parts_of tail.now))) }
+    ensures { OnOk result (Puts object.old.entries object.new.entries (tail_entries (parts_of tail.now))) }
 {
     match tail {
         [Part::Boolean(last), ..] => put_boolean(object, alloc, "tail", *last),

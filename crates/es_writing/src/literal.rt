@@ -1,8 +1,8 @@
 // What a literal has at its members (ESTree).
 
 ghost use Rattle.std.specs.Prelude.{◌≡◌, IfOk, OnOk};
-ghost use Rattle.es_writing.specs.Writing.{put_all, raw_entry, boolean_string, regex_of, literal_entries};
-ghost use Rattle.serde_json.specs.View.{view, members_view};
+ghost use Rattle.es_writing.specs.Writing.{Puts, raw_entry, boolean_string, regex_of, literal_entries};
+ghost use Rattle.serde_json.specs.View.{view};
 
 use crate::entries::{put_boolean, put_null, put_str, put_string, put_value};
 use es_base::literal::LiteralValue;
@@ -17,7 +17,7 @@ pub fn put_literal(
     alloc: Global,
     value: &LiteralValue,
 ) -> Result<(), AllocError>
-    ensures { OnOk result (members_view object.new.entries ≡ put_all (members_view object.old.entries) (literal_entries value.now)) }
+    ensures { OnOk result (Puts object.old.entries object.new.entries (literal_entries value.now)) }
 {
     match value {
         LiteralValue::String { value, raw } => {
@@ -53,7 +53,7 @@ fn put_raw(
     alloc: Global,
     raw: &Option<Name>,
 ) -> Result<(), AllocError>
-    ensures { OnOk result (members_view object.new.entries ≡ put_all (members_view object.old.entries) (raw_entry raw.now)) }
+    ensures { OnOk result (Puts object.old.entries object.new.entries (raw_entry raw.now)) }
 {
     match raw {
         None => Ok(()),

@@ -49,7 +49,9 @@ fn put_lists(
     warnings: Value,
     outside: Value,
 ) -> Result<Value, AllocError>
-    ensures { IfOk result (λ v. view v ≡ with_entries (view program) (entry (codes "generated") (view generated) (entry (codes "warnings") (view warnings) (entry (codes "outside") (view outside) [])))) }
+    ensures { IfOk result (λ v. view v ≡ with_entries (view program)
+        (entry (codes "generated") (view generated) (entry (codes "warnings") (view warnings)
+        (entry (codes "outside") (view outside) [])))) }
 {
     match program {
         Value::Object(mut members) => {

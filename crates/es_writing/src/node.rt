@@ -5,9 +5,9 @@ ghost use Rattle.es_base.specs.Table.{field_of, members_of};
 ghost use Rattle.es_base.specs.Tree.{nullable, trees, nullable_trees};
 ghost use Rattle.es_node.specs.View.{part_of, parts_of};
 ghost use Rattle.es_writing.specs.Kept.{IsKept};
-ghost use Rattle.es_writing.specs.Writing.{put_all, kind_entries, write, write_fields, write_part, write_items, write_item};
+ghost use Rattle.es_writing.specs.Writing.{Puts, kind_entries, write, write_fields, write_part, write_items, write_item};
 ghost use Rattle.serde_json.specs.Data.{array};
-ghost use Rattle.serde_json.specs.View.{view, members_view};
+ghost use Rattle.serde_json.specs.View.{view};
 
 use crate::entries::{number_of, put_boolean, put_null, put_span, put_string, put_value, word_of};
 use crate::kept::visit_tree;
@@ -54,7 +54,8 @@ fn put_row(
     kind: Kind,
     parts: &[Part],
 ) -> Result<(), AllocError>
-    ensures { OnOk result (members_view object.new.entries ≡ put_all (members_view object.old.entries) (kind_entries kind (parts_of parts.now) (write_fields (members_of kind) (parts_of parts.now)))) }
+    ensures { OnOk result (Puts object.old.entries object.new.entries
+        (kind_entries kind (parts_of parts.now) (write_fields (members_of kind) (parts_of parts.now)))) }
 {
     match kind {
         Kind::Foreign => Ok(()),
@@ -74,7 +75,8 @@ fn put_fields(
     members: &[Member],
     parts: &[Part],
 ) -> Result<(), AllocError>
-    ensures { OnOk result (members_view object.new.entries ≡ put_all (members_view object.old.entries) (write_fields (map field_of members.now) (parts_of parts.now))) }
+    ensures { OnOk result (Puts object.old.entries object.new.entries
+        (write_fields (map field_of members.now) (parts_of parts.now))) }
 {
     for (member, part) in members.iter().zip(parts) {
         put_part(object, alloc, member.name, part)?;
@@ -90,7 +92,7 @@ fn put_part(
     name: &str,
     part: &Part,
 ) -> Result<(), AllocError>
-    ensures { OnOk result (members_view object.new.entries ≡ put_all (members_view object.old.entries) (write_part name.now (part_of part.now))) }
+    ensures { OnOk result (Puts object.old.entries object.new.entries (write_part name.now (part_of part.now))) }
 {
     match part {
         Part::Child(node) => put_value(object, alloc, name, write_node(alloc, node)?),

@@ -35,7 +35,8 @@ fn compare(first: &LedgerEntry, second: &LedgerEntry) -> Ordering
 
 /// By the bytes of the written name.
 fn compare_written(first: &LedgerEntry, second: &LedgerEntry) -> Ordering
-    ensures { result ≡ slice_cmp nat_cmp (encode_utf8_all (written_name first.now)) (encode_utf8_all (written_name second.now)) }
+    ensures { result ≡ slice_cmp nat_cmp
+        (encode_utf8_all (written_name first.now)) (encode_utf8_all (written_name second.now)) }
 {
     let name = first.name.as_str();
     let other = second.name.as_str();

@@ -1,4 +1,4 @@
-use Rattle.std.proofs.Common.{rules, ap, ◌∙◌, sym}
+use Rattle.std.proofs.Common.{rules}
 use Rattle.es_reading.proofs.members.is_of_sort.Goals as goal
 
 pub returns-in-NonEmptyList : goal.returns-in-NonEmptyList

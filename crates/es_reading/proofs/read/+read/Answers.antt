@@ -1,18 +1,17 @@
-use Rattle.std.proofs.Common.{rules, ◌≡◌, refl, sym, ap, ◌∙◌, ℕ, ◌+◌, map, take, drop, List, ◌∷◌, [], Some, None, Bool, true, false, option_map, subst, arith}
+use Rattle.std.proofs.Common.{rules, refl, sym, ap, ◌∙◌, ◌+◌, map, drop, List, ◌∷◌, None, subst, arith}
 use Rattle.std.proofs.lemmas.List.{drop_more, drop_all}
 use Rattle.serde_json.specs.View.{view, items_view}
-use Rattle.serde_json.specs.Find.{get}
 use Rattle.serde_json.specs.declared.value.Value.{Value}
 use Rattle.es_base.specs.Table.{Field, field_of, members_of}
 use Rattle.es_base.specs.Preorder.{nodes_of, nodes_of_part}
-use Rattle.es_base.specs.Tree.{Tree, Part, Node, list, trees, nullable_trees}
-use Rattle.es_node.specs.View.{part_of, parts_of, have_shapes}
+use Rattle.es_base.specs.Tree.{Node, trees, nullable_trees}
+use Rattle.es_node.specs.View.{parts_of, have_shapes}
 use Rattle.es_reading.specs.Members.{are_of_sorts}
-use Rattle.es_reading.specs.Reading.{kind_of, number_of, finds, each, members_in, member_of, as_list}
-use Rattle.es_reading.specs.Told.{Gives, Tells, ids, item_in, values, values_of_items, values_there, values_at}
+use Rattle.es_reading.specs.Reading.{finds, members_in, member_of}
+use Rattle.es_reading.specs.Told.{Gives, ids, item_in, values_of_items, values_there, values_at}
 use Rattle.es_reading.proofs.And.{left_of}
-use Rattle.es_reading.proofs.Depths.{falls_to, falls, child_falls, items_fall, item_depth}
-use Rattle.es_reading.proofs.Values.{fields_within, items_there, some_value}
+use Rattle.es_reading.proofs.Depths.{child_falls, items_fall, item_depth}
+use Rattle.es_reading.proofs.Values.{fields_within, items_there}
 use Rattle.es_reading.proofs.Walk as walk
 use Rattle.es_reading.proofs.read.+read.Goals as goal
 
@@ -89,15 +88,6 @@ read_members-returns-clause-bound t c = omega (arith, c.loop-member.invariant.bo
 
 -- ---- a member
 
-pub read_member-read_child-requires : goal.read_member-read_child-requires
-read_member-read_child-requires t c = (omega (arith, child_falls (view c.args.value.now) _ c.args.member.name.now c.value_at.ensures), omega (arith, ap values_there c.value_at.ensures, c.requires.room))
-
-pub read_member-read_child-requires-in-Key : goal.read_member-read_child-requires-in-Key
-read_member-read_child-requires-in-Key t c = (omega (arith, child_falls (view c.args.value.now) _ c.args.member.name.now c.value_at-in-Key.ensures), omega (arith, ap values_there c.value_at-in-Key.ensures, c.requires.room))
-
-pub read_member-read_nullable-requires : goal.read_member-read_nullable-requires
-read_member-read_nullable-requires t c = (omega (arith, falls 5 (view c.args.value.now) c.args.member.name.now _ (omega arith) c.get.ensures), omega (arith, ap values_there c.get.ensures, c.requires.room))
-
 pub read_member-returns-in_ok-leaf_of-in_default : goal.read_member-returns-in_ok-leaf_of-in_default
 read_member-returns-in_ok-leaf_of-in_default t c =
     let d = view c.args.value.now in
@@ -111,6 +101,14 @@ read_member-returns-in_ok-leaf_of-in_default t c =
       bound = omega arith;
       err = tt;
     }
+
+-- ---- a child
+
+pub read_child-read_node-requires : goal.read_child-read_node-requires
+read_child-read_node-requires t c = (omega (arith, child_falls (view c.args.value.now) _ c.args.member.name.now c.value_at.ensures), omega (arith, ap values_there c.value_at.ensures, c.requires.room))
+
+pub read_nullable-read_nullable_node-requires : goal.read_nullable-read_nullable_node-requires
+read_nullable-read_nullable_node-requires t c = (omega (arith, child_falls (view c.args.value.now) (view c.in-Some.found.now) c.args.member.name.now (sym c.in-Some.ensures)), omega (arith, ap values_there c.in-Some.ensures, c.requires))
 
 -- ---- lists
 

@@ -1,4 +1,4 @@
-use Rattle.std.proofs.Common.{◌≡◌, ℕ, ◌+◌, ◌*◌, ◌≤◌, List, ◌++◌, map, drop, option_map, true}
+use Rattle.std.proofs.Common.{◌≡◌, ◌+◌, ◌*◌, ◌≤◌, List, ◌++◌, map, drop, true}
 use Rattle.serde_json.specs.View.{view, items_view}
 use Rattle.serde_json.specs.Data.{depth}
 use Rattle.es_base.specs.Preorder.{nodes_of}
@@ -6,7 +6,6 @@ use Rattle.es_base.specs.Table.{field_of}
 use Rattle.es_base.specs.Tree.{trees, nullable_trees}
 use Rattle.es_node.specs.View.{parts_of, have_shapes}
 use Rattle.es_node.specs.declared.node.Part.{Part}
-use Rattle.es_reading.proofs.Depths.{falls_to}
 use Rattle.es_reading.proofs.Walk.{Begun}
 use Rattle.es_reading.specs.Members.{are_of_sorts}
 use Rattle.es_reading.specs.Reading.{each, finds, members_in}
@@ -23,10 +22,10 @@ abbrev pub decreases-read_member : goal.decreases-read_member
 decreases-read_member l = 8 * depth (view l.value.now) + 1
 
 abbrev pub decreases-read_child : goal.decreases-read_child
-decreases-read_child l = 8 * depth (view l.value.now) + 4
+decreases-read_child l = 8 * depth (view l.value.now)
 
 abbrev pub decreases-read_nullable : goal.decreases-read_nullable
-decreases-read_nullable l = falls_to 5 (option_map (λ v. view v.now) l.found)
+decreases-read_nullable l = 8 * depth (view l.value.now)
 
 abbrev pub decreases-read_nullable_node : goal.decreases-read_nullable_node
 decreases-read_nullable_node l = 8 * depth (view l.value.now) + 4

@@ -4,7 +4,6 @@ use Rattle.serde_json.specs.Data.{array}
 use Rattle.serde_json.specs.View.{members_view}
 use Rattle.es_base.specs.Table.{field_of}
 use Rattle.es_base.specs.Tree.{trees, nullable_trees}
-use Rattle.es_node.specs.View.{parts_of}
 use Rattle.es_writing.specs.Writing.{Entry, put_all}
 use Rattle.es_writing.proofs.Preorder.{row_on, row_done, nodes_on, nodes_done, nullable_on, nullable_done}
 use Rattle.es_writing.proofs.Parts.{short_row}

@@ -1,10 +1,8 @@
 -- The text of a lowered program fixes its value.
 use Rattle.std.proofs.Common.{◌≡◌, ℕ, ◌<◌, ◌^◌, List, [], ◌∷◌, map, Option, Some, None, arith}
-use Rattle.serde_json.specs.Data.{Data}
 use Rattle.serde_json.specs.View.{items_of}
 use Rattle.serde_json.specs.Written.{compact_text}
 use Rattle.es_base.specs.Tree.{Tree, Node}
-use Rattle.es_base.specs.Table.{members_of}
 use Rattle.es_base.specs.Carried.{span_of}
 use Rattle.es_base.specs.Shape.{shape_number}
 use Rattle.es_base.specs.declared.diagnostic.Diagnostic.{Diagnostic}
@@ -43,7 +41,7 @@ warning_well : (node : NodeId) (span : Option Span) → node.0 < 2 ^ 32 → Span
 warning_well node None here fits = (tt, (short_fits node.0 here, tt))
 warning_well node (Some s) here fits = (short_fits s.end fits.1, (tt, (short_fits node.0 here, (short_fits s.start fits.0, tt))))
 
-warnings_well : (told : List Diagnostic) → WarningsFit told → ItemsAreWell (items_of (map warning_value told))
+warnings_well : (warnings : List Diagnostic) → WarningsFit warnings → ItemsAreWell (items_of (map warning_value warnings))
 warnings_well [] fits = tt
 warnings_well (d ∷ ds) fits = (warning_well d.node d.span fits.0 fits.1, warnings_well ds fits.2)
 
@@ -55,11 +53,11 @@ shapes_well : (shapes : List Shape) → ItemsAreWell (items_of (map (λ s. numbe
 shapes_well [] = tt
 shapes_well (s ∷ ss) = (shape_well s, shapes_well ss)
 
-pub lowered_well : (t : Tree) (names : List LedgerEntry) (told : List Diagnostic) (shapes : List Shape) → IsKept t → NumbersFit names → WarningsFit told → IsPrintedWell (write_lowered t names told shapes)
-lowered_well (Node kind id span semantic_id ps) names told shapes kept small fits =
-    well_put_all _ (more_members names told shapes) (written_well (Node kind id span semantic_id ps) kept) (names_well names small, (warnings_well told fits, (shapes_well shapes, tt)))
+pub lowered_well : (t : Tree) (names : List LedgerEntry) (warnings : List Diagnostic) (shapes : List Shape) → IsKept t → NumbersFit names → WarningsFit warnings → IsPrintedWell (write_lowered t names warnings shapes)
+lowered_well (Node kind id span semantic_id ps) names warnings shapes kept small fits =
+    well_put_all _ (more_members names warnings shapes) (written_well (Node kind id span semantic_id ps) kept) (names_well names small, (warnings_well warnings fits, (shapes_well shapes, tt)))
 
-pub lowered_text_fixes_value : (s t : Tree) (names others : List LedgerEntry) (told said : List Diagnostic) (shapes forms : List Shape) → IsKept s → IsKept t → NumbersFit names → NumbersFit others → WarningsFit told → WarningsFit said
-    → compact_text (write_lowered s names told shapes) ≡ compact_text (write_lowered t others said forms) → write_lowered s names told shapes ≡ write_lowered t others said forms
-lowered_text_fixes_value s t names others told said shapes forms kept well small little fits good same =
-    one_text _ _ (lowered_well s names told shapes kept small fits) (lowered_well t others said forms well little good) same
+pub lowered_text_fixes_value : (s t : Tree) (names names' : List LedgerEntry) (warnings warnings' : List Diagnostic) (shapes shapes' : List Shape) → IsKept s → IsKept t → NumbersFit names → NumbersFit names' → WarningsFit warnings → WarningsFit warnings'
+    → compact_text (write_lowered s names warnings shapes) ≡ compact_text (write_lowered t names' warnings' shapes') → write_lowered s names warnings shapes ≡ write_lowered t names' warnings' shapes'
+lowered_text_fixes_value s t names names' warnings warnings' shapes shapes' kept well small little fits good same =
+    one_text _ _ (lowered_well s names warnings shapes kept small fits) (lowered_well t names' warnings' shapes' well little good) same
