@@ -1,5 +1,5 @@
--- What a program of the first form is lowered to: each class with fields gets a constructor that defines them in order,
--- before an empty body. New nodes are numbered in preorder. (Our own; a constructor is ECMA-262's, 15.7.)
+-- What a program of the first form is lowered to, with the numbers of new nodes written out one by one. No contract speaks
+-- of it: proofs/Renumbered.antt shows that it is the lowered program of specs/Lowering.antt.
 use Rattle.std.specs.Prelude.{ℕ, ◌+◌, List, [], ◌∷◌}
 use Rattle.es_base.specs.Preorder.{nodes}
 use Rattle.es_base.specs.Tree.{Tree, Part, Parts, Node, end, more, child, list}

@@ -71,10 +71,13 @@ pub program_kind : (t : Tree) → conforms Place.Program t ≡ true → kind_of 
 program_kind (Node Kind.Program id span semantic_id ps) f = refl
 program_kind (Node kind id span semantic_id ps) f = no_false f
 
-pub program_statements : (id : ℕ) (span : Option (ℕ × ℕ)) (scope_id : Option ℕ) (source_type : SourceType) (body : List Tree) → conforms Place.Program (program id span scope_id source_type body) ≡ true → All (λ t. conforms Place.Statement t ≡ true) body
-program_statements id span scope_id source_type body f =
+body_conforms : (id : ℕ) (span : Option (ℕ × ℕ)) (scope_id : Option ℕ) (source_type : SourceType) (body : List Tree) → conforms Place.Program (program id span scope_id source_type body) ≡ true → All (λ t. conforms Place.Statement t ≡ true) body
+body_conforms id span scope_id source_type body f =
     let word = and_parts (part_conforms false (Sort.Word Words.SourceType) (string (source_type_string source_type))) (items_conform false Place.Statement (trees body) && true) f in
     statements_conform body (and_parts (items_conform false Place.Statement (trees body)) true word.1).0
+
+pub program_statements : (t : Tree) (id : ℕ) (span : Option (ℕ × ℕ)) (scope_id : Option ℕ) (source_type : SourceType) (body : List Tree) → t ≡ program id span scope_id source_type body → conforms Place.Program t ≡ true → All (λ u. conforms Place.Statement u ≡ true) body
+program_statements t id span scope_id source_type body is f = body_conforms id span scope_id source_type body (subst (λ u. conforms Place.Program u ≡ true) is f)
 
 -- ---- nodes of other kinds
 

@@ -11,7 +11,10 @@ use Rattle.es_steps.specs.Options.{class_properties_alone}
 use Rattle.es_steps.specs.Values.{String}
 use Rattle.class_properties.proofs.Laid.{Laid, none, kept, generated, laid-below, laid-append, laid-upto, laid-from, laid-consecutive, laid-once, laid-left, laid-accounted}
 use Rattle.class_properties.proofs.Shaped.{no_value, a_literal, a_reference, a_key, IsField, a_field, AreFields, a_name, IsBody, a_body, IsClass, a_class, AreClasses, IsProgram, a_program, first_form-shaped}
-use Rattle.class_properties.proofs.Numbered.{definitions_from, fields_size, lowered_elements, elements_size, lowered_body, body_size, lowered_statement, statement_size, lowered_statements, lowered_from, lowered}
+use Rattle.class_properties.proofs.Numbered.{definitions_from, fields_size, lowered_elements, elements_size, lowered_body, body_size, lowered_statement, statement_size, lowered_statements, lowered_from}
+use Rattle.class_properties.proofs.Numbered as numbered
+use Rattle.class_properties.proofs.Renumbered.{lowered-numbered}
+use Rattle.class_properties.specs.Lowering.{lowered}
 
 -- with no nodes behind
 laid-no_more : {first hi m lo n : ℕ} {ts : List Tree} → Laid first hi m lo n ts → Laid first hi m lo n (ts ++ [])
@@ -89,7 +92,10 @@ laid-owes first m p q h = record {
   initialized = refl;
 }
 
-pub lowered-owes : (t : Tree) → conforms Place.Program t ≡ true → is_first_form t [] ≡ true → t ≡ numbered_from 0 t → IsLowered (nodes t) class_properties_alone [] t (lowered t)
-lowered-owes t f h e =
-    let whole = program-laid (nodes t) (nodes t) t (first_form-shaped t [] f h) (omega arith) in
+numbered-owes : (t : Tree) → IsProgram t → t ≡ numbered_from 0 t → IsLowered (nodes t) class_properties_alone [] t (numbered.lowered t)
+numbered-owes t p e =
+    let whole = program-laid (nodes t) (nodes t) t p (omega arith) in
     subst (λ u. IsLowered (nodes t) class_properties_alone [] t (lowered_from (nodes t) u)) (sym e) (laid-owes (nodes t) whole.0 t (lowered_from (nodes t) (numbered_from 0 t)) whole.1)
+
+pub lowered-owes : (t : Tree) → conforms Place.Program t ≡ true → is_first_form t [] ≡ true → t ≡ numbered_from 0 t → IsLowered (nodes t) class_properties_alone [] t (lowered t)
+lowered-owes t f h e = subst (IsLowered (nodes t) class_properties_alone [] t) (sym (lowered-numbered t f h e)) (numbered-owes t (first_form-shaped t [] f h) e)

@@ -1,4 +1,4 @@
--- A lowered program is the one whose new nodes are given their numbers one by one.
+-- Giving the new nodes of a lowered program their numbers gives the program whose numbers are written out one by one.
 use Rattle.std.specs.Prelude.{nat_le}
 use Rattle.std.proofs.Common.{◌≡◌, refl, sym, ap, ap₂, ◌∙◌, subst, ℕ, ◌+◌, ◌<◌, ◌≤◌, List, [], ◌∷◌, map, Bool, true, false, arith}
 use Rattle.std.proofs.lemmas.Bool.{le-leb, lt-leb}
@@ -157,10 +157,10 @@ module _ (first : ℕ) (fits : first ≤ unnumbered) where
       rw (not_new (nat_le first m) (omega (arith, none))) (ap (λ classes. Node Kind.Program m span semantic_id (more (string s) (more (list classes) end))) (classes-numbered all h (omega (arith, none)) n _ (omega arith)))
 
 -- a program of the first form has fewer nodes than there are numbers
-program-fits : (t : Tree) → conforms Place.Program t ≡ true → is_first_form t [] ≡ true → nodes t ≤ unnumbered
-program-fits t f h = omega (arith, form-fits t [] h)
+program-fits : (t : Tree) → is_first_form t [] ≡ true → nodes t ≤ unnumbered
+program-fits t h = omega (arith, form-fits t [] h)
 
 pub lowered-numbered : (t : Tree) → conforms Place.Program t ≡ true → is_first_form t [] ≡ true → t ≡ numbered_from 0 t → lowered t ≡ numbered.lowered t
 lowered-numbered t f h e =
     let old : news (nodes t) t ≡ 0 = subst (λ u. news (nodes t) u ≡ 0) (sym e) (news-numbered (nodes t) 0 t (omega arith)) in
-    program-numbered (nodes t) (program-fits t f h) (nodes t) t (first_form-shaped t [] f h) old
+    program-numbered (nodes t) (program-fits t h) (nodes t) t (first_form-shaped t [] f h) old

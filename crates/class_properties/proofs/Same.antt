@@ -27,7 +27,10 @@ use Rattle.es_steps.specs.Values.{String, ConstantOf, StringOf, Undefined, ThisO
 use Rattle.class_properties.proofs.Constructions.{Fields, no_fields, with_field, ArePlain, field_codes, definition_codes, plain_form, lowered_codes, pair_of_classes, ArePairs, lowered_classes_mean}
 use Rattle.class_properties.proofs.Declared.{lexical-definitions, names-definitions, names-lowered, written-lowered, functions-lowered, declaring-lowered}
 use Rattle.class_properties.proofs.Shaped.{IsValue, no_value, a_literal, a_reference, a_key, a_field, AreFields, a_body, a_name as a_class_name, a_class, AreClasses, IsProgram, a_program, first_form-shaped}
-use Rattle.class_properties.proofs.Numbered.{key_string, value_from, definitions_from, lowered_elements, lowered_statements, lowered}
+use Rattle.class_properties.proofs.Numbered.{key_string, value_from, definitions_from, lowered_elements, lowered_statements}
+use Rattle.class_properties.proofs.Numbered as numbered
+use Rattle.class_properties.proofs.Renumbered.{lowered-numbered}
+use Rattle.class_properties.specs.Lowering.{lowered}
 
 -- ---- numbers
 
@@ -120,7 +123,7 @@ helpers-free tree.end h = refl
 helpers-free (tree.more p ps) (a_class n span semantic_id id body (a_class_name i ispan i_semantic_id s other) hbody, h) =
     rw (or_false (bytes_eq (codes "babelHelpers") s) _ other) (helpers-free ps h)
 
-program-means : (t : Tree) → IsProgram t → means (nodes t) class_properties_alone [] (lowered t) ≡ source_means class_properties_alone t
+program-means : (t : Tree) → IsProgram t → means (nodes t) class_properties_alone [] (numbered.lowered t) ≡ source_means class_properties_alone t
 program-means t (a_program m span semantic_id s all h) =
     let first : ℕ = nodes t in
     let p : IsProgram t = a_program m span semantic_id s all h in
@@ -128,11 +131,11 @@ program-means t (a_program m span semantic_id s all h) =
     let here : Codes = codes_in (read_items c all) in
     let there : Codes = codes_in (read_items c (lowered_statements first all)) in
     let source : read (start first class_properties_alone [] t) t ≡ steps here = ap steps (joined-done here) in
-    let low : read (start first class_properties_alone [] (lowered t)) (lowered t) ≡ steps there = rw (written-lowered first t p, names-lowered all h first) (ap steps (joined-done there)) in
-    ap (means_of first [] (lowered t)) low
-    ∙ lowered_classes_mean first t (lowered t) here there (classes-read first (written t) (body_names all ++ []) m (helpers-free all h) all h first (omega arith)) refl (functions-lowered first t p) (declaring-lowered first t p)
+    let low : read (start first class_properties_alone [] (numbered.lowered t)) (numbered.lowered t) ≡ steps there = rw (written-lowered first t p, names-lowered all h first) (ap steps (joined-done there)) in
+    ap (means_of first [] (numbered.lowered t)) low
+    ∙ lowered_classes_mean first t (numbered.lowered t) here there (classes-read first (written t) (body_names all ++ []) m (helpers-free all h) all h first (omega arith)) refl (functions-lowered first t p) (declaring-lowered first t p)
     ∙ sym (ap (means_of first [] t) source)
 
 -- the lowered program means what its source means
 pub lowered-means : (t : Tree) → conforms Place.Program t ≡ true → is_first_form t [] ≡ true → t ≡ numbered_from 0 t → means (nodes t) class_properties_alone [] (lowered t) ≡ source_means class_properties_alone t
-lowered-means t f h numbered = program-means t (first_form-shaped t [] f h)
+lowered-means t f h e = ap (means (nodes t) class_properties_alone []) (lowered-numbered t f h e) ∙ program-means t (first_form-shaped t [] f h)

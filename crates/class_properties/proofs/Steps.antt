@@ -64,13 +64,21 @@ next_statement earlier later names n ts i t before is same =
 
 -- ---- a program
 
-pub in_program : (id : ℕ) (span : Option (ℕ × ℕ)) (scope_id : Option ℕ) (source_type : SourceType) (body : List Tree) (names : List String) (foreign : List ℕ) → HaveSame names (class_names (trees body))
+in_all : (id : ℕ) (span : Option (ℕ × ℕ)) (scope_id : Option ℕ) (source_type : SourceType) (body : List Tree) (names : List String) (foreign : List ℕ) → HaveSame names (class_names (trees body))
     → least_with (least_with (least_with None (unless (bytes_eq (source_type_string source_type) (codes "script") && nat_le (nodes (program id span scope_id source_type body)) most_nodes) id)) (statements_breaches [] names (trees body))) foreign
     ≡ not_yet (program id span scope_id source_type body) foreign
-in_program id span scope_id source_type body names foreign same =
+in_all id span scope_id source_type body names foreign same =
     let first = unless (bytes_eq (source_type_string source_type) (codes "script") && nat_le (nodes (program id span scope_id source_type body)) most_nodes) id in
     let all = statements_breaches [] (class_names (trees body)) (trees body) in
     ap (λ ns. least_with (least_with (least_with None first) ns) foreign) (statements_breaches-same [] [] names (class_names (trees body)) (λ s. refl) same (trees body))
     ∙ ap (λ n. least_with n foreign) (sym (least_with_append None first all))
     ∙ sym (least_with_append None (first ++ all) foreign)
     ∙ sym (least_is ((first ++ all) ++ foreign))
+
+pub in_program : (t : Tree) (id : ℕ) (span : Option (ℕ × ℕ)) (scope_id : Option ℕ) (source_type : SourceType) (body : List Tree) (names : List String) (foreign : List ℕ) (small : Bool)
+    → t ≡ program id span scope_id source_type body → small ≡ nat_le (nodes t) most_nodes → HaveSame names (class_names (trees body))
+    → least_with (least_with (least_with None (unless (bytes_eq (source_type_string source_type) (codes "script") && small) id)) (statements_breaches [] names (trees body))) foreign ≡ not_yet t foreign
+in_program t id span scope_id source_type body names foreign small is is_small same =
+    ap (λ b. least_with (least_with (least_with None (unless (bytes_eq (source_type_string source_type) (codes "script") && b) id)) (statements_breaches [] names (trees body))) foreign) (is_small ∙ ap (λ u. nat_le (nodes u) most_nodes) is)
+    ∙ in_all id span scope_id source_type body names foreign same
+    ∙ ap (λ u. not_yet u foreign) (sym is)

@@ -1,6 +1,6 @@
 // Which programs are of the first form: the least number of a node that is not as the form asks.
 
-ghost use Rattle.std.specs.Prelude.{◌≡◌, true, [], ◌∷◌, ◌++◌, bytes_eq, codes, map, option_map, IfOk, OnOk};
+ghost use Rattle.std.specs.Prelude.{◌≡◌, true, [], ◌∷◌, ◌++◌, ◌&&◌, bytes_eq, codes, map, option_map, IfOk, OnOk};
 ghost use Rattle.std.specs.List.{All};
 ghost use Rattle.es_base.specs.Conforms.{conforms};
 ghost use Rattle.es_base.specs.Tree.{end, more, child, trees};
@@ -42,18 +42,18 @@ pub fn not_yet(
     let is_small = program.has_at_most(MOST_NODES);
     let program = ProgramRef::from_node(program, foreign);
     let names = class_names(alloc, program.body)?;
-    let is_small_script = is_script(program.source_type) && is_small;
+    let is_small_script = is_small_script(program.source_type, is_small);
     let least = unless(is_small_script, program.node_id, None);
     let least = statements_breaches(alloc, program.body, &names, least)?;
     Ok(least_of(foreign, least))
 }
 
-/// Whether it is that of a script.
-fn is_script(source_type: SourceType) -> bool
-    ensures { result ≡ bytes_eq (source_type_string source_type) (codes "script") }
+/// Whether a program of this source type is a script, if it is small.
+fn is_small_script(source_type: SourceType, is_small: bool) -> bool
+    ensures { result ≡ (bytes_eq (source_type_string source_type) (codes "script") && is_small) }
 {
     match source_type {
-        SourceType::Script => true,
+        SourceType::Script => is_small,
         SourceType::Module => false,
     }
 }
