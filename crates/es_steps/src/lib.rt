@@ -3,4 +3,4 @@
 #![tactic(auto)]
 
 pub mod error;
-pub mod law;
+pub mod options;
