@@ -4,6 +4,7 @@ pub mod Entries
 pub mod Evaluation
 pub mod Events
 pub mod Expressions
+pub mod Generated
 pub mod GeneratedForms
 pub mod Helpers
 pub mod Meaning

@@ -232,3 +232,7 @@ lowered_terms options ledger p = record { first_new = nodes p; options = options
 
 abbrev pub lowered_means : Options → List LedgerEntry → Tree → Tree → Option Meaning
 lowered_means options ledger p q = means (lowered_terms options ledger p) q
+
+abbrev pub has_meaning : Option Meaning → Bool
+has_meaning None = false
+has_meaning (Some m) = true
