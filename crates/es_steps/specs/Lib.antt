@@ -21,6 +21,7 @@ pub mod Printable
 pub mod PrivateNames
 pub mod Reading
 pub mod References
+pub mod SameMeanings
 pub mod SameTrees
 pub mod SameValues
 pub mod Scopes

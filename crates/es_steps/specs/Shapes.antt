@@ -9,7 +9,7 @@ use Rattle.es_base.specs.declared.shape.Shape.{Shape}
 use Rattle.es_steps.specs.Code.{Code, Codes, class_code}
 use Rattle.es_steps.specs.Evaluation.{Evaluation, Run, gives, is_none, ev_all}
 use Rattle.es_steps.specs.LoweredClasses.{Element, elements_of, any_element, is_lowered_class, constructor_in, referent_of, is_written_binding, is_hoisted_key}
-use Rattle.es_steps.specs.Meaning.{start, source_terms}
+use Rattle.es_steps.specs.Meaning.{Meaning, start, source_terms, means}
 use Rattle.es_steps.specs.Opening.{gather, definitions, opening}
 use Rattle.es_steps.specs.Options.{lowers_fields, lowers_blocks}
 use Rattle.es_steps.specs.Parts.{at, items, string_of, is_true, is_present}
@@ -315,3 +315,7 @@ shapes o t = shapes_of o t (read (start (source_terms o t) t) t) (lowered_classe
 
 abbrev pub shape_numbers : Options → Tree → List ℕ
 shape_numbers o t = map shape_number (shapes o t)
+
+-- the meaning of a source program with the parameters before the fields in each class of the second shape
+abbrev pub source_means_after : Options → Tree → Option Meaning
+source_means_after o t = means (record (source_terms o t) { late = late_of o t }) t
