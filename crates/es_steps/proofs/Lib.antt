@@ -1,1 +1,4 @@
 pub mod Reflexive
+pub mod Defining
+pub mod PlainClasses
+pub mod FirstMeaning

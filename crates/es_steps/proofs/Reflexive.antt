@@ -1,10 +1,7 @@
 -- Two meanings that are one are found to be one, so meanings that are found to differ do.
 use Rattle.std.specs.Prelude.{◌≡◌, refl, ℕ, List, [], ◌∷◌, Bool, true, false, ◌&&◌, bytes_eq, nat_eq, Option, Some, None}
 use Rattle.std.proofs.Common.{ap, sym, ◌∙◌, rules}
-use Rattle.std.proofs.lemmas.Bool.Decides.{eqb_tells}
 use Rattle.std.proofs.lemmas.Bool.{and_from, true≢false}
-use Rattle.es_base.specs.Tree.{Tree}
-use Rattle.es_base.specs.declared.kind.Kind.{Kind}
 use Rattle.es_steps.specs.Code.{FunctionForm}
 use Rattle.es_steps.specs.Entries.{Parameter, Identifier, RestIdentifier, Pattern, Method, Listed, Entry, FunctionEntry, ClassEntry}
 use Rattle.es_steps.specs.Events.{Detail, Operand, Empty, Spelled, Flag, Key, Opens, Closes, Prototype, Index, Rest, Operation, OfKind, Delete, Take, Place, RightOf, Default, Part, Event, ReadName, SetName, Get, Set, Define, Call, Construct, Operate, Update, PrivateGet, PrivateSet, PrivateInitialize, PrivateIn, AddBrand, SuperGet, SuperSet, SuperCall, SuperCallWithAll, Throw, Short, Held, Events, none, then}
@@ -35,7 +32,6 @@ list-same same each (x ∷ xs) = both (each x) (list-same same each xs)
 option-same : {A : Type 0} (same : A → A → Bool) → ((x : A) → same x x ≡ true) → (x : Option A) → same_option same x x ≡ true
 option-same same each None = refl
 option-same same each (Some x) = each x
-
 
 nullable_string-same : (x : Option String) → same_nullable_string x x ≡ true
 nullable_string-same None = refl

@@ -3,7 +3,7 @@
 use Rattle.std.specs.Prelude.{ℕ, List, [], ◌∷◌, ◌++◌, Bool, true, false, cond, not, ◌&&◌, ◌||◌, nat_eq, codes, bytes_eq, Option, Some, None}
 use Rattle.es_base.specs.Numbered.{is_new}
 use Rattle.es_base.specs.Preorder.{preorder, number_of}
-use Rattle.es_base.specs.Tree.{Tree, Part, Parts, Node, end, more, child, absent, list, string, boolean, literal}
+use Rattle.es_base.specs.Tree.{Tree, Part, Parts, Node, end, more, child, absent, list, string, literal}
 use Rattle.es_base.specs.declared.kind.Kind.{Kind}
 use Rattle.es_base.specs.declared.ledger.GeneratedKind.{GeneratedKind}
 use Rattle.es_base.specs.declared.ledger.LedgerEntry.{LedgerEntry}
@@ -18,7 +18,7 @@ use Rattle.es_steps.specs.References.{Reference, resolve, written, has_number}
 use Rattle.es_steps.specs.SameTrees.{same_part}
 use Rattle.es_steps.specs.SameValues.{same_boolean}
 use Rattle.es_steps.specs.Scopes.{class_in}
-use Rattle.es_steps.specs.Values.{String, Referent, Bound, Free}
+use Rattle.es_steps.specs.Values.{String, Referent, Bound}
 use Rattle.es_steps.specs.declared.options.Options.{Options}
 
 -- ---- forms of definitions

@@ -1,11 +1,9 @@
 -- What a program's functions and classes do when they are called and constructed: an entry for each, read where it
 -- stands. (ECMA-262, 10.2 and 15.7: calls, field initialization, class definition evaluation. Entries are our own.)
 use Rattle.std.specs.Prelude.{ℕ, suc, List, [], ◌∷◌, ◌++◌, Bool, true, false, cond, ◌||◌, bytes_eq, Option, Some, None}
-use Rattle.es_base.specs.declared.ledger.GeneratedKind.{GeneratedKind}
-use Rattle.es_base.specs.Numbered.{is_new}
-use Rattle.es_steps.specs.Code.{Code, Codes, Target, Callee, FunctionForm, Opened, InitializersOf, binding, rest, member, private_member, super_member, private_in, assign, compound, logical, logical_assign, update, call, tag, construct, super_call, sequence, template, operation, chain, short, tested, pattern, takes, steps, gives_to, export_default, function, new_function, class_code, field, private_field, method, private_method, constructor, static_block, generated_element, define, private_initialize, bound, setter, call_arrow, call_closure, give_function, give_class, to_name, to_member, to_private, to_super, to_setter, to_pattern, to_default, no_target, plain, on_member, on_private, on_super, with_receiver, checked, on_chain, behind_test, done, and}
+use Rattle.es_steps.specs.Code.{Code, Codes, Target, Callee, FunctionForm, Opened, binding, rest, member, private_member, super_member, private_in, assign, compound, logical, logical_assign, update, call, tag, construct, super_call, sequence, template, operation, chain, short, tested, pattern, takes, steps, gives_to, export_default, function, new_function, class_code, field, private_field, method, private_method, constructor, static_block, generated_element, define, private_initialize, call_arrow, call_closure, give_function, give_class, to_name, to_member, to_private, to_super, to_setter, to_pattern, to_default, plain, on_member, on_private, on_super, with_receiver, checked, on_chain, behind_test, done, and}
 use Rattle.es_steps.specs.Context.{Generated}
-use Rattle.es_steps.specs.Evaluation.{Environment, Run, Evaluation, no_meaning, gives, event, bind, stands_for, private_key, bind_parameters, write_ready, ev, ev_all, ev_target, ev_take, ev_callee, ev_key, ev_keys, ev_static, ev_field, ev_initializers}
+use Rattle.es_steps.specs.Evaluation.{Environment, Run, Evaluation, no_meaning, gives, event, bind, bind_parameters, write_ready, ev, ev_all, ev_target, ev_take, ev_callee, ev_key, ev_keys, ev_static, ev_field, ev_initializers}
 use Rattle.es_steps.specs.Events.{Events, Take, Index, Rest, Operate, SuperCallWithAll, value_behind}
 use Rattle.es_steps.specs.GeneratedForms.{opened_body}
 use Rattle.es_steps.specs.Opening.{assigned_in, assigned_in_all}

@@ -1,12 +1,11 @@
 -- Evaluation: the list of events of a code and its value, in an environment. (ECMA-262, 13 to 15: the order in which
 -- operands, operations and writes come.)
-use Rattle.std.specs.Prelude.{ℕ, suc, List, [], ◌∷◌, Bool, true, false, cond, ◌&&◌, bytes_eq, nat_eq, Option, Some, None}
+use Rattle.std.specs.Prelude.{ℕ, suc, List, [], ◌∷◌, Bool, true, false, cond, ◌&&◌, bytes_eq, Option, Some, None}
 use Rattle.es_base.specs.declared.kind.Kind.{Kind}
 use Rattle.es_base.specs.declared.ledger.GeneratedKind.{GeneratedKind}
 use Rattle.es_steps.specs.Code.{Code, Codes, Target, Callee, FieldForm, defines, sets, leaves_out, TemplateString, Opened, InitializersOf, BodyOf, nothing, no_rule, value, spelled, private_name, binding, rest, name, super, member, private_member, super_member, private_in, assign, compound, logical, logical_assign, update, call, tag, construct, super_call, super_call_with_all, sequence, template_string, template, operation, piece, chain, short, tested, pattern, takes, steps, gives_to, export_default, function, new_function, new_return, class_code, field, private_field, method, private_method, constructor, static_block, generated_element, helper, helper_call, throw, define, private_initialize, add_brand, bound, setter, private_value, call_arrow, call_closure, initializers, give_function, give_class, to_name, to_member, to_private, to_super, to_setter, to_pattern, to_default, no_target, plain, on_member, on_private, on_super, with_receiver, checked, on_chain, behind_test, done, and}
 use Rattle.es_steps.specs.Context.{NameKind, Fixed, Changing, MeansClass, Generated, StaticMethod}
-use Rattle.es_steps.specs.Events.{Detail, Operation, OfKind, Take, Operand, Empty, Spelled, Flag, Index, Rest, Place, RightOf, Default, Part, Event, ReadName, SetName, Get, Set, Define, Call, Construct, Operate, Update, PrivateGet, PrivateSet, PrivateInitialize, PrivateIn, AddBrand, SuperGet, SuperSet, SuperCall, SuperCallWithAll, Throw, Short, Held, Events, none, then, throws, behind, value_behind}
-use Rattle.es_steps.specs.PrivateNames.{PrivateReference}
+use Rattle.es_steps.specs.Events.{Detail, Operation, OfKind, Take, Operand, Empty, Spelled, Flag, Place, RightOf, Default, Part, Event, ReadName, SetName, Get, Set, Define, Call, Construct, Operate, Update, PrivateGet, PrivateSet, PrivateInitialize, PrivateIn, AddBrand, SuperGet, SuperSet, SuperCall, SuperCallWithAll, Throw, Short, Held, Events, none, then, throws, behind, value_behind}
 use Rattle.es_steps.specs.SameValues.{same_value}
 use Rattle.es_steps.specs.Values.{String, Constant, StringOf, RawTemplate, TagString, Value, ConstantOf, Undefined, BindingOf, FunctionOf, ClassOf, ThisOf, ResultOf, FormerOf, Bound, Home, is_class_value}
 
@@ -353,7 +352,7 @@ module _ (opens : Opened → Evaluation) where
     ev_callee (on_super m home k this) f = bind (ev k) (λ b. bind (event (SuperGet m home b this) (ResultOf m)) (λ v. f v (Some this)))
     ev_callee (with_receiver e o) f = bind (ev e) (λ v. bind (ev o) (λ a. f v (Some a)))
     ev_callee (checked g) f = ev_callee g (λ v receiver. bind (event (Short v) v) (λ w. f v receiver))
-    ev_callee (on_chain m g) f = λ env. go_on (held m (Part 0) None (ev_callee g (λ v receiver. gives v)) env) (λ v. f v (receiver_in (has_receiver g) (ev_callee g (λ w receiver. nullable_gives receiver) env))) 
+    ev_callee (on_chain m g) f = λ env. go_on (held m (Part 0) None (ev_callee g (λ v receiver. gives v)) env) (λ v. f v (receiver_in (has_receiver g) (ev_callee g (λ w receiver. nullable_gives receiver) env)))
     ev_callee (behind_test o again g) f = tested_then (ev o) (λ v. ev_again v again) (ev_callee g f)
 
     -- what stands for a tested object again

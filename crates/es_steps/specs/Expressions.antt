@@ -4,12 +4,11 @@ use Rattle.es_base.specs.declared.kind.Kind.{Kind}
 use Rattle.es_base.specs.declared.ledger.GeneratedKind.{GeneratedKind}
 use Rattle.es_base.specs.declared.literal.LiteralValue.{LiteralValue}
 use Rattle.es_base.specs.declared.literal.LiteralValue.TheVariants as literal_value
-use Rattle.es_steps.specs.Code.{Code, Codes, Target, Callee, TemplateString, no_rule, value, spelled, private_name, binding, rest, name, super, member, private_member, super_member, private_in, assign, compound, logical, logical_assign, update, call, tag, construct, sequence, template_string, template, operation, piece, chain, short, tested, pattern, helper, helper_call, bound, setter, private_value, to_name, to_member, to_private, to_super, to_setter, no_target, plain, on_member, on_private, on_super, with_receiver, checked, on_chain, behind_test, done, and, one}
+use Rattle.es_steps.specs.Code.{Code, Codes, Target, Callee, TemplateString, no_rule, value, spelled, private_name, binding, name, super, member, private_member, super_member, private_in, compound, logical, logical_assign, update, call, tag, construct, template_string, template, operation, piece, chain, short, tested, pattern, bound, setter, private_value, to_name, to_member, to_private, to_super, to_setter, no_target, plain, on_member, on_private, on_super, with_receiver, checked, on_chain, behind_test, done, and}
 use Rattle.es_steps.specs.Context.{Context, NameKind, Changing, Generated, StaticMethod, name_kind, new_here, is_generated_private}
 use Rattle.es_steps.specs.Events.{Detail, Operand, Spelled, Flag, Key, Prototype, OfKind, Delete}
 use Rattle.es_steps.specs.GeneratedForms.{helper_member, generated_member, generated_call, generated_binary, generated_assignment, is_undefined_test, again_of, tested_object, class_named, is_method_kind}
-use Rattle.es_steps.specs.Helpers.{Helper}
-use Rattle.es_steps.specs.Members.{Member, Members, code, absent, list, string, literal, end, more, at, operands, details, codes_of, word_of, flag_of}
+use Rattle.es_steps.specs.Members.{Member, Members, code, string, literal, at, operands, details, codes_of, word_of, flag_of}
 use Rattle.es_steps.specs.PrivateNames.{PrivateMember, PrivateReference, private_reference, test_of, member_at}
 use Rattle.es_steps.specs.Values.{String, Constant, StringOf, NumberOf, BigIntOf, RegExpOf, BooleanOf, Null, Value, ConstantOf, Undefined, ResultOf, ThisOf, ClassOf, Free, Home}
 

@@ -4,12 +4,12 @@
 use Rattle.std.specs.Prelude.{ℕ, List, [], ◌∷◌, Bool, true, false, cond, not, ◌&&◌, ◌||◌, nat_eq, codes, bytes_eq, Option, Some, None}
 use Rattle.es_base.specs.declared.kind.Kind.{Kind}
 use Rattle.es_base.specs.declared.ledger.GeneratedKind.{GeneratedKind}
-use Rattle.es_steps.specs.Code.{Code, Codes, Target, FunctionForm, Opened, InitializersOf, BodyOf, no_rule, value, spelled, binding, rest, name, super, member, private_member, super_member, private_in, assign, call, construct, super_call, super_call_with_all, sequence, logical, operation, short, steps, function, new_function, new_return, helper, helper_call, throw, define, private_initialize, add_brand, bound, setter, call_arrow, call_closure, initializers, give_function, give_class, to_name, to_private, to_super, plain, on_super, with_receiver, done, and, one}
-use Rattle.es_steps.specs.Context.{Context, NameKind, Changing, MeansClass, Generated, StaticMethod, new_here}
-use Rattle.es_steps.specs.Events.{Detail, Operation, Operand, Spelled, Flag, Key, Opens, Closes, OfKind}
+use Rattle.es_steps.specs.Code.{Code, Codes, Target, FunctionForm, Opened, InitializersOf, BodyOf, no_rule, value, spelled, binding, name, super, member, private_member, super_member, private_in, assign, call, construct, super_call, super_call_with_all, sequence, logical, operation, steps, function, new_function, new_return, helper, helper_call, throw, define, private_initialize, add_brand, bound, setter, call_arrow, call_closure, give_function, give_class, to_name, to_private, to_super, on_super, with_receiver, done, and, one}
+use Rattle.es_steps.specs.Context.{Context, Changing, MeansClass, Generated, StaticMethod, new_here}
+use Rattle.es_steps.specs.Events.{Detail, Operand, Spelled, Flag, Key, Opens, Closes, OfKind}
 use Rattle.es_steps.specs.Helpers.{Helper, DefineProperty, ClassPrivateFieldInitSpec, ClassPrivateMethodInitSpec, ClassPrivateFieldGet2, ClassPrivateFieldSet2, AssertClassBrand, ToSetter, CheckInRHS, ReadOnlyError, WriteOnlyError, SuperPropGet, SuperPropSet, ClassPrivateFieldLooseKey, ClassPrivateFieldLooseBase, SetFunctionName, ToPropertyKey, helper_named}
 use Rattle.es_steps.specs.PrivateNames.{PrivateMember, PrivateReference, PrivateKind, a_method, a_getter, a_setter, member_at, reference_of, is_a_field}
-use Rattle.es_steps.specs.Values.{String, Constant, StringOf, NumberOf, BooleanOf, Null, Value, ConstantOf, Undefined, ClassOf, ThisOf, ResultOf, Free, Home, OfClass, OfPrototype, HasField, HasBrand, IsClass}
+use Rattle.es_steps.specs.Values.{String, StringOf, NumberOf, BooleanOf, Null, Value, ConstantOf, Undefined, ClassOf, ThisOf, ResultOf, Free, Home, OfClass, OfPrototype, HasField, HasBrand, IsClass}
 
 -- ---- the letters: a name is of a kind, and the source has such a member
 

@@ -1,5 +1,5 @@
 -- The helpers that a lowered program calls, members of `babelHelpers` (Babel's runtime helpers).
-use Rattle.std.specs.Prelude.{List, ℕ, [], ◌∷◌, cond, codes, bytes_eq, Option, Some, None}
+use Rattle.std.specs.Prelude.{List, [], ◌∷◌, cond, codes, bytes_eq, Option, Some, None}
 use Rattle.es_steps.specs.Values.{String}
 
 pub data Helper : Type 0 where

@@ -5,10 +5,12 @@ pub mod Entries
 pub mod Evaluation
 pub mod Events
 pub mod Expressions
+pub mod FirstForm
 pub mod Generated
 pub mod GeneratedForms
 pub mod Helpers
 pub mod KeptNodes
+pub mod Law
 pub mod Lowered
 pub mod LoweredClasses
 pub mod Meaning

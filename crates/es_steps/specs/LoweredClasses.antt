@@ -1,16 +1,14 @@
 -- Which classes the options lower, and their elements.
 use Rattle.std.specs.Prelude.{ℕ, List, [], ◌∷◌, ◌++◌, Bool, true, false, cond, not, ◌&&◌, ◌||◌, nat_eq, Option, Some, None}
 use Rattle.es_base.specs.Preorder.{preorder}
-use Rattle.es_base.specs.Tree.{Tree, Part, Parts, Node, end, more, child, absent, list, string, boolean, literal}
+use Rattle.es_base.specs.Tree.{Tree, Part, Parts, Node, end, more, child, absent, list}
 use Rattle.es_base.specs.declared.kind.Kind.{Kind}
-use Rattle.es_base.specs.declared.literal.LiteralValue.TheVariants as literal_value
 use Rattle.es_steps.specs.Context.{is_constructor}
 use Rattle.es_steps.specs.Options.{lowers_fields, lowers_blocks, leaves_out_fields}
 use Rattle.es_steps.specs.Parts.{at, items, string_of, is_true, is_present}
 use Rattle.es_steps.specs.PrivateNames.{is_class}
 use Rattle.es_steps.specs.References.{Reference, has_number}
-use Rattle.es_steps.specs.Scopes.{is_class_expression}
-use Rattle.es_steps.specs.Values.{String, Referent, Bound}
+use Rattle.es_steps.specs.Values.{Referent, Bound}
 use Rattle.es_steps.specs.declared.options.Options.{Options}
 
 -- ---- the elements of a class

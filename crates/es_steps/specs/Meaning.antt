@@ -1,14 +1,14 @@
 -- What a program means: its list of events, what its functions and classes do, and what it declares, imports and exports.
 -- (Our own; what each part comes from is said in docs/MEANING.md.)
-use Rattle.std.specs.Prelude.{ℕ, zero, suc, List, [], ◌∷◌, ◌++◌, Bool, true, false, cond, nat_le, nat_eq, codes, bytes_eq, Option, Some, None}
+use Rattle.std.specs.Prelude.{ℕ, zero, suc, List, [], ◌∷◌, ◌++◌, Bool, true, false, cond, nat_le, nat_eq, codes, Option, Some, None}
 use Rattle.es_base.specs.Numbered.{is_new}
 use Rattle.es_base.specs.Preorder.{preorder, number_of, nodes}
 use Rattle.es_base.specs.Tree.{Tree, Part, Parts, Node, end, more, child, list, string}
 use Rattle.es_base.specs.declared.kind.Kind.{Kind}
 use Rattle.es_base.specs.declared.ledger.GeneratedKind.{GeneratedKind}
 use Rattle.es_base.specs.declared.ledger.LedgerEntry.{LedgerEntry}
-use Rattle.es_steps.specs.Code.{Code, Codes, Opened, private_method, give_function, function}
-use Rattle.es_steps.specs.Context.{Context, a_function, generated_as, inside, name_in}
+use Rattle.es_steps.specs.Code.{Code, Opened, private_method, give_function, function}
+use Rattle.es_steps.specs.Context.{Context, a_function, generated_as, inside}
 use Rattle.es_steps.specs.Entries.{Entry, Entries, Listed, listed, after_run, entries}
 use Rattle.es_steps.specs.Evaluation.{Environment, Evaluation, Run, ev}
 use Rattle.es_steps.specs.Modules.{ModuleLink, Export, Exported, links_in, exports_in}
@@ -178,12 +178,27 @@ pub record Terms : Type 0 where
 
 abbrev pub start : Terms → Tree → Context
 start o t = record {
-  first_new = o.first_new; ledger = o.ledger; options = o.options; members = o.members;
-  written = written t; writes_arguments = writes_free (codes "arguments") (resolve t);
-  names = []; privates = [];
-  this = ThisOf (number_of t); new_target = NewTargetOf (number_of t); arguments = ArgumentsOf (number_of t);
-  home = None; constructs = None; initializing = None; in_new_function = false;
-  class = number_of t; has_heritage = false; object = number_of t; role = a_function; let_class = None; is_body = false;
+  first_new = o.first_new;
+  ledger = o.ledger;
+  options = o.options;
+  members = o.members;
+  written = written t;
+  writes_arguments = writes_free (codes "arguments") (resolve t);
+  names = [];
+  privates = [];
+  this = ThisOf (number_of t);
+  new_target = NewTargetOf (number_of t);
+  arguments = ArgumentsOf (number_of t);
+  home = None;
+  constructs = None;
+  initializing = None;
+  in_new_function = false;
+  class = number_of t;
+  has_heritage = false;
+  object = number_of t;
+  role = a_function;
+  let_class = None;
+  is_body = false;
 }
 
 abbrev pub source_type_of : Tree → String
@@ -198,10 +213,14 @@ in_body c (Node kind m span semantic_id ps) = inside c kind m ps 1
 
 abbrev pub with_all : Terms → Tree → Option Listed → Option (List (ℕ × Entry)) → Option (List (ℕ × MemberEntry)) → Option (List (String × Exported)) → Option Meaning
 with_all o t (Some l) (Some es) (Some ms) (Some xs) = Some (record {
-  source_type = source_type_of t; program = l; entries = by_number es; members = by_number ms;
+  source_type = source_type_of t;
+  program = l;
+  entries = by_number es;
+  members = by_number ms;
   functions = by_number (declared_functions o.ledger (preorder t));
   bindings = by_number (old_bindings o.first_new (declaring o.first_new ClassDeclared t));
-  links = links_in o.first_new (body_of t); exports = xs;
+  links = links_in o.first_new (body_of t);
+  exports = xs;
 })
 with_all o t l es ms xs = None
 

@@ -1,5 +1,5 @@
 -- The members of a node with the codes of its children: what the rule of its kind reads.
-use Rattle.std.specs.Prelude.{ℕ, zero, suc, List, [], ◌∷◌, ◌++◌, Bool, false, Option, Some, None}
+use Rattle.std.specs.Prelude.{ℕ, zero, suc, List, [], ◌∷◌, ◌++◌, Bool, false}
 use Rattle.es_base.specs.declared.literal.LiteralValue.{LiteralValue}
 use Rattle.es_steps.specs.Code.{Code, Codes, piece, spelled, done, and, joined}
 use Rattle.es_steps.specs.Events.{Detail, Operand, Empty, Spelled, Flag, Opens, Closes}

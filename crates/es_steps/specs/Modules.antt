@@ -1,8 +1,8 @@
 -- What a module imports and exports. (ECMA-262, 16.2. Directly exported names are known by what they mean, since other
 -- modules see the binding and not a value.)
-use Rattle.std.specs.Prelude.{ℕ, List, [], ◌∷◌, ◌++◌, Bool, true, false, cond, ◌||◌, codes, bytes_eq, Option, Some, None}
+use Rattle.std.specs.Prelude.{ℕ, List, [], ◌∷◌, ◌++◌, Bool, true, false, cond, codes, Option, Some, None}
 use Rattle.es_base.specs.Numbered.{is_new}
-use Rattle.es_base.specs.Tree.{Tree, Part, Parts, Node, end, more, child, absent, list, literal}
+use Rattle.es_base.specs.Tree.{Part, Parts, Node, end, more, child, absent, literal}
 use Rattle.es_base.specs.declared.kind.Kind.{Kind}
 use Rattle.es_base.specs.declared.ledger.GeneratedKind.{GeneratedKind}
 use Rattle.es_base.specs.declared.literal.LiteralValue.TheVariants as literal_value

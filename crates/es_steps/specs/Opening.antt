@@ -1,11 +1,11 @@
 -- What is evaluated elsewhere than where it stands: the initializers of each class, and the bodies of functions that
 -- generated names are assigned. (Initializers: ECMA-262, 10.2.1.3 and 13.3.7.1; the rest is our own.)
-use Rattle.std.specs.Prelude.{ℕ, zero, suc, List, [], ◌∷◌, ◌++◌, Bool, true, false, cond, ◌&&◌, nat_eq, bytes_eq, length, Option, Some, None}
+use Rattle.std.specs.Prelude.{ℕ, zero, suc, List, [], ◌∷◌, ◌++◌, Bool, true, false, cond, nat_eq, bytes_eq, length, Option, Some, None}
 use Rattle.es_base.specs.declared.ledger.GeneratedKind.{GeneratedKind}
-use Rattle.es_steps.specs.Code.{Code, Codes, Target, Callee, Opened, InitializersOf, BodyOf, FunctionForm, nothing, no_rule, value, rest, sequence, super_call_with_all, binding, member, private_member, super_member, private_in, assign, compound, logical, logical_assign, update, call, tag, construct, super_call, template, operation, piece, chain, short, tested, pattern, takes, steps, gives_to, export_default, function, new_function, class_code, field, private_field, method, private_method, constructor, static_block, generated_element, define, private_initialize, bound, setter, call_arrow, call_closure, initializers, give_function, give_class, new_return, to_name, to_member, to_private, to_super, to_setter, to_pattern, to_default, no_target, plain, on_member, on_private, on_super, with_receiver, checked, on_chain, behind_test, done, and}
+use Rattle.es_steps.specs.Code.{Code, Codes, Target, Callee, Opened, InitializersOf, BodyOf, FunctionForm, no_rule, rest, sequence, super_call_with_all, member, private_member, super_member, private_in, assign, compound, logical, logical_assign, update, call, tag, construct, super_call, template, operation, piece, chain, short, tested, pattern, takes, steps, gives_to, export_default, function, new_function, class_code, field, private_field, method, private_method, constructor, static_block, generated_element, define, private_initialize, bound, setter, call_arrow, call_closure, initializers, give_function, give_class, new_return, to_name, to_member, to_private, to_super, to_setter, to_pattern, to_default, plain, on_member, on_private, on_super, with_receiver, checked, on_chain, behind_test, done, and}
 use Rattle.es_steps.specs.Context.{Generated}
 use Rattle.es_steps.specs.Evaluation.{Evaluation, no_meaning, ev, ev_initializers, private_key}
-use Rattle.es_steps.specs.GeneratedForms.{opened_body, parameter_names, is_plain_arrow}
+use Rattle.es_steps.specs.GeneratedForms.{opened_body, is_plain_arrow}
 use Rattle.es_steps.specs.Values.{String}
 
 -- ---- what the codes in a code add that assign or define, itself first

@@ -2,7 +2,6 @@
 use Rattle.std.specs.Prelude.{Bool, true, false, ◌||◌, ◌&&◌, Option, Some, None}
 use Rattle.es_steps.specs.declared.options.ClassPropertiesOptions.{ClassPropertiesOptions}
 use Rattle.es_steps.specs.declared.options.CompilerAssumptions.{CompilerAssumptions}
-use Rattle.es_steps.specs.declared.options.ES2022Options.{ES2022Options}
 use Rattle.es_steps.specs.declared.options.Options.{Options}
 
 -- class fields and private members are lowered
@@ -37,13 +36,29 @@ leaves_out_fields o = sets_fields o && o.remove_class_fields_without_initializer
 
 abbrev pub no_assumptions : CompilerAssumptions
 no_assumptions = record {
-  array_like_is_iterable = false; constant_reexports = false; constant_super = false; enumerable_module_meta = false;
-  ignore_function_length = false; ignore_to_primitive_hint = false; iterable_is_array = false;
-  mutable_template_object = false; no_class_calls = false; no_document_all = false;
-  no_incomplete_ns_import_detection = false; no_new_arrows = false; no_uninitialized_private_field_access = false;
-  object_rest_no_symbols = false; private_fields_as_symbols = false; private_fields_as_properties = false;
-  pure_getters = false; set_class_methods = false; set_computed_properties = false; set_public_class_fields = false;
-  set_spread_properties = false; skip_for_of_iterator_closing = false; super_is_callable_constructor = false;
+  array_like_is_iterable = false;
+  constant_reexports = false;
+  constant_super = false;
+  enumerable_module_meta = false;
+  ignore_function_length = false;
+  ignore_to_primitive_hint = false;
+  iterable_is_array = false;
+  mutable_template_object = false;
+  no_class_calls = false;
+  no_document_all = false;
+  no_incomplete_ns_import_detection = false;
+  no_new_arrows = false;
+  no_uninitialized_private_field_access = false;
+  object_rest_no_symbols = false;
+  private_fields_as_symbols = false;
+  private_fields_as_properties = false;
+  pure_getters = false;
+  set_class_methods = false;
+  set_computed_properties = false;
+  set_public_class_fields = false;
+  set_spread_properties = false;
+  skip_for_of_iterator_closing = false;
+  super_is_callable_constructor = false;
 }
 
 abbrev pub options_of : Bool → Option ClassPropertiesOptions → Bool → Options

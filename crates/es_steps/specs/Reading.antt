@@ -5,7 +5,7 @@ use Rattle.es_base.specs.Tree.{Tree, Part, Parts, Node}
 use Rattle.es_base.specs.declared.kind.Kind.{Kind}
 use Rattle.es_steps.specs.Code.{Code, nothing, no_rule, value, spelled, super, binding, sequence, steps, static_block}
 use Rattle.es_steps.specs.Context.{Context, name_kind, inside}
-use Rattle.es_steps.specs.Expressions.{the_code, literal_code, name_code, private_name_code, template_string_code, template_code, meta_code, member_code, private_field_code, private_in_code, assignment_code, update_code, unary_code, binary_code, logical_code, chain_code, call_code, tag_code, new_code, conditional_code, property_code, operation_of}
+use Rattle.es_steps.specs.Expressions.{literal_code, name_code, private_name_code, template_string_code, template_code, meta_code, member_code, private_field_code, private_in_code, assignment_code, update_code, unary_code, binary_code, logical_code, chain_code, call_code, tag_code, new_code, conditional_code, property_code, operation_of}
 use Rattle.es_steps.specs.Members.{Member, Members, code, absent, list, string, no_string, boolean, literal, end, more, at, codes_in, codes_of, word_of}
 use Rattle.es_steps.specs.Statements.{held_from, case_code, catch_code, for_each_code, declarator_code, return_code, suspension_code, default_export_code, default_code, rest_code, pattern_property_code, array_pattern_code, object_pattern_code, function_expression_code, function_declaration_code, arrow_code, declared_by, declared_by_let, class_of, field_code, method_code}
 

@@ -7,7 +7,7 @@ use Rattle.es_steps.specs.Meaning.{Meaning, DeclarationKind, Variable, FunctionN
 use Rattle.es_steps.specs.Modules.{Specifier, Imported, ImportedDefault, ImportedNamespace, Reexported, ReexportedAll, ModuleLink, Exported, ExportedClass, ExportedBinding, ExportedValue}
 use Rattle.es_steps.specs.SameTrees.{same_kind}
 use Rattle.es_steps.specs.SameValues.{same_boolean, same_nullable_string, same_constant, same_value}
-use Rattle.es_steps.specs.Values.{String, Value, Referent, Bound, Free, Home, OfClass, OfPrototype, OfObject, PrivateTest, HasField, HasBrand, IsClass}
+use Rattle.es_steps.specs.Values.{String, Referent, Bound, Free, Home, OfClass, OfPrototype, OfObject, PrivateTest, HasField, HasBrand, IsClass}
 
 abbrev pub same_list : {A : Type 0} → (A → A → Bool) → List A → List A → Bool
 same_list same [] [] = true

@@ -217,9 +217,9 @@ scope_form Kind.CatchClause = catch_scope
 scope_form kind = no_scope
 
 -- a block that is the body of a function has no scope of its own
-abbrev pub scope_of : Bool → Kind → ScopeForm
-scope_of true Kind.BlockStatement = no_scope
-scope_of is_body kind = scope_form kind
+abbrev pub scope_of : Kind → Bool → ScopeForm
+scope_of Kind.BlockStatement true = no_scope
+scope_of kind is_body = scope_form kind
 
 abbrev pub is_body_part : Kind → ℕ → Bool
 is_body_part Kind.FunctionDeclaration i = nat_eq i 2
@@ -253,4 +253,4 @@ seen form m ps i = scope_names form m ps
 -- what the scope of a node of this kind, which is the body of a function or not, adds to the names that its i-th part
 -- sees
 abbrev pub names_at : Bool → Kind → ℕ → Parts → ℕ → List Declaration
-names_at is_body kind m ps = seen (scope_of is_body kind) m ps
+names_at is_body kind m ps = seen (scope_of kind is_body) m ps

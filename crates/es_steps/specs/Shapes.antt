@@ -3,17 +3,17 @@
 use Rattle.std.specs.Prelude.{ℕ, suc, List, [], ◌∷◌, ◌++◌, map, Bool, true, false, cond, not, ◌&&◌, ◌||◌, nat_eq, codes, bytes_eq, Option, Some, None}
 use Rattle.es_base.specs.Preorder.{preorder}
 use Rattle.es_base.specs.Shape.{shape_number}
-use Rattle.es_base.specs.Tree.{Tree, Part, Parts, Node, end, more, child, absent, list, string, boolean}
+use Rattle.es_base.specs.Tree.{Tree, Part, Parts, Node, end, more, child, absent, list, boolean}
 use Rattle.es_base.specs.declared.kind.Kind.{Kind}
 use Rattle.es_base.specs.declared.shape.Shape.{Shape}
 use Rattle.es_steps.specs.Code.{Code, Codes, class_code}
-use Rattle.es_steps.specs.Evaluation.{Evaluation, Run, gives, is_none, ev_all}
+use Rattle.es_steps.specs.Evaluation.{Run, gives, is_none, ev_all}
 use Rattle.es_steps.specs.LoweredClasses.{Element, elements_of, any_element, is_lowered_class, constructor_in, referent_of, is_written_binding, is_hoisted_key}
 use Rattle.es_steps.specs.Meaning.{Meaning, start, source_terms, means}
 use Rattle.es_steps.specs.Opening.{gather, definitions, opening}
 use Rattle.es_steps.specs.Options.{lowers_fields, lowers_blocks}
 use Rattle.es_steps.specs.Parts.{at, items, string_of, is_true, is_present}
-use Rattle.es_steps.specs.PrivateNames.{PrivateMember, PrivateReference, seen_members, private_reference, is_class}
+use Rattle.es_steps.specs.PrivateNames.{PrivateMember, PrivateReference, seen_members, private_reference}
 use Rattle.es_steps.specs.Reading.{read}
 use Rattle.es_steps.specs.References.{Reference, resolve, written, has_number}
 use Rattle.es_steps.specs.Scopes.{is_class_expression}

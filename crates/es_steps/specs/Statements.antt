@@ -1,14 +1,14 @@
 -- The codes of statements, patterns, functions and classes. (ECMA-262, 13.15.5, 14 and 15.)
-use Rattle.std.specs.Prelude.{ℕ, suc, List, [], ◌∷◌, ◌++◌, Bool, true, false, cond, not, ◌&&◌, ◌||◌, nat_eq, codes, bytes_eq, Option, Some, None}
+use Rattle.std.specs.Prelude.{ℕ, suc, List, [], ◌∷◌, Bool, true, false, cond, not, ◌&&◌, ◌||◌, nat_eq, codes, bytes_eq, Option, Some, None}
 use Rattle.es_base.specs.declared.kind.Kind.{Kind}
 use Rattle.es_base.specs.declared.ledger.GeneratedKind.{GeneratedKind}
 use Rattle.es_steps.specs.Code.{Code, Codes, Target, FunctionForm, FieldForm, defines, sets, leaves_out, nothing, no_rule, value, spelled, private_name, binding, rest, assign, operation, pattern, takes, steps, gives_to, export_default, function, new_function, new_return, class_code, field, private_field, method, private_method, constructor, generated_element, give_function, give_class, to_name, to_member, to_private, to_super, to_setter, to_pattern, to_default, no_target, done, and, one, joined}
-use Rattle.es_steps.specs.Context.{Context, NameKind, Generated, MeansClass, new_here, is_constructor, is_generated_private}
-use Rattle.es_steps.specs.Events.{Detail, Operand, Key, Index, Rest, OfKind}
+use Rattle.es_steps.specs.Context.{Context, Generated, MeansClass, new_here, is_constructor, is_generated_private}
+use Rattle.es_steps.specs.Events.{Detail, Operand, Index, Rest, OfKind}
 use Rattle.es_steps.specs.Expressions.{the_code, key_code, key_details, target_of}
 use Rattle.es_steps.specs.GeneratedForms.{given}
-use Rattle.es_steps.specs.Members.{Member, Members, code, absent, list, more, end, at, from, before, operands, operands_of, details, codes_in, codes_of, word_of, flag_of}
-use Rattle.es_steps.specs.Options.{lowers_fields, sets_fields, leaves_out_fields}
+use Rattle.es_steps.specs.Members.{Member, Members, code, absent, list, more, end, at, from, before, operands, details, codes_in, codes_of, word_of, flag_of}
+use Rattle.es_steps.specs.Options.{sets_fields, leaves_out_fields}
 use Rattle.es_steps.specs.Values.{String, StringOf, ConstantOf, Undefined}
 use Rattle.es_steps.specs.declared.options.Options.{Options}
 

@@ -1,6 +1,6 @@
 -- What an expression gives, as far as the order of evaluation tells it: a constant of the source, or a value that is
 -- known by where it comes from. (The values are those of ECMA-262, 6.1; to know one by its origin is our own.)
-use Rattle.std.specs.Prelude.{ℕ, List, Bool, true, false, nat_eq, Option}
+use Rattle.std.specs.Prelude.{ℕ, List, Bool, false, nat_eq, Option}
 
 abbrev pub String : Type 0
 String = List ℕ

@@ -3,4 +3,5 @@
 #![tactic(auto)]
 
 pub mod error;
+pub mod law;
 pub mod options;
