@@ -84,9 +84,13 @@ function entryTerm({ name, kind, number }) {
   const of = number === undefined ? `GeneratedKind.${kind}` : `GeneratedKind.${kind} (record { 0 = ${number} })`;
   return `record { name = codes ${JSON.stringify(name.replace(/^#/, ''))}; kind = ${of} } ∷ `;
 }
-// the options that the definitions have; an assumption that they lack is told in a comment
+// the options: an assumption that is made is said field by field
+const snake = key => key.replace(/[A-Z]/g, c => '_' + c.toLowerCase());
 function optionsTerm(o) {
-  return `record { class_properties = ${o.classProperties}; static_blocks = ${o.staticBlocks}; sets_fields = ${o.sets}; removes_fields = ${o.removes} }`;
+  const fields = o.classProperties ? `(Some (record { loose = ${o.loose} }))` : 'None';
+  const plain = `options_of ${o.staticBlocks} ${fields} ${o.removes}`;
+  const assumed = Object.entries(o.assumptions).filter(([, v]) => v).map(([key]) => `${snake(key)} = true`);
+  return assumed.length ? `record (${plain}) { assumptions = record no_assumptions { ${assumed.join('; ')} } }` : plain;
 }
 
 function imports(text) {
@@ -100,21 +104,21 @@ function imports(text) {
   if (/GeneratedKind\./.test(body)) lines.push('use Rattle.es_base.specs.declared.ledger.GeneratedKind.{GeneratedKind}');
   lines.push('use Rattle.es_base.specs.declared.ledger.LedgerEntry.{LedgerEntry}');
   if (/literal_value\./.test(body)) lines.push('use Rattle.es_base.specs.declared.literal.LiteralValue.TheVariants as literal_value');
-  lines.push('use Rattle.es_steps.specs.Made.{node}');
-  lines.push('use Rattle.es_steps.specs.Options.{Options}');
+  lines.push('use Rattle.es_steps.specs.Generated.{node}');
+  lines.push(`use Rattle.es_steps.specs.Options.{${['options_of', ...used('no_assumptions')].join(', ')}}`);
+  lines.push('use Rattle.es_steps.specs.declared.options.Options.{Options}');
   return lines.join('\n');
 }
 
 function moduleText(row, { source, output, ledger, options, outside, nodes }) {
   const name = row.name, define = (what, type, value) => `abbrev pub ${what}_${name} : ${type}\n${what}_${name} = ${value}\n`;
-  const assumed = Object.entries(options.assumptions).filter(([key, v]) => v && key !== 'setPublicClassFields').map(([key]) => key);
   const body = [
     `-- \`${row.source}\`\n${define('source', 'Tree', term(source))}`,
     `-- the number of its nodes\n${define('nodes', 'ℕ', nodes)}`,
     `-- \`${row.output}\`\n${define('output', 'Tree', term(output))}`,
     define('generated', 'List LedgerEntry', ledger.map(entryTerm).join('') + '[]'),
     `-- the numbers of its shapes\n${define('outside', 'List ℕ', outside.map(n => `${n} ∷ `).join('') + '[]')}`,
-    `${assumed.length ? `-- assumed, too: ${assumed.join(', ')}\n` : ''}${define('options', 'Options', optionsTerm(options))}`,
+    define('options', 'Options', optionsTerm(options)),
   ].join('\n');
   return `-- Printed by tools/rows/number-rows.js from \`${row.name}\` of tools/rows/${row.table}: a worked row with its numbers.\n${imports(body)}\n\n${body}`;
 }

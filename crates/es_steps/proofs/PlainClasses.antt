@@ -1,26 +1,24 @@
 -- Classes without heritage whose elements are fields with plain values have a meaning.
-use Rattle.std.specs.Prelude.{◌≡◌, refl, ℕ, List, [], ◌∷◌, ◌++◌, true, false, Option, Some, None}
+use Rattle.std.specs.Prelude.{◌≡◌, refl, ℕ, List, [], ◌∷◌, ◌++◌, false, Option, Some, None}
 use Rattle.std.specs.Option.{IsSome}
 use Rattle.std.proofs.Common.{sym, ◌∙◌, subst}
 use Rattle.std.proofs.lemmas.Bool.{true≢false}
-use Rattle.es_base.specs.Tree.{Tree}
-use Rattle.es_base.specs.declared.ledger.LedgerEntry.{LedgerEntry}
-use Rattle.es_steps.specs.Code.{Code, Codes, FieldForm, defines, sets, leaves_out, value, name, steps, class_code, field, done, and}
+use Rattle.es_steps.specs.Code.{Code, Codes, FieldForm, FunctionForm, Opened, defines, sets, leaves_out, value, name, steps, class_code, field, done, and}
 use Rattle.es_steps.specs.Context.{NameKind, Fixed, Changing, MeansClass}
-use Rattle.es_steps.specs.Entries.{Entry, Entries, Listed, Method, listed, after_run, methods_in, class_entry, without, assigned_in, assigned_in_all, ev_construction, entries}
-use Rattle.es_steps.specs.Evaluation.{Environment, Run, Evaluation, gives, run_behind, go_on, bind, settle_run, settle, quiet, initialized, read_name, ev, ev_all, ev_keys, ev_key, ev_statics, ev_static, ev_initializers, ev_initializer}
+use Rattle.es_steps.specs.Entries.{Entry, Entries, Listed, Method, Parameter, listed, after_run, methods_in, class_entry, without, constructor_form, constructor_parameters, ev_construction, entries, key_entries, key_entry, static_entries, static_entry, field_entries, field_entry, function_entries, element_function}
+use Rattle.es_steps.specs.Evaluation.{Environment, Run, Evaluation, gives, run_behind, go_on, bind, settle_run, settle, quiet, initialized, read_name, has_instance_methods, ev, ev_all, ev_keys, ev_key, ev_statics, ev_static, ev_fields, ev_field, ev_initializers}
 use Rattle.es_steps.specs.Events.{Events}
-use Rattle.es_steps.specs.Law.{has_meaning}
-use Rattle.es_steps.specs.Meaning.{with_entry, whole, with_all, means_of}
+use Rattle.es_steps.specs.Meaning.{with_entry, whole}
+use Rattle.es_steps.specs.Opening.{assigned_in, assigned_in_all}
 use Rattle.es_steps.specs.Values.{String, Value, Undefined, ClassOf, ThisOf, Referent}
 
 -- ---- evaluations that have a run in each environment, which ends in the same environment
 
-abbrev EndsIn : Environment → Option Run → Type 0
+abbrev pub EndsIn : Environment → Option Run → Type 0
 EndsIn env None = ⊥
 EndsIn env (Some r) = r.after ≡ env
 
-abbrev Stays : Evaluation → Type 0
+abbrev pub Stays : Evaluation → Type 0
 Stays a = (env : Environment) → EndsIn env (a env)
 
 run_behind-ends : (env : Environment) (l : Events) (r : Option Run) → EndsIn env r → EndsIn env (run_behind l r)
@@ -38,7 +36,7 @@ settle_run-ends : (env : Environment) (r : Option Run) → EndsIn env r → Ends
 settle_run-ends env None h = h
 settle_run-ends env (Some r) h = h
 
-settle-stays : (a : Evaluation) → Stays a → Stays (settle a)
+pub settle-stays : (a : Evaluation) → Stays a → Stays (settle a)
 settle-stays a h env = settle_run-ends env (a env) (h env)
 
 initialized-stays : (form : FieldForm) (o k v : Value) → Stays (initialized form o k v)
@@ -46,43 +44,24 @@ initialized-stays defines o k v env = refl
 initialized-stays sets o k v env = refl
 initialized-stays leaves_out o k v env = refl
 
-ends-there : (env : Environment) (r : Option Run) → EndsIn env r → IsSome (listed r)
+pub ends-there : (env : Environment) (r : Option Run) → EndsIn env r → IsSome (listed r)
 ends-there env None h = absurd h
 ends-there env (Some r) h = refl
 
-ends-after : (env : Environment) (r : Option Run) → EndsIn env r → after_run env r ≡ env
+pub ends-after : (env : Environment) (r : Option Run) → EndsIn env r → after_run env r ≡ env
 ends-after env None h = refl
 ends-after env (Some r) h = h
 
--- ---- plain values: constants and names that were not made
+-- ---- plain values: constants and names that were not generated
 
 pub data IsNotGenerated : NameKind → Type 0 where
   fixed : (b : ℕ) → IsNotGenerated (Fixed b)
   changing : (r : Referent) → IsNotGenerated (Changing r)
-  means_class : (n : ℕ) → IsNotGenerated (MeansClass n)
+  means_class : (n b : ℕ) → IsNotGenerated (MeansClass n b)
 
 pub data IsPlain : Code → Type 0 where
   a_value : (v : Value) → IsPlain (value v)
   a_name : (m : ℕ) (s : String) (kind : NameKind) → IsNotGenerated kind → IsPlain (name m s kind)
-
-read_name-stays : (m : ℕ) (s : String) (kind : NameKind) → IsNotGenerated kind → Stays (read_name m s kind)
-read_name-stays m s kind (fixed b) env = refl
-read_name-stays m s kind (changing r) env = refl
-read_name-stays m s kind (means_class n) env = refl
-
-plain-stays : (c : Code) → IsPlain c → Stays (ev c)
-plain-stays c (a_value v) env = refl
-plain-stays c (a_name m s kind h) env = read_name-stays m s kind h env
-
-pub plain-entries : (first : ℕ) (s e : Environment) (c : Code) → IsPlain c → entries first s e c ≡ []
-plain-entries first s e c (a_value v) = refl
-plain-entries first s e c (a_name m t kind h) = refl
-
-plain-assigned : (c : Code) → IsPlain c → assigned_in c ≡ []
-plain-assigned c (a_value v) = refl
-plain-assigned c (a_name m t kind h) = refl
-
--- ---- fields
 
 pub data IsField : Code → Type 0 where
   plain_field : (form : FieldForm) (k : Value) (r : Code) → IsPlain r → IsField (field false form (value k) r)
@@ -91,48 +70,16 @@ abbrev pub AreFields : Codes → Type 0
 AreFields done = Unit
 AreFields (and c cs) = IsField c × AreFields cs
 
-ev_key-stays : (c : Code) → IsField c → Stays (ev_key c)
-ev_key-stays c (plain_field form k r h) env = refl
+pub data IsClass : Code → Type 0 where
+  plain_class : (n : ℕ) (declared : Option ℕ) (cs : Codes) → AreFields cs → IsClass (class_code n declared done cs)
 
-ev_keys-stays : (cs : Codes) → AreFields cs → Stays (ev_keys cs)
-ev_keys-stays done h env = refl
-ev_keys-stays (and c cs) h env = bind-stays (ev_key c) (λ v. ev_keys cs) (ev_key-stays c h.0) (λ v. ev_keys-stays cs h.1) env
+abbrev pub AreClasses : Codes → Type 0
+AreClasses done = Unit
+AreClasses (and c cs) = IsClass c × AreClasses cs
 
-ev_static-stays : (n : ℕ) (c : Code) → IsField c → Stays (ev_static n c)
-ev_static-stays n c (plain_field form k r h) env = refl
-
-ev_statics-stays : (n : ℕ) (cs : Codes) → AreFields cs → Stays (ev_statics n cs)
-ev_statics-stays n done h env = refl
-ev_statics-stays n (and c cs) h env = bind-stays (ev_static n c) (λ v. ev_statics n cs) (ev_static-stays n c h.0) (λ v. ev_statics-stays n cs h.1) env
-
-ev_initializer-stays : (n : ℕ) (c : Code) → IsField c → Stays (ev_initializer n c)
-ev_initializer-stays n c (plain_field form k r h) env =
-    bind-stays (quiet (gives k)) (λ a. bind (ev r) (λ v. initialized form (ThisOf n) a v)) (λ i. refl)
-    (λ a. bind-stays (ev r) (λ v. initialized form (ThisOf n) a v) (plain-stays r h) (λ v. initialized-stays form (ThisOf n) a v))
-    env
-
-ev_initializers-stays : (n : ℕ) (cs : Codes) → AreFields cs → Stays (ev_initializers n cs)
-ev_initializers-stays n done h env = refl
-ev_initializers-stays n (and c cs) h env = bind-stays (ev_initializer n c) (λ v. ev_initializers n cs) (ev_initializer-stays n c h.0) (λ v. ev_initializers-stays n cs h.1) env
-
-construction-passes : (n : ℕ) (all : Codes) (c : Code) (cs : Codes) → IsField c → ev_construction n done all (and c cs) ≡ ev_construction n done all cs
-construction-passes n all c cs (plain_field form k r h) = refl
-
-construction-fields : (n : ℕ) (all cs : Codes) → AreFields cs → ev_construction n done all cs ≡ ev_initializers n all
-construction-fields n all done h = refl
-construction-fields n all (and c cs) h = construction-passes n all c cs h.0 ∙ construction-fields n all cs h.1
-
-construction-stays : (n : ℕ) (cs : Codes) → AreFields cs → Stays (ev_construction n done cs cs)
-construction-stays n cs h = rw (construction-fields n cs cs h) (ev_initializers-stays n cs h)
-
-methods-passes : (env : Environment) (c : Code) (cs : Codes) → IsField c → methods_in env (and c cs) ≡ methods_in env cs
-methods-passes env c cs (plain_field form k r h) = refl
-
-methods-fields : (env : Environment) (cs : Codes) → AreFields cs → methods_in env cs ≡ Some []
-methods-fields env done h = refl
-methods-fields env (and c cs) h = methods-passes env c cs h.0 ∙ methods-fields env cs h.1
-
--- ---- where the construction begins and ends
+plain-assigned : (c : Code) → IsPlain c → assigned_in c ≡ []
+plain-assigned c (a_value v) = refl
+plain-assigned c (a_name m t kind h) = refl
 
 assigned-field : (c : Code) → IsField c → assigned_in c ≡ []
 assigned-field c (plain_field form k r h) = plain-assigned r h
@@ -148,63 +95,21 @@ without-none (p ∷ ps) = rw (without-none ps) refl
 begins : (cs : Codes) (env : Environment) → AreFields cs → without (assigned_in_all cs) env ≡ env
 begins cs env h = rw (assigned-fields cs h) (without-none env)
 
-ends : (n : ℕ) (cs : Codes) (env : Environment) → AreFields cs → after_run env (ev_construction n done cs cs env) ≡ env
-ends n cs env h = ends-after env (ev_construction n done cs cs env) (construction-stays n cs h env)
+no_methods-field : (c : Code) (cs : Codes) → IsField c → has_instance_methods (and c cs) ≡ has_instance_methods cs
+no_methods-field c cs (plain_field form k r h) = refl
 
--- ---- entries of a class
+no_methods : (cs : Codes) → AreFields cs → has_instance_methods cs ≡ false
+no_methods done h = refl
+no_methods (and c cs) h = no_methods-field c cs h.0 ∙ no_methods cs h.1
 
-abbrev rest_of : Entries → Entries
-rest_of [] = []
-rest_of (p ∷ ps) = ps
-
--- behind its own entry a class has none
-elements-none : (first n : ℕ) (declared : Option ℕ) (s e : Environment) (cs : Codes) → AreFields cs → rest_of (entries first s e (class_code n declared done cs)) ≡ []
-elements-none first n declared s e done h = refl
-elements-none first n declared s e (and c cs) h = next c h.0 h (elements-none first n declared s e cs h.1)
-  where
-    next : (c : Code) → IsField c → AreFields (and c cs) → rest_of (entries first s e (class_code n declared done cs)) ≡ [] → rest_of (entries first s e (class_code n declared done (and c cs))) ≡ []
-    next c (plain_field form k r p) fs ih =
-        let here = rw (begins cs e fs.1, ends n cs e fs.1) at ih in
-        rw (begins (and (field false form (value k) r) cs) e fs, ends n (and (field false form (value k) r) cs) e fs, plain-entries first e e r p) here
-
-class_entry-there : (declared : Option ℕ) (ms : Option (List Method)) (l : Option Listed) → ms ≡ Some [] → IsSome l → IsSome (class_entry declared (Some None) ms l)
-class_entry-there declared ms None e h = absurd (true≢false (sym h))
-class_entry-there declared ms (Some l) e h = rw e refl
+class_entry-there : (declared : Option ℕ) (form : FunctionForm) (ps : List Parameter) (ms : Option (List Method)) (l : Option Listed) → ms ≡ Some [] → IsSome l → IsSome (class_entry declared form ps (Some None) ms l)
+class_entry-there declared form ps ms None e h = absurd (true≢false (sym h))
+class_entry-there declared form ps ms (Some l) e h = rw e refl
 
 with_entry-there : (n : ℕ) (e : Option Entry) (es : Option (List (ℕ × Entry))) → IsSome e → IsSome es → IsSome (with_entry n e es)
 with_entry-there n None es h k = h
 with_entry-there n (Some e) None h k = k
 with_entry-there n (Some e) (Some es) h k = refl
-
-class-entries : (first n : ℕ) (declared : Option ℕ) (s e : Environment) (cs : Codes) → AreFields cs → IsSome (whole (entries first s e (class_code n declared done cs)))
-class-entries first n declared s e cs h =
-    let start : Environment = without (assigned_in_all cs) e in
-    let run : Option Run = ev_construction n done cs cs start in
-    with_entry-there n (class_entry declared (Some None) (methods_in e cs) (listed run)) (whole (rest_of (entries first s e (class_code n declared done cs))))
-    (class_entry-there declared (methods_in e cs) (listed run) (methods-fields e cs h) (ends-there start run (construction-stays n cs h start)))
-    (subst (λ ps. IsSome (whole ps)) (sym (elements-none first n declared s e cs h)) refl)
-
--- ---- classes
-
-pub data IsClass : Code → Type 0 where
-  plain_class : (n : ℕ) (declared : Option ℕ) (cs : Codes) → AreFields cs → IsClass (class_code n declared done cs)
-
-abbrev pub AreClasses : Codes → Type 0
-AreClasses done = Unit
-AreClasses (and c cs) = IsClass c × AreClasses cs
-
-class-stays : (c : Code) → IsClass c → Stays (ev c)
-class-stays c (plain_class n declared cs h) =
-    let statics : Value → Evaluation = λ u. bind (ev_statics n cs) (λ w. gives (ClassOf n)) in
-    settle-stays (bind (ev_keys cs) statics) (bind-stays (ev_keys cs) statics (ev_keys-stays cs h)
-    (λ u. bind-stays (ev_statics n cs) (λ w. gives (ClassOf n)) (ev_statics-stays n cs h) (λ w env. refl)))
-
-ev_all-stays : (cs : Codes) (f : List Value → Evaluation) → AreClasses cs → ((vs : List Value) → Stays (f vs)) → Stays (ev_all cs f)
-ev_all-stays done f h k = k []
-ev_all-stays (and c cs) f h k = bind-stays (ev c) (λ v. ev_all cs (λ vs. f (v ∷ vs))) (class-stays c h.0) (λ v. ev_all-stays cs (λ vs. f (v ∷ vs)) h.1 (λ vs. k (v ∷ vs)))
-
-one-there : (first : ℕ) (s e : Environment) (c : Code) → IsClass c → IsSome (whole (entries first s e c))
-one-there first s e c (plain_class n declared cs h) = class-entries first n declared s e cs h
 
 with_entry-parts : (n : ℕ) (e : Option Entry) (es : Option (List (ℕ × Entry))) → IsSome (with_entry n e es) → IsSome e × IsSome es
 with_entry-parts n None es h = absurd (true≢false (sym h))
@@ -217,23 +122,123 @@ whole-append (x ∷ xs) ys h k =
     let parts = with_entry-parts x.0 x.1 (whole xs) h in
     with_entry-there x.0 x.1 (whole (xs ++ ys)) parts.0 (whole-append xs ys parts.1 k)
 
-all-there : (first : ℕ) (s e : Environment) (cs : Codes) → AreClasses cs → IsSome (whole (entries first s e (steps cs)))
-all-there first s e done h = refl
-all-there first s e (and c cs) h =
-    let t : Environment = after_run s (ev c s) in
-    whole-append (entries first s e c) (entries first t e (steps cs)) (one-there first s e c h.0) (all-there first t e cs h.1)
+module _ (opens : Opened → Evaluation) (first : ℕ) (late : List ℕ) where
+  read_name-stays : (m : ℕ) (s : String) (kind : NameKind) → IsNotGenerated kind → Stays (read_name m s kind)
+  read_name-stays m s kind (fixed b) env = refl
+  read_name-stays m s kind (changing r) env = refl
+  read_name-stays m s kind (means_class n b) env = refl
 
--- ---- the meaning
+  plain-stays : (c : Code) → IsPlain c → Stays (ev opens c)
+  plain-stays c (a_value v) env = refl
+  plain-stays c (a_name m s kind h) env = read_name-stays m s kind h env
 
-with_all-there : (first : ℕ) (ledger : List LedgerEntry) (t : Tree) (l : Option Listed) (es : Option (List (ℕ × Entry))) → IsSome l → IsSome es → has_meaning (with_all first ledger t l es) ≡ true
-with_all-there first ledger t None es h k = absurd (true≢false (sym h))
-with_all-there first ledger t (Some l) None h k = absurd (true≢false (sym k))
-with_all-there first ledger t (Some l) (Some es) h k = refl
+  plain-entries : (s e : Environment) (c : Code) → IsPlain c → entries opens first late s e c ≡ []
+  plain-entries s e c (a_value v) = refl
+  plain-entries s e c (a_name m t kind h) = refl
 
--- a program of such classes has a meaning
-pub classes_mean : (first : ℕ) (ledger : List LedgerEntry) (t : Tree) (cs : Codes) → AreClasses cs → has_meaning (means_of first ledger t (steps cs)) ≡ true
-classes_mean first ledger t cs h =
-    let last : List Value → Evaluation = λ vs. gives Undefined in
-    let run : Option Run = ev (steps cs) [] in
-    let there : IsSome (listed run) = ends-there [] run (settle-stays (ev_all cs last) (ev_all-stays cs last h (λ vs env. refl)) []) in
-    with_all-there first ledger t (listed run) (whole (entries first [] (after_run [] run) (steps cs))) there (all-there first [] (after_run [] run) cs h)
+  -- ---- fields
+
+  ev_key-stays : (c : Code) → IsField c → Stays (ev_key opens c)
+  ev_key-stays c (plain_field form k r h) env = refl
+
+  ev_keys-stays : (cs : Codes) → AreFields cs → Stays (ev_keys opens cs)
+  ev_keys-stays done h env = refl
+  ev_keys-stays (and c cs) h env = bind-stays (ev_key opens c) (λ v. ev_keys opens cs) (ev_key-stays c h.0) (λ v. ev_keys-stays cs h.1) env
+
+  ev_static-stays : (n : ℕ) (c : Code) → IsField c → Stays (ev_static opens n c)
+  ev_static-stays n c (plain_field form k r h) env = refl
+
+  ev_statics-stays : (n : ℕ) (cs : Codes) → AreFields cs → Stays (ev_statics opens n cs)
+  ev_statics-stays n done h env = refl
+  ev_statics-stays n (and c cs) h env = bind-stays (ev_static opens n c) (λ v. ev_statics opens n cs) (ev_static-stays n c h.0) (λ v. ev_statics-stays n cs h.1) env
+
+  ev_field-stays : (n : ℕ) (c : Code) → IsField c → Stays (ev_field opens n c)
+  ev_field-stays n c (plain_field form k r h) env =
+      bind-stays (quiet (gives k)) (λ a. bind (ev opens r) (λ v. initialized form (ThisOf n) a v)) (λ i. refl)
+      (λ a. bind-stays (ev opens r) (λ v. initialized form (ThisOf n) a v) (plain-stays r h) (λ v. initialized-stays form (ThisOf n) a v))
+      env
+
+  ev_fields-stays : (n : ℕ) (cs : Codes) → AreFields cs → Stays (ev_fields opens n cs)
+  ev_fields-stays n done h env = refl
+  ev_fields-stays n (and c cs) h env = bind-stays (ev_field opens n c) (λ v. ev_fields opens n cs) (ev_field-stays n c h.0) (λ v. ev_fields-stays n cs h.1) env
+
+  initializers-stay : (n : ℕ) (cs : Codes) → AreFields cs → Stays (ev_initializers opens n cs)
+  initializers-stay n cs h = rw (no_methods cs h) (bind-stays (gives Undefined) (λ v. ev_fields opens n cs) (λ env. refl) (λ v. ev_fields-stays n cs h))
+
+  construction-passes : (n : ℕ) (all : Codes) (c : Code) (cs : Codes) → IsField c → ev_construction opens first late n done all (and c cs) ≡ ev_construction opens first late n done all cs
+  construction-passes n all c cs (plain_field form k r h) = refl
+
+  construction-fields : (n : ℕ) (all cs : Codes) → AreFields cs → ev_construction opens first late n done all cs ≡ ev_initializers opens n all
+  construction-fields n all done h = refl
+  construction-fields n all (and c cs) h = construction-passes n all c cs h.0 ∙ construction-fields n all cs h.1
+
+  construction-stays : (n : ℕ) (cs : Codes) → AreFields cs → Stays (ev_construction opens first late n done cs cs)
+  construction-stays n cs h = subst Stays (sym (construction-fields n cs cs h)) (initializers-stay n cs h)
+
+  methods-passes : (env : Environment) (c : Code) (cs : Codes) → IsField c → methods_in opens first late env (and c cs) ≡ methods_in opens first late env cs
+  methods-passes env c cs (plain_field form k r h) = refl
+
+  methods-fields : (env : Environment) (cs : Codes) → AreFields cs → methods_in opens first late env cs ≡ Some []
+  methods-fields env done h = refl
+  methods-fields env (and c cs) h = methods-passes env c cs h.0 ∙ methods-fields env cs h.1
+
+  -- ---- entries of a class: behind its own it has none
+
+  key-none : (s e : Environment) (c : Code) → IsField c → key_entry opens first late s e c ≡ []
+  key-none s e c (plain_field form k r p) = refl
+
+  keys-none : (s e : Environment) (cs : Codes) → AreFields cs → key_entries opens first late s e cs ≡ []
+  keys-none s e done h = refl
+  keys-none s e (and c cs) h = rw (key-none s e c h.0) (keys-none (after_run s (ev_key opens c s)) e cs h.1)
+
+  static-none : (s e : Environment) (c : Code) → IsField c → static_entry opens first late s e c ≡ []
+  static-none s e c (plain_field form k r p) = refl
+
+  statics-none : (n : ℕ) (s e : Environment) (cs : Codes) → AreFields cs → static_entries opens first late n s e cs ≡ []
+  statics-none n s e done h = refl
+  statics-none n s e (and c cs) h = rw (static-none s e c h.0) (statics-none n (after_run s (ev_static opens n c s)) e cs h.1)
+
+  field-none : (s e : Environment) (c : Code) → IsField c → field_entry opens first late s e c ≡ []
+  field-none s e c (plain_field form k r p) = plain-entries s e r p
+
+  fields-none : (n : ℕ) (s e : Environment) (cs : Codes) → AreFields cs → field_entries opens first late n s e cs ≡ []
+  fields-none n s e done h = refl
+  fields-none n s e (and c cs) h = rw (field-none s e c h.0) (fields-none n (after_run s (ev_field opens n c s)) e cs h.1)
+
+  function-none : (s i e : Environment) (c : Code) → IsField c → element_function opens first late s i e c ≡ []
+  function-none s i e c (plain_field form k r p) = refl
+
+  functions-none : (s i e : Environment) (cs : Codes) → AreFields cs → function_entries opens first late s i e cs ≡ []
+  functions-none s i e done h = refl
+  functions-none s i e (and c cs) h = rw (function-none s i e c h.0) (functions-none s i e cs h.1)
+
+  class-entries : (n : ℕ) (declared : Option ℕ) (s e : Environment) (cs : Codes) → AreFields cs → IsSome (whole (entries opens first late s e (class_code n declared done cs)))
+  class-entries n declared s e cs h =
+      rw (keys-none _ e cs h, statics-none n _ e cs h, fields-none n _ _ cs h, functions-none _ _ e cs h)
+      (with_entry-there n _ (Some []) (class_entry-there declared (constructor_form cs) (constructor_parameters cs) (methods_in opens first late e cs) _ (methods-fields e cs h) (ends-there _ _ (construction-stays n cs h (without (assigned_in_all cs) e)))) refl)
+
+  -- ---- classes
+
+  class-stays : (c : Code) → IsClass c → Stays (ev opens c)
+  class-stays c (plain_class n declared cs h) =
+      let statics : Value → Evaluation = λ u. bind (ev_statics opens n cs) (λ w. gives (ClassOf n)) in
+      settle-stays (bind (ev_keys opens cs) statics) (bind-stays (ev_keys opens cs) statics (ev_keys-stays cs h)
+      (λ u. bind-stays (ev_statics opens n cs) (λ w. gives (ClassOf n)) (ev_statics-stays n cs h) (λ w env. refl)))
+
+  ev_all-stays : (cs : Codes) (f : List Value → Evaluation) → AreClasses cs → ((vs : List Value) → Stays (f vs)) → Stays (ev_all opens cs f)
+  ev_all-stays done f h k = k []
+  ev_all-stays (and c cs) f h k = bind-stays (ev opens c) (λ v. ev_all opens cs (λ vs. f (v ∷ vs))) (class-stays c h.0) (λ v. ev_all-stays cs (λ vs. f (v ∷ vs)) h.1 (λ vs. k (v ∷ vs)))
+
+  one-there : (s e : Environment) (c : Code) → IsClass c → IsSome (whole (entries opens first late s e c))
+  one-there s e c (plain_class n declared cs h) = class-entries n declared s e cs h
+
+  pub all-there : (s e : Environment) (cs : Codes) → AreClasses cs → IsSome (whole (entries opens first late s e (steps cs)))
+  all-there s e done h = refl
+  all-there s e (and c cs) h =
+      let t : Environment = after_run s (ev opens c s) in
+      whole-append (entries opens first late s e c) (entries opens first late t e (steps cs)) (one-there s e c h.0) (all-there t e cs h.1)
+
+  pub classes-run : (cs : Codes) → AreClasses cs → IsSome (listed (ev opens (steps cs) []))
+  classes-run cs h =
+      let last : List Value → Evaluation = λ vs. gives Undefined in
+      ends-there [] _ (settle-stays (ev_all opens cs last) (ev_all-stays cs last h (λ vs env. refl)) [])

@@ -1,16 +1,20 @@
 -- What a program's functions and classes do when they are called and constructed: an entry for each, read where it
 -- stands. (ECMA-262, 10.2 and 15.7: calls, field initialization, class definition evaluation. Entries are our own.)
-use Rattle.std.specs.Prelude.{ℕ, List, [], ◌∷◌, ◌++◌, Bool, true, false, cond, ◌||◌, bytes_eq, Option, Some, None}
-use Rattle.es_base.specs.Numbered.{is_new}
-use Rattle.es_steps.specs.Code.{Code, Codes, Target, Callee, FunctionForm, binding, rest_binding, member, assign, compound, logical, logical_assign, update, call, construct, sequence, operation, define, steps, function, class_code, field, method, constructor, static_block, to_name, to_member, plain, on_member, done, and}
+use Rattle.std.specs.Prelude.{ℕ, suc, List, [], ◌∷◌, ◌++◌, Bool, true, false, cond, ◌||◌, bytes_eq, Option, Some, None}
+use Rattle.es_steps.specs.Code.{Code, Codes, Target, Callee, FunctionForm, Opened, binding, rest, member, private_member, super_member, private_in, assign, compound, logical, logical_assign, update, call, tag, construct, super_call, sequence, template, operation, chain, short, tested, pattern, takes, steps, gives_to, export_default, function, new_function, class_code, field, private_field, method, private_method, constructor, static_block, generated_element, define, private_initialize, call_arrow, call_closure, give_function, give_class, to_name, to_member, to_private, to_super, to_setter, to_pattern, to_default, plain, on_member, on_private, on_super, with_receiver, checked, on_chain, behind_test, done, and}
 use Rattle.es_steps.specs.Context.{Generated}
-use Rattle.es_steps.specs.Evaluation.{Environment, Run, Evaluation, no_meaning, gives, event, bind, ev, ev_all, ev_target, ev_callee, ev_initializers}
-use Rattle.es_steps.specs.Events.{Events, SuperAll, value_behind}
-use Rattle.es_steps.specs.Values.{String, Value, Undefined, ThisOf}
+use Rattle.es_steps.specs.Evaluation.{Environment, Run, Evaluation, no_meaning, gives, event, bind, bind_parameters, write_ready, ev, ev_all, ev_target, ev_take, ev_callee, ev_key, ev_keys, ev_static, ev_field, ev_initializers}
+use Rattle.es_steps.specs.Events.{Events, Take, Index, Rest, Operate, SuperCallWithAll, value_behind}
+use Rattle.es_steps.specs.GeneratedForms.{opened_body}
+use Rattle.es_steps.specs.Opening.{assigned_in, assigned_in_all}
+use Rattle.es_steps.specs.References.{has_number}
+use Rattle.es_steps.specs.Values.{String, Value, Undefined, ThisOf, ResultOf}
 
-pub record Parameter : Type 0 where
-  pub number : ℕ
-  pub is_rest : Bool
+-- a parameter: an identifier, alone or as a rest, or a pattern, which the list takes apart
+pub data Parameter : Type 0 where
+  Identifier : (b : ℕ) → Parameter
+  RestIdentifier : (b : ℕ) → Parameter
+  Pattern : Parameter
 
 pub record Method : Type 0 where
   pub is_static : Bool
@@ -23,49 +27,10 @@ pub record Listed : Type 0 where
   pub events : Events
   pub value : Value
 
+-- a function's own name is known by its identifier; a class has the form and the parameters of its constructor
 pub data Entry : Type 0 where
-  FunctionEntry : (form : FunctionForm) (parameters : List Parameter) (body : Listed) → Entry
-  ClassEntry : (declared : Option ℕ) (heritage : Option Value) (methods : List Method) (construction : Listed) → Entry
-
--- ---- the generated names and that a code assigns
-
-abbrev pub target_name : Target → List String
-target_name (to_name m s (Generated g)) = s ∷ []
-target_name to = []
-
-abbrev mutual
-  pub assigned_in : Code → List String
-  assigned_in (member m o k) = assigned_in o ++ assigned_in k
-  assigned_in (assign to e) = target_name to ++ (assigned_in_target to ++ assigned_in e)
-  assigned_in (compound m op to e) = target_name to ++ (assigned_in_target to ++ assigned_in e)
-  assigned_in (logical m op l r) = assigned_in l ++ assigned_in r
-  assigned_in (logical_assign m op to e) = target_name to ++ (assigned_in_target to ++ assigned_in e)
-  assigned_in (update m op prefix to) = target_name to ++ assigned_in_target to
-  assigned_in (call m f es) = assigned_in_callee f ++ assigned_in_all es
-  assigned_in (construct m f es) = assigned_in f ++ assigned_in_all es
-  assigned_in (sequence es) = assigned_in_all es
-  assigned_in (operation m op es parts) = assigned_in_all es ++ assigned_in_all parts
-  assigned_in (define o k e) = assigned_in k ++ assigned_in e
-  assigned_in (steps es) = assigned_in_all es
-  assigned_in (function f form parameters body) = assigned_in body
-  assigned_in (class_code n declared h es) = assigned_in_all h ++ assigned_in_all es
-  assigned_in (field is_static form k e) = assigned_in k ++ assigned_in e
-  assigned_in (method is_static kind k f) = assigned_in k ++ assigned_in f
-  assigned_in (constructor f) = assigned_in f
-  assigned_in (static_block es) = assigned_in_all es
-  assigned_in e = []
-
-  pub assigned_in_target : Target → List String
-  assigned_in_target (to_member m o k) = assigned_in o ++ assigned_in k
-  assigned_in_target to = []
-
-  pub assigned_in_callee : Callee → List String
-  assigned_in_callee (plain e) = assigned_in e
-  assigned_in_callee (on_member m o k) = assigned_in o ++ assigned_in k
-
-  pub assigned_in_all : Codes → List String
-  assigned_in_all done = []
-  assigned_in_all (and e es) = assigned_in e ++ assigned_in_all es
+  FunctionEntry : (form : FunctionForm) (own_name : Option ℕ) (parameters : List Parameter) (body : Listed) → Entry
+  ClassEntry : (declared : Option ℕ) (heritage : Option Value) (methods : List Method) (form : FunctionForm) (parameters : List Parameter) (construction : Listed) → Entry
 
 abbrev pub is_string_among : String → List String → Bool
 is_string_among s [] = false
@@ -76,36 +41,76 @@ abbrev pub without : List String → Environment → Environment
 without names [] = []
 without names (p ∷ ps) = cond (is_string_among p.0 names) (without names ps) (p ∷ without names ps)
 
--- ---- bodies and constructions
+-- ---- parameters: a generated one is no part of an entry
 
-abbrev pub joined_parameter : Parameter → Option (List Parameter) → Option (List Parameter)
-joined_parameter p None = None
-joined_parameter p (Some ps) = Some (p ∷ ps)
+abbrev pub parameter_of : Code → List Parameter
+parameter_of (binding b s (Generated g)) = []
+parameter_of (binding b s kind) = Identifier b ∷ []
+parameter_of (rest (to_name b s (Generated g))) = []
+parameter_of (rest (to_name b s kind)) = RestIdentifier b ∷ []
+parameter_of c = Pattern ∷ []
 
--- parameters that are identifiers, the last with or without a rest; others have no rule yet
-abbrev pub parameters_of : Codes → Option (List Parameter)
-parameters_of done = Some []
-parameters_of (and (binding b s kind) es) = joined_parameter (record { number = b; is_rest = false }) (parameters_of es)
-parameters_of (and (rest_binding b s kind) es) = joined_parameter (record { number = b; is_rest = true }) (parameters_of es)
-parameters_of (and e es) = None
+abbrev pub parameters_of : Codes → List Parameter
+parameters_of done = []
+parameters_of (and c cs) = parameter_of c ++ parameters_of cs
 
-abbrev pub if_simple : Option (List Parameter) → Evaluation → Evaluation
-if_simple None a = no_meaning
-if_simple (Some ps) a = a
+abbrev pub plain_form : FunctionForm
+plain_form = record { is_arrow = false; is_async = false; is_generator = false }
 
--- what a call of a function does behind its parameters, which have no event
-abbrev pub ev_body : Codes → Code → Evaluation
-ev_body parameters body = if_simple (parameters_of parameters) (ev body)
+abbrev pub constructor_form : Codes → FunctionForm
+constructor_form done = plain_form
+constructor_form (and (constructor (function f form own_name ps body)) cs) = form
+constructor_form (and c cs) = constructor_form cs
 
--- the construction of a class: a base class initializes its fields before its constructor's body. A parent is
--- constructed with all arguments where there is no constructor; what a constructor's own `super(..)` does has no rule yet.
-abbrev pub ev_construction : ℕ → Codes → Codes → Codes → Evaluation
-ev_construction n done all (and (constructor (function f form parameters body)) es) = bind (ev_initializers n all) (λ v. ev_body parameters body)
-ev_construction n (and h hs) all (and (constructor (function f form parameters body)) es) = ev_body parameters body
-ev_construction n heritage all (and (constructor e) es) = no_meaning
-ev_construction n heritage all (and e es) = ev_construction n heritage all es
-ev_construction n done all done = ev_initializers n all
-ev_construction n (and h hs) all done = bind (event (SuperAll n) (ThisOf n)) (λ v. ev_initializers n all)
+abbrev pub constructor_parameters : Codes → List Parameter
+constructor_parameters done = []
+constructor_parameters (and (constructor (function f form own_name ps body)) cs) = parameters_of ps
+constructor_parameters (and (constructor (new_function f form ps body)) cs) = parameters_of ps
+constructor_parameters (and c cs) = constructor_parameters cs
+
+-- ---- bodies and constructions; `late` are the classes whose parameters come before their fields
+
+abbrev pub no_constructor : Codes → Bool
+no_constructor done = true
+no_constructor (and (constructor f) cs) = false
+no_constructor (and c cs) = no_constructor cs
+
+abbrev pub if_one : Bool → Evaluation → Evaluation
+if_one true a = a
+if_one false a = no_meaning
+
+abbrev pub in_order : Bool → Evaluation → Evaluation → Evaluation → Evaluation
+in_order true fields parameters body = bind parameters (λ v. bind fields (λ w. body))
+in_order false fields parameters body = bind fields (λ v. bind parameters (λ w. body))
+
+module _ (opens : Opened → Evaluation) (first_new : ℕ) (late : List ℕ) where
+  -- parameters from the i-th on: an identifier has no event
+  abbrev pub ev_parameter : ℕ → Code → Evaluation
+  ev_parameter i (binding b s kind) = gives Undefined
+  ev_parameter i (rest (to_name b s kind)) = gives Undefined
+  ev_parameter i (pattern m to) = ev_target opens to (λ t. bind (event (Operate m (Take (Index i ∷ [])) []) (ResultOf m)) (λ v. write_ready t v))
+  ev_parameter i (rest (to_pattern m kind cs)) = ev_target opens (to_pattern m kind cs) (λ t. bind (event (Operate m (Take (Index i ∷ Rest ∷ [])) []) (ResultOf m)) (λ v. write_ready t v))
+  ev_parameter i c = no_meaning
+
+  abbrev pub ev_parameters : ℕ → Codes → Evaluation
+  ev_parameters i done = gives Undefined
+  ev_parameters i (and c cs) = bind (ev_parameter i c) (λ v. ev_parameters (suc i) cs)
+
+  -- what a call of a function does
+  abbrev pub ev_body : Codes → Code → Evaluation
+  ev_body parameters body = bind (ev_parameters 0 parameters) (λ v. ev opens body)
+
+  -- the construction of a base class initializes its fields before the parameters and the body of its constructor; that of
+  -- another constructs its parent with all arguments where it has no constructor
+  abbrev pub ev_construction : ℕ → Codes → Codes → Codes → Evaluation
+  ev_construction n done all (and (constructor (function f form own_name ps body)) es) = if_one (no_constructor es) (in_order (has_number n late) (ev_initializers opens n all) (ev_parameters 0 ps) (ev opens body))
+  ev_construction n done all (and (constructor (new_function f form ps body)) es) = if_one (no_constructor es) (in_order (has_number n late) (ev_initializers opens n all) (ev_parameters 0 ps) (ev opens body))
+  ev_construction n (and h hs) all (and (constructor (function f form own_name ps body)) es) = if_one (no_constructor es) (ev_body ps body)
+  ev_construction n (and h hs) all (and (constructor (new_function f form ps body)) es) = if_one (no_constructor es) (ev_body ps body)
+  ev_construction n heritage all (and (constructor e) es) = no_meaning
+  ev_construction n heritage all (and e es) = ev_construction n heritage all es
+  ev_construction n done all done = ev_initializers opens n all
+  ev_construction n (and h hs) all done = bind (event (SuperCallWithAll n) (ThisOf n)) (λ v. ev_initializers opens n all)
 
 -- ---- entries
 
@@ -115,88 +120,148 @@ listed (Some r) = Some (record { events = r.events; value = value_behind r.event
 
 abbrev pub value_in : Option Run → Option Value
 value_in None = None
-value_in (Some r) = Some r.value
+value_in (Some r) = Some (value_behind r.events r.value)
 
 abbrev pub after_run : Environment → Option Run → Environment
 after_run env None = env
 after_run env (Some r) = r.after
 
-abbrev pub function_entry : FunctionForm → Option (List Parameter) → Option Listed → Option Entry
-function_entry form (Some ps) (Some l) = Some (FunctionEntry form ps l)
-function_entry form ps l = None
+abbrev pub function_entry : FunctionForm → Option ℕ → List Parameter → Option Listed → Option Entry
+function_entry form own_name ps None = None
+function_entry form own_name ps (Some l) = Some (FunctionEntry form own_name ps l)
 
-abbrev pub class_entry : Option ℕ → Option (Option Value) → Option (List Method) → Option Listed → Option Entry
-class_entry declared (Some h) (Some ms) (Some l) = Some (ClassEntry declared h ms l)
-class_entry declared h ms l = None
+abbrev pub class_entry : Option ℕ → FunctionForm → List Parameter → Option (Option Value) → Option (List Method) → Option Listed → Option Entry
+class_entry declared form ps (Some h) (Some ms) (Some l) = Some (ClassEntry declared h ms form ps l)
+class_entry declared form ps h ms l = None
 
 abbrev pub some_value : Option Value → Option (Option Value)
 some_value None = None
 some_value (Some v) = Some (Some v)
 
-abbrev pub heritage_in : Environment → Codes → Option (Option Value)
-heritage_in env done = Some None
-heritage_in env (and h hs) = some_value (value_in (ev h env))
-
 abbrev pub method_with : Bool → String → Option Value → Code → Option (List Method) → Option (List Method)
-method_with is_static kind (Some k) (function f form parameters body) (Some ms) = Some (record { is_static = is_static; kind = kind; key = k; function = f } ∷ ms)
+method_with is_static kind (Some k) (function f form own_name ps body) (Some ms) = Some (record { is_static = is_static; kind = kind; key = k; function = f } ∷ ms)
 method_with is_static kind k f ms = None
-
--- the methods in order, with the values of their keys
-abbrev pub methods_in : Environment → Codes → Option (List Method)
-methods_in env done = Some []
-methods_in env (and (method is_static kind k f) es) = method_with is_static kind (value_in (ev k env)) f (methods_in env es)
-methods_in env (and e es) = methods_in env es
 
 abbrev pub Entries : Type 0
 Entries = List (ℕ × Option Entry)
 
--- where evaluations lead
-abbrev pub behind_code : Environment → Code → Environment
-behind_code s c = after_run s (ev c s)
-
-abbrev pub behind_all : Environment → Codes → Environment
-behind_all s cs = after_run s (ev_all cs (λ vs. gives Undefined) s)
-
-abbrev pub behind_target : Environment → Target → Environment
-behind_target s to = after_run s (ev_target to (λ t. gives Undefined) s)
-
-abbrev pub behind_callee : Environment → Callee → Environment
-behind_callee s f = after_run s (ev_callee f (λ v receiver. gives v) s)
-
 -- the functions and classes in a code: s is the environment in front of it, e that at the end of its innermost list,
 -- with which a function or construction in it is read. Functions that are new have no entry.
-module _ (first_new : ℕ) where
+module _ (opens : Opened → Evaluation) (first_new : ℕ) (late : List ℕ) where
+  abbrev pub heritage_in : Environment → Codes → Option (Option Value)
+  heritage_in env done = Some None
+  heritage_in env (and h hs) = some_value (value_in (ev opens h env))
+
+  -- the methods in order, with the values of their keys
+  abbrev pub methods_in : Environment → Codes → Option (List Method)
+  methods_in env done = Some []
+  methods_in env (and (method is_static kind k f) es) = method_with is_static kind (value_in (ev opens k env)) f (methods_in env es)
+  methods_in env (and e es) = methods_in env es
+
+  -- where evaluations lead
+  abbrev pub behind_code : Environment → Code → Environment
+  behind_code s c = after_run s (ev opens c s)
+
+  abbrev pub behind_all : Environment → Codes → Environment
+  behind_all s cs = after_run s (ev_all opens cs (λ vs. gives Undefined) s)
+
+  abbrev pub behind_target : Environment → Target → Environment
+  behind_target s to = after_run s (ev_target opens to (λ t. gives Undefined) s)
+
+  abbrev pub behind_callee : Environment → Callee → Environment
+  behind_callee s f = after_run s (ev_callee opens f (λ v receiver. gives v) s)
+
+  abbrev pub behind_arguments : Environment → List String → Codes → Environment
+  behind_arguments s ss es = after_run s (ev_all opens es (λ vs. bind_parameters ss vs) s)
+
+  abbrev pub behind_parameters : Environment → Codes → Environment
+  behind_parameters s ps = after_run s (ev_parameters opens first_new late 0 ps s)
+
+  -- in front of a constructor's parameters
+  abbrev pub behind_fields : Environment → ℕ → Codes → Codes → Environment
+  behind_fields s n done es = after_run s (ev_initializers opens n es s)
+  behind_fields s n (and h hs) es = s
+
+  abbrev pub own_function : ℕ → FunctionForm → Option ℕ → Codes → Option Listed → Entries
+  own_function f form own_name ps l = (f, function_entry form own_name (parameters_of ps) l) ∷ []
+
   abbrev mutual
     pub entries : Environment → Environment → Code → Entries
     entries s e (member m o k) = entries s e o ++ entries (behind_code s o) e k
-    entries s e (assign to r) = target_entries s e to ++ entries (behind_target s to) e r
+    entries s e (private_member m r o) = entries s e o
+    entries s e (super_member m home k this) = entries s e k
+    entries s e (private_in m test o) = entries s e o
+    entries s e (assign to r) = let a : Environment = behind_target s to in target_entries s e to ++ entries a e r ++ pattern_entries (behind_code a r) e to
     entries s e (compound m op to r) = target_entries s e to ++ entries (behind_target s to) e r
     entries s e (logical m op l r) = let a : Environment = behind_code s l in entries s e l ++ entries a (behind_code a r) r
     entries s e (logical_assign m op to r) = let a : Environment = behind_target s to in target_entries s e to ++ entries a (behind_code a r) r
     entries s e (update m op prefix to) = target_entries s e to
     entries s e (call m f es) = callee_entries s e f ++ all_entries (behind_callee s f) e es
+    entries s e (tag m f ts es) = callee_entries s e f ++ all_entries (behind_callee s f) e es
     entries s e (construct m f es) = entries s e f ++ all_entries (behind_code s f) e es
+    entries s e (super_call m n o es) = all_entries s e es
     entries s e (sequence es) = all_entries s e es
+    entries s e (template m ts es) = all_entries s e es
     entries s e (operation m op es parts) = all_entries s e es ++ held_entries (behind_all s es) parts
-    entries s e (define o k r) = entries s e k ++ entries (behind_code s k) e r
+    entries s e (chain m c) = entries s (behind_code s c) c
+    entries s e (short c) = entries s e c
+    entries s e (tested o again c) = let a : Environment = behind_code s o in entries s e o ++ all_entries a e again ++ entries a e c
     entries s e (steps es) = all_entries s e es
-    entries s e (function f form parameters body) =
-        let start : Environment = without (assigned_in body) e in
-        let run : Option Run = ev_body parameters body start in
-        cond (is_new first_new f) [] ((f, function_entry form (parameters_of parameters) (listed run)) ∷ []) ++ entries start (after_run start run) body
+    entries s e (gives_to m to) = target_entries s e to ++ pattern_entries s e to
+    entries s e (export_default c) = entries s e c
+    entries s e (function f form own_name ps body) =
+        let start : Environment = without (assigned_in_all ps ++ assigned_in body) e in
+        let run : Option Run = ev_body opens first_new late ps body start in
+        own_function f form own_name ps (listed run) ++ parameter_entries start (after_run start run) ps ++ entries (behind_parameters start ps) (after_run start run) body
     entries s e (class_code n declared h es) =
         let start : Environment = without (assigned_in_all es) e in
-        let run : Option Run = ev_construction n h es es start in
-        ((n, class_entry declared (heritage_in e h) (methods_in e es) (listed run)) ∷ all_entries s e h) ++ element_entries start (after_run start run) e es
+        let run : Option Run = ev_construction opens first_new late n h es es start in
+        let a : Environment = behind_all s h in
+        let b : Environment = after_run a (ev_keys opens es a) in
+        ((n, class_entry declared (constructor_form es) (constructor_parameters es) (heritage_in e h) (methods_in e es) (listed run)) ∷ all_entries s e h)
+        ++ key_entries a e es ++ static_entries n b e es ++ field_entries n start (after_run start run) es ++ function_entries (behind_fields start n h es) (after_run start run) e es
+    entries s e (define m o k r) = entries s e k ++ entries (behind_code s k) e r
+    entries s e (private_initialize m d o r) = entries s e r
+    entries s e (call_arrow ss body es) = all_entries s e es ++ entries (behind_arguments s ss es) e body
+    entries s e (call_closure f es) = all_entries s e es
+    entries s e (give_function m f g (new_function k form ps body)) =
+        let start : Environment = without (assigned_in body) e in
+        entries start (behind_code start (opened_body body)) body
+    entries s e (give_function m f g c) = entries s e c
+    entries s e (give_class n c) = entries s e c
     entries s e c = []
 
     pub target_entries : Environment → Environment → Target → Entries
     target_entries s e (to_member m o k) = entries s e o ++ entries (behind_code s o) e k
+    target_entries s e (to_private m r o) = entries s e o
+    target_entries s e (to_super m home k this) = entries s e k
+    target_entries s e (to_setter m d o) = entries s e o
+    target_entries s e (to_default m to d) = target_entries s e to
     target_entries s e to = []
+
+    -- what a pattern does when its value is there: a default value is a held part
+    pub pattern_entries : Environment → Environment → Target → Entries
+    pattern_entries s e (to_pattern m kind cs) = taken_entries s e cs
+    pattern_entries s e (to_default m to d) = entries s (behind_code s d) d ++ pattern_entries s e to
+    pattern_entries s e to = []
+
+    pub taken_entries : Environment → Environment → Codes → Entries
+    taken_entries s e done = []
+    taken_entries s e (and c cs) = take_entries s e c ++ taken_entries (after_run s (ev_take opens Undefined c s)) e cs
+
+    pub take_entries : Environment → Environment → Code → Entries
+    take_entries s e (takes m ds k to) = let a : Environment = behind_all s k in all_entries s e k ++ target_entries a e to ++ pattern_entries (behind_target a to) e to
+    take_entries s e c = []
 
     pub callee_entries : Environment → Environment → Callee → Entries
     callee_entries s e (plain c) = entries s e c
     callee_entries s e (on_member m o k) = entries s e o ++ entries (behind_code s o) e k
+    callee_entries s e (on_private m r o) = entries s e o
+    callee_entries s e (on_super m home k this) = entries s e k
+    callee_entries s e (with_receiver f o) = entries s e f ++ entries (behind_code s f) e o
+    callee_entries s e (checked f) = callee_entries s e f
+    callee_entries s e (on_chain m f) = callee_entries s (behind_callee s f) f
+    callee_entries s e (behind_test o again f) = let a : Environment = behind_code s o in entries s e o ++ all_entries a e again ++ callee_entries a e f
 
     pub all_entries : Environment → Environment → Codes → Entries
     all_entries s e done = []
@@ -207,15 +272,52 @@ module _ (first_new : ℕ) where
     held_entries s done = []
     held_entries s (and c cs) = entries s (behind_code s c) c ++ held_entries s cs
 
-    -- elements: s and i are the environments in front of the construction and at its end, e that of the class
-    pub element_entries : Environment → Environment → Environment → Codes → Entries
-    element_entries s i e done = []
-    element_entries s i e (and c cs) = element_entry s i e c ++ element_entries s i e cs
+    -- parameters: s and e are the environments in front of them and at the end of the list
+    pub parameter_entries : Environment → Environment → Codes → Entries
+    parameter_entries s e done = []
+    parameter_entries s e (and (pattern m to) cs) = target_entries s e to ++ pattern_entries s e to ++ parameter_entries s e cs
+    parameter_entries s e (and (rest to) cs) = target_entries s e to ++ pattern_entries s e to ++ parameter_entries s e cs
+    parameter_entries s e (and c cs) = parameter_entries s e cs
 
-    pub element_entry : Environment → Environment → Environment → Code → Entries
-    element_entry s i e (field true form k r) = entries e e k ++ entries e e r
-    element_entry s i e (field false form k r) = entries e e k ++ entries s i r
-    element_entry s i e (method is_static kind k f) = entries e e k ++ entries e e f
-    element_entry s i e (constructor (function f form parameters body)) = entries s i body
-    element_entry s i e (static_block cs) = all_entries e e cs
-    element_entry s i e c = []
+    -- of the elements of a class: their keys, then the static ones
+    pub key_entries : Environment → Environment → Codes → Entries
+    key_entries s e done = []
+    key_entries s e (and c cs) = key_entry s e c ++ key_entries (after_run s (ev_key opens c s)) e cs
+
+    pub key_entry : Environment → Environment → Code → Entries
+    key_entry s e (field is_static form k r) = entries s e k
+    key_entry s e (method is_static kind k f) = entries s e k
+    key_entry s e c = []
+
+    pub static_entries : ℕ → Environment → Environment → Codes → Entries
+    static_entries n s e done = []
+    static_entries n s e (and c cs) = static_entry s e c ++ static_entries n (after_run s (ev_static opens n c s)) e cs
+
+    pub static_entry : Environment → Environment → Code → Entries
+    static_entry s e (field true form k r) = entries s e r
+    static_entry s e (private_field true d r) = entries s e r
+    static_entry s e (static_block cs) = all_entries s e cs
+    static_entry s e (generated_element x r) = entries s e r
+    static_entry s e c = []
+
+    -- instance fields: s and e are the environments in front of the construction and at its end
+    pub field_entries : ℕ → Environment → Environment → Codes → Entries
+    field_entries n s e done = []
+    field_entries n s e (and c cs) = field_entry s e c ++ field_entries n (after_run s (ev_field opens n c s)) e cs
+
+    pub field_entry : Environment → Environment → Code → Entries
+    field_entry s e (field false form k r) = entries s e r
+    field_entry s e (private_field false d r) = entries s e r
+    field_entry s e c = []
+
+    -- methods, which are read at the end of the class's list, and what stands in the constructor
+    pub function_entries : Environment → Environment → Environment → Codes → Entries
+    function_entries s i e done = []
+    function_entries s i e (and c cs) = element_function s i e c ++ function_entries s i e cs
+
+    pub element_function : Environment → Environment → Environment → Code → Entries
+    element_function s i e (method is_static kind k f) = entries e e f
+    element_function s i e (private_method is_static d f) = entries e e f
+    element_function s i e (constructor (function f form own_name ps body)) = parameter_entries s i ps ++ entries (behind_parameters s ps) i body
+    element_function s i e (constructor (new_function f form ps body)) = parameter_entries s i ps ++ entries (behind_parameters s ps) i body
+    element_function s i e c = []

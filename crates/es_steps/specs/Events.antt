@@ -1,29 +1,36 @@
--- What evaluation does that a program can observe, in order. (The operations are those of ECMA-262, 7.3 and 13;
+-- What evaluation does that a program can observe, in order. (The operations are those of ECMA-262, 7.3, 13.3 and 13;
 -- m is the node that does it.)
 use Rattle.std.specs.Prelude.{ℕ, List, Bool, true, false, ◌||◌, cond, Option}
 use Rattle.es_base.specs.declared.kind.Kind.{Kind}
-use Rattle.es_steps.specs.Values.{String, Constant, Value, Referent, Undefined}
+use Rattle.es_steps.specs.Values.{String, Constant, Value, Referent, Home, PrivateTest, Undefined}
 
--- What a kind of operation has beside its operands, member by member: where an operand stands, strings,
--- booleans, empty places, keys that are not computed, and where a list begins and ends.
-pub data Mark : Type 0 where
-  Operand : Mark
-  Empty : Mark
-  Word : (string : String) → Mark
-  Flag : (boolean : Bool) → Mark
-  Key : (key : Constant) → Mark
-  Opens : Mark
-  Closes : Mark
+-- What an operation has beside its operands, member by member: where an operand stands, strings, booleans, empty
+-- places, keys that are not computed, and where a list begins and ends.
+pub data Detail : Type 0 where
+  Operand : Detail
+  Empty : Detail
+  Spelled : (string : String) → Detail
+  Flag : (boolean : Bool) → Detail
+  Key : (key : Constant) → Detail
+  Opens : Detail
+  Closes : Detail
   -- `__proto__: v` in an object, which sets the prototype and makes no property (ECMA-262, B.3.1)
-  Prototype : Mark
+  Prototype : Detail
+  -- the i-th element of an array or of the arguments, and the rest from there on
+  Index : (i : ℕ) → Detail
+  Rest : Detail
 
 pub data Operation : Type 0 where
-  OfKind : (kind : Kind) (marks : List Mark) → Operation
+  OfKind : (kind : Kind) (details : List Detail) → Operation
   Delete : Operation
+  -- a pattern takes a property or an element
+  Take : (details : List Detail) → Operation
 
--- Which part of a node it is that may run or not, or again: the right side of an operator, or the i-th such part.
+-- Which part of a node it is that may run or not, or again: the right side of an operator, a default value, or the
+-- i-th such part.
 pub data Place : Type 0 where
   RightOf : (operator : String) → Place
+  Default : Place
   Part : (i : ℕ) → Place
 
 mutual
@@ -37,12 +44,24 @@ mutual
     Construct : (m : ℕ) (callee : Value) (arguments : List Value) → Event
     Operate : (m : ℕ) (operation : Operation) (operands : List Value) → Event
     Update : (m : ℕ) (operator : String) (old : Value) → Event
-    -- the parent of class n is constructed with all arguments
-    SuperAll : (n : ℕ) → Event
-    -- an access that always throws; no form raises it yet
+    -- the private member that the key d declares, on o
+    PrivateGet : (m d : ℕ) (o : Value) → Event
+    PrivateSet : (d : ℕ) (o v : Value) → Event
+    PrivateInitialize : (d : ℕ) (o v : Value) → Event
+    PrivateIn : (m : ℕ) (test : PrivateTest) (o : Value) → Event
+    -- the private methods of the instances of class n are added to o
+    AddBrand : (n : ℕ) (o : Value) → Event
+    SuperGet : (m : ℕ) (home : Home) (k this : Value) → Event
+    SuperSet : (home : Home) (k v this : Value) → Event
+    -- the parent of class n is constructed, with these arguments or with all
+    SuperCall : (m n : ℕ) (arguments : List Value) → Event
+    SuperCallWithAll : (n : ℕ) → Event
+    -- an access that always throws
     Throw : Event
-    -- a part that may run or not, or again: its list and its value
-    Held : (m : ℕ) (place : Place) (list : Events) (value : Value) → Event
+    -- the chain ends here with undefined if v is null or undefined
+    Short : (v : Value) → Event
+    -- a part that may run or not, or again: what decides it, its list and its value
+    Held : (m : ℕ) (place : Place) (tested : Option Value) (list : Events) (value : Value) → Event
 
   pub data Events : Type 0 where
     none : Events

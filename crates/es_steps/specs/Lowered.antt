@@ -1,28 +1,39 @@
 -- What a lowered program owes, whatever it means: its numbers, that nothing is left to lower, and what its new names
 -- are. (Our own. p is the source, q what it was lowered to, `first` the number of the first new node.)
-use Rattle.std.specs.Prelude.{◌≡◌, ℕ, List, [], ◌∷◌, ◌++◌, Bool, true, false, cond, not, ◌&&◌, ◌||◌, bytes_eq, nat_eq, Option, Some, None}
+use Rattle.std.specs.Prelude.{◌≡◌, ℕ, List, [], ◌∷◌, ◌++◌, Bool, true, false, cond, not, ◌&&◌, ◌||◌, bytes_eq, nat_eq, codes, Option, Some, None}
+use Rattle.es_base.specs.Carried.{stripped}
 use Rattle.es_base.specs.Conforms.{is_among}
 use Rattle.es_base.specs.Numbered.{IsNumbered, is_new}
-use Rattle.es_base.specs.Preorder.{preorder}
-use Rattle.es_base.specs.Tree.{Tree, Part, Parts, Node, end, more, child}
+use Rattle.es_base.specs.Preorder.{preorder, number_of}
+use Rattle.es_base.specs.Tree.{Tree, Part, Parts, Node, end, more, child, list, string}
 use Rattle.es_base.specs.declared.kind.Kind.{Kind}
 use Rattle.es_base.specs.declared.ledger.GeneratedKind.{GeneratedKind}
 use Rattle.es_base.specs.declared.ledger.LedgerEntry.{LedgerEntry}
 use Rattle.es_steps.specs.Context.{generated_as}
-use Rattle.es_steps.specs.Options.{Options}
-use Rattle.es_steps.specs.Parts.{at, items, string_of}
+use Rattle.es_steps.specs.Definitions.{spelling, field_part, names_class, class_identifiers, definitions_stand, all_temporaries, all_different, elements_kept}
+use Rattle.es_steps.specs.KeptNodes.{statement_list, nodes_kept, statements_kept, lists_kept}
+use Rattle.es_steps.specs.LoweredClasses.{has_lowered_class}
+use Rattle.es_steps.specs.Options.{lowers_fields, lowers_blocks}
+use Rattle.es_steps.specs.Parts.{at, items, string_of, is_present}
+use Rattle.es_steps.specs.Printable.{is_printable}
+use Rattle.es_steps.specs.PrivateNames.{PrivateMember, private_members, member_at}
 use Rattle.es_steps.specs.References.{Reference, resolve, has_number}
-use Rattle.es_steps.specs.Scopes.{is_binding_identifier}
+use Rattle.es_steps.specs.Scopes.{is_binding_identifier, class_in}
 use Rattle.es_steps.specs.Values.{String, Referent, Bound}
+use Rattle.es_steps.specs.declared.options.Options.{Options}
 
 -- ---- nothing that the options lower is left
 
 abbrev pub is_lowered_kind : Options → Kind → Bool
-is_lowered_kind o Kind.PropertyDefinition = o.class_properties
-is_lowered_kind o Kind.PrivateIdentifier = o.class_properties
-is_lowered_kind o Kind.PrivateIn = o.class_properties
-is_lowered_kind o Kind.StaticBlock = o.static_blocks
+is_lowered_kind o Kind.PropertyDefinition = lowers_fields o
+is_lowered_kind o Kind.PrivateIdentifier = lowers_fields o
+is_lowered_kind o Kind.PrivateIn = lowers_fields o
+is_lowered_kind o Kind.StaticBlock = lowers_blocks o
 is_lowered_kind o kind = false
+
+-- a program with nothing to lower comes back unchanged
+abbrev pub IsUnchanged : Options → List LedgerEntry → Tree → Tree → Type 0
+IsUnchanged o ledger p q = has_lowered_class o p ≡ false → (stripped q ≡ stripped p) × (ledger ≡ [])
 
 abbrev pub kind_of : Tree → Kind
 kind_of (Node kind m span semantic_id ps) = kind
@@ -125,8 +136,118 @@ all_accounted first ledger own (t ∷ ts) = is_accounted first ledger own t && a
 abbrev pub declarations_accounted : ℕ → List LedgerEntry → Tree → Tree → Bool
 declarations_accounted first ledger p q = all_accounted first ledger (own_name_numbers p (preorder q)) (preorder q)
 
--- ---- each generated name that is initialized has its one initialization in its place: no form of one exists yet, so no such
--- name may be there
+-- ---- each generated name that is initialized has its one initialization, of the form of its kind, in its place
+
+-- what gives a name a value: an assignment, a declarator with an initializer, a declaration of a function or a class
+abbrev pub spelled_as : String → Part → Bool
+spelled_as s p = bytes_eq s (spelling p)
+
+abbrev pub is_helper_callee : ℕ → String → Part → Bool
+is_helper_callee first h (child (Node Kind.MemberExpression m span semantic_id (more (child (Node Kind.IdentifierReference b bspan b_semantic_id (more (string s) end))) (more (child (Node Kind.IdentifierName k kspan k_semantic_id (more (string t) end))) rest)))) = is_new first b && (bytes_eq s (codes "babelHelpers") && bytes_eq h t)
+is_helper_callee first h p = false
+
+abbrev pub is_new_of : String → Part → Bool
+is_new_of s (child (Node Kind.NewExpression m span semantic_id (more (child (Node Kind.IdentifierReference b bspan b_semantic_id (more (string t) end))) (more (list end) end)))) = bytes_eq s t
+is_new_of s p = false
+
+abbrev pub is_key_call : ℕ → Part → Bool
+is_key_call first (child (Node Kind.CallExpression m span semantic_id (more f (more (list (more s end)) rest)))) = is_helper_callee first (codes "classPrivateFieldLooseKey") f
+is_key_call first p = false
+
+abbrev pub is_function_part : Part → Bool
+is_function_part (child (Node Kind.FunctionExpression m span semantic_id ps)) = true
+is_function_part (child (Node Kind.ArrowFunctionExpression m span semantic_id ps)) = true
+is_function_part p = false
+
+-- an assignment that is the first statement behind a class declaration: its number, and that of the class
+abbrev pub class_number_in : Part → List ℕ
+class_number_in (child (Node Kind.ClassDeclaration n span semantic_id ps)) = n ∷ []
+class_number_in (child (Node Kind.ExportNamedDeclaration m span semantic_id (more (child (Node Kind.ClassDeclaration n nspan n_semantic_id ps)) rest))) = n ∷ []
+class_number_in (child (Node Kind.ExportDefaultDeclaration m span semantic_id (more (child (Node Kind.ClassDeclaration n nspan n_semantic_id ps)) rest))) = n ∷ []
+class_number_in p = []
+
+abbrev pub assignment_number : Part → List ℕ
+assignment_number (child (Node Kind.ExpressionStatement m span semantic_id (more (child (Node Kind.AssignmentExpression k kspan k_semantic_id ps)) directive))) = k ∷ []
+assignment_number p = []
+
+abbrev pub paired : List ℕ → List ℕ → List (ℕ × ℕ)
+paired (k ∷ ks) (n ∷ ns) = (k, n) ∷ []
+paired ks ns = []
+
+abbrev pub pairs_behind : Parts → List (ℕ × ℕ)
+pairs_behind end = []
+pairs_behind (more p end) = []
+pairs_behind (more p (more r rest)) = paired (assignment_number r) (class_number_in p) ++ pairs_behind (more r rest)
+
+abbrev pub all_behind : List Tree → List (ℕ × ℕ)
+all_behind [] = []
+all_behind (Node kind m span semantic_id ps ∷ ts) = pairs_behind (statement_list kind ps) ++ all_behind ts
+
+abbrev pub has_pair : ℕ → ℕ → List (ℕ × ℕ) → Bool
+has_pair m n [] = false
+has_pair m n (p ∷ ps) = (nat_eq m p.0 && nat_eq n p.1) || has_pair m n ps
+
+-- a class temporary is given the class itself, or, as the first thing behind it, a name of it
+abbrev pub is_class_or_name : ℕ → Option ℕ → Bool → Bool
+is_class_or_name n None is_name = is_name
+is_class_or_name n (Some k) is_name = nat_eq n k
+
+module _ (first : ℕ) (ledger : List LedgerEntry) (q : Tree) where
+  abbrev pub is_class_value : ℕ → ℕ → Part → Bool
+  is_class_value m n p = is_class_or_name n (class_in p) (names_class n ledger (resolve q) (class_identifiers first n (preorder q)) p && has_pair m n (all_behind (preorder q)))
+
+  -- whether a value is of the form that a name of this kind is given
+  abbrev pub is_initial : ℕ → GeneratedKind → Part → Bool
+  is_initial m (GeneratedKind.WeakMap d) p = is_new_of (codes "WeakMap") p
+  is_initial m (GeneratedKind.StaticField d) p = is_present (field_part p)
+  is_initial m (GeneratedKind.Brand n) p = is_new_of (codes "WeakSet") p
+  is_initial m (GeneratedKind.Method d) p = is_function_part p
+  is_initial m (GeneratedKind.LooseKey d) p = is_key_call first p
+  is_initial m (GeneratedKind.SuperFn n) p = is_function_part p
+  is_initial m (GeneratedKind.ClassTemp n) p = is_class_value m n.0 p
+  is_initial m GeneratedKind.Closure p = is_function_part p
+  is_initial m g p = true
+
+  abbrev pub is_class_kind : ℕ → GeneratedKind → Bool
+  is_class_kind n (GeneratedKind.ClassTemp k) = nat_eq n k.0
+  is_class_kind n g = false
+
+  abbrev pub is_method_kind : GeneratedKind → Bool
+  is_method_kind (GeneratedKind.Method d) = true
+  is_method_kind g = false
+
+  -- the initializations of a name of this kind that a node is: its number, and whether the form is right
+  abbrev pub initialization_at : String → GeneratedKind → Kind → ℕ → Parts → List (ℕ × Bool)
+  initialization_at s g Kind.AssignmentExpression m ps = cond (spelled_as s (at 1 ps)) ((m, is_initial m g (at 2 ps)) ∷ []) []
+  initialization_at s g Kind.VariableDeclarator m ps = cond (spelled_as s (at 0 ps) && is_present (at 1 ps)) ((m, is_initial m g (at 1 ps)) ∷ []) []
+  initialization_at s g Kind.FunctionDeclaration m ps = cond (spelled_as s (at 0 ps)) ((m, is_method_kind g) ∷ []) []
+  initialization_at s g Kind.ClassDeclaration m ps = cond (spelled_as s (at 0 ps)) ((m, is_class_kind m g) ∷ []) []
+  initialization_at s g Kind.ClassExpression m ps = cond (spelled_as s (at 0 ps)) ((m, is_class_kind m g) ∷ []) []
+  initialization_at s g kind m ps = []
+
+  abbrev pub initializations : String → GeneratedKind → List Tree → List (ℕ × Bool)
+  initializations s g [] = []
+  initializations s g (Node kind m span semantic_id ps ∷ ts) = initialization_at s g kind m ps ++ initializations s g ts
+
+-- which of two numbers comes first in preorder
+abbrev pub comes_before : ℕ → ℕ → List Tree → Bool
+comes_before m n [] = false
+comes_before m n (t ∷ ts) = cond (nat_eq m (number_of t)) true (cond (nat_eq n (number_of t)) false (comes_before m n ts))
+
+abbrev pub class_of_member : Option PrivateMember → List ℕ
+class_of_member None = []
+class_of_member (Some x) = x.class ∷ []
+
+-- the class in front of which a name of this kind is initialized
+abbrev pub class_before : GeneratedKind → List PrivateMember → List ℕ
+class_before (GeneratedKind.WeakMap d) members = class_of_member (member_at d.0 members)
+class_before (GeneratedKind.LooseKey d) members = class_of_member (member_at d.0 members)
+class_before (GeneratedKind.Brand n) members = n.0 ∷ []
+class_before g members = []
+
+abbrev pub all_before : ℕ → List ℕ → List Tree → Bool
+all_before m [] qs = true
+all_before m (n ∷ ns) qs = comes_before m n qs && all_before m ns qs
 
 abbrev pub needs_none : GeneratedKind → Bool
 needs_none GeneratedKind.Temp = true
@@ -135,15 +256,39 @@ needs_none GeneratedKind.Args = true
 needs_none (GeneratedKind.Private n) = true
 needs_none kind = false
 
-abbrev pub initializations_stand : List LedgerEntry → Bool
-initializations_stand [] = true
-initializations_stand (e ∷ es) = needs_none e.kind && initializations_stand es
+abbrev pub is_one_initialization : GeneratedKind → List PrivateMember → Tree → List (ℕ × Bool) → Bool
+is_one_initialization g members q (i ∷ []) = i.1 && all_before i.0 (class_before g members) (preorder q)
+is_one_initialization g members q is = false
 
--- ---- all of it
+abbrev pub initializations_stand : ℕ → List LedgerEntry → List PrivateMember → Tree → List LedgerEntry → Bool
+initializations_stand first ledger members q [] = true
+initializations_stand first ledger members q (e ∷ es) = (needs_none e.kind || is_one_initialization e.kind members q (initializations first ledger q e.name e.kind (preorder q))) && initializations_stand first ledger members q es
 
+-- the temporaries of keys are given before their class
+abbrev pub any_before : List (ℕ × Bool) → ℕ → List Tree → Bool
+any_before [] n qs = false
+any_before (i ∷ is) n qs = comes_before i.0 n qs || any_before is n qs
+
+abbrev pub keys_before : ℕ → List LedgerEntry → Tree → List (String × ℕ) → Bool
+keys_before first ledger q [] = true
+keys_before first ledger q (p ∷ ps) = any_before (initializations first ledger q p.0 GeneratedKind.Temp (preorder q)) p.1 (preorder q) && keys_before first ledger q ps
+
+abbrev pub keys_stand : ℕ → Options → List LedgerEntry → List PrivateMember → Tree → List (String × ℕ) → Bool
+keys_stand first o ledger members q keys = not (lowers_fields o) || (all_different keys && keys_before first ledger q keys)
+
+-- ---- the clauses
+
+-- what a lowered program owes; `members` are the private members of the source
 pub record IsLowered (first : ℕ) (o : Options) (ledger : List LedgerEntry) (p q : Tree) : Type 0 where
   pub numbered : IsNumbered first q
   pub left : nothing_left o q ≡ true
   pub declared : names_declared first ledger q ≡ true
   pub accounted : declarations_accounted first ledger p q ≡ true
-  pub initialized : initializations_stand ledger ≡ true
+  pub initialized : initializations_stand first ledger (private_members p) q ledger ≡ true
+  pub keys : keys_stand first o ledger (private_members p) q (all_temporaries first o ledger (private_members p) q (preorder q)) ≡ true
+  pub nodes : nodes_kept p q ≡ true
+  pub statements : statements_kept o p q ≡ true
+  pub lists : lists_kept o p q ≡ true
+  pub definitions : definitions_stand first o ledger (private_members p) p q ≡ true
+  pub elements : elements_kept o (preorder p) (preorder q) ≡ true
+  pub printable : (not (is_printable p) || is_printable q) ≡ true

@@ -1,22 +1,25 @@
--- What a program means: its list of events, what its functions and classes do, and what it declares. (Our own; what each
--- part comes from is said in docs/MEANING.md.)
-use Rattle.std.specs.Prelude.{ℕ, zero, suc, List, [], ◌∷◌, ◌++◌, Bool, true, false, cond, nat_le, Option, Some, None}
+-- What a program means: its list of events, what its functions and classes do, and what it declares, imports and exports.
+-- (Our own; what each part comes from is said in docs/MEANING.md.)
+use Rattle.std.specs.Prelude.{ℕ, zero, suc, List, [], ◌∷◌, ◌++◌, Bool, true, false, cond, nat_le, nat_eq, codes, Option, Some, None}
 use Rattle.es_base.specs.Numbered.{is_new}
 use Rattle.es_base.specs.Preorder.{preorder, number_of, nodes}
 use Rattle.es_base.specs.Tree.{Tree, Part, Parts, Node, end, more, child, list, string}
 use Rattle.es_base.specs.declared.kind.Kind.{Kind}
 use Rattle.es_base.specs.declared.ledger.GeneratedKind.{GeneratedKind}
 use Rattle.es_base.specs.declared.ledger.LedgerEntry.{LedgerEntry}
-use Rattle.es_steps.specs.Code.{Code}
-use Rattle.es_steps.specs.Context.{Context, generated_as}
+use Rattle.es_steps.specs.Code.{Code, Opened, private_method, give_function, function}
+use Rattle.es_steps.specs.Context.{Context, a_function, generated_as, inside}
 use Rattle.es_steps.specs.Entries.{Entry, Entries, Listed, listed, after_run, entries}
-use Rattle.es_steps.specs.Evaluation.{Run, ev}
-use Rattle.es_steps.specs.Options.{Options}
-use Rattle.es_steps.specs.Parts.{at, string_of}
+use Rattle.es_steps.specs.Evaluation.{Environment, Evaluation, Run, ev}
+use Rattle.es_steps.specs.Modules.{ModuleLink, Export, Exported, links_in, exports_in}
+use Rattle.es_steps.specs.Opening.{gather, definitions, opening}
+use Rattle.es_steps.specs.Parts.{at, items, string_of}
+use Rattle.es_steps.specs.PrivateNames.{PrivateMember, PrivateKind, a_field, private_members}
 use Rattle.es_steps.specs.Reading.{read}
-use Rattle.es_steps.specs.References.{written}
-use Rattle.es_steps.specs.Scopes.{is_binding_identifier}
+use Rattle.es_steps.specs.References.{resolve, written, writes_free}
+use Rattle.es_steps.specs.Scopes.{is_binding_identifier, class_in}
 use Rattle.es_steps.specs.Values.{String, ThisOf, ArgumentsOf, NewTargetOf}
+use Rattle.es_steps.specs.declared.options.Options.{Options}
 
 -- ---- what declaring identifiers declare
 
@@ -28,37 +31,44 @@ pub data DeclarationKind : Type 0 where
   ImportName : DeclarationKind
   ClassDeclared : DeclarationKind
 
+-- a new declarator with a class in its initializer declares that class
+abbrev pub declarator_kind : Bool → Option ℕ → DeclarationKind → DeclarationKind
+declarator_kind true (Some n) d = ClassDeclared
+declarator_kind new n d = d
+
 -- what the identifiers in the i-th part declare, by the kind of the node
-abbrev pub declares_at : Kind → Parts → DeclarationKind → ℕ → DeclarationKind
-declares_at Kind.VariableDeclaration ps kind i = Variable (string_of (at 0 ps))
-declares_at Kind.FunctionDeclaration ps kind zero = FunctionName
-declares_at Kind.FunctionExpression ps kind zero = FunctionName
-declares_at Kind.FunctionDeclaration ps kind i = ParameterName
-declares_at Kind.FunctionExpression ps kind i = ParameterName
-declares_at Kind.ArrowFunctionExpression ps kind i = ParameterName
-declares_at Kind.CatchClause ps kind i = CaughtName
-declares_at Kind.ImportDeclaration ps kind i = ImportName
-declares_at Kind.ClassDeclaration ps kind i = ClassDeclared
-declares_at Kind.ClassExpression ps kind i = ClassDeclared
-declares_at k ps kind i = kind
+abbrev pub declares_at : ℕ → Kind → ℕ → Parts → DeclarationKind → ℕ → DeclarationKind
+declares_at first Kind.VariableDeclaration m ps d i = Variable (string_of (at 0 ps))
+declares_at first Kind.VariableDeclarator m ps d zero = declarator_kind (is_new first m) (class_in (at 1 ps)) d
+declares_at first Kind.FunctionDeclaration m ps d zero = FunctionName
+declares_at first Kind.FunctionExpression m ps d zero = FunctionName
+declares_at first Kind.FunctionDeclaration m ps d i = ParameterName
+declares_at first Kind.FunctionExpression m ps d i = ParameterName
+declares_at first Kind.ArrowFunctionExpression m ps d i = ParameterName
+declares_at first Kind.CatchClause m ps d i = CaughtName
+declares_at first Kind.ImportDeclaration m ps d i = ImportName
+declares_at first Kind.ClassDeclaration m ps d i = ClassDeclared
+declares_at first Kind.ClassExpression m ps d i = ClassDeclared
+declares_at first kind m ps d i = d
 
 -- the declaring identifiers in preorder, each with what it declares
-abbrev mutual
-  pub declaring : DeclarationKind → Tree → List (ℕ × DeclarationKind)
-  declaring d (Node kind m span semantic_id ps) = cond (is_binding_identifier kind) ((m, d) ∷ []) (declaring_parts (declares_at kind ps d) ps)
+module _ (first : ℕ) where
+  abbrev mutual
+    pub declaring : DeclarationKind → Tree → List (ℕ × DeclarationKind)
+    declaring d (Node kind m span semantic_id ps) = cond (is_binding_identifier kind) ((m, d) ∷ []) (declaring_parts (declares_at first kind m ps d) ps)
 
-  pub declaring_parts : (ℕ → DeclarationKind) → Parts → List (ℕ × DeclarationKind)
-  declaring_parts d end = []
-  declaring_parts d (more p ps) = declaring_part (d 0) p ++ declaring_parts (λ i. d (suc i)) ps
+    pub declaring_parts : (ℕ → DeclarationKind) → Parts → List (ℕ × DeclarationKind)
+    declaring_parts d end = []
+    declaring_parts d (more p ps) = declaring_part (d 0) p ++ declaring_parts (λ i. d (suc i)) ps
 
-  pub declaring_part : DeclarationKind → Part → List (ℕ × DeclarationKind)
-  declaring_part d (child t) = declaring d t
-  declaring_part d (list ps) = declaring_items d ps
-  declaring_part d p = []
+    pub declaring_part : DeclarationKind → Part → List (ℕ × DeclarationKind)
+    declaring_part d (child t) = declaring d t
+    declaring_part d (list ps) = declaring_items d ps
+    declaring_part d p = []
 
-  pub declaring_items : DeclarationKind → Parts → List (ℕ × DeclarationKind)
-  declaring_items d end = []
-  declaring_items d (more p ps) = declaring_part d p ++ declaring_items d ps
+    pub declaring_items : DeclarationKind → Parts → List (ℕ × DeclarationKind)
+    declaring_items d end = []
+    declaring_items d (more p ps) = declaring_part d p ++ declaring_items d ps
 
 abbrev pub names_class : DeclarationKind → Bool
 names_class ClassDeclared = true
@@ -66,8 +76,8 @@ names_class d = false
 
 -- those that are not new and name no class
 abbrev pub old_bindings : ℕ → List (ℕ × DeclarationKind) → List (ℕ × DeclarationKind)
-old_bindings first_new [] = []
-old_bindings first_new (d ∷ ds) = cond (is_new first_new d.0) (old_bindings first_new ds) (cond (names_class d.1) (old_bindings first_new ds) (d ∷ old_bindings first_new ds))
+old_bindings first [] = []
+old_bindings first (d ∷ ds) = cond (is_new first d.0) (old_bindings first ds) (cond (names_class d.1) (old_bindings first ds) (d ∷ old_bindings first ds))
 
 -- ---- function declarations: the declaring identifier and the function, generated names aside
 
@@ -82,6 +92,40 @@ declared_function ledger t = []
 abbrev pub declared_functions : List LedgerEntry → List Tree → List (ℕ × ℕ)
 declared_functions ledger [] = []
 declared_functions ledger (t ∷ ts) = declared_function ledger t ++ declared_functions ledger ts
+
+-- ---- private members: a field, or the function of a method, getter or setter
+
+pub data MemberEntry : Type 0 where
+  IsField : MemberEntry
+  FunctionIs : (f : ℕ) → MemberEntry
+
+abbrev pub function_of : ℕ → Code → List (ℕ × ℕ)
+function_of d (function f form own_name ps body) = (d, f) ∷ []
+function_of d c = []
+
+abbrev pub private_function_by : Code → List (ℕ × ℕ)
+private_function_by (private_method is_static d f) = function_of d f
+private_function_by (give_function m s (GeneratedKind.Method d) f) = function_of d.0 f
+private_function_by c = []
+
+abbrev pub private_functions : Code → List (ℕ × ℕ)
+private_functions c = gather private_function_by c
+
+abbrev pub function_at : ℕ → List (ℕ × ℕ) → Option MemberEntry
+function_at d [] = None
+function_at d (p ∷ ps) = cond (nat_eq d p.0) (Some (FunctionIs p.1)) (function_at d ps)
+
+abbrev pub member_entry : PrivateKind → ℕ → List (ℕ × ℕ) → Option MemberEntry
+member_entry a_field d functions = Some IsField
+member_entry kind d functions = function_at d functions
+
+abbrev pub with_member : ℕ → Option MemberEntry → Option (List (ℕ × MemberEntry)) → Option (List (ℕ × MemberEntry))
+with_member d (Some e) (Some es) = Some ((d, e) ∷ es)
+with_member d e es = None
+
+abbrev pub member_entries : List (ℕ × ℕ) → List PrivateMember → Option (List (ℕ × MemberEntry))
+member_entries functions [] = Some []
+member_entries functions (x ∷ xs) = with_member x.number (member_entry x.kind x.number functions) (member_entries functions xs)
 
 -- ---- by number
 
@@ -104,33 +148,110 @@ abbrev pub whole : Entries → Option (List (ℕ × Entry))
 whole [] = Some []
 whole (p ∷ ps) = with_entry p.0 p.1 (whole ps)
 
+abbrev pub with_export : String → Option Exported → Option (List (String × Exported)) → Option (List (String × Exported))
+with_export s (Some x) (Some xs) = Some ((s, x) ∷ xs)
+with_export s x xs = None
+
+abbrev pub all_exports : List Export → Option (List (String × Exported))
+all_exports [] = Some []
+all_exports (x ∷ xs) = with_export x.name x.means (all_exports xs)
+
 pub record Meaning : Type 0 where
   pub source_type : String
   pub program : Listed
   -- of functions and classes, by number
   pub entries : List (ℕ × Entry)
+  pub members : List (ℕ × MemberEntry)
   pub functions : List (ℕ × ℕ)
   pub bindings : List (ℕ × DeclarationKind)
+  pub links : List ModuleLink
+  pub exports : List (String × Exported)
 
-abbrev pub start : ℕ → Options → List LedgerEntry → Tree → Context
-start first_new options ledger t = record { first_new = first_new; ledger = ledger; options = options; written = written t; names = []; this = ThisOf (number_of t); new_target = NewTargetOf (number_of t); arguments = ArgumentsOf (number_of t); class = number_of t; constructs = false }
+-- what a tree is read under: the number of the first new node, the options, the generated names, the private members of
+-- the source, and the classes whose parameters come before their fields
+pub record Terms : Type 0 where
+  pub first_new : ℕ
+  pub options : Options
+  pub ledger : List LedgerEntry
+  pub members : List PrivateMember
+  pub late : List ℕ
+
+abbrev pub start : Terms → Tree → Context
+start o t = record {
+  first_new = o.first_new;
+  ledger = o.ledger;
+  options = o.options;
+  members = o.members;
+  written = written t;
+  writes_arguments = writes_free (codes "arguments") (resolve t);
+  names = [];
+  privates = [];
+  this = ThisOf (number_of t);
+  new_target = NewTargetOf (number_of t);
+  arguments = ArgumentsOf (number_of t);
+  home = None;
+  constructs = None;
+  initializing = None;
+  in_new_function = false;
+  class = number_of t;
+  has_heritage = false;
+  object = number_of t;
+  role = a_function;
+  let_class = None;
+  is_body = false;
+}
 
 abbrev pub source_type_of : Tree → String
 source_type_of (Node kind m span semantic_id ps) = string_of (at 0 ps)
 
-abbrev pub with_all : ℕ → List LedgerEntry → Tree → Option Listed → Option (List (ℕ × Entry)) → Option Meaning
-with_all first_new ledger t (Some l) (Some es) = Some (record { source_type = source_type_of t; program = l; entries = by_number es; functions = by_number (declared_functions ledger (preorder t)); bindings = by_number (old_bindings first_new (declaring ClassDeclared t)) })
-with_all first_new ledger t l es = None
+abbrev pub body_of : Tree → Parts
+body_of (Node kind m span semantic_id ps) = items (at 1 ps)
+
+-- what is seen in the body of a program
+abbrev pub in_body : Context → Tree → Context
+in_body c (Node kind m span semantic_id ps) = inside c kind m ps 1
+
+abbrev pub with_all : Terms → Tree → Option Listed → Option (List (ℕ × Entry)) → Option (List (ℕ × MemberEntry)) → Option (List (String × Exported)) → Option Meaning
+with_all o t (Some l) (Some es) (Some ms) (Some xs) = Some (record {
+  source_type = source_type_of t;
+  program = l;
+  entries = by_number es;
+  members = by_number ms;
+  functions = by_number (declared_functions o.ledger (preorder t));
+  bindings = by_number (old_bindings o.first_new (declaring o.first_new ClassDeclared t));
+  links = links_in o.first_new (body_of t);
+  exports = xs;
+})
+with_all o t l es ms xs = None
 
 -- the meaning of a code: entries are read in the environment at its end
-abbrev pub means_of : ℕ → List LedgerEntry → Tree → Code → Option Meaning
-means_of first_new ledger t c = let run : Option Run = ev c [] in with_all first_new ledger t (listed run) (whole (entries first_new [] (after_run [] run) c))
+abbrev pub means_by : (Opened → Evaluation) → Terms → Tree → Code → Option Meaning
+means_by opens o t c =
+    let run : Option Run = ev opens c [] in
+    let env : Environment = after_run [] run in
+    with_all o t (listed run) (whole (entries opens o.first_new o.late [] env c)) (member_entries (private_functions c) o.members) (all_exports (exports_in (in_body (start o t) t) env (body_of t)))
 
--- the meaning of a program whose nodes from `first_new` on are new, with these generated names, under these options;
--- none where a form in it has no rule
-abbrev pub means : ℕ → Options → List LedgerEntry → Tree → Option Meaning
-means first_new options ledger t = means_of first_new ledger t (read (start first_new options ledger t) t)
+abbrev pub means_of : Terms → Tree → Code → Option Meaning
+means_of o t c = means_by (opening (definitions c)) o t c
+
+-- the meaning of a program; none where a form in it has no rule
+abbrev pub means : Terms → Tree → Option Meaning
+means o t = means_of o t (read (start o t) t)
 
 -- a source program has no new node and no generated name
+abbrev pub source_terms : Options → Tree → Terms
+source_terms options t = record { first_new = nodes t; options = options; ledger = []; members = private_members t; late = [] }
+
 abbrev pub source_means : Options → Tree → Option Meaning
-source_means options t = means (nodes t) options [] t
+source_means options t = means (source_terms options t) t
+
+-- the meaning of what the source p was lowered to, with these generated names
+abbrev pub lowered_terms : Options → List LedgerEntry → Tree → Terms
+lowered_terms options ledger p = record { first_new = nodes p; options = options; ledger = ledger; members = private_members p; late = [] }
+
+abbrev pub lowered_means : Options → List LedgerEntry → Tree → Tree → Option Meaning
+lowered_means options ledger p q = means (lowered_terms options ledger p) q
+
+abbrev pub has_meaning : Option Meaning → Bool
+has_meaning None = false
+has_meaning (Some m) = true

@@ -1,8 +1,8 @@
 -- The members of a node with the codes of its children: what the rule of its kind reads.
-use Rattle.std.specs.Prelude.{ℕ, zero, suc, List, [], ◌∷◌, ◌++◌, Bool, false, Option, Some, None}
+use Rattle.std.specs.Prelude.{ℕ, zero, suc, List, [], ◌∷◌, ◌++◌, Bool, false}
 use Rattle.es_base.specs.declared.literal.LiteralValue.{LiteralValue}
-use Rattle.es_steps.specs.Code.{Code, Codes, piece, spelled, template_string, done, and, joined}
-use Rattle.es_steps.specs.Events.{Mark, Operand, Empty, Word, Flag, Opens, Closes}
+use Rattle.es_steps.specs.Code.{Code, Codes, piece, spelled, done, and, joined}
+use Rattle.es_steps.specs.Events.{Detail, Operand, Empty, Spelled, Flag, Opens, Closes}
 use Rattle.es_steps.specs.Values.{String}
 
 mutual
@@ -38,20 +38,14 @@ before (suc i) (more p ps) = more p (before i ps)
 
 -- what a code that is no operand itself adds to the operation around it
 abbrev pub inner_operands : Code → Codes
-inner_operands (piece marks cs) = cs
+inner_operands (piece details cs) = cs
 inner_operands (spelled s) = done
-inner_operands (template_string raw cooked) = done
 inner_operands c = and c done
 
-abbrev pub marks_of_string : Option String → List Mark
-marks_of_string None = Empty ∷ []
-marks_of_string (Some s) = Word s ∷ []
-
-abbrev pub inner_marks : Code → List Mark
-inner_marks (piece marks cs) = marks
-inner_marks (spelled s) = Word s ∷ []
-inner_marks (template_string raw cooked) = Word raw ∷ marks_of_string cooked
-inner_marks c = Operand ∷ []
+abbrev pub inner_details : Code → List Detail
+inner_details (piece details cs) = details
+inner_details (spelled s) = Spelled s ∷ []
+inner_details c = Operand ∷ []
 
 -- the operands in order
 abbrev mutual
@@ -66,18 +60,18 @@ abbrev mutual
 
 -- what stands beside them
 abbrev mutual
-  pub marks : Members → List Mark
-  marks end = []
-  marks (more p ps) = marks_of p ++ marks ps
+  pub details : Members → List Detail
+  details end = []
+  details (more p ps) = details_of p ++ details ps
 
-  pub marks_of : Member → List Mark
-  marks_of (code c) = inner_marks c
-  marks_of absent = Empty ∷ []
-  marks_of (list ps) = Opens ∷ marks ps ++ Closes ∷ []
-  marks_of (string s) = Word s ∷ []
-  marks_of no_string = Empty ∷ []
-  marks_of (boolean b) = Flag b ∷ []
-  marks_of (literal v) = []
+  pub details_of : Member → List Detail
+  details_of (code c) = inner_details c
+  details_of absent = Empty ∷ []
+  details_of (list ps) = Opens ∷ details ps ++ Closes ∷ []
+  details_of (string s) = Spelled s ∷ []
+  details_of no_string = Empty ∷ []
+  details_of (boolean b) = Flag b ∷ []
+  details_of (literal v) = []
 
 -- all codes in order
 abbrev mutual

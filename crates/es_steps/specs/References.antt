@@ -1,6 +1,6 @@
 -- Resolution: what each reference of a tree refers to, and which bindings are written. (ECMA-262, 9.1: environment
 -- records; a reference means the nearest scope that holds its spelling.)
-use Rattle.std.specs.Prelude.{ℕ, suc, List, [], ◌∷◌, ◌++◌, map, Bool, true, false, cond, ◌||◌, nat_eq, bytes_eq, Option, Some, None}
+use Rattle.std.specs.Prelude.{ℕ, suc, List, [], ◌∷◌, ◌++◌, map, Bool, true, false, cond, ◌||◌, ◌&&◌, nat_eq, bytes_eq, Option, Some, None}
 use Rattle.es_base.specs.Tree.{Tree, Part, Parts, Node, end, more, child, list}
 use Rattle.es_base.specs.Table.{Field, members_of}
 use Rattle.es_base.specs.Conforms.{is_target_place}
@@ -8,7 +8,7 @@ use Rattle.es_base.specs.Preorder.{preorder}
 use Rattle.es_base.specs.declared.kind.Kind.{Kind}
 use Rattle.es_base.specs.declared.table.Sort.{Sort}
 use Rattle.es_steps.specs.Parts.{at, string_of}
-use Rattle.es_steps.specs.Scopes.{Declaration, names_at, scope_form, scope_names, var_part}
+use Rattle.es_steps.specs.Scopes.{Declaration, names_at, is_body_part, scope_form, scope_names, var_part}
 use Rattle.es_steps.specs.Values.{String, Referent, Bound, Free}
 
 -- the first of this spelling: of the nearest scope, and there of the first declaring identifier
@@ -42,27 +42,28 @@ is_reference kind = false
 abbrev pub reference : List Declaration → Bool → ℕ → String → List Reference
 reference names target m s = record { number = m; spelling = s; to = referent s (declared s names); writes = target } ∷ []
 
--- the references of a tree in preorder, where these names are seen
+-- the references of a tree in preorder, where these names are seen: whether it stands where something is assigned to,
+-- and whether it is the body of a function
 abbrev mutual
-  pub references : List Declaration → Bool → Tree → List Reference
-  references names target (Node kind m span semantic_id ps) = cond (is_reference kind) (reference names target m (string_of (at 0 ps))) (references_in (λ i. names_at kind m ps i ++ names) (members_of kind) ps)
+  pub references : List Declaration → Bool → Bool → Tree → List Reference
+  references names target is_body (Node kind m span semantic_id ps) = cond (is_reference kind) (reference names target m (string_of (at 0 ps))) (references_in (λ i. names_at is_body kind m ps i ++ names) (is_body_part kind) (members_of kind) ps)
 
-  pub references_in : (ℕ → List Declaration) → List Field → Parts → List Reference
-  references_in names fs end = []
-  references_in names [] (more p ps) = []
-  references_in names (f ∷ fs) (more p ps) = part_references (names 0) (is_target f.sort) p ++ references_in (λ i. names (suc i)) fs ps
+  pub references_in : (ℕ → List Declaration) → (ℕ → Bool) → List Field → Parts → List Reference
+  references_in names bodies fs end = []
+  references_in names bodies [] (more p ps) = []
+  references_in names bodies (f ∷ fs) (more p ps) = part_references (names 0) (is_target f.sort) (bodies 0) p ++ references_in (λ i. names (suc i)) (λ i. bodies (suc i)) fs ps
 
-  pub part_references : List Declaration → Bool → Part → List Reference
-  part_references names target (child t) = references names target t
-  part_references names target (list ps) = item_references names target ps
-  part_references names target p = []
+  pub part_references : List Declaration → Bool → Bool → Part → List Reference
+  part_references names target is_body (child t) = references names target is_body t
+  part_references names target is_body (list ps) = item_references names target ps
+  part_references names target is_body p = []
 
   pub item_references : List Declaration → Bool → Parts → List Reference
   item_references names target end = []
-  item_references names target (more p ps) = part_references names target p ++ item_references names target ps
+  item_references names target (more p ps) = part_references names target false p ++ item_references names target ps
 
 abbrev pub resolve : Tree → List Reference
-resolve t = references [] false t
+resolve t = references [] false false t
 
 -- ---- written names
 
@@ -76,6 +77,10 @@ numbers_of ds = map (λ d. d.number) ds
 abbrev pub if_bound : Bool → Referent → List ℕ
 if_bound true (Bound b) = b ∷ []
 if_bound writes r = []
+
+abbrev pub is_free : String → Referent → Bool
+is_free s (Free spelling) = bytes_eq s spelling
+is_free s (Bound b) = false
 
 abbrev pub assigned : List Reference → List ℕ
 assigned [] = []
@@ -106,3 +111,8 @@ written_by_all (t ∷ ts) = written_by t ++ written_by_all ts
 -- the numbers of the bindings that are written anywhere in a program
 abbrev pub written : Tree → List ℕ
 written t = assigned (resolve t) ++ written_by_all (preorder t)
+
+-- whether a free name of this spelling is written
+abbrev pub writes_free : String → List Reference → Bool
+writes_free s [] = false
+writes_free s (r ∷ rs) = (r.writes && is_free s r.to) || writes_free s rs

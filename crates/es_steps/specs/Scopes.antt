@@ -1,6 +1,7 @@
 -- Scopes: which names a node declares, and in which of its parts they are seen. (ECMA-262, 8.2: BoundNames,
 -- LexicallyDeclaredNames, VarDeclaredNames; functions in blocks are bound in their block.)
-use Rattle.std.specs.Prelude.{ℕ, List, [], ◌∷◌, ◌++◌, Bool, true, false, cond, codes, bytes_eq, nat_eq}
+use Rattle.std.specs.Prelude.{ℕ, List, [], ◌∷◌, ◌++◌, Bool, true, false, cond, codes, bytes_eq, nat_eq, Option, Some, None}
+use Rattle.es_base.specs.Preorder.{preorder}
 use Rattle.es_base.specs.Tree.{Tree, Part, Parts, Node, end, more, child, list}
 use Rattle.es_base.specs.Table.{Field, members_of}
 use Rattle.es_base.specs.declared.kind.Kind.{Kind}
@@ -9,11 +10,13 @@ use Rattle.es_base.specs.declared.table.Sort.{Sort}
 use Rattle.es_steps.specs.Parts.{at, items, block_items, string_of}
 use Rattle.es_steps.specs.Values.{String}
 
--- The class that a name is the name of: a declaration's, seen around it, or the own name of an expression.
+-- The class that a name is the name of: a declaration's, seen around it; the own name of an expression; or the class
+-- that a `let`, number m, is initialized with, which counts where that `let` is new.
 pub data ClassName : Type 0 where
   no_class : ClassName
   declares : (n : ℕ) → ClassName
   own_name : (n : ℕ) → ClassName
+  let_names : (m n : ℕ) → ClassName
 
 pub record Declaration : Type 0 where
   pub spelling : String
@@ -65,6 +68,33 @@ abbrev mutual
   bound_items name end = []
   bound_items name (more p ps) = bound_part name p ++ bound_items name ps
 
+-- ---- the class in an initializer: the first class expression in preorder
+
+abbrev pub is_class_expression : Kind → Bool
+is_class_expression Kind.ClassExpression = true
+is_class_expression kind = false
+
+abbrev pub first_class : List Tree → Option ℕ
+first_class [] = None
+first_class (Node kind n span semantic_id ps ∷ ts) = cond (is_class_expression kind) (Some n) (first_class ts)
+
+abbrev pub class_in : Part → Option ℕ
+class_in (child t) = first_class (preorder t)
+class_in p = None
+
+abbrev pub let_name : ℕ → Option ℕ → ClassName
+let_name m None = no_class
+let_name m (Some n) = let_names m n
+
+-- the names of declarators: a `let` of one identifier may name a class
+abbrev pub declarator_names : ℕ → Bool → Part → List Declaration
+declarator_names m is_let (child (Node kind k span semantic_id (more (child (Node Kind.BindingIdentifier b bspan b_semantic_id bs)) (more init end)))) = declaration (cond is_let (let_name m (class_in init)) no_class) b bs
+declarator_names m is_let p = bound_part no_class p
+
+abbrev pub declarators_names : ℕ → Bool → Parts → List Declaration
+declarators_names m is_let end = []
+declarators_names m is_let (more p ps) = declarator_names m is_let p ++ declarators_names m is_let ps
+
 -- ---- the names that a statement declares
 
 pub data StatementForm : Type 0 where
@@ -73,7 +103,8 @@ pub data StatementForm : Type 0 where
   function_declaration : StatementForm
   class_declaration : StatementForm
   imports : StatementForm
-  -- what declares for the list around it what its parts declare: labels, exports, cases
+  -- what declares for the list around it what its parts declare: labels, exports, cases, and the function that an
+  -- `if` may have for a block
   passes_on : StatementForm
   -- a statement of other statements, from which `var` alone is hoisted
   nests : StatementForm
@@ -90,7 +121,7 @@ statement_form Kind.ExportDefaultDeclaration = passes_on
 statement_form Kind.SwitchCase = passes_on
 statement_form Kind.BlockStatement = nests
 statement_form Kind.WithStatement = nests
-statement_form Kind.IfStatement = nests
+statement_form Kind.IfStatement = passes_on
 statement_form Kind.SwitchStatement = nests
 statement_form Kind.TryStatement = nests
 statement_form Kind.CatchClause = nests
@@ -104,9 +135,12 @@ statement_form kind = other_statement
 abbrev pub is_var : Parts → Bool
 is_var ps = bytes_eq (string_of (at 0 ps)) (codes "var")
 
+abbrev pub is_let : Parts → Bool
+is_let ps = bytes_eq (string_of (at 0 ps)) (codes "let")
+
 -- lexical names, those of functions among them, by the form of the statement; `inner` are those of its parts
 abbrev pub lexical_by : StatementForm → ℕ → Parts → List Declaration → List Declaration
-lexical_by variables m ps inner = cond (is_var ps) [] (bound_part no_class (at 1 ps))
+lexical_by variables m ps inner = cond (is_var ps) [] (declarators_names m (is_let ps) (items (at 1 ps)))
 lexical_by function_declaration m ps inner = bound_part no_class (at 0 ps)
 lexical_by class_declaration m ps inner = bound_part (declares m) (at 0 ps)
 lexical_by imports m ps inner = bound_part no_class (at 0 ps)
@@ -182,6 +216,17 @@ scope_form Kind.SwitchStatement = switch_scope
 scope_form Kind.CatchClause = catch_scope
 scope_form kind = no_scope
 
+-- a block that is the body of a function has no scope of its own
+abbrev pub scope_of : Kind → Bool → ScopeForm
+scope_of Kind.BlockStatement true = no_scope
+scope_of kind is_body = scope_form kind
+
+abbrev pub is_body_part : Kind → ℕ → Bool
+is_body_part Kind.FunctionDeclaration i = nat_eq i 2
+is_body_part Kind.FunctionExpression i = nat_eq i 2
+is_body_part Kind.ArrowFunctionExpression i = nat_eq i 1
+is_body_part kind i = false
+
 -- the names that the scope of node m holds, in preorder, a function expression's own name aside
 abbrev pub scope_names : ScopeForm → ℕ → Parts → List Declaration
 scope_names program_scope m ps = body_names (items (at 1 ps))
@@ -205,6 +250,7 @@ seen arrow_scope m ps i = cond (nat_eq i 0) (bound_part no_class (at 0 ps)) (sco
 seen switch_scope m ps i = cond (nat_eq i 0) [] (scope_names switch_scope m ps)
 seen form m ps i = scope_names form m ps
 
--- what the scope of a node of this kind adds to the names that its i-th part sees
-abbrev pub names_at : Kind → ℕ → Parts → ℕ → List Declaration
-names_at kind m ps = seen (scope_form kind) m ps
+-- what the scope of a node of this kind, which is the body of a function or not, adds to the names that its i-th part
+-- sees
+abbrev pub names_at : Bool → Kind → ℕ → Parts → ℕ → List Declaration
+names_at is_body kind m ps = seen (scope_of kind is_body) m ps

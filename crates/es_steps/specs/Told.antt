@@ -1,13 +1,8 @@
--- What is told beside a lowered program: its shapes and its warnings.
+-- What is told beside a lowered program: its warnings. (Its shapes are in specs/Shapes.antt.)
 use Rattle.std.specs.Prelude.{ℕ, List, [], ◌∷◌, ◌++◌, Bool, true, false, cond}
 use Rattle.es_base.specs.Tree.{Tree, Part, Parts, Node, end, more, child, list}
 use Rattle.es_base.specs.declared.kind.Kind.{Kind}
-use Rattle.es_base.specs.declared.shape.Shape.{Shape}
-
--- ---- shapes that put a program outside the equality of meanings: a program of the first form has none
-
-abbrev pub shapes : Tree → List Shape
-shapes t = []
+use Rattle.es_steps.specs.declared.options.Options.{Options}
 
 -- ---- await expressions whose nearest function, arrow or static block is none but the program
 
@@ -38,3 +33,6 @@ abbrev mutual
 -- the nodes to warn of, by number; none without the option
 abbrev pub warnings : Bool → Tree → List ℕ
 warnings with_warnings t = cond with_warnings (top_awaits t) []
+
+abbrev pub warnings_of : Options → Tree → List ℕ
+warnings_of o t = warnings o.es2022.top_level_await t

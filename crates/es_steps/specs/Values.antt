@@ -1,6 +1,6 @@
 -- What an expression gives, as far as the order of evaluation tells it: a constant of the source, or a value that is
 -- known by where it comes from. (The values are those of ECMA-262, 6.1; to know one by its origin is our own.)
-use Rattle.std.specs.Prelude.{ℕ, List, Bool}
+use Rattle.std.specs.Prelude.{ℕ, List, Bool, false, nat_eq, Option}
 
 abbrev pub String : Type 0
 String = List ℕ
@@ -15,6 +15,8 @@ pub data Constant : Type 0 where
   Null : Constant
   -- a template without expressions whose string has no cooked form
   RawTemplate : (raw : String) → Constant
+  -- a string that a tag is called with
+  TagString : (raw : String) (cooked : Option String) → Constant
 
 -- A binding is known by its first declaring identifier; functions, classes and operations by their nodes.
 pub data Value : Type 0 where
@@ -36,3 +38,19 @@ pub data Value : Type 0 where
 pub data Referent : Type 0 where
   Bound : (b : ℕ) → Referent
   Free : (spelling : String) → Referent
+
+-- What a `super` member is looked up on (ECMA-262, 10.2: the home object): a class, its prototype, or an object.
+pub data Home : Type 0 where
+  OfClass : (n : ℕ) → Home
+  OfPrototype : (n : ℕ) → Home
+  OfObject : (m : ℕ) → Home
+
+-- What `#x in o` asks of o: a private field, the private methods of the instances of a class, or to be the class.
+pub data PrivateTest : Type 0 where
+  HasField : (d : ℕ) → PrivateTest
+  HasBrand : (n : ℕ) → PrivateTest
+  IsClass : (n : ℕ) → PrivateTest
+
+abbrev pub is_class_value : ℕ → Value → Bool
+is_class_value n (ClassOf k) = nat_eq n k
+is_class_value n v = false

@@ -4,3 +4,4 @@
 
 pub mod error;
 pub mod law;
+pub mod options;

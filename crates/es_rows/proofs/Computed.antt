@@ -1,0 +1,511 @@
+-- Worked rows keep their meaning, which is there; computed.
+use Rattle.std.specs.Prelude.{◌≡◌, refl, true}
+use Rattle.es_steps.specs.Meaning.{lowered_means, source_means, has_meaning}
+use Rattle.es_rows.specs.rows.InstanceField.{source_instance_field, output_instance_field, generated_instance_field, options_instance_field}
+use Rattle.es_rows.specs.rows.SetField.{source_set_field, output_set_field, generated_set_field, options_set_field}
+use Rattle.es_rows.specs.rows.SetStaticName.{source_set_static_name, output_set_static_name, generated_set_static_name, options_set_static_name}
+use Rattle.es_rows.specs.rows.SetThisKey.{source_set_this_key, output_set_this_key, generated_set_this_key, options_set_this_key}
+use Rattle.es_rows.specs.rows.ClashingParameter.{source_clashing_parameter, output_clashing_parameter, generated_clashing_parameter, options_clashing_parameter}
+use Rattle.es_rows.specs.rows.SuperInBranches.{source_super_in_branches, output_super_in_branches, generated_super_in_branches, options_super_in_branches}
+use Rattle.es_rows.specs.rows.SuperInParameters.{source_super_in_parameters, output_super_in_parameters, generated_super_in_parameters, options_super_in_parameters}
+use Rattle.es_rows.specs.rows.StaticOwnName.{source_static_own_name, output_static_own_name, generated_static_own_name, options_static_own_name}
+use Rattle.es_rows.specs.rows.StaticKeyAndBlock.{source_static_key_and_block, output_static_key_and_block, generated_static_key_and_block, options_static_key_and_block}
+use Rattle.es_rows.specs.rows.PrivateCompoundWrite.{source_private_compound_write, output_private_compound_write, generated_private_compound_write, options_private_compound_write}
+use Rattle.es_rows.specs.rows.PrivateAccessors.{source_private_accessors, output_private_accessors, generated_private_accessors, options_private_accessors}
+use Rattle.es_rows.specs.rows.PrivateUpdateInModule.{source_private_update_in_module, output_private_update_in_module, generated_private_update_in_module, options_private_update_in_module}
+use Rattle.es_rows.specs.rows.DeletePrivateChain.{source_delete_private_chain, output_delete_private_chain, generated_delete_private_chain, options_delete_private_chain}
+use Rattle.es_rows.specs.rows.TrailingBlock.{source_trailing_block, output_trailing_block, generated_trailing_block, options_trailing_block}
+use Rattle.es_rows.specs.rows.AwaitedAtTop.{source_awaited_at_top, output_awaited_at_top, generated_awaited_at_top, options_awaited_at_top}
+use Rattle.es_rows.specs.rows.ParameterWithDefault.{source_parameter_with_default, output_parameter_with_default, generated_parameter_with_default, options_parameter_with_default}
+use Rattle.es_rows.specs.rows.StaticOfExpression.{source_static_of_expression, output_static_of_expression, generated_static_of_expression, options_static_of_expression}
+use Rattle.es_rows.specs.rows.PrivateInMethod.{source_private_in_method, output_private_in_method, generated_private_in_method, options_private_in_method}
+use Rattle.es_rows.specs.rows.StaticSuperMember.{source_static_super_member, output_static_super_member, generated_static_super_member, options_static_super_member}
+use Rattle.es_rows.specs.rows.BlockBeforeField.{source_block_before_field, output_block_before_field, generated_block_before_field, options_block_before_field}
+use Rattle.es_rows.specs.rows.LoosePrivateField.{source_loose_private_field, output_loose_private_field, generated_loose_private_field, options_loose_private_field}
+use Rattle.es_rows.specs.rows.TwoFields.{source_two_fields, output_two_fields, generated_two_fields, options_two_fields}
+use Rattle.es_rows.specs.rows.EmptyClass.{source_empty_class, output_empty_class, generated_empty_class, options_empty_class}
+use Rattle.es_rows.specs.rows.TwoKeys.{source_two_keys, output_two_keys, generated_two_keys, options_two_keys}
+use Rattle.es_rows.specs.rows.RemovedField.{source_removed_field, output_removed_field, generated_removed_field, options_removed_field}
+use Rattle.es_rows.specs.rows.KeyOfExpression.{source_key_of_expression, output_key_of_expression, generated_key_of_expression, options_key_of_expression}
+use Rattle.es_rows.specs.rows.TargetInField.{source_target_in_field, output_target_in_field, generated_target_in_field, options_target_in_field}
+use Rattle.es_rows.specs.rows.WrittenClassName.{source_written_class_name, output_written_class_name, generated_written_class_name, options_written_class_name}
+use Rattle.es_rows.specs.rows.DerivedClass.{source_derived_class, output_derived_class, generated_derived_class, options_derived_class}
+use Rattle.es_rows.specs.rows.TwoSupers.{source_two_supers, output_two_supers, generated_two_supers, options_two_supers}
+use Rattle.es_rows.specs.rows.NoSuper.{source_no_super, output_no_super, generated_no_super, options_no_super}
+use Rattle.es_rows.specs.rows.SuperInParametersOfExpression.{source_super_in_parameters_of_expression, output_super_in_parameters_of_expression, generated_super_in_parameters_of_expression, options_super_in_parameters_of_expression}
+use Rattle.es_rows.specs.rows.BlockOfExpression.{source_block_of_expression, output_block_of_expression, generated_block_of_expression, options_block_of_expression}
+use Rattle.es_rows.specs.rows.StaticThisAndTarget.{source_static_this_and_target, output_static_this_and_target, generated_static_this_and_target, options_static_this_and_target}
+use Rattle.es_rows.specs.rows.KeptBlock.{source_kept_block, output_kept_block, generated_kept_block, options_kept_block}
+use Rattle.es_rows.specs.rows.PrivateFieldForms.{source_private_field_forms, output_private_field_forms, generated_private_field_forms, options_private_field_forms}
+use Rattle.es_rows.specs.rows.PrivateStaticField.{source_private_static_field, output_private_static_field, generated_private_static_field, options_private_static_field}
+use Rattle.es_rows.specs.rows.PrivateMethodWithSuper.{source_private_method_with_super, output_private_method_with_super, generated_private_method_with_super, options_private_method_with_super}
+use Rattle.es_rows.specs.rows.PrivateMethodWritten.{source_private_method_written, output_private_method_written, generated_private_method_written, options_private_method_written}
+use Rattle.es_rows.specs.rows.PrivateMethodOfExpression.{source_private_method_of_expression, output_private_method_of_expression, generated_private_method_of_expression, options_private_method_of_expression}
+use Rattle.es_rows.specs.rows.PrivateMethodOfDefaultExport.{source_private_method_of_default_export, output_private_method_of_default_export, generated_private_method_of_default_export, options_private_method_of_default_export}
+use Rattle.es_rows.specs.rows.BlockBehindField.{source_block_behind_field, output_block_behind_field, generated_block_behind_field, options_block_behind_field}
+use Rattle.es_rows.specs.rows.AssumedSetField.{source_assumed_set_field, output_assumed_set_field, generated_assumed_set_field, options_assumed_set_field}
+use Rattle.es_rows.specs.rows.PrivateChainCall.{source_private_chain_call, output_private_chain_call, generated_private_chain_call, options_private_chain_call}
+use Rattle.es_rows.specs.rows.PrivateChainCallNoDocumentAll.{source_private_chain_call_no_document_all, output_private_chain_call_no_document_all, generated_private_chain_call_no_document_all, options_private_chain_call_no_document_all}
+use Rattle.es_rows.specs.rows.CalledPrivateChain.{source_called_private_chain, output_called_private_chain, generated_called_private_chain, options_called_private_chain}
+use Rattle.es_rows.specs.rows.TrailingBlockOfNamedExpression.{source_trailing_block_of_named_expression, output_trailing_block_of_named_expression, generated_trailing_block_of_named_expression, options_trailing_block_of_named_expression}
+use Rattle.es_rows.specs.rows.BlockBeforeNamedFunction.{source_block_before_named_function, output_block_before_named_function, generated_block_before_named_function, options_block_before_named_function}
+use Rattle.es_rows.specs.rows.BlockInParameter.{source_block_in_parameter, output_block_in_parameter, generated_block_in_parameter, options_block_in_parameter}
+use Rattle.es_rows.specs.rows.NamesTaken.{source_names_taken, output_names_taken, generated_names_taken, options_names_taken}
+use Rattle.es_rows.specs.rows.NestedPrivateNames.{source_nested_private_names, output_nested_private_names, generated_nested_private_names, options_nested_private_names}
+use Rattle.es_rows.specs.rows.ClosureNameTaken.{source_closure_name_taken, output_closure_name_taken, generated_closure_name_taken, options_closure_name_taken}
+use Rattle.es_rows.specs.rows.PrivateNameTaken.{source_private_name_taken, output_private_name_taken, generated_private_name_taken, options_private_name_taken}
+use Rattle.es_rows.specs.rows.BlockWithHeritage.{source_block_with_heritage, output_block_with_heritage, generated_block_with_heritage, options_block_with_heritage}
+use Rattle.es_rows.specs.rows.PrivateStaticWrite.{source_private_static_write, output_private_static_write, generated_private_static_write, options_private_static_write}
+use Rattle.es_rows.specs.rows.PrivateStaticCompoundWrite.{source_private_static_compound_write, output_private_static_compound_write, generated_private_static_compound_write, options_private_static_compound_write}
+use Rattle.es_rows.specs.rows.PrivateStaticMethodOnClass.{source_private_static_method_on_class, output_private_static_method_on_class, generated_private_static_method_on_class, options_private_static_method_on_class}
+use Rattle.es_rows.specs.rows.PrivateStaticAccessorsOnClass.{source_private_static_accessors_on_class, output_private_static_accessors_on_class, generated_private_static_accessors_on_class, options_private_static_accessors_on_class}
+use Rattle.es_rows.specs.rows.PrivateInField.{source_private_in_field, output_private_in_field, generated_private_in_field, options_private_in_field}
+use Rattle.es_rows.specs.rows.PrivateInStatic.{source_private_in_static, output_private_in_static, generated_private_in_static, options_private_in_static}
+use Rattle.es_rows.specs.rows.PrivateTag.{source_private_tag, output_private_tag, generated_private_tag, options_private_tag}
+use Rattle.es_rows.specs.rows.PrivatePrefixUpdate.{source_private_prefix_update, output_private_prefix_update, generated_private_prefix_update, options_private_prefix_update}
+use Rattle.es_rows.specs.rows.PrivateSetterRead.{source_private_setter_read, output_private_setter_read, generated_private_setter_read, options_private_setter_read}
+use Rattle.es_rows.specs.rows.PrivateSetterTargets.{source_private_setter_targets, output_private_setter_targets, generated_private_setter_targets, options_private_setter_targets}
+use Rattle.es_rows.specs.rows.PrivateOptionalCall.{source_private_optional_call, output_private_optional_call, generated_private_optional_call, options_private_optional_call}
+use Rattle.es_rows.specs.rows.PrivateChainKept.{source_private_chain_kept, output_private_chain_kept, generated_private_chain_kept, options_private_chain_kept}
+use Rattle.es_rows.specs.rows.LoosePrivateWrites.{source_loose_private_writes, output_loose_private_writes, generated_loose_private_writes, options_loose_private_writes}
+use Rattle.es_rows.specs.rows.LoosePrivateStaticField.{source_loose_private_static_field, output_loose_private_static_field, generated_loose_private_static_field, options_loose_private_static_field}
+use Rattle.es_rows.specs.rows.SuperMemberWrites.{source_super_member_writes, output_super_member_writes, generated_super_member_writes, options_super_member_writes}
+use Rattle.es_rows.specs.rows.BlockOfStatements.{source_block_of_statements, output_block_of_statements, generated_block_of_statements, options_block_of_statements}
+use Rattle.es_rows.specs.rows.BlockOfStatementsAlone.{source_block_of_statements_alone, output_block_of_statements_alone, generated_block_of_statements_alone, options_block_of_statements_alone}
+use Rattle.es_rows.specs.rows.PrivateStaticOfExpression.{source_private_static_of_expression, output_private_static_of_expression, generated_private_static_of_expression, options_private_static_of_expression}
+use Rattle.es_rows.specs.rows.PrivateMethodBehindStatement.{source_private_method_behind_statement, output_private_method_behind_statement, generated_private_method_behind_statement, options_private_method_behind_statement}
+use Rattle.es_rows.specs.rows.DeletedThis.{source_deleted_this, output_deleted_this, generated_deleted_this, options_deleted_this}
+use Rattle.es_rows.specs.rows.NestedStaticClasses.{source_nested_static_classes, output_nested_static_classes, generated_nested_static_classes, options_nested_static_classes}
+
+instance_field-means : lowered_means options_instance_field generated_instance_field source_instance_field output_instance_field ≡ source_means options_instance_field source_instance_field
+instance_field-means = refl
+
+instance_field-there : has_meaning (source_means options_instance_field source_instance_field) ≡ true
+instance_field-there = refl
+
+set_field-means : lowered_means options_set_field generated_set_field source_set_field output_set_field ≡ source_means options_set_field source_set_field
+set_field-means = refl
+
+set_field-there : has_meaning (source_means options_set_field source_set_field) ≡ true
+set_field-there = refl
+
+set_static_name-means : lowered_means options_set_static_name generated_set_static_name source_set_static_name output_set_static_name ≡ source_means options_set_static_name source_set_static_name
+set_static_name-means = refl
+
+set_static_name-there : has_meaning (source_means options_set_static_name source_set_static_name) ≡ true
+set_static_name-there = refl
+
+set_this_key-means : lowered_means options_set_this_key generated_set_this_key source_set_this_key output_set_this_key ≡ source_means options_set_this_key source_set_this_key
+set_this_key-means = refl
+
+set_this_key-there : has_meaning (source_means options_set_this_key source_set_this_key) ≡ true
+set_this_key-there = refl
+
+clashing_parameter-means : lowered_means options_clashing_parameter generated_clashing_parameter source_clashing_parameter output_clashing_parameter ≡ source_means options_clashing_parameter source_clashing_parameter
+clashing_parameter-means = refl
+
+clashing_parameter-there : has_meaning (source_means options_clashing_parameter source_clashing_parameter) ≡ true
+clashing_parameter-there = refl
+
+super_in_branches-means : lowered_means options_super_in_branches generated_super_in_branches source_super_in_branches output_super_in_branches ≡ source_means options_super_in_branches source_super_in_branches
+super_in_branches-means = refl
+
+super_in_branches-there : has_meaning (source_means options_super_in_branches source_super_in_branches) ≡ true
+super_in_branches-there = refl
+
+super_in_parameters-means : lowered_means options_super_in_parameters generated_super_in_parameters source_super_in_parameters output_super_in_parameters ≡ source_means options_super_in_parameters source_super_in_parameters
+super_in_parameters-means = refl
+
+super_in_parameters-there : has_meaning (source_means options_super_in_parameters source_super_in_parameters) ≡ true
+super_in_parameters-there = refl
+
+static_own_name-means : lowered_means options_static_own_name generated_static_own_name source_static_own_name output_static_own_name ≡ source_means options_static_own_name source_static_own_name
+static_own_name-means = refl
+
+static_own_name-there : has_meaning (source_means options_static_own_name source_static_own_name) ≡ true
+static_own_name-there = refl
+
+static_key_and_block-means : lowered_means options_static_key_and_block generated_static_key_and_block source_static_key_and_block output_static_key_and_block ≡ source_means options_static_key_and_block source_static_key_and_block
+static_key_and_block-means = refl
+
+static_key_and_block-there : has_meaning (source_means options_static_key_and_block source_static_key_and_block) ≡ true
+static_key_and_block-there = refl
+
+private_compound_write-means : lowered_means options_private_compound_write generated_private_compound_write source_private_compound_write output_private_compound_write ≡ source_means options_private_compound_write source_private_compound_write
+private_compound_write-means = refl
+
+private_compound_write-there : has_meaning (source_means options_private_compound_write source_private_compound_write) ≡ true
+private_compound_write-there = refl
+
+private_accessors-means : lowered_means options_private_accessors generated_private_accessors source_private_accessors output_private_accessors ≡ source_means options_private_accessors source_private_accessors
+private_accessors-means = refl
+
+private_accessors-there : has_meaning (source_means options_private_accessors source_private_accessors) ≡ true
+private_accessors-there = refl
+
+private_update_in_module-means : lowered_means options_private_update_in_module generated_private_update_in_module source_private_update_in_module output_private_update_in_module ≡ source_means options_private_update_in_module source_private_update_in_module
+private_update_in_module-means = refl
+
+private_update_in_module-there : has_meaning (source_means options_private_update_in_module source_private_update_in_module) ≡ true
+private_update_in_module-there = refl
+
+delete_private_chain-means : lowered_means options_delete_private_chain generated_delete_private_chain source_delete_private_chain output_delete_private_chain ≡ source_means options_delete_private_chain source_delete_private_chain
+delete_private_chain-means = refl
+
+delete_private_chain-there : has_meaning (source_means options_delete_private_chain source_delete_private_chain) ≡ true
+delete_private_chain-there = refl
+
+trailing_block-means : lowered_means options_trailing_block generated_trailing_block source_trailing_block output_trailing_block ≡ source_means options_trailing_block source_trailing_block
+trailing_block-means = refl
+
+trailing_block-there : has_meaning (source_means options_trailing_block source_trailing_block) ≡ true
+trailing_block-there = refl
+
+awaited_at_top-means : lowered_means options_awaited_at_top generated_awaited_at_top source_awaited_at_top output_awaited_at_top ≡ source_means options_awaited_at_top source_awaited_at_top
+awaited_at_top-means = refl
+
+awaited_at_top-there : has_meaning (source_means options_awaited_at_top source_awaited_at_top) ≡ true
+awaited_at_top-there = refl
+
+static_of_expression-means : lowered_means options_static_of_expression generated_static_of_expression source_static_of_expression output_static_of_expression ≡ source_means options_static_of_expression source_static_of_expression
+static_of_expression-means = refl
+
+static_of_expression-there : has_meaning (source_means options_static_of_expression source_static_of_expression) ≡ true
+static_of_expression-there = refl
+
+private_in_method-means : lowered_means options_private_in_method generated_private_in_method source_private_in_method output_private_in_method ≡ source_means options_private_in_method source_private_in_method
+private_in_method-means = refl
+
+private_in_method-there : has_meaning (source_means options_private_in_method source_private_in_method) ≡ true
+private_in_method-there = refl
+
+static_super_member-means : lowered_means options_static_super_member generated_static_super_member source_static_super_member output_static_super_member ≡ source_means options_static_super_member source_static_super_member
+static_super_member-means = refl
+
+static_super_member-there : has_meaning (source_means options_static_super_member source_static_super_member) ≡ true
+static_super_member-there = refl
+
+block_before_field-means : lowered_means options_block_before_field generated_block_before_field source_block_before_field output_block_before_field ≡ source_means options_block_before_field source_block_before_field
+block_before_field-means = refl
+
+block_before_field-there : has_meaning (source_means options_block_before_field source_block_before_field) ≡ true
+block_before_field-there = refl
+
+loose_private_field-means : lowered_means options_loose_private_field generated_loose_private_field source_loose_private_field output_loose_private_field ≡ source_means options_loose_private_field source_loose_private_field
+loose_private_field-means = refl
+
+loose_private_field-there : has_meaning (source_means options_loose_private_field source_loose_private_field) ≡ true
+loose_private_field-there = refl
+
+two_fields-means : lowered_means options_two_fields generated_two_fields source_two_fields output_two_fields ≡ source_means options_two_fields source_two_fields
+two_fields-means = refl
+
+two_fields-there : has_meaning (source_means options_two_fields source_two_fields) ≡ true
+two_fields-there = refl
+
+empty_class-means : lowered_means options_empty_class generated_empty_class source_empty_class output_empty_class ≡ source_means options_empty_class source_empty_class
+empty_class-means = refl
+
+empty_class-there : has_meaning (source_means options_empty_class source_empty_class) ≡ true
+empty_class-there = refl
+
+two_keys-means : lowered_means options_two_keys generated_two_keys source_two_keys output_two_keys ≡ source_means options_two_keys source_two_keys
+two_keys-means = refl
+
+two_keys-there : has_meaning (source_means options_two_keys source_two_keys) ≡ true
+two_keys-there = refl
+
+removed_field-means : lowered_means options_removed_field generated_removed_field source_removed_field output_removed_field ≡ source_means options_removed_field source_removed_field
+removed_field-means = refl
+
+removed_field-there : has_meaning (source_means options_removed_field source_removed_field) ≡ true
+removed_field-there = refl
+
+key_of_expression-means : lowered_means options_key_of_expression generated_key_of_expression source_key_of_expression output_key_of_expression ≡ source_means options_key_of_expression source_key_of_expression
+key_of_expression-means = refl
+
+key_of_expression-there : has_meaning (source_means options_key_of_expression source_key_of_expression) ≡ true
+key_of_expression-there = refl
+
+target_in_field-means : lowered_means options_target_in_field generated_target_in_field source_target_in_field output_target_in_field ≡ source_means options_target_in_field source_target_in_field
+target_in_field-means = refl
+
+target_in_field-there : has_meaning (source_means options_target_in_field source_target_in_field) ≡ true
+target_in_field-there = refl
+
+derived_class-means : lowered_means options_derived_class generated_derived_class source_derived_class output_derived_class ≡ source_means options_derived_class source_derived_class
+derived_class-means = refl
+
+derived_class-there : has_meaning (source_means options_derived_class source_derived_class) ≡ true
+derived_class-there = refl
+
+two_supers-means : lowered_means options_two_supers generated_two_supers source_two_supers output_two_supers ≡ source_means options_two_supers source_two_supers
+two_supers-means = refl
+
+two_supers-there : has_meaning (source_means options_two_supers source_two_supers) ≡ true
+two_supers-there = refl
+
+no_super-means : lowered_means options_no_super generated_no_super source_no_super output_no_super ≡ source_means options_no_super source_no_super
+no_super-means = refl
+
+no_super-there : has_meaning (source_means options_no_super source_no_super) ≡ true
+no_super-there = refl
+
+super_in_parameters_of_expression-means : lowered_means options_super_in_parameters_of_expression generated_super_in_parameters_of_expression source_super_in_parameters_of_expression output_super_in_parameters_of_expression ≡ source_means options_super_in_parameters_of_expression source_super_in_parameters_of_expression
+super_in_parameters_of_expression-means = refl
+
+super_in_parameters_of_expression-there : has_meaning (source_means options_super_in_parameters_of_expression source_super_in_parameters_of_expression) ≡ true
+super_in_parameters_of_expression-there = refl
+
+block_of_expression-means : lowered_means options_block_of_expression generated_block_of_expression source_block_of_expression output_block_of_expression ≡ source_means options_block_of_expression source_block_of_expression
+block_of_expression-means = refl
+
+block_of_expression-there : has_meaning (source_means options_block_of_expression source_block_of_expression) ≡ true
+block_of_expression-there = refl
+
+static_this_and_target-means : lowered_means options_static_this_and_target generated_static_this_and_target source_static_this_and_target output_static_this_and_target ≡ source_means options_static_this_and_target source_static_this_and_target
+static_this_and_target-means = refl
+
+static_this_and_target-there : has_meaning (source_means options_static_this_and_target source_static_this_and_target) ≡ true
+static_this_and_target-there = refl
+
+kept_block-means : lowered_means options_kept_block generated_kept_block source_kept_block output_kept_block ≡ source_means options_kept_block source_kept_block
+kept_block-means = refl
+
+kept_block-there : has_meaning (source_means options_kept_block source_kept_block) ≡ true
+kept_block-there = refl
+
+private_field_forms-means : lowered_means options_private_field_forms generated_private_field_forms source_private_field_forms output_private_field_forms ≡ source_means options_private_field_forms source_private_field_forms
+private_field_forms-means = refl
+
+private_field_forms-there : has_meaning (source_means options_private_field_forms source_private_field_forms) ≡ true
+private_field_forms-there = refl
+
+private_static_field-means : lowered_means options_private_static_field generated_private_static_field source_private_static_field output_private_static_field ≡ source_means options_private_static_field source_private_static_field
+private_static_field-means = refl
+
+private_static_field-there : has_meaning (source_means options_private_static_field source_private_static_field) ≡ true
+private_static_field-there = refl
+
+private_method_with_super-means : lowered_means options_private_method_with_super generated_private_method_with_super source_private_method_with_super output_private_method_with_super ≡ source_means options_private_method_with_super source_private_method_with_super
+private_method_with_super-means = refl
+
+private_method_with_super-there : has_meaning (source_means options_private_method_with_super source_private_method_with_super) ≡ true
+private_method_with_super-there = refl
+
+private_method_written-means : lowered_means options_private_method_written generated_private_method_written source_private_method_written output_private_method_written ≡ source_means options_private_method_written source_private_method_written
+private_method_written-means = refl
+
+private_method_written-there : has_meaning (source_means options_private_method_written source_private_method_written) ≡ true
+private_method_written-there = refl
+
+private_method_of_expression-means : lowered_means options_private_method_of_expression generated_private_method_of_expression source_private_method_of_expression output_private_method_of_expression ≡ source_means options_private_method_of_expression source_private_method_of_expression
+private_method_of_expression-means = refl
+
+private_method_of_expression-there : has_meaning (source_means options_private_method_of_expression source_private_method_of_expression) ≡ true
+private_method_of_expression-there = refl
+
+private_method_of_default_export-means : lowered_means options_private_method_of_default_export generated_private_method_of_default_export source_private_method_of_default_export output_private_method_of_default_export ≡ source_means options_private_method_of_default_export source_private_method_of_default_export
+private_method_of_default_export-means = refl
+
+private_method_of_default_export-there : has_meaning (source_means options_private_method_of_default_export source_private_method_of_default_export) ≡ true
+private_method_of_default_export-there = refl
+
+block_behind_field-means : lowered_means options_block_behind_field generated_block_behind_field source_block_behind_field output_block_behind_field ≡ source_means options_block_behind_field source_block_behind_field
+block_behind_field-means = refl
+
+block_behind_field-there : has_meaning (source_means options_block_behind_field source_block_behind_field) ≡ true
+block_behind_field-there = refl
+
+assumed_set_field-means : lowered_means options_assumed_set_field generated_assumed_set_field source_assumed_set_field output_assumed_set_field ≡ source_means options_assumed_set_field source_assumed_set_field
+assumed_set_field-means = refl
+
+assumed_set_field-there : has_meaning (source_means options_assumed_set_field source_assumed_set_field) ≡ true
+assumed_set_field-there = refl
+
+private_chain_call-means : lowered_means options_private_chain_call generated_private_chain_call source_private_chain_call output_private_chain_call ≡ source_means options_private_chain_call source_private_chain_call
+private_chain_call-means = refl
+
+private_chain_call-there : has_meaning (source_means options_private_chain_call source_private_chain_call) ≡ true
+private_chain_call-there = refl
+
+private_chain_call_no_document_all-means : lowered_means options_private_chain_call_no_document_all generated_private_chain_call_no_document_all source_private_chain_call_no_document_all output_private_chain_call_no_document_all ≡ source_means options_private_chain_call_no_document_all source_private_chain_call_no_document_all
+private_chain_call_no_document_all-means = refl
+
+private_chain_call_no_document_all-there : has_meaning (source_means options_private_chain_call_no_document_all source_private_chain_call_no_document_all) ≡ true
+private_chain_call_no_document_all-there = refl
+
+called_private_chain-means : lowered_means options_called_private_chain generated_called_private_chain source_called_private_chain output_called_private_chain ≡ source_means options_called_private_chain source_called_private_chain
+called_private_chain-means = refl
+
+called_private_chain-there : has_meaning (source_means options_called_private_chain source_called_private_chain) ≡ true
+called_private_chain-there = refl
+
+trailing_block_of_named_expression-means : lowered_means options_trailing_block_of_named_expression generated_trailing_block_of_named_expression source_trailing_block_of_named_expression output_trailing_block_of_named_expression ≡ source_means options_trailing_block_of_named_expression source_trailing_block_of_named_expression
+trailing_block_of_named_expression-means = refl
+
+trailing_block_of_named_expression-there : has_meaning (source_means options_trailing_block_of_named_expression source_trailing_block_of_named_expression) ≡ true
+trailing_block_of_named_expression-there = refl
+
+block_before_named_function-means : lowered_means options_block_before_named_function generated_block_before_named_function source_block_before_named_function output_block_before_named_function ≡ source_means options_block_before_named_function source_block_before_named_function
+block_before_named_function-means = refl
+
+block_before_named_function-there : has_meaning (source_means options_block_before_named_function source_block_before_named_function) ≡ true
+block_before_named_function-there = refl
+
+block_in_parameter-means : lowered_means options_block_in_parameter generated_block_in_parameter source_block_in_parameter output_block_in_parameter ≡ source_means options_block_in_parameter source_block_in_parameter
+block_in_parameter-means = refl
+
+block_in_parameter-there : has_meaning (source_means options_block_in_parameter source_block_in_parameter) ≡ true
+block_in_parameter-there = refl
+
+names_taken-means : lowered_means options_names_taken generated_names_taken source_names_taken output_names_taken ≡ source_means options_names_taken source_names_taken
+names_taken-means = refl
+
+names_taken-there : has_meaning (source_means options_names_taken source_names_taken) ≡ true
+names_taken-there = refl
+
+nested_private_names-means : lowered_means options_nested_private_names generated_nested_private_names source_nested_private_names output_nested_private_names ≡ source_means options_nested_private_names source_nested_private_names
+nested_private_names-means = refl
+
+nested_private_names-there : has_meaning (source_means options_nested_private_names source_nested_private_names) ≡ true
+nested_private_names-there = refl
+
+closure_name_taken-means : lowered_means options_closure_name_taken generated_closure_name_taken source_closure_name_taken output_closure_name_taken ≡ source_means options_closure_name_taken source_closure_name_taken
+closure_name_taken-means = refl
+
+closure_name_taken-there : has_meaning (source_means options_closure_name_taken source_closure_name_taken) ≡ true
+closure_name_taken-there = refl
+
+private_name_taken-means : lowered_means options_private_name_taken generated_private_name_taken source_private_name_taken output_private_name_taken ≡ source_means options_private_name_taken source_private_name_taken
+private_name_taken-means = refl
+
+private_name_taken-there : has_meaning (source_means options_private_name_taken source_private_name_taken) ≡ true
+private_name_taken-there = refl
+
+private_static_write-means : lowered_means options_private_static_write generated_private_static_write source_private_static_write output_private_static_write ≡ source_means options_private_static_write source_private_static_write
+private_static_write-means = refl
+
+private_static_write-there : has_meaning (source_means options_private_static_write source_private_static_write) ≡ true
+private_static_write-there = refl
+
+private_static_compound_write-means : lowered_means options_private_static_compound_write generated_private_static_compound_write source_private_static_compound_write output_private_static_compound_write ≡ source_means options_private_static_compound_write source_private_static_compound_write
+private_static_compound_write-means = refl
+
+private_static_compound_write-there : has_meaning (source_means options_private_static_compound_write source_private_static_compound_write) ≡ true
+private_static_compound_write-there = refl
+
+private_static_method_on_class-means : lowered_means options_private_static_method_on_class generated_private_static_method_on_class source_private_static_method_on_class output_private_static_method_on_class ≡ source_means options_private_static_method_on_class source_private_static_method_on_class
+private_static_method_on_class-means = refl
+
+private_static_method_on_class-there : has_meaning (source_means options_private_static_method_on_class source_private_static_method_on_class) ≡ true
+private_static_method_on_class-there = refl
+
+private_static_accessors_on_class-means : lowered_means options_private_static_accessors_on_class generated_private_static_accessors_on_class source_private_static_accessors_on_class output_private_static_accessors_on_class ≡ source_means options_private_static_accessors_on_class source_private_static_accessors_on_class
+private_static_accessors_on_class-means = refl
+
+private_static_accessors_on_class-there : has_meaning (source_means options_private_static_accessors_on_class source_private_static_accessors_on_class) ≡ true
+private_static_accessors_on_class-there = refl
+
+private_in_field-means : lowered_means options_private_in_field generated_private_in_field source_private_in_field output_private_in_field ≡ source_means options_private_in_field source_private_in_field
+private_in_field-means = refl
+
+private_in_field-there : has_meaning (source_means options_private_in_field source_private_in_field) ≡ true
+private_in_field-there = refl
+
+private_in_static-means : lowered_means options_private_in_static generated_private_in_static source_private_in_static output_private_in_static ≡ source_means options_private_in_static source_private_in_static
+private_in_static-means = refl
+
+private_in_static-there : has_meaning (source_means options_private_in_static source_private_in_static) ≡ true
+private_in_static-there = refl
+
+private_tag-means : lowered_means options_private_tag generated_private_tag source_private_tag output_private_tag ≡ source_means options_private_tag source_private_tag
+private_tag-means = refl
+
+private_tag-there : has_meaning (source_means options_private_tag source_private_tag) ≡ true
+private_tag-there = refl
+
+private_prefix_update-means : lowered_means options_private_prefix_update generated_private_prefix_update source_private_prefix_update output_private_prefix_update ≡ source_means options_private_prefix_update source_private_prefix_update
+private_prefix_update-means = refl
+
+private_prefix_update-there : has_meaning (source_means options_private_prefix_update source_private_prefix_update) ≡ true
+private_prefix_update-there = refl
+
+private_setter_read-means : lowered_means options_private_setter_read generated_private_setter_read source_private_setter_read output_private_setter_read ≡ source_means options_private_setter_read source_private_setter_read
+private_setter_read-means = refl
+
+private_setter_read-there : has_meaning (source_means options_private_setter_read source_private_setter_read) ≡ true
+private_setter_read-there = refl
+
+private_setter_targets-means : lowered_means options_private_setter_targets generated_private_setter_targets source_private_setter_targets output_private_setter_targets ≡ source_means options_private_setter_targets source_private_setter_targets
+private_setter_targets-means = refl
+
+private_setter_targets-there : has_meaning (source_means options_private_setter_targets source_private_setter_targets) ≡ true
+private_setter_targets-there = refl
+
+private_optional_call-means : lowered_means options_private_optional_call generated_private_optional_call source_private_optional_call output_private_optional_call ≡ source_means options_private_optional_call source_private_optional_call
+private_optional_call-means = refl
+
+private_optional_call-there : has_meaning (source_means options_private_optional_call source_private_optional_call) ≡ true
+private_optional_call-there = refl
+
+private_chain_kept-means : lowered_means options_private_chain_kept generated_private_chain_kept source_private_chain_kept output_private_chain_kept ≡ source_means options_private_chain_kept source_private_chain_kept
+private_chain_kept-means = refl
+
+private_chain_kept-there : has_meaning (source_means options_private_chain_kept source_private_chain_kept) ≡ true
+private_chain_kept-there = refl
+
+loose_private_writes-means : lowered_means options_loose_private_writes generated_loose_private_writes source_loose_private_writes output_loose_private_writes ≡ source_means options_loose_private_writes source_loose_private_writes
+loose_private_writes-means = refl
+
+loose_private_writes-there : has_meaning (source_means options_loose_private_writes source_loose_private_writes) ≡ true
+loose_private_writes-there = refl
+
+loose_private_static_field-means : lowered_means options_loose_private_static_field generated_loose_private_static_field source_loose_private_static_field output_loose_private_static_field ≡ source_means options_loose_private_static_field source_loose_private_static_field
+loose_private_static_field-means = refl
+
+loose_private_static_field-there : has_meaning (source_means options_loose_private_static_field source_loose_private_static_field) ≡ true
+loose_private_static_field-there = refl
+
+super_member_writes-means : lowered_means options_super_member_writes generated_super_member_writes source_super_member_writes output_super_member_writes ≡ source_means options_super_member_writes source_super_member_writes
+super_member_writes-means = refl
+
+super_member_writes-there : has_meaning (source_means options_super_member_writes source_super_member_writes) ≡ true
+super_member_writes-there = refl
+
+block_of_statements-means : lowered_means options_block_of_statements generated_block_of_statements source_block_of_statements output_block_of_statements ≡ source_means options_block_of_statements source_block_of_statements
+block_of_statements-means = refl
+
+block_of_statements-there : has_meaning (source_means options_block_of_statements source_block_of_statements) ≡ true
+block_of_statements-there = refl
+
+block_of_statements_alone-means : lowered_means options_block_of_statements_alone generated_block_of_statements_alone source_block_of_statements_alone output_block_of_statements_alone ≡ source_means options_block_of_statements_alone source_block_of_statements_alone
+block_of_statements_alone-means = refl
+
+block_of_statements_alone-there : has_meaning (source_means options_block_of_statements_alone source_block_of_statements_alone) ≡ true
+block_of_statements_alone-there = refl
+
+private_static_of_expression-means : lowered_means options_private_static_of_expression generated_private_static_of_expression source_private_static_of_expression output_private_static_of_expression ≡ source_means options_private_static_of_expression source_private_static_of_expression
+private_static_of_expression-means = refl
+
+private_static_of_expression-there : has_meaning (source_means options_private_static_of_expression source_private_static_of_expression) ≡ true
+private_static_of_expression-there = refl
+
+private_method_behind_statement-means : lowered_means options_private_method_behind_statement generated_private_method_behind_statement source_private_method_behind_statement output_private_method_behind_statement ≡ source_means options_private_method_behind_statement source_private_method_behind_statement
+private_method_behind_statement-means = refl
+
+private_method_behind_statement-there : has_meaning (source_means options_private_method_behind_statement source_private_method_behind_statement) ≡ true
+private_method_behind_statement-there = refl
+
+deleted_this-means : lowered_means options_deleted_this generated_deleted_this source_deleted_this output_deleted_this ≡ source_means options_deleted_this source_deleted_this
+deleted_this-means = refl
+
+deleted_this-there : has_meaning (source_means options_deleted_this source_deleted_this) ≡ true
+deleted_this-there = refl
+
+nested_static_classes-means : lowered_means options_nested_static_classes generated_nested_static_classes source_nested_static_classes output_nested_static_classes ≡ source_means options_nested_static_classes source_nested_static_classes
+nested_static_classes-means = refl
+
+nested_static_classes-there : has_meaning (source_means options_nested_static_classes source_nested_static_classes) ≡ true
+nested_static_classes-there = refl
+

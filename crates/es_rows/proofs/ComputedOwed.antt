@@ -1,0 +1,530 @@
+-- Worked rows owe nothing, and have the shapes that they are said to have; computed.
+use Rattle.std.specs.Prelude.{◌≡◌, refl}
+use Rattle.es_steps.specs.Shapes.{shape_numbers}
+use Rattle.es_rows.specs.Owed.{clauses, all_met}
+use Rattle.es_rows.specs.rows.InstanceField.{source_instance_field, output_instance_field, generated_instance_field, options_instance_field, outside_instance_field}
+use Rattle.es_rows.specs.rows.SetField.{source_set_field, output_set_field, generated_set_field, options_set_field, outside_set_field}
+use Rattle.es_rows.specs.rows.SetStaticName.{source_set_static_name, output_set_static_name, generated_set_static_name, options_set_static_name, outside_set_static_name}
+use Rattle.es_rows.specs.rows.SetThisKey.{source_set_this_key, output_set_this_key, generated_set_this_key, options_set_this_key, outside_set_this_key}
+use Rattle.es_rows.specs.rows.ClashingParameter.{source_clashing_parameter, output_clashing_parameter, generated_clashing_parameter, options_clashing_parameter, outside_clashing_parameter}
+use Rattle.es_rows.specs.rows.SuperInBranches.{source_super_in_branches, output_super_in_branches, generated_super_in_branches, options_super_in_branches, outside_super_in_branches}
+use Rattle.es_rows.specs.rows.SuperInParameters.{source_super_in_parameters, output_super_in_parameters, generated_super_in_parameters, options_super_in_parameters, outside_super_in_parameters}
+use Rattle.es_rows.specs.rows.StaticOwnName.{source_static_own_name, output_static_own_name, generated_static_own_name, options_static_own_name, outside_static_own_name}
+use Rattle.es_rows.specs.rows.StaticKeyAndBlock.{source_static_key_and_block, output_static_key_and_block, generated_static_key_and_block, options_static_key_and_block, outside_static_key_and_block}
+use Rattle.es_rows.specs.rows.PrivateCompoundWrite.{source_private_compound_write, output_private_compound_write, generated_private_compound_write, options_private_compound_write, outside_private_compound_write}
+use Rattle.es_rows.specs.rows.PrivateAccessors.{source_private_accessors, output_private_accessors, generated_private_accessors, options_private_accessors, outside_private_accessors}
+use Rattle.es_rows.specs.rows.PrivateUpdateInModule.{source_private_update_in_module, output_private_update_in_module, generated_private_update_in_module, options_private_update_in_module, outside_private_update_in_module}
+use Rattle.es_rows.specs.rows.DeletePrivateChain.{source_delete_private_chain, output_delete_private_chain, generated_delete_private_chain, options_delete_private_chain, outside_delete_private_chain}
+use Rattle.es_rows.specs.rows.TrailingBlock.{source_trailing_block, output_trailing_block, generated_trailing_block, options_trailing_block, outside_trailing_block}
+use Rattle.es_rows.specs.rows.AwaitedAtTop.{source_awaited_at_top, output_awaited_at_top, generated_awaited_at_top, options_awaited_at_top, outside_awaited_at_top}
+use Rattle.es_rows.specs.rows.ParameterWithDefault.{source_parameter_with_default, output_parameter_with_default, generated_parameter_with_default, options_parameter_with_default, outside_parameter_with_default}
+use Rattle.es_rows.specs.rows.StaticOfExpression.{source_static_of_expression, output_static_of_expression, generated_static_of_expression, options_static_of_expression, outside_static_of_expression}
+use Rattle.es_rows.specs.rows.PrivateInMethod.{source_private_in_method, output_private_in_method, generated_private_in_method, options_private_in_method, outside_private_in_method}
+use Rattle.es_rows.specs.rows.StaticSuperMember.{source_static_super_member, output_static_super_member, generated_static_super_member, options_static_super_member, outside_static_super_member}
+use Rattle.es_rows.specs.rows.BlockBeforeField.{source_block_before_field, output_block_before_field, generated_block_before_field, options_block_before_field, outside_block_before_field}
+use Rattle.es_rows.specs.rows.LoosePrivateField.{source_loose_private_field, output_loose_private_field, generated_loose_private_field, options_loose_private_field, outside_loose_private_field}
+use Rattle.es_rows.specs.rows.TwoFields.{source_two_fields, output_two_fields, generated_two_fields, options_two_fields, outside_two_fields}
+use Rattle.es_rows.specs.rows.EmptyClass.{source_empty_class, output_empty_class, generated_empty_class, options_empty_class, outside_empty_class}
+use Rattle.es_rows.specs.rows.TwoKeys.{source_two_keys, output_two_keys, generated_two_keys, options_two_keys, outside_two_keys}
+use Rattle.es_rows.specs.rows.RemovedField.{source_removed_field, output_removed_field, generated_removed_field, options_removed_field, outside_removed_field}
+use Rattle.es_rows.specs.rows.KeyOfExpression.{source_key_of_expression, output_key_of_expression, generated_key_of_expression, options_key_of_expression, outside_key_of_expression}
+use Rattle.es_rows.specs.rows.TargetInField.{source_target_in_field, output_target_in_field, generated_target_in_field, options_target_in_field, outside_target_in_field}
+use Rattle.es_rows.specs.rows.WrittenClassName.{source_written_class_name, output_written_class_name, generated_written_class_name, options_written_class_name, outside_written_class_name}
+use Rattle.es_rows.specs.rows.DerivedClass.{source_derived_class, output_derived_class, generated_derived_class, options_derived_class, outside_derived_class}
+use Rattle.es_rows.specs.rows.TwoSupers.{source_two_supers, output_two_supers, generated_two_supers, options_two_supers, outside_two_supers}
+use Rattle.es_rows.specs.rows.NoSuper.{source_no_super, output_no_super, generated_no_super, options_no_super, outside_no_super}
+use Rattle.es_rows.specs.rows.SuperInParametersOfExpression.{source_super_in_parameters_of_expression, output_super_in_parameters_of_expression, generated_super_in_parameters_of_expression, options_super_in_parameters_of_expression, outside_super_in_parameters_of_expression}
+use Rattle.es_rows.specs.rows.BlockOfExpression.{source_block_of_expression, output_block_of_expression, generated_block_of_expression, options_block_of_expression, outside_block_of_expression}
+use Rattle.es_rows.specs.rows.StaticThisAndTarget.{source_static_this_and_target, output_static_this_and_target, generated_static_this_and_target, options_static_this_and_target, outside_static_this_and_target}
+use Rattle.es_rows.specs.rows.KeptBlock.{source_kept_block, output_kept_block, generated_kept_block, options_kept_block, outside_kept_block}
+use Rattle.es_rows.specs.rows.PrivateFieldForms.{source_private_field_forms, output_private_field_forms, generated_private_field_forms, options_private_field_forms, outside_private_field_forms}
+use Rattle.es_rows.specs.rows.PrivateStaticField.{source_private_static_field, output_private_static_field, generated_private_static_field, options_private_static_field, outside_private_static_field}
+use Rattle.es_rows.specs.rows.PrivateMethodWithSuper.{source_private_method_with_super, output_private_method_with_super, generated_private_method_with_super, options_private_method_with_super, outside_private_method_with_super}
+use Rattle.es_rows.specs.rows.PrivateMethodWritten.{source_private_method_written, output_private_method_written, generated_private_method_written, options_private_method_written, outside_private_method_written}
+use Rattle.es_rows.specs.rows.PrivateMethodOfExpression.{source_private_method_of_expression, output_private_method_of_expression, generated_private_method_of_expression, options_private_method_of_expression, outside_private_method_of_expression}
+use Rattle.es_rows.specs.rows.PrivateMethodOfDefaultExport.{source_private_method_of_default_export, output_private_method_of_default_export, generated_private_method_of_default_export, options_private_method_of_default_export, outside_private_method_of_default_export}
+use Rattle.es_rows.specs.rows.BlockBehindField.{source_block_behind_field, output_block_behind_field, generated_block_behind_field, options_block_behind_field, outside_block_behind_field}
+use Rattle.es_rows.specs.rows.AssumedSetField.{source_assumed_set_field, output_assumed_set_field, generated_assumed_set_field, options_assumed_set_field, outside_assumed_set_field}
+use Rattle.es_rows.specs.rows.PrivateChainCall.{source_private_chain_call, output_private_chain_call, generated_private_chain_call, options_private_chain_call, outside_private_chain_call}
+use Rattle.es_rows.specs.rows.PrivateChainCallNoDocumentAll.{source_private_chain_call_no_document_all, output_private_chain_call_no_document_all, generated_private_chain_call_no_document_all, options_private_chain_call_no_document_all, outside_private_chain_call_no_document_all}
+use Rattle.es_rows.specs.rows.CalledPrivateChain.{source_called_private_chain, output_called_private_chain, generated_called_private_chain, options_called_private_chain, outside_called_private_chain}
+use Rattle.es_rows.specs.rows.TrailingBlockOfNamedExpression.{source_trailing_block_of_named_expression, output_trailing_block_of_named_expression, generated_trailing_block_of_named_expression, options_trailing_block_of_named_expression, outside_trailing_block_of_named_expression}
+use Rattle.es_rows.specs.rows.BlockBeforeNamedFunction.{source_block_before_named_function, output_block_before_named_function, generated_block_before_named_function, options_block_before_named_function, outside_block_before_named_function}
+use Rattle.es_rows.specs.rows.BlockInParameter.{source_block_in_parameter, output_block_in_parameter, generated_block_in_parameter, options_block_in_parameter, outside_block_in_parameter}
+use Rattle.es_rows.specs.rows.NamesTaken.{source_names_taken, output_names_taken, generated_names_taken, options_names_taken, outside_names_taken}
+use Rattle.es_rows.specs.rows.NestedPrivateNames.{source_nested_private_names, output_nested_private_names, generated_nested_private_names, options_nested_private_names, outside_nested_private_names}
+use Rattle.es_rows.specs.rows.ClosureNameTaken.{source_closure_name_taken, output_closure_name_taken, generated_closure_name_taken, options_closure_name_taken, outside_closure_name_taken}
+use Rattle.es_rows.specs.rows.PrivateNameTaken.{source_private_name_taken, output_private_name_taken, generated_private_name_taken, options_private_name_taken, outside_private_name_taken}
+use Rattle.es_rows.specs.rows.BlockWithHeritage.{source_block_with_heritage, output_block_with_heritage, generated_block_with_heritage, options_block_with_heritage, outside_block_with_heritage}
+use Rattle.es_rows.specs.rows.PrivateStaticWrite.{source_private_static_write, output_private_static_write, generated_private_static_write, options_private_static_write, outside_private_static_write}
+use Rattle.es_rows.specs.rows.PrivateStaticCompoundWrite.{source_private_static_compound_write, output_private_static_compound_write, generated_private_static_compound_write, options_private_static_compound_write, outside_private_static_compound_write}
+use Rattle.es_rows.specs.rows.PrivateStaticMethodOnClass.{source_private_static_method_on_class, output_private_static_method_on_class, generated_private_static_method_on_class, options_private_static_method_on_class, outside_private_static_method_on_class}
+use Rattle.es_rows.specs.rows.PrivateStaticAccessorsOnClass.{source_private_static_accessors_on_class, output_private_static_accessors_on_class, generated_private_static_accessors_on_class, options_private_static_accessors_on_class, outside_private_static_accessors_on_class}
+use Rattle.es_rows.specs.rows.PrivateInField.{source_private_in_field, output_private_in_field, generated_private_in_field, options_private_in_field, outside_private_in_field}
+use Rattle.es_rows.specs.rows.PrivateInStatic.{source_private_in_static, output_private_in_static, generated_private_in_static, options_private_in_static, outside_private_in_static}
+use Rattle.es_rows.specs.rows.PrivateTag.{source_private_tag, output_private_tag, generated_private_tag, options_private_tag, outside_private_tag}
+use Rattle.es_rows.specs.rows.PrivatePrefixUpdate.{source_private_prefix_update, output_private_prefix_update, generated_private_prefix_update, options_private_prefix_update, outside_private_prefix_update}
+use Rattle.es_rows.specs.rows.PrivateSetterRead.{source_private_setter_read, output_private_setter_read, generated_private_setter_read, options_private_setter_read, outside_private_setter_read}
+use Rattle.es_rows.specs.rows.PrivateSetterTargets.{source_private_setter_targets, output_private_setter_targets, generated_private_setter_targets, options_private_setter_targets, outside_private_setter_targets}
+use Rattle.es_rows.specs.rows.PrivateOptionalCall.{source_private_optional_call, output_private_optional_call, generated_private_optional_call, options_private_optional_call, outside_private_optional_call}
+use Rattle.es_rows.specs.rows.PrivateChainKept.{source_private_chain_kept, output_private_chain_kept, generated_private_chain_kept, options_private_chain_kept, outside_private_chain_kept}
+use Rattle.es_rows.specs.rows.LoosePrivateWrites.{source_loose_private_writes, output_loose_private_writes, generated_loose_private_writes, options_loose_private_writes, outside_loose_private_writes}
+use Rattle.es_rows.specs.rows.LoosePrivateStaticField.{source_loose_private_static_field, output_loose_private_static_field, generated_loose_private_static_field, options_loose_private_static_field, outside_loose_private_static_field}
+use Rattle.es_rows.specs.rows.SuperMemberWrites.{source_super_member_writes, output_super_member_writes, generated_super_member_writes, options_super_member_writes, outside_super_member_writes}
+use Rattle.es_rows.specs.rows.BlockOfStatements.{source_block_of_statements, output_block_of_statements, generated_block_of_statements, options_block_of_statements, outside_block_of_statements}
+use Rattle.es_rows.specs.rows.BlockOfStatementsAlone.{source_block_of_statements_alone, output_block_of_statements_alone, generated_block_of_statements_alone, options_block_of_statements_alone, outside_block_of_statements_alone}
+use Rattle.es_rows.specs.rows.PrivateStaticOfExpression.{source_private_static_of_expression, output_private_static_of_expression, generated_private_static_of_expression, options_private_static_of_expression, outside_private_static_of_expression}
+use Rattle.es_rows.specs.rows.PrivateMethodBehindStatement.{source_private_method_behind_statement, output_private_method_behind_statement, generated_private_method_behind_statement, options_private_method_behind_statement, outside_private_method_behind_statement}
+use Rattle.es_rows.specs.rows.DeletedThis.{source_deleted_this, output_deleted_this, generated_deleted_this, options_deleted_this, outside_deleted_this}
+use Rattle.es_rows.specs.rows.NestedStaticClasses.{source_nested_static_classes, output_nested_static_classes, generated_nested_static_classes, options_nested_static_classes, outside_nested_static_classes}
+
+instance_field-owes : clauses options_instance_field generated_instance_field source_instance_field output_instance_field ≡ all_met
+instance_field-owes = refl
+
+instance_field-shapes : shape_numbers options_instance_field source_instance_field ≡ outside_instance_field
+instance_field-shapes = refl
+
+set_field-owes : clauses options_set_field generated_set_field source_set_field output_set_field ≡ all_met
+set_field-owes = refl
+
+set_field-shapes : shape_numbers options_set_field source_set_field ≡ outside_set_field
+set_field-shapes = refl
+
+set_static_name-owes : clauses options_set_static_name generated_set_static_name source_set_static_name output_set_static_name ≡ all_met
+set_static_name-owes = refl
+
+set_static_name-shapes : shape_numbers options_set_static_name source_set_static_name ≡ outside_set_static_name
+set_static_name-shapes = refl
+
+set_this_key-owes : clauses options_set_this_key generated_set_this_key source_set_this_key output_set_this_key ≡ all_met
+set_this_key-owes = refl
+
+set_this_key-shapes : shape_numbers options_set_this_key source_set_this_key ≡ outside_set_this_key
+set_this_key-shapes = refl
+
+clashing_parameter-owes : clauses options_clashing_parameter generated_clashing_parameter source_clashing_parameter output_clashing_parameter ≡ all_met
+clashing_parameter-owes = refl
+
+clashing_parameter-shapes : shape_numbers options_clashing_parameter source_clashing_parameter ≡ outside_clashing_parameter
+clashing_parameter-shapes = refl
+
+super_in_branches-owes : clauses options_super_in_branches generated_super_in_branches source_super_in_branches output_super_in_branches ≡ all_met
+super_in_branches-owes = refl
+
+super_in_branches-shapes : shape_numbers options_super_in_branches source_super_in_branches ≡ outside_super_in_branches
+super_in_branches-shapes = refl
+
+super_in_parameters-owes : clauses options_super_in_parameters generated_super_in_parameters source_super_in_parameters output_super_in_parameters ≡ all_met
+super_in_parameters-owes = refl
+
+super_in_parameters-shapes : shape_numbers options_super_in_parameters source_super_in_parameters ≡ outside_super_in_parameters
+super_in_parameters-shapes = refl
+
+static_own_name-owes : clauses options_static_own_name generated_static_own_name source_static_own_name output_static_own_name ≡ all_met
+static_own_name-owes = refl
+
+static_own_name-shapes : shape_numbers options_static_own_name source_static_own_name ≡ outside_static_own_name
+static_own_name-shapes = refl
+
+static_key_and_block-owes : clauses options_static_key_and_block generated_static_key_and_block source_static_key_and_block output_static_key_and_block ≡ all_met
+static_key_and_block-owes = refl
+
+static_key_and_block-shapes : shape_numbers options_static_key_and_block source_static_key_and_block ≡ outside_static_key_and_block
+static_key_and_block-shapes = refl
+
+private_compound_write-owes : clauses options_private_compound_write generated_private_compound_write source_private_compound_write output_private_compound_write ≡ all_met
+private_compound_write-owes = refl
+
+private_compound_write-shapes : shape_numbers options_private_compound_write source_private_compound_write ≡ outside_private_compound_write
+private_compound_write-shapes = refl
+
+private_accessors-owes : clauses options_private_accessors generated_private_accessors source_private_accessors output_private_accessors ≡ all_met
+private_accessors-owes = refl
+
+private_accessors-shapes : shape_numbers options_private_accessors source_private_accessors ≡ outside_private_accessors
+private_accessors-shapes = refl
+
+private_update_in_module-owes : clauses options_private_update_in_module generated_private_update_in_module source_private_update_in_module output_private_update_in_module ≡ all_met
+private_update_in_module-owes = refl
+
+private_update_in_module-shapes : shape_numbers options_private_update_in_module source_private_update_in_module ≡ outside_private_update_in_module
+private_update_in_module-shapes = refl
+
+delete_private_chain-owes : clauses options_delete_private_chain generated_delete_private_chain source_delete_private_chain output_delete_private_chain ≡ all_met
+delete_private_chain-owes = refl
+
+delete_private_chain-shapes : shape_numbers options_delete_private_chain source_delete_private_chain ≡ outside_delete_private_chain
+delete_private_chain-shapes = refl
+
+trailing_block-owes : clauses options_trailing_block generated_trailing_block source_trailing_block output_trailing_block ≡ all_met
+trailing_block-owes = refl
+
+trailing_block-shapes : shape_numbers options_trailing_block source_trailing_block ≡ outside_trailing_block
+trailing_block-shapes = refl
+
+awaited_at_top-owes : clauses options_awaited_at_top generated_awaited_at_top source_awaited_at_top output_awaited_at_top ≡ all_met
+awaited_at_top-owes = refl
+
+awaited_at_top-shapes : shape_numbers options_awaited_at_top source_awaited_at_top ≡ outside_awaited_at_top
+awaited_at_top-shapes = refl
+
+parameter_with_default-owes : clauses options_parameter_with_default generated_parameter_with_default source_parameter_with_default output_parameter_with_default ≡ all_met
+parameter_with_default-owes = refl
+
+parameter_with_default-shapes : shape_numbers options_parameter_with_default source_parameter_with_default ≡ outside_parameter_with_default
+parameter_with_default-shapes = refl
+
+static_of_expression-owes : clauses options_static_of_expression generated_static_of_expression source_static_of_expression output_static_of_expression ≡ all_met
+static_of_expression-owes = refl
+
+static_of_expression-shapes : shape_numbers options_static_of_expression source_static_of_expression ≡ outside_static_of_expression
+static_of_expression-shapes = refl
+
+private_in_method-owes : clauses options_private_in_method generated_private_in_method source_private_in_method output_private_in_method ≡ all_met
+private_in_method-owes = refl
+
+private_in_method-shapes : shape_numbers options_private_in_method source_private_in_method ≡ outside_private_in_method
+private_in_method-shapes = refl
+
+static_super_member-owes : clauses options_static_super_member generated_static_super_member source_static_super_member output_static_super_member ≡ all_met
+static_super_member-owes = refl
+
+static_super_member-shapes : shape_numbers options_static_super_member source_static_super_member ≡ outside_static_super_member
+static_super_member-shapes = refl
+
+block_before_field-owes : clauses options_block_before_field generated_block_before_field source_block_before_field output_block_before_field ≡ all_met
+block_before_field-owes = refl
+
+block_before_field-shapes : shape_numbers options_block_before_field source_block_before_field ≡ outside_block_before_field
+block_before_field-shapes = refl
+
+loose_private_field-owes : clauses options_loose_private_field generated_loose_private_field source_loose_private_field output_loose_private_field ≡ all_met
+loose_private_field-owes = refl
+
+loose_private_field-shapes : shape_numbers options_loose_private_field source_loose_private_field ≡ outside_loose_private_field
+loose_private_field-shapes = refl
+
+two_fields-owes : clauses options_two_fields generated_two_fields source_two_fields output_two_fields ≡ all_met
+two_fields-owes = refl
+
+two_fields-shapes : shape_numbers options_two_fields source_two_fields ≡ outside_two_fields
+two_fields-shapes = refl
+
+empty_class-owes : clauses options_empty_class generated_empty_class source_empty_class output_empty_class ≡ all_met
+empty_class-owes = refl
+
+empty_class-shapes : shape_numbers options_empty_class source_empty_class ≡ outside_empty_class
+empty_class-shapes = refl
+
+two_keys-owes : clauses options_two_keys generated_two_keys source_two_keys output_two_keys ≡ all_met
+two_keys-owes = refl
+
+two_keys-shapes : shape_numbers options_two_keys source_two_keys ≡ outside_two_keys
+two_keys-shapes = refl
+
+removed_field-owes : clauses options_removed_field generated_removed_field source_removed_field output_removed_field ≡ all_met
+removed_field-owes = refl
+
+removed_field-shapes : shape_numbers options_removed_field source_removed_field ≡ outside_removed_field
+removed_field-shapes = refl
+
+key_of_expression-owes : clauses options_key_of_expression generated_key_of_expression source_key_of_expression output_key_of_expression ≡ all_met
+key_of_expression-owes = refl
+
+key_of_expression-shapes : shape_numbers options_key_of_expression source_key_of_expression ≡ outside_key_of_expression
+key_of_expression-shapes = refl
+
+target_in_field-owes : clauses options_target_in_field generated_target_in_field source_target_in_field output_target_in_field ≡ all_met
+target_in_field-owes = refl
+
+target_in_field-shapes : shape_numbers options_target_in_field source_target_in_field ≡ outside_target_in_field
+target_in_field-shapes = refl
+
+written_class_name-owes : clauses options_written_class_name generated_written_class_name source_written_class_name output_written_class_name ≡ all_met
+written_class_name-owes = refl
+
+written_class_name-shapes : shape_numbers options_written_class_name source_written_class_name ≡ outside_written_class_name
+written_class_name-shapes = refl
+
+derived_class-owes : clauses options_derived_class generated_derived_class source_derived_class output_derived_class ≡ all_met
+derived_class-owes = refl
+
+derived_class-shapes : shape_numbers options_derived_class source_derived_class ≡ outside_derived_class
+derived_class-shapes = refl
+
+two_supers-owes : clauses options_two_supers generated_two_supers source_two_supers output_two_supers ≡ all_met
+two_supers-owes = refl
+
+two_supers-shapes : shape_numbers options_two_supers source_two_supers ≡ outside_two_supers
+two_supers-shapes = refl
+
+no_super-owes : clauses options_no_super generated_no_super source_no_super output_no_super ≡ all_met
+no_super-owes = refl
+
+no_super-shapes : shape_numbers options_no_super source_no_super ≡ outside_no_super
+no_super-shapes = refl
+
+super_in_parameters_of_expression-owes : clauses options_super_in_parameters_of_expression generated_super_in_parameters_of_expression source_super_in_parameters_of_expression output_super_in_parameters_of_expression ≡ all_met
+super_in_parameters_of_expression-owes = refl
+
+super_in_parameters_of_expression-shapes : shape_numbers options_super_in_parameters_of_expression source_super_in_parameters_of_expression ≡ outside_super_in_parameters_of_expression
+super_in_parameters_of_expression-shapes = refl
+
+block_of_expression-owes : clauses options_block_of_expression generated_block_of_expression source_block_of_expression output_block_of_expression ≡ all_met
+block_of_expression-owes = refl
+
+block_of_expression-shapes : shape_numbers options_block_of_expression source_block_of_expression ≡ outside_block_of_expression
+block_of_expression-shapes = refl
+
+static_this_and_target-owes : clauses options_static_this_and_target generated_static_this_and_target source_static_this_and_target output_static_this_and_target ≡ all_met
+static_this_and_target-owes = refl
+
+static_this_and_target-shapes : shape_numbers options_static_this_and_target source_static_this_and_target ≡ outside_static_this_and_target
+static_this_and_target-shapes = refl
+
+kept_block-owes : clauses options_kept_block generated_kept_block source_kept_block output_kept_block ≡ all_met
+kept_block-owes = refl
+
+kept_block-shapes : shape_numbers options_kept_block source_kept_block ≡ outside_kept_block
+kept_block-shapes = refl
+
+private_field_forms-owes : clauses options_private_field_forms generated_private_field_forms source_private_field_forms output_private_field_forms ≡ all_met
+private_field_forms-owes = refl
+
+private_field_forms-shapes : shape_numbers options_private_field_forms source_private_field_forms ≡ outside_private_field_forms
+private_field_forms-shapes = refl
+
+private_static_field-owes : clauses options_private_static_field generated_private_static_field source_private_static_field output_private_static_field ≡ all_met
+private_static_field-owes = refl
+
+private_static_field-shapes : shape_numbers options_private_static_field source_private_static_field ≡ outside_private_static_field
+private_static_field-shapes = refl
+
+private_method_with_super-owes : clauses options_private_method_with_super generated_private_method_with_super source_private_method_with_super output_private_method_with_super ≡ all_met
+private_method_with_super-owes = refl
+
+private_method_with_super-shapes : shape_numbers options_private_method_with_super source_private_method_with_super ≡ outside_private_method_with_super
+private_method_with_super-shapes = refl
+
+private_method_written-owes : clauses options_private_method_written generated_private_method_written source_private_method_written output_private_method_written ≡ all_met
+private_method_written-owes = refl
+
+private_method_written-shapes : shape_numbers options_private_method_written source_private_method_written ≡ outside_private_method_written
+private_method_written-shapes = refl
+
+private_method_of_expression-owes : clauses options_private_method_of_expression generated_private_method_of_expression source_private_method_of_expression output_private_method_of_expression ≡ all_met
+private_method_of_expression-owes = refl
+
+private_method_of_expression-shapes : shape_numbers options_private_method_of_expression source_private_method_of_expression ≡ outside_private_method_of_expression
+private_method_of_expression-shapes = refl
+
+private_method_of_default_export-owes : clauses options_private_method_of_default_export generated_private_method_of_default_export source_private_method_of_default_export output_private_method_of_default_export ≡ all_met
+private_method_of_default_export-owes = refl
+
+private_method_of_default_export-shapes : shape_numbers options_private_method_of_default_export source_private_method_of_default_export ≡ outside_private_method_of_default_export
+private_method_of_default_export-shapes = refl
+
+block_behind_field-owes : clauses options_block_behind_field generated_block_behind_field source_block_behind_field output_block_behind_field ≡ all_met
+block_behind_field-owes = refl
+
+block_behind_field-shapes : shape_numbers options_block_behind_field source_block_behind_field ≡ outside_block_behind_field
+block_behind_field-shapes = refl
+
+assumed_set_field-owes : clauses options_assumed_set_field generated_assumed_set_field source_assumed_set_field output_assumed_set_field ≡ all_met
+assumed_set_field-owes = refl
+
+assumed_set_field-shapes : shape_numbers options_assumed_set_field source_assumed_set_field ≡ outside_assumed_set_field
+assumed_set_field-shapes = refl
+
+private_chain_call-owes : clauses options_private_chain_call generated_private_chain_call source_private_chain_call output_private_chain_call ≡ all_met
+private_chain_call-owes = refl
+
+private_chain_call-shapes : shape_numbers options_private_chain_call source_private_chain_call ≡ outside_private_chain_call
+private_chain_call-shapes = refl
+
+private_chain_call_no_document_all-owes : clauses options_private_chain_call_no_document_all generated_private_chain_call_no_document_all source_private_chain_call_no_document_all output_private_chain_call_no_document_all ≡ all_met
+private_chain_call_no_document_all-owes = refl
+
+private_chain_call_no_document_all-shapes : shape_numbers options_private_chain_call_no_document_all source_private_chain_call_no_document_all ≡ outside_private_chain_call_no_document_all
+private_chain_call_no_document_all-shapes = refl
+
+called_private_chain-owes : clauses options_called_private_chain generated_called_private_chain source_called_private_chain output_called_private_chain ≡ all_met
+called_private_chain-owes = refl
+
+called_private_chain-shapes : shape_numbers options_called_private_chain source_called_private_chain ≡ outside_called_private_chain
+called_private_chain-shapes = refl
+
+trailing_block_of_named_expression-owes : clauses options_trailing_block_of_named_expression generated_trailing_block_of_named_expression source_trailing_block_of_named_expression output_trailing_block_of_named_expression ≡ all_met
+trailing_block_of_named_expression-owes = refl
+
+trailing_block_of_named_expression-shapes : shape_numbers options_trailing_block_of_named_expression source_trailing_block_of_named_expression ≡ outside_trailing_block_of_named_expression
+trailing_block_of_named_expression-shapes = refl
+
+block_before_named_function-owes : clauses options_block_before_named_function generated_block_before_named_function source_block_before_named_function output_block_before_named_function ≡ all_met
+block_before_named_function-owes = refl
+
+block_before_named_function-shapes : shape_numbers options_block_before_named_function source_block_before_named_function ≡ outside_block_before_named_function
+block_before_named_function-shapes = refl
+
+block_in_parameter-owes : clauses options_block_in_parameter generated_block_in_parameter source_block_in_parameter output_block_in_parameter ≡ all_met
+block_in_parameter-owes = refl
+
+block_in_parameter-shapes : shape_numbers options_block_in_parameter source_block_in_parameter ≡ outside_block_in_parameter
+block_in_parameter-shapes = refl
+
+names_taken-owes : clauses options_names_taken generated_names_taken source_names_taken output_names_taken ≡ all_met
+names_taken-owes = refl
+
+names_taken-shapes : shape_numbers options_names_taken source_names_taken ≡ outside_names_taken
+names_taken-shapes = refl
+
+nested_private_names-owes : clauses options_nested_private_names generated_nested_private_names source_nested_private_names output_nested_private_names ≡ all_met
+nested_private_names-owes = refl
+
+nested_private_names-shapes : shape_numbers options_nested_private_names source_nested_private_names ≡ outside_nested_private_names
+nested_private_names-shapes = refl
+
+closure_name_taken-owes : clauses options_closure_name_taken generated_closure_name_taken source_closure_name_taken output_closure_name_taken ≡ all_met
+closure_name_taken-owes = refl
+
+closure_name_taken-shapes : shape_numbers options_closure_name_taken source_closure_name_taken ≡ outside_closure_name_taken
+closure_name_taken-shapes = refl
+
+private_name_taken-owes : clauses options_private_name_taken generated_private_name_taken source_private_name_taken output_private_name_taken ≡ all_met
+private_name_taken-owes = refl
+
+private_name_taken-shapes : shape_numbers options_private_name_taken source_private_name_taken ≡ outside_private_name_taken
+private_name_taken-shapes = refl
+
+block_with_heritage-owes : clauses options_block_with_heritage generated_block_with_heritage source_block_with_heritage output_block_with_heritage ≡ all_met
+block_with_heritage-owes = refl
+
+block_with_heritage-shapes : shape_numbers options_block_with_heritage source_block_with_heritage ≡ outside_block_with_heritage
+block_with_heritage-shapes = refl
+
+private_static_write-owes : clauses options_private_static_write generated_private_static_write source_private_static_write output_private_static_write ≡ all_met
+private_static_write-owes = refl
+
+private_static_write-shapes : shape_numbers options_private_static_write source_private_static_write ≡ outside_private_static_write
+private_static_write-shapes = refl
+
+private_static_compound_write-owes : clauses options_private_static_compound_write generated_private_static_compound_write source_private_static_compound_write output_private_static_compound_write ≡ all_met
+private_static_compound_write-owes = refl
+
+private_static_compound_write-shapes : shape_numbers options_private_static_compound_write source_private_static_compound_write ≡ outside_private_static_compound_write
+private_static_compound_write-shapes = refl
+
+private_static_method_on_class-owes : clauses options_private_static_method_on_class generated_private_static_method_on_class source_private_static_method_on_class output_private_static_method_on_class ≡ all_met
+private_static_method_on_class-owes = refl
+
+private_static_method_on_class-shapes : shape_numbers options_private_static_method_on_class source_private_static_method_on_class ≡ outside_private_static_method_on_class
+private_static_method_on_class-shapes = refl
+
+private_static_accessors_on_class-owes : clauses options_private_static_accessors_on_class generated_private_static_accessors_on_class source_private_static_accessors_on_class output_private_static_accessors_on_class ≡ all_met
+private_static_accessors_on_class-owes = refl
+
+private_static_accessors_on_class-shapes : shape_numbers options_private_static_accessors_on_class source_private_static_accessors_on_class ≡ outside_private_static_accessors_on_class
+private_static_accessors_on_class-shapes = refl
+
+private_in_field-owes : clauses options_private_in_field generated_private_in_field source_private_in_field output_private_in_field ≡ all_met
+private_in_field-owes = refl
+
+private_in_field-shapes : shape_numbers options_private_in_field source_private_in_field ≡ outside_private_in_field
+private_in_field-shapes = refl
+
+private_in_static-owes : clauses options_private_in_static generated_private_in_static source_private_in_static output_private_in_static ≡ all_met
+private_in_static-owes = refl
+
+private_in_static-shapes : shape_numbers options_private_in_static source_private_in_static ≡ outside_private_in_static
+private_in_static-shapes = refl
+
+private_tag-owes : clauses options_private_tag generated_private_tag source_private_tag output_private_tag ≡ all_met
+private_tag-owes = refl
+
+private_tag-shapes : shape_numbers options_private_tag source_private_tag ≡ outside_private_tag
+private_tag-shapes = refl
+
+private_prefix_update-owes : clauses options_private_prefix_update generated_private_prefix_update source_private_prefix_update output_private_prefix_update ≡ all_met
+private_prefix_update-owes = refl
+
+private_prefix_update-shapes : shape_numbers options_private_prefix_update source_private_prefix_update ≡ outside_private_prefix_update
+private_prefix_update-shapes = refl
+
+private_setter_read-owes : clauses options_private_setter_read generated_private_setter_read source_private_setter_read output_private_setter_read ≡ all_met
+private_setter_read-owes = refl
+
+private_setter_read-shapes : shape_numbers options_private_setter_read source_private_setter_read ≡ outside_private_setter_read
+private_setter_read-shapes = refl
+
+private_setter_targets-owes : clauses options_private_setter_targets generated_private_setter_targets source_private_setter_targets output_private_setter_targets ≡ all_met
+private_setter_targets-owes = refl
+
+private_setter_targets-shapes : shape_numbers options_private_setter_targets source_private_setter_targets ≡ outside_private_setter_targets
+private_setter_targets-shapes = refl
+
+private_optional_call-owes : clauses options_private_optional_call generated_private_optional_call source_private_optional_call output_private_optional_call ≡ all_met
+private_optional_call-owes = refl
+
+private_optional_call-shapes : shape_numbers options_private_optional_call source_private_optional_call ≡ outside_private_optional_call
+private_optional_call-shapes = refl
+
+private_chain_kept-owes : clauses options_private_chain_kept generated_private_chain_kept source_private_chain_kept output_private_chain_kept ≡ all_met
+private_chain_kept-owes = refl
+
+private_chain_kept-shapes : shape_numbers options_private_chain_kept source_private_chain_kept ≡ outside_private_chain_kept
+private_chain_kept-shapes = refl
+
+loose_private_writes-owes : clauses options_loose_private_writes generated_loose_private_writes source_loose_private_writes output_loose_private_writes ≡ all_met
+loose_private_writes-owes = refl
+
+loose_private_writes-shapes : shape_numbers options_loose_private_writes source_loose_private_writes ≡ outside_loose_private_writes
+loose_private_writes-shapes = refl
+
+loose_private_static_field-owes : clauses options_loose_private_static_field generated_loose_private_static_field source_loose_private_static_field output_loose_private_static_field ≡ all_met
+loose_private_static_field-owes = refl
+
+loose_private_static_field-shapes : shape_numbers options_loose_private_static_field source_loose_private_static_field ≡ outside_loose_private_static_field
+loose_private_static_field-shapes = refl
+
+super_member_writes-owes : clauses options_super_member_writes generated_super_member_writes source_super_member_writes output_super_member_writes ≡ all_met
+super_member_writes-owes = refl
+
+super_member_writes-shapes : shape_numbers options_super_member_writes source_super_member_writes ≡ outside_super_member_writes
+super_member_writes-shapes = refl
+
+block_of_statements-owes : clauses options_block_of_statements generated_block_of_statements source_block_of_statements output_block_of_statements ≡ all_met
+block_of_statements-owes = refl
+
+block_of_statements-shapes : shape_numbers options_block_of_statements source_block_of_statements ≡ outside_block_of_statements
+block_of_statements-shapes = refl
+
+block_of_statements_alone-owes : clauses options_block_of_statements_alone generated_block_of_statements_alone source_block_of_statements_alone output_block_of_statements_alone ≡ all_met
+block_of_statements_alone-owes = refl
+
+block_of_statements_alone-shapes : shape_numbers options_block_of_statements_alone source_block_of_statements_alone ≡ outside_block_of_statements_alone
+block_of_statements_alone-shapes = refl
+
+private_static_of_expression-owes : clauses options_private_static_of_expression generated_private_static_of_expression source_private_static_of_expression output_private_static_of_expression ≡ all_met
+private_static_of_expression-owes = refl
+
+private_static_of_expression-shapes : shape_numbers options_private_static_of_expression source_private_static_of_expression ≡ outside_private_static_of_expression
+private_static_of_expression-shapes = refl
+
+private_method_behind_statement-owes : clauses options_private_method_behind_statement generated_private_method_behind_statement source_private_method_behind_statement output_private_method_behind_statement ≡ all_met
+private_method_behind_statement-owes = refl
+
+private_method_behind_statement-shapes : shape_numbers options_private_method_behind_statement source_private_method_behind_statement ≡ outside_private_method_behind_statement
+private_method_behind_statement-shapes = refl
+
+deleted_this-owes : clauses options_deleted_this generated_deleted_this source_deleted_this output_deleted_this ≡ all_met
+deleted_this-owes = refl
+
+deleted_this-shapes : shape_numbers options_deleted_this source_deleted_this ≡ outside_deleted_this
+deleted_this-shapes = refl
+
+nested_static_classes-owes : clauses options_nested_static_classes generated_nested_static_classes source_nested_static_classes output_nested_static_classes ≡ all_met
+nested_static_classes-owes = refl
+
+nested_static_classes-shapes : shape_numbers options_nested_static_classes source_nested_static_classes ≡ outside_nested_static_classes
+nested_static_classes-shapes = refl
+
