@@ -1,12 +1,18 @@
--- A program of the first form and what it is lowered to declare the same, and the same of their bindings are written.
-use Rattle.std.specs.Prelude.{◌≡◌, ℕ, ◌+◌, List, [], ◌∷◌, ◌++◌, false}
+-- A program of the first form and what it is lowered to declare the same, and nothing of them is written.
+use Rattle.std.specs.Prelude.{◌≡◌, ℕ, ◌+◌, List, [], ◌∷◌, ◌++◌, Bool, true, false, ◌||◌, ◌&&◌, codes}
 use Rattle.std.proofs.Common.{refl, sym, ap, ◌∙◌, append_assoc}
 use Rattle.std.proofs.lemmas.List.{append-nil}
 use Rattle.es_base.specs.Preorder.{preorder, preorder_of}
 use Rattle.es_base.specs.Tree.{Tree, Parts, end, more, trees}
-use Rattle.es_steps.specs.Meaning.{DeclarationKind, ClassDeclared, declaring, declaring_items, declared_function, declared_functions}
-use Rattle.es_steps.specs.References.{Reference, if_bound, assigned, item_references, written_by, written_by_all, written}
+use Rattle.es_steps.proofs.FirstMeaning.{members_of_all-append}
+use Rattle.es_steps.specs.Context.{Context}
+use Rattle.es_steps.specs.Evaluation.{Environment}
+use Rattle.es_steps.specs.Meaning.{DeclarationKind, ClassDeclared, declaring, declaring_items, declared_function, declared_functions, body_of}
+use Rattle.es_steps.specs.Modules.{links_in, exports_in}
+use Rattle.es_steps.specs.PrivateNames.{private_members, members_of_all, elements_members}
+use Rattle.es_steps.specs.References.{Reference, if_bound, is_free, assigned, item_references, resolve, written_by, written_by_all, written, writes_free}
 use Rattle.es_steps.specs.Scopes.{Declaration, lexical_part, lexical_items, var_part, body_names}
+use Rattle.es_steps.specs.Values.{String}
 use Rattle.class_properties.proofs.Numbered.{definitions_from, lowered_elements, statement_size, lowered_statements, lowered_from}
 use Rattle.class_properties.proofs.Shaped.{no_value, a_literal, a_reference, a_key, a_field, AreFields, a_body, a_name, a_class, AreClasses, IsProgram, a_program}
 
@@ -22,13 +28,21 @@ names-definitions (more p es) (a_field m span semantic_id key v hk hv, h) k = na
 
 pub names-lowered : (ps : Parts) → AreClasses ps → (k : ℕ) → body_names (lowered_statements k ps) ≡ body_names ps
 names-lowered end h k = refl
-names-lowered (more p ps) (a_class n span semantic_id id body hid hbody, h) k = ap (λ (ds : List Declaration). lexical_part p ++ var_part p ++ ds) (names-lowered ps h _)
+names-lowered (more p ps) (a_class n span semantic_id id body hid hbody, h) k = ap (λ (ds : List Declaration). (lexical_part p ++ var_part p) ++ ds) (names-lowered ps h _)
 
 -- ---- appended lists
 
 assigned-append : (xs ys : List Reference) → assigned (xs ++ ys) ≡ assigned xs ++ assigned ys
 assigned-append [] ys = refl
 assigned-append (x ∷ xs) ys = rw (assigned-append xs ys) (sym (append_assoc (if_bound x.writes x.to) (assigned xs) (assigned ys)))
+
+or-assoc : (a b c : Bool) → a || (b || c) ≡ (a || b) || c
+or-assoc true b c = refl
+or-assoc false b c = refl
+
+writes_free-append : (s : String) (xs ys : List Reference) → writes_free s (xs ++ ys) ≡ (writes_free s xs || writes_free s ys)
+writes_free-append s [] ys = refl
+writes_free-append s (x ∷ xs) ys = rw (writes_free-append s xs ys) (or-assoc (x.writes && is_free s x.to) (writes_free s xs) (writes_free s ys))
 
 written_by_all-append : (xs ys : List Tree) → written_by_all (xs ++ ys) ≡ written_by_all xs ++ written_by_all ys
 written_by_all-append [] ys = refl
@@ -39,105 +53,172 @@ declared_functions-append [] ys = refl
 declared_functions-append (x ∷ xs) ys = rw (declared_functions-append xs ys) (sym (append_assoc (declared_function [] x) (declared_functions [] xs) (declared_functions [] ys)))
 
 -- what ends the lists of the nodes around the statements of a constructor, and around the elements of a class
-four_ends : {A : Type 0} (xs : List A) → xs ++ [] ++ [] ++ [] ++ [] ≡ xs
+pub four_ends : {A : Type 0} (xs : List A) → xs ++ [] ++ [] ++ [] ++ [] ≡ xs
 four_ends [] = refl
 four_ends (x ∷ xs) = ap (λ zs. x ∷ zs) (four_ends xs)
 
-two_ends : {A : Type 0} (xs ys : List A) → xs ++ [] ++ [] ++ ys ≡ xs ++ ys
+pub two_ends : {A : Type 0} (xs ys : List A) → xs ++ [] ++ [] ++ ys ≡ xs ++ ys
 two_ends [] ys = refl
 two_ends (x ∷ xs) ys = ap (λ zs. x ∷ zs) (two_ends xs ys)
 
--- ---- in these lists nothing is written, and no function is declared
+-- ---- in these lists nothing is written, and no function and no private member is declared
 
-abbrev Unwritten : Parts → Type 0
-Unwritten ps = ((names : List Declaration) → assigned (item_references names false ps) ≡ []) × (written_by_all (preorder_of ps) ≡ []) × (declared_functions [] (preorder_of ps) ≡ [])
+pub record Unwritten (ps : Parts) : Type 0 where
+  pub assigned : (names : List Declaration) → assigned (item_references names false ps) ≡ []
+  pub free : (names : List Declaration) → writes_free (codes "arguments") (item_references names false ps) ≡ false
+  pub repeated : written_by_all (preorder_of ps) ≡ []
+  pub functions : declared_functions [] (preorder_of ps) ≡ []
+  pub members : members_of_all (preorder_of ps) ≡ []
+
+unwritten-end : Unwritten end
+unwritten-end = record { assigned = λ names. refl; free = λ names. refl; repeated = refl; functions = refl; members = refl }
 
 fields-unwritten : (es : Parts) → AreFields es → Unwritten es
-fields-unwritten end h = (λ names. refl, refl, refl)
-fields-unwritten (more p es) (a_field m span semantic_id key v (a_key i ispan i_semantic_id s) no_value, h) = fields-unwritten es h
-fields-unwritten (more p es) (a_field m span semantic_id key v (a_key i ispan i_semantic_id s) (a_literal l lspan l_semantic_id w), h) = fields-unwritten es h
-fields-unwritten (more p es) (a_field m span semantic_id key v (a_key i ispan i_semantic_id s) (a_reference r rspan r_semantic_id x), h) = fields-unwritten es h
+fields-unwritten end h = unwritten-end
+fields-unwritten (more p es) (a_field m span semantic_id key v (a_key i ispan i_semantic_id s) no_value, h) = let u : Unwritten es = fields-unwritten es h in record { assigned = u.assigned; free = u.free; repeated = u.repeated; functions = u.functions; members = u.members }
+fields-unwritten (more p es) (a_field m span semantic_id key v (a_key i ispan i_semantic_id s) (a_literal l lspan l_semantic_id w), h) = let u : Unwritten es = fields-unwritten es h in record { assigned = u.assigned; free = u.free; repeated = u.repeated; functions = u.functions; members = u.members }
+fields-unwritten (more p es) (a_field m span semantic_id key v (a_key i ispan i_semantic_id s) (a_reference r rspan r_semantic_id x), h) = let u : Unwritten es = fields-unwritten es h in record { assigned = u.assigned; free = u.free; repeated = u.repeated; functions = u.functions; members = u.members }
 
 definitions-unwritten : (es : Parts) → AreFields es → (k : ℕ) → Unwritten (trees (definitions_from k es))
-definitions-unwritten end h k = (λ names. refl, refl, refl)
-definitions-unwritten (more p es) (a_field m span semantic_id key v hk no_value, h) k = definitions-unwritten es h (k + 9)
-definitions-unwritten (more p es) (a_field m span semantic_id key v hk (a_literal l lspan l_semantic_id w), h) k = definitions-unwritten es h (k + 7)
-definitions-unwritten (more p es) (a_field m span semantic_id key v hk (a_reference r rspan r_semantic_id x), h) k = definitions-unwritten es h (k + 7)
+definitions-unwritten end h k = unwritten-end
+definitions-unwritten (more p es) (a_field m span semantic_id key v hk no_value, h) k = let u : Unwritten (trees (definitions_from (k + 9) es)) = definitions-unwritten es h (k + 9) in record { assigned = u.assigned; free = u.free; repeated = u.repeated; functions = u.functions; members = u.members }
+definitions-unwritten (more p es) (a_field m span semantic_id key v hk (a_literal l lspan l_semantic_id w), h) k = let u : Unwritten (trees (definitions_from (k + 7) es)) = definitions-unwritten es h (k + 7) in record { assigned = u.assigned; free = u.free; repeated = u.repeated; functions = u.functions; members = u.members }
+definitions-unwritten (more p es) (a_field m span semantic_id key v hk (a_reference r rspan r_semantic_id x), h) k = let u : Unwritten (trees (definitions_from (k + 7) es)) = definitions-unwritten es h (k + 7) in record { assigned = u.assigned; free = u.free; repeated = u.repeated; functions = u.functions; members = u.members }
 
 elements-unwritten : (es : Parts) → AreFields es → (k : ℕ) → Unwritten (lowered_elements k es)
-elements-unwritten end h k = (λ names. refl, refl, refl)
+elements-unwritten end h k = unwritten-end
 elements-unwritten (more p es) h k =
     let ts : Parts = trees (definitions_from (k + 4) (more p es)) in
-    let none = definitions-unwritten (more p es) h (k + 4) in (
-      λ names. rw (names-definitions (more p es) h (k + 4), lexical-definitions (more p es) h (k + 4), four_ends (item_references names false ts)) (none.0 names),
-      rw (names-definitions (more p es) h (k + 4), lexical-definitions (more p es) h (k + 4), four_ends (preorder_of ts)) none.1,
-      rw (four_ends (preorder_of ts)) none.2,
-    )
+    let u : Unwritten ts = definitions-unwritten (more p es) h (k + 4) in record {
+      assigned = λ names. rw (names-definitions (more p es) h (k + 4), four_ends (item_references names false ts)) (u.assigned names);
+      free = λ names. rw (names-definitions (more p es) h (k + 4), four_ends (item_references names false ts)) (u.free names);
+      repeated = rw (names-definitions (more p es) h (k + 4), lexical-definitions (more p es) h (k + 4), four_ends (preorder_of ts)) u.repeated;
+      functions = rw (four_ends (preorder_of ts)) u.functions;
+      members = rw (four_ends (preorder_of ts)) u.members;
+    }
+
+-- the elements declare no private member of their class
+pub fields-no_members : (n : ℕ) (es : Parts) → AreFields es → elements_members n es ≡ []
+fields-no_members n end h = refl
+fields-no_members n (more p es) (a_field m span semantic_id key v (a_key i ispan i_semantic_id s) hv, h) = fields-no_members n es h
+
+pub lowered-no_members : (n k : ℕ) (es : Parts) → elements_members n (lowered_elements k es) ≡ []
+lowered-no_members n k end = refl
+lowered-no_members n k (more p es) = refl
 
 -- a class with these elements in front of these classes
-abbrev ClassUnwritten : Parts → Parts → Type 0
-ClassUnwritten es ps =
-    ((names : List Declaration) → assigned (item_references names false es ++ [] ++ [] ++ item_references names false ps) ≡ [])
-    × (written_by_all (preorder_of es ++ [] ++ [] ++ preorder_of ps) ≡ []) × (declared_functions [] (preorder_of es ++ [] ++ [] ++ preorder_of ps) ≡ [])
+record ClassUnwritten (n : ℕ) (es ps : Parts) : Type 0 where
+  assigned : (names : List Declaration) → assigned (item_references names false es ++ [] ++ [] ++ item_references names false ps) ≡ []
+  free : (names : List Declaration) → writes_free (codes "arguments") (item_references names false es ++ [] ++ [] ++ item_references names false ps) ≡ false
+  repeated : written_by_all (preorder_of es ++ [] ++ [] ++ preorder_of ps) ≡ []
+  functions : declared_functions [] (preorder_of es ++ [] ++ [] ++ preorder_of ps) ≡ []
+  members : elements_members n es ++ members_of_all (preorder_of es ++ [] ++ [] ++ preorder_of ps) ≡ []
 
-class-unwritten : (es ps : Parts) → Unwritten es → Unwritten ps → ClassUnwritten es ps
-class-unwritten es ps a b =
+class-unwritten : (n : ℕ) (es ps : Parts) → Unwritten es → Unwritten ps → elements_members n es ≡ [] → ClassUnwritten n es ps
+class-unwritten n es ps a b none =
     let xs : List Tree = preorder_of es in
-    let ys : List Tree = preorder_of ps in (
-      λ names. rw (two_ends (item_references names false es) (item_references names false ps), assigned-append (item_references names false es) (item_references names false ps), a.0 names) (b.0 names),
-      rw (two_ends xs ys, written_by_all-append xs ys, a.1) b.1,
-      rw (two_ends xs ys, declared_functions-append xs ys, a.2) b.2,
-    )
+    let ys : List Tree = preorder_of ps in record {
+      assigned = λ names. rw (two_ends (item_references names false es) (item_references names false ps), assigned-append (item_references names false es) (item_references names false ps), a.assigned names) (b.assigned names);
+      free = λ names. rw (two_ends (item_references names false es) (item_references names false ps), writes_free-append (codes "arguments") (item_references names false es) (item_references names false ps), a.free names) (b.free names);
+      repeated = rw (two_ends xs ys, written_by_all-append xs ys, a.repeated) b.repeated;
+      functions = rw (two_ends xs ys, declared_functions-append xs ys, a.functions) b.functions;
+      members = rw (none, two_ends xs ys, members_of_all-append xs ys, a.members) b.members;
+    }
 
 classes-unwritten : (ps : Parts) → AreClasses ps → Unwritten ps
-classes-unwritten end h = (λ names. refl, refl, refl)
+classes-unwritten end h = unwritten-end
 classes-unwritten (more p ps) (a_class n span semantic_id id body (a_name i ispan i_semantic_id s free) (a_body m bspan b_semantic_id es he), h) =
-    class-unwritten es ps (fields-unwritten es he) (classes-unwritten ps h)
+    let u : ClassUnwritten n es ps = class-unwritten n es ps (fields-unwritten es he) (classes-unwritten ps h) (fields-no_members n es he) in
+    record { assigned = u.assigned; free = u.free; repeated = u.repeated; functions = u.functions; members = u.members }
 
 lowered-unwritten : (ps : Parts) → AreClasses ps → (k : ℕ) → Unwritten (lowered_statements k ps)
-lowered-unwritten end h k = (λ names. refl, refl, refl)
+lowered-unwritten end h k = unwritten-end
 lowered-unwritten (more p ps) (a_class n span semantic_id id body (a_name i ispan i_semantic_id s free) (a_body m bspan b_semantic_id es he), h) k =
     let next : ℕ = k + statement_size p in
-    class-unwritten (lowered_elements k es) (lowered_statements next ps) (elements-unwritten es he k) (lowered-unwritten ps h next)
+    let u : ClassUnwritten n (lowered_elements k es) (lowered_statements next ps) = class-unwritten n (lowered_elements k es) (lowered_statements next ps) (elements-unwritten es he k) (lowered-unwritten ps h next) (lowered-no_members n k es) in
+    record { assigned = u.assigned; free = u.free; repeated = u.repeated; functions = u.functions; members = u.members }
 
 -- ---- declaring identifiers: those of the classes
 
-abbrev Undeclaring : Parts → Type 0
-Undeclaring ps = (d : DeclarationKind) → declaring_items d ps ≡ []
+abbrev Undeclaring : ℕ → Parts → Type 0
+Undeclaring first ps = (d : DeclarationKind) → declaring_items first d ps ≡ []
 
-fields-declare : (es : Parts) → AreFields es → Undeclaring es
-fields-declare end h d = refl
-fields-declare (more p es) (a_field m span semantic_id key v (a_key i ispan i_semantic_id s) no_value, h) d = fields-declare es h d
-fields-declare (more p es) (a_field m span semantic_id key v (a_key i ispan i_semantic_id s) (a_literal l lspan l_semantic_id w), h) d = fields-declare es h d
-fields-declare (more p es) (a_field m span semantic_id key v (a_key i ispan i_semantic_id s) (a_reference r rspan r_semantic_id x), h) d = fields-declare es h d
+fields-declare : (first : ℕ) (es : Parts) → AreFields es → Undeclaring first es
+fields-declare first end h d = refl
+fields-declare first (more p es) (a_field m span semantic_id key v (a_key i ispan i_semantic_id s) no_value, h) d = fields-declare first es h d
+fields-declare first (more p es) (a_field m span semantic_id key v (a_key i ispan i_semantic_id s) (a_literal l lspan l_semantic_id w), h) d = fields-declare first es h d
+fields-declare first (more p es) (a_field m span semantic_id key v (a_key i ispan i_semantic_id s) (a_reference r rspan r_semantic_id x), h) d = fields-declare first es h d
 
-definitions-declare : (es : Parts) → AreFields es → (k : ℕ) → Undeclaring (trees (definitions_from k es))
-definitions-declare end h k d = refl
-definitions-declare (more p es) (a_field m span semantic_id key v hk no_value, h) k d = definitions-declare es h (k + 9) d
-definitions-declare (more p es) (a_field m span semantic_id key v hk (a_literal l lspan l_semantic_id w), h) k d = definitions-declare es h (k + 7) d
-definitions-declare (more p es) (a_field m span semantic_id key v hk (a_reference r rspan r_semantic_id x), h) k d = definitions-declare es h (k + 7) d
+definitions-declare : (first : ℕ) (es : Parts) → AreFields es → (k : ℕ) → Undeclaring first (trees (definitions_from k es))
+definitions-declare first end h k d = refl
+definitions-declare first (more p es) (a_field m span semantic_id key v hk no_value, h) k d = definitions-declare first es h (k + 9) d
+definitions-declare first (more p es) (a_field m span semantic_id key v hk (a_literal l lspan l_semantic_id w), h) k d = definitions-declare first es h (k + 7) d
+definitions-declare first (more p es) (a_field m span semantic_id key v hk (a_reference r rspan r_semantic_id x), h) k d = definitions-declare first es h (k + 7) d
 
-elements-declare : (es : Parts) → AreFields es → (k : ℕ) → Undeclaring (lowered_elements k es)
-elements-declare end h k d = refl
-elements-declare (more p es) h k d = four_ends _ ∙ definitions-declare (more p es) h (k + 4) _
+elements-declare : (first : ℕ) (es : Parts) → AreFields es → (k : ℕ) → Undeclaring first (lowered_elements k es)
+elements-declare first end h k d = refl
+elements-declare first (more p es) h k d = four_ends _ ∙ definitions-declare first (more p es) h (k + 4) _
 
-classes-declare : (ps : Parts) → AreClasses ps → (k : ℕ) (d : DeclarationKind) → declaring_items d (lowered_statements k ps) ≡ declaring_items d ps
-classes-declare end h k d = refl
-classes-declare (more p ps) (a_class n span semantic_id id body (a_name i ispan i_semantic_id s free) (a_body m bspan b_semantic_id es he), h) k d =
-    rw (elements-declare es he k ClassDeclared, fields-declare es he ClassDeclared) (ap (λ ds. (i, ClassDeclared) ∷ ds) (classes-declare ps h _ d))
+classes-declare : (first : ℕ) (ps : Parts) → AreClasses ps → (k : ℕ) (d : DeclarationKind) → declaring_items first d (lowered_statements k ps) ≡ declaring_items first d ps
+classes-declare first end h k d = refl
+classes-declare first (more p ps) (a_class n span semantic_id id body (a_name i ispan i_semantic_id s free) (a_body m bspan b_semantic_id es he), h) k d =
+    rw (elements-declare first es he k ClassDeclared, fields-declare first es he ClassDeclared) (ap (λ ds. (i, ClassDeclared) ∷ ds) (classes-declare first ps h _ d))
+
+-- ---- nothing is imported or exported
+
+no_links : (first : ℕ) (ps : Parts) → AreClasses ps → links_in first ps ≡ []
+no_links first end h = refl
+no_links first (more p ps) (a_class n span semantic_id id body hid hbody, h) = no_links first ps h
+
+no_exports : (c : Context) (env : Environment) (ps : Parts) → AreClasses ps → exports_in c env ps ≡ []
+no_exports c env end h = refl
+no_exports c env (more p ps) (a_class n span semantic_id id body hid hbody, h) = no_exports c env ps h
+
+lowered-no_links : (first : ℕ) (ps : Parts) → AreClasses ps → (k : ℕ) → links_in first (lowered_statements k ps) ≡ []
+lowered-no_links first end h k = refl
+lowered-no_links first (more p ps) (a_class n span semantic_id id body hid hbody, h) k = lowered-no_links first ps h _
+
+lowered-no_exports : (c : Context) (env : Environment) (ps : Parts) → AreClasses ps → (k : ℕ) → exports_in c env (lowered_statements k ps) ≡ []
+lowered-no_exports c env end h k = refl
+lowered-no_exports c env (more p ps) (a_class n span semantic_id id body hid hbody, h) k = lowered-no_exports c env ps h _
 
 -- ---- programs
 
 pub written-lowered : (k : ℕ) (t : Tree) → IsProgram t → written (lowered_from k t) ≡ written t
 written-lowered k t (a_program m span semantic_id s all h) =
     let ps : Parts = lowered_statements k all in
-    let here = classes-unwritten all h in
-    let there = lowered-unwritten all h k in
-    rw (names-lowered all h k, append-nil (item_references (body_names all ++ []) false all), append-nil (item_references (body_names all ++ []) false ps), append-nil (preorder_of all), append-nil (preorder_of ps), here.0 (body_names all ++ []), there.0 (body_names all ++ []), here.1, there.1) refl
+    let here : Unwritten all = classes-unwritten all h in
+    let there : Unwritten ps = lowered-unwritten all h k in
+    rw (names-lowered all h k, append-nil (item_references (body_names all ++ []) false all), append-nil (item_references (body_names all ++ []) false ps), append-nil (preorder_of all), append-nil (preorder_of ps), here.assigned (body_names all ++ []), there.assigned (body_names all ++ []), here.repeated, there.repeated) refl
 
-pub functions-lowered : (k : ℕ) (t : Tree) → IsProgram t → declared_functions [] (preorder (lowered_from k t)) ≡ declared_functions [] (preorder t)
-functions-lowered k t (a_program m span semantic_id s all h) =
-    rw (append-nil (preorder_of all), append-nil (preorder_of (lowered_statements k all)), (classes-unwritten all h).2) (lowered-unwritten all h k).2
+pub declaring-lowered : (first k : ℕ) (t : Tree) → IsProgram t → declaring first ClassDeclared (lowered_from k t) ≡ declaring first ClassDeclared t
+declaring-lowered first k t (a_program m span semantic_id s all h) = ap (λ ds. ds ++ []) (classes-declare first all h k ClassDeclared)
 
-pub declaring-lowered : (k : ℕ) (t : Tree) → IsProgram t → declaring ClassDeclared (lowered_from k t) ≡ declaring ClassDeclared t
-declaring-lowered k t (a_program m span semantic_id s all h) = ap (λ ds. ds ++ []) (classes-declare all h k ClassDeclared)
+-- what a program has none of
+pub record HasNone (t : Tree) : Type 0 where
+  pub free : writes_free (codes "arguments") (resolve t) ≡ false
+  pub functions : declared_functions [] (preorder t) ≡ []
+  pub members : private_members t ≡ []
+  pub links : (first : ℕ) → links_in first (body_of t) ≡ []
+  pub exports : (c : Context) (env : Environment) → exports_in c env (body_of t) ≡ []
+
+pub source-none : (t : Tree) → IsProgram t → HasNone t
+source-none t (a_program m span semantic_id s all h) =
+    let here : Unwritten all = classes-unwritten all h in record {
+      free = rw (append-nil (item_references (body_names all ++ []) false all)) (here.free (body_names all ++ []));
+      functions = rw (append-nil (preorder_of all)) here.functions;
+      members = rw (append-nil (preorder_of all)) here.members;
+      links = λ first. no_links first all h;
+      exports = λ c env. no_exports c env all h;
+    }
+
+pub lowered-none : (k : ℕ) (t : Tree) → IsProgram t → HasNone (lowered_from k t)
+lowered-none k t (a_program m span semantic_id s all h) =
+    let ps : Parts = lowered_statements k all in
+    let there : Unwritten ps = lowered-unwritten all h k in record {
+      free = rw (append-nil (item_references (body_names ps ++ []) false ps)) (there.free (body_names ps ++ []));
+      functions = rw (append-nil (preorder_of ps)) there.functions;
+      members = rw (append-nil (preorder_of ps)) there.members;
+      links = λ first. lowered-no_links first all h k;
+      exports = λ c env. lowered-no_exports c env all h k;
+    }

@@ -1,6 +1,7 @@
 -- A numbered program that is kept as it is, under no options: it owes nothing, and it means what it means as a source.
-use Rattle.std.proofs.Common.{◌≡◌, refl, sym, subst, ℕ, ◌+◌, ◌<◌, ◌≤◌, List, [], ◌∷◌, ◌++◌, map, true, false, arith}
-use Rattle.std.specs.Prelude.{filter}
+use Rattle.std.proofs.Common.{◌≡◌, refl, sym, ap, subst, ℕ, ◌+◌, ◌<◌, ◌≤◌, List, [], ◌∷◌, ◌++◌, map, Bool, true, false, cond, Option, arith}
+use Rattle.std.specs.Prelude.{filter, not, ◌||◌, nat_eq}
+use Rattle.std.specs.List.{IsDistinct, AllByRecursion}
 use Rattle.std.proofs.lemmas.Bool.{lt-leb}
 use Rattle.std.proofs.Math.Bool.{and-false}
 use Rattle.es_base.proofs.NumberedLemmas.{IsNumbered-renumbered, EachOnce-old_zero}
@@ -9,10 +10,18 @@ use Rattle.es_base.specs.Numbered.{is_new, AreConsecutive, EachOnce, IsNumbered,
 use Rattle.es_base.specs.Preorder.{nodes, nodes_of, nodes_of_part, preorder, preorder_of, preorder_of_part, number_of, numbered_from, numbered_part, numbered_parts}
 use Rattle.es_base.specs.Tree.{Tree, Part, Parts, Node, end, more, child, absent, list, string, no_string, boolean, literal}
 use Rattle.es_base.specs.declared.kind.Kind.{Kind}
+use Rattle.es_steps.proofs.Reflexive.{number-same}
+use Rattle.es_steps.specs.Definitions.{chosen, element_numbers, body_numbers, elements_kept}
+use Rattle.es_steps.specs.KeptNodes.{statement_list, item_numbers, free_numbers, free_lists, free_lists_at, free_lists_in, all_lists, is_within, all_within, is_free_statement, free_statements, free_at, free_in}
 use Rattle.es_steps.specs.Lowered.{IsLowered, is_lowered_kind, kind_of, none_lowered, own_name_numbers, all_accounted}
-use Rattle.es_steps.specs.Meaning.{means, source_means}
+use Rattle.es_steps.specs.LoweredClasses.{Element, elements_of, is_lowered_element, is_lowered_class}
+use Rattle.es_steps.specs.Meaning.{lowered_means, source_means}
 use Rattle.es_steps.specs.Options.{no_options}
+use Rattle.es_steps.specs.Printable.{is_printable}
+use Rattle.es_steps.specs.PrivateNames.{is_class}
 use Rattle.es_steps.specs.Scopes.{is_binding_identifier}
+use Rattle.es_steps.specs.declared.options.Options.{Options}
+use Rattle.class_properties.proofs.Standing.{both, In, here, later, Among, among-append, all-equal, all-stand, within-more, within-both, within-same, within-one, all_within-more, all_within-append, apart-sym}
 
 -- ---- no number is new
 
@@ -74,22 +83,135 @@ none_left : (ts : List Tree) → none_lowered no_options ts ≡ true
 none_left [] = refl
 none_left (t ∷ ts) = rw (not_lowered (kind_of t)) (none_left ts)
 
+-- ---- what stands in a program stands in itself
+
+free-either : (t : Tree) (ts us : List Tree) (b c : Bool) → Among ts us → Among (cond b (t ∷ []) (cond c [] ts)) (t ∷ us)
+free-either t ts us true c h u here = here
+free-either t ts us true c h u (later i) = elim i [ ]
+free-either t ts us false true h u i = elim i [ ]
+free-either t ts us false false h u i = later (h u i)
+
+mutual
+  free-among : (o : Options) (t : Tree) → Among (free_statements o t) (preorder t)
+  free-among o (Node kind m span semantic_id ps) = free-either (Node kind m span semantic_id ps) (free_in o ps) (preorder_of ps) (is_free_statement o (Node kind m span semantic_id ps)) (is_lowered_class o kind ps) (free_in-among o ps)
+
+  free_at-among : (o : Options) (p : Part) → Among (free_at o p) (preorder_of_part p)
+  free_at-among o (child t) = free-among o t
+  free_at-among o absent = λ u i. i
+  free_at-among o (list ps) = free_in-among o ps
+  free_at-among o (string s) = λ u i. i
+  free_at-among o no_string = λ u i. i
+  free_at-among o (boolean b) = λ u i. i
+  free_at-among o (literal v) = λ u i. i
+
+  free_in-among : (o : Options) (ps : Parts) → Among (free_in o ps) (preorder_of ps)
+  free_in-among o end = λ u i. i
+  free_in-among o (more p ps) = among-append (free_at o p) (free_in o ps) (preorder_of_part p) (preorder_of ps) (free_at-among o p) (free_in-among o ps)
+
+-- the numbers of the statements of a list stand in it
+free_numbers-within : (o : Options) (ps : Parts) → is_within (free_numbers o ps) (item_numbers ps) ≡ true
+free_numbers-within o end = refl
+free_numbers-within o (more (child t) ps) = either (is_free_statement o t) (free_numbers-within o ps)
+  where
+    either : (b : Bool) → is_within (free_numbers o ps) (item_numbers ps) ≡ true → is_within (cond b (number_of t ∷ []) [] ++ free_numbers o ps) (number_of t ∷ item_numbers ps) ≡ true
+    either true h = within-both (number_of t) (free_numbers o ps) (item_numbers ps) h
+    either false h = within-more (free_numbers o ps) (number_of t) (item_numbers ps) h
+free_numbers-within o (more absent ps) = free_numbers-within o ps
+free_numbers-within o (more (list qs) ps) = free_numbers-within o ps
+free_numbers-within o (more (string s) ps) = free_numbers-within o ps
+free_numbers-within o (more no_string ps) = free_numbers-within o ps
+free_numbers-within o (more (boolean b) ps) = free_numbers-within o ps
+free_numbers-within o (more (literal v) ps) = free_numbers-within o ps
+
+all_lists-append : (ts us : List Tree) → all_lists (ts ++ us) ≡ all_lists ts ++ all_lists us
+all_lists-append [] us = refl
+all_lists-append (Node kind m span semantic_id ps ∷ ts) us = rw (all_lists-append ts us) refl
+
+lists-either : (xs ys : List ℕ) (xss yss : List (List ℕ)) (b : Bool) → is_within xs ys ≡ true → all_within xss yss ≡ true → all_within (cond b [] (xs ∷ xss)) (ys ∷ yss) ≡ true
+lists-either xs ys xss yss true h i = refl
+lists-either xs ys xss yss false h i = both (within-one xs ys yss h) (all_within-more xss ys yss i)
+
+mutual
+  lists-within : (o : Options) (t : Tree) → all_within (free_lists o t) (all_lists (preorder t)) ≡ true
+  lists-within o (Node kind m span semantic_id ps) =
+      lists-either (free_numbers o (statement_list kind ps)) (item_numbers (statement_list kind ps)) (free_lists_in o ps) (all_lists (preorder_of ps)) (is_lowered_class o kind ps) (free_numbers-within o (statement_list kind ps)) (lists_in-within o ps)
+
+  lists_at-within : (o : Options) (p : Part) → all_within (free_lists_at o p) (all_lists (preorder_of_part p)) ≡ true
+  lists_at-within o (child t) = lists-within o t
+  lists_at-within o absent = refl
+  lists_at-within o (list ps) = lists_in-within o ps
+  lists_at-within o (string s) = refl
+  lists_at-within o no_string = refl
+  lists_at-within o (boolean b) = refl
+  lists_at-within o (literal v) = refl
+
+  lists_in-within : (o : Options) (ps : Parts) → all_within (free_lists_in o ps) (all_lists (preorder_of ps)) ≡ true
+  lists_in-within o end = refl
+  lists_in-within o (more p ps) =
+      rw (all_lists-append (preorder_of_part p) (preorder_of ps))
+      (all_within-append (free_lists_at o p) (free_lists_in o ps) (all_lists (preorder_of_part p)) (all_lists (preorder_of ps)) (lists_at-within o p) (lists_in-within o ps))
+
+-- ---- the elements of a class stand in it
+
+unlowered : (es : List Element) → chosen (λ e. not (is_lowered_element no_options e)) es ≡ es
+unlowered [] = refl
+unlowered (e ∷ es) = ap (λ ds. e ∷ ds) (unlowered es)
+
+number-apart : (k : ℕ) (t : Tree) (ts : List Tree) → AllByRecursion (λ y. nat_eq k y ≡ false) (map number_of ts) → In t ts → nat_eq k (number_of t) ≡ false
+number-apart k t [] a h = elim h [ ]
+number-apart k t (u ∷ ts) a here = a.0
+number-apart k t (u ∷ ts) a (later i) = number-apart k t ts a.1 i
+
+class-body : (kind : Kind) (n : ℕ) (span : Option (ℕ × ℕ)) (semantic_id : Option ℕ) (ps : Parts) (qs : List Tree) → is_class kind ≡ true → EachOnce (map number_of qs) → In (Node kind n span semantic_id ps) qs → body_numbers n qs ≡ element_numbers (elements_of ps)
+unfolding IsDistinct
+class-body kind n span semantic_id ps [] c once h = elim h [ ]
+class-body kind n span semantic_id ps (q ∷ qs) c once here = rw (c, number-same n) refl
+class-body kind n span semantic_id ps (Node other k kspan k_semantic_id ks ∷ qs) c once (later i) =
+    rw (apart-sym k n (number-apart k (Node kind n span semantic_id ps) qs once.0 i), and-false (is_class other)) (class-body kind n span semantic_id ps qs c once.1 i)
+
+elements-stand : (ts qs : List Tree) → Among ts qs → EachOnce (map number_of qs) → elements_kept no_options ts qs ≡ true
+elements-stand [] qs h once = refl
+elements-stand (Node kind n span semantic_id ps ∷ ts) qs h once = both (either (is_class kind) refl) (elements-stand ts qs (λ u i. h u (later i)) once)
+  where
+    whole : List Element
+    whole = chosen (λ e. not (is_lowered_element no_options e)) (elements_of ps)
+
+    either : (b : Bool) → is_class kind ≡ b → (not b || is_within (element_numbers whole) (body_numbers n qs)) ≡ true
+    either true c = rw (unlowered (elements_of ps), class-body kind n span semantic_id ps qs c once (h (Node kind n span semantic_id ps) here)) (within-same (element_numbers (elements_of ps)))
+    either false c = refl
+
 -- ---- the program
 
-numbered-owes : (t : Tree) → IsLowered (nodes t) no_options [] t (numbered_from 0 t)
-numbered-owes t =
-    let q : Tree = numbered_from 0 t in
-    let below : Below (nodes t) (preorder q) = numbered-below (nodes t) 0 t (omega arith) in
-    record {
-      numbered = record { once = numbered-once t; consecutive = subst (AreConsecutive (nodes t)) (sym (below-none_new (nodes t) (preorder q) below)) tt };
-      left = none_left (preorder q);
-      declared = refl;
-      accounted = below-accounted (nodes t) (own_name_numbers t (preorder q)) (preorder q) below;
-      initialized = refl;
-    }
+same_or : (b : Bool) → (not b || b) ≡ true
+same_or true = refl
+same_or false = refl
+
+-- the numbers of a program that is numbered from 0
+record IsInTurn (t : Tree) : Type 0 where
+  once : EachOnce (numbers t)
+  below : Below (nodes t) (preorder t)
+
+in-turn : (t : Tree) → t ≡ numbered_from 0 t → IsInTurn t
+in-turn t e =
+    record { once = subst (λ u. EachOnce (numbers u)) (sym e) (numbered-once t); below = subst (λ u. Below (nodes t) (preorder u)) (sym e) (numbered-below (nodes t) 0 t (omega arith)) }
 
 pub source-owes : (t : Tree) → t ≡ numbered_from 0 t → IsLowered (nodes t) no_options [] t t
-source-owes t e = subst (IsLowered (nodes t) no_options [] t) (sym e) (numbered-owes t)
+source-owes t e =
+    let turn : IsInTurn t = in-turn t e in
+    record {
+      numbered = record { once = turn.once; consecutive = subst (AreConsecutive (nodes t)) (sym (below-none_new (nodes t) (preorder t) turn.below)) tt };
+      left = none_left (preorder t);
+      declared = refl;
+      accounted = below-accounted (nodes t) (own_name_numbers t (preorder t)) (preorder t) turn.below;
+      initialized = refl;
+      keys = refl;
+      nodes = all-stand (preorder t) (preorder t) (λ u i. i);
+      statements = all-equal (free_statements no_options t) (preorder t) (free-among no_options t);
+      lists = lists-within no_options t;
+      definitions = refl;
+      elements = elements-stand (preorder t) (preorder t) (λ u i. i) turn.once;
+      printable = same_or (is_printable t);
+    }
 
-pub source-same : (t : Tree) → means (nodes t) no_options [] t ≡ source_means no_options t
+pub source-same : (t : Tree) → lowered_means no_options [] t t ≡ source_means no_options t
 source-same t = refl

@@ -1,6 +1,8 @@
 pub mod Children
+pub mod Conforming
 pub mod Constructions
 pub mod Declared
+pub mod Fitting
 pub mod Kept
 pub mod OfKinds
 pub mod Laid
@@ -9,9 +11,12 @@ pub mod Mapped
 pub mod NameSets
 pub mod Numbered
 pub mod Owed
+pub mod Printed
+pub mod Remaining
 pub mod Renumbered
 pub mod Same
 pub mod SameNames
 pub mod Shaped
 pub mod Small
+pub mod Standing
 pub mod Steps

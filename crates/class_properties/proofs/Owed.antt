@@ -8,12 +8,17 @@ use Rattle.es_steps.specs.FirstForm.{is_first_form}
 use Rattle.es_steps.specs.Lowered.{IsLowered, own_name_numbers}
 use Rattle.es_steps.specs.Generated.{constructor_at, define_at, void_at}
 use Rattle.es_steps.specs.Options.{class_properties_alone}
+use Rattle.es_steps.specs.PrivateNames.{private_members}
 use Rattle.es_steps.specs.Values.{String}
+use Rattle.class_properties.proofs.Fitting.{definitions-fit}
 use Rattle.class_properties.proofs.Laid.{Laid, none, kept, generated, laid-below, laid-append, laid-upto, laid-from, laid-consecutive, laid-once, laid-left, laid-accounted}
 use Rattle.class_properties.proofs.Shaped.{no_value, a_literal, a_reference, a_key, IsField, a_field, AreFields, a_name, IsBody, a_body, IsClass, a_class, AreClasses, IsProgram, a_program, first_form-shaped}
 use Rattle.class_properties.proofs.Numbered.{definitions_from, fields_size, lowered_elements, elements_size, lowered_body, body_size, lowered_statement, statement_size, lowered_statements, lowered_from}
 use Rattle.class_properties.proofs.Numbered as numbered
 use Rattle.class_properties.proofs.Renumbered.{lowered-numbered}
+use Rattle.class_properties.proofs.Printed.{printable-lowered}
+use Rattle.class_properties.proofs.Remaining.{Remains, remains}
+use Rattle.class_properties.proofs.Standing.{temporaries-none}
 use Rattle.class_properties.specs.Lowering.{lowered}
 
 -- with no nodes behind
@@ -83,19 +88,31 @@ program-laid first n t (a_program m span semantic_id s all h) l =
     let rest = statements-laid first 1 n all h (omega (arith, l)) in
     (rest.0, kept (omega arith) (omega (arith, l)) refl (laid-upto _ _ (omega arith) refl (laid-no_more rest.1)))
 
-laid-owes : (first m : ℕ) (p q : Tree) → Laid first first m 0 first (preorder q) → IsLowered first class_properties_alone [] p q
-laid-owes first m p q h = record {
-  numbered = record { once = laid-once (omega arith) h; consecutive = laid-consecutive (omega arith) h };
-  left = laid-left h;
-  declared = refl;
-  accounted = laid-accounted (own_name_numbers p (preorder q)) h;
-  initialized = refl;
-}
+numbered-laid : (t : Tree) → IsProgram t → t ≡ numbered_from 0 t → (m : ℕ) × Laid (nodes t) (nodes t) m 0 (nodes t) (preorder (numbered.lowered t))
+numbered-laid t p e =
+    let whole = program-laid (nodes t) (nodes t) t p (omega arith) in
+    (whole.0, subst (λ u. Laid (nodes t) (nodes t) whole.0 0 (nodes t) (preorder (lowered_from (nodes t) u))) (sym e) whole.1)
 
 numbered-owes : (t : Tree) → IsProgram t → t ≡ numbered_from 0 t → IsLowered (nodes t) class_properties_alone [] t (numbered.lowered t)
 numbered-owes t p e =
-    let whole = program-laid (nodes t) (nodes t) t p (omega arith) in
-    subst (λ u. IsLowered (nodes t) class_properties_alone [] t (lowered_from (nodes t) u)) (sym e) (laid-owes (nodes t) whole.0 t (lowered_from (nodes t) (numbered_from 0 t)) whole.1)
+    let first : ℕ = nodes t in
+    let q : Tree = numbered.lowered t in
+    let whole = numbered-laid t p e in
+    let laid : Laid first first whole.0 0 first (preorder q) = whole.1 in
+    let rest : Remains first t = remains first t p in record {
+      numbered = record { once = laid-once (omega arith) laid; consecutive = laid-consecutive (omega arith) laid };
+      left = laid-left laid;
+      declared = refl;
+      accounted = laid-accounted (own_name_numbers t (preorder q)) laid;
+      initialized = refl;
+      keys = rw (temporaries-none first class_properties_alone (private_members t) q (preorder q)) refl;
+      nodes = rest.nodes;
+      statements = rest.statements;
+      lists = rest.lists;
+      definitions = definitions-fit first (private_members t) t p e;
+      elements = rest.elements;
+      printable = printable-lowered first t p;
+    }
 
 pub lowered-owes : (t : Tree) → conforms Place.Program t ≡ true → is_first_form t [] ≡ true → t ≡ numbered_from 0 t → IsLowered (nodes t) class_properties_alone [] t (lowered t)
 lowered-owes t f h e = subst (IsLowered (nodes t) class_properties_alone [] t) (sym (lowered-numbered t f h e)) (numbered-owes t (first_form-shaped t [] f h) e)

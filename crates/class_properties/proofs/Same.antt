@@ -1,31 +1,38 @@
 -- What a program of the first form is lowered to means what the program means: its classes read as classes whose
 -- constructors define the fields that the classes of the program have.
-use Rattle.std.specs.Prelude.{◌≡◌, ℕ, ◌+◌, List, [], ◌++◌, Bool, true, false, ◌||◌, nat_le, bytes_eq, codes, None}
-use Rattle.std.proofs.Common.{refl, sym, ap, ap₂, ◌∙◌, ◌≤◌, arith}
+use Rattle.std.specs.Prelude.{◌≡◌, ℕ, ◌+◌, List, [], ◌∷◌, ◌++◌, Bool, true, false, ◌||◌, nat_le, bytes_eq, codes, None, Option, Some}
+use Rattle.std.proofs.Common.{refl, sym, ap, ap₂, ◌∙◌, ◌≤◌, arith, subst}
 use Rattle.std.proofs.lemmas.Bool.{le-leb}
 use Rattle.es_base.specs.Conforms.{conforms}
 use Rattle.es_base.specs.Preorder.{nodes, numbered_from}
 use Rattle.es_base.specs.Tree as tree
 use Rattle.es_base.specs.Tree.{Tree, Part, Parts, Node, trees}
+use Rattle.es_base.specs.declared.kind.Kind.{Kind}
 use Rattle.es_base.specs.declared.table.Place.{Place}
 use Rattle.es_steps.proofs.FirstMeaning.{joined-done, not_generated-found, plain-name}
-use Rattle.es_steps.proofs.PlainClasses.{IsPlain, a_value}
-use Rattle.es_steps.specs.Code.{Codes, value, define, steps, function, constructor, done, and}
-use Rattle.es_steps.specs.Context.{Context, found_kind, in_function, in_element}
-use Rattle.es_steps.specs.Expressions.{constant_of}
+use Rattle.es_steps.proofs.PlainClasses.{IsNotGenerated, fixed, changing, means_class, IsPlain, a_value}
+use Rattle.es_steps.specs.Code.{Code, Codes, Opened, value, spelled, field, define, steps, new_function, class_code, constructor, done, and}
+use Rattle.es_steps.specs.Context.{Context, NameKind, found_kind, name_kind, inside}
+use Rattle.es_steps.specs.Entries.{Entry, Listed, plain_form, entries}
+use Rattle.es_steps.specs.Evaluation.{Evaluation}
+use Rattle.es_steps.specs.Events.{none}
+use Rattle.es_steps.specs.Expressions.{constant_of, name_or_arguments, name_code}
 use Rattle.es_steps.specs.FirstForm.{is_first_form}
 use Rattle.es_steps.specs.Generated.{constructor_at, define_at}
-use Rattle.es_steps.specs.Meaning.{start, means_of, means, source_means}
+use Rattle.es_steps.specs.Meaning.{Terms, Meaning, start, means, means_by, means_of, source_means, source_terms, lowered_means, source_type_of, declaring, ClassDeclared, whole, with_all, in_body}
 use Rattle.es_steps.specs.Members.{codes_in}
+use Rattle.es_steps.specs.Opening.{definitions, opening}
 use Rattle.es_steps.specs.Options.{class_properties_alone}
 use Rattle.es_steps.specs.Parts.{at}
+use Rattle.es_steps.specs.PrivateNames.{PrivateMember, private_members}
 use Rattle.es_steps.specs.Reading.{read, read_part, read_items}
 use Rattle.es_steps.specs.References.{declared, written}
 use Rattle.es_steps.specs.Scopes.{Declaration, lexical_items, body_names}
-use Rattle.es_steps.specs.Statements.{value_or_undefined}
-use Rattle.es_steps.specs.Values.{String, ConstantOf, StringOf, Undefined, ThisOf, NewTargetOf, ArgumentsOf}
-use Rattle.class_properties.proofs.Constructions.{Fields, no_fields, with_field, ArePlain, field_codes, definition_codes, plain_form, lowered_codes, pair_of_classes, ArePairs, lowered_classes_mean}
-use Rattle.class_properties.proofs.Declared.{lexical-definitions, names-definitions, names-lowered, written-lowered, functions-lowered, declaring-lowered}
+use Rattle.es_steps.specs.Statements.{value_or_undefined, field_form}
+use Rattle.es_steps.specs.Values.{String, ConstantOf, StringOf, Undefined, ThisOf, ArgumentsOf, Bound, Free}
+use Rattle.es_steps.specs.declared.options.Options.{Options}
+use Rattle.class_properties.proofs.Constructions.{Fields, no_fields, with_field, ArePlain, field_codes, Defines, none_defined, defined, AreLowered, no_constructor, one_constructor, pair_of_classes, ArePairs, RunAlike, pairs-run}
+use Rattle.class_properties.proofs.Declared.{HasNone, source-none, lowered-none, lexical-definitions, names-definitions, names-lowered, written-lowered, declaring-lowered}
 use Rattle.class_properties.proofs.Shaped.{IsValue, no_value, a_literal, a_reference, a_key, a_field, AreFields, a_body, a_name as a_class_name, a_class, AreClasses, IsProgram, a_program, first_form-shaped}
 use Rattle.class_properties.proofs.Numbered.{key_string, value_from, definitions_from, lowered_elements, lowered_statements}
 use Rattle.class_properties.proofs.Numbered as numbered
@@ -37,78 +44,153 @@ use Rattle.class_properties.specs.Lowering.{lowered}
 still_new : {first : ℕ} (k more : ℕ) → first ≤ k → first ≤ k + more
 still_new k more new = omega (arith, new)
 
--- ---- the statements of a program m with these names, the first new node having number `first`
+-- ---- contexts: what of one the value of a field reads
 
-module _ (first : ℕ) (written_names : List ℕ) (names : List Declaration) (m : ℕ) where
-  abbrev context : Context
-  context = record { first_new = first; ledger = []; options = class_properties_alone; written = written_names; names = names; this = ThisOf m; new_target = NewTargetOf m; arguments = ArgumentsOf m; class = m; constructs = false }
+-- of a program without generated names, where no class has the name of the helpers, and where class properties alone are on
+pub record IsPlainContext (c : Context) : Type 0 where
+  pub ledger : c.ledger ≡ []
+  pub options : c.options ≡ class_properties_alone
+  pub helpers : declared (codes "babelHelpers") c.names ≡ None
 
-  -- the context in the body of class n, in the value of a field of it, and in its constructor
-  abbrev in_class : ℕ → Context
-  in_class n = record context { class = n }
+-- the value of a field in the body of a class, and the context of a statement of its constructor
+abbrev field_parts : Part → Part → Parts
+field_parts key v = tree.more key (tree.more v (tree.more (tree.boolean false) (tree.more (tree.boolean false) tree.end)))
 
-  abbrev in_value : ℕ → Context
-  in_value n = in_element false (in_class n)
+abbrev value_in : Context → ℕ → Part → Part → Code
+value_in c m key v = value_or_undefined (read_part (inside c Kind.PropertyDefinition m (field_parts key v) 1) v)
 
-  abbrev in_constructor : ℕ → Context
-  in_constructor n = in_function n (in_class n)
+pub record IsInConstructor (c d : Context) : Type 0 where
+  pub ledger : d.ledger ≡ []
+  pub first_new : d.first_new ≡ c.first_new
+  pub written : d.written ≡ c.written
+  pub writes_arguments : d.writes_arguments ≡ c.writes_arguments
+  pub names : d.names ≡ c.names
+  pub this : d.this ≡ ThisOf c.class
+  pub arguments : d.arguments ≡ ArgumentsOf c.class
 
-  abbrev fields_of : ℕ → Parts → Fields
-  fields_of n (tree.more (tree.child (Node kind i span semantic_id ps)) rest) = with_field (key_string (at 0 ps)) (value_or_undefined (read_part (in_value n) (at 1 ps))) (fields_of n rest)
-  fields_of n ps = no_fields
+-- ---- fields
 
-  value-plain : (n : ℕ) (v : Part) → IsValue v → IsPlain (value_or_undefined (read_part (in_value n) v))
-  value-plain n v no_value = a_value Undefined
-  value-plain n v (a_literal i span semantic_id w) = a_value (ConstantOf (constant_of w))
-  value-plain n v (a_reference i span semantic_id s) = plain-name (in_value n) i s (found_kind written_names s (declared s names)) (not_generated-found written_names s (declared s names))
+abbrev fields_of : Context → Parts → Fields
+fields_of c (tree.more (tree.child (Node kind m span semantic_id (tree.more key (tree.more v ps)))) rest) = with_field (key_string key) (value_in c m key v) (fields_of c rest)
+fields_of c ps = no_fields
 
-  fields-plain : (n : ℕ) (es : Parts) → AreFields es → ArePlain (fields_of n es)
-  fields-plain n tree.end h = tt
-  fields-plain n (tree.more p es) (a_field i span semantic_id k v hk hv, h) = (value-plain n v hv, fields-plain n es h)
+name-plain : (c : Context) (m : ℕ) (s : String) → c.ledger ≡ [] → IsPlain (name_code c m s)
+name-plain c m s l = rw l (plain-name c m s (found_kind c.first_new c.written s (declared s c.names)) (not_generated-found c.first_new c.written s (declared s c.names)))
 
-  fields-read : (n : ℕ) (es : Parts) → AreFields es → codes_in (read_items (in_class n) es) ≡ field_codes (fields_of n es)
-  fields-read n tree.end h = refl
-  fields-read n (tree.more p es) (a_field i span semantic_id k v (a_key j jspan j_semantic_id s) hv, h) = rw (fields-read n es h) refl
+value-plain : (c : Context) (v : Part) → c.ledger ≡ [] → IsValue v → IsPlain (value_or_undefined (read_part c v))
+value-plain c v l no_value = a_value Undefined
+value-plain c v l (a_literal i span semantic_id w) = a_value (ConstantOf (constant_of w))
+value-plain c v l (a_reference i span semantic_id s) = name-plain c i s l
 
-  -- a value reads in the constructor as in the field
-  value-read : (n k : ℕ) (v : Part) → IsValue v → read (in_constructor n) (value_from k v) ≡ value_or_undefined (read_part (in_value n) v)
-  value-read n k v no_value = refl
-  value-read n k v (a_literal i span semantic_id w) = refl
-  value-read n k v (a_reference i span semantic_id s) = refl
+fields-plain : (c : Context) (es : Parts) → c.ledger ≡ [] → AreFields es → ArePlain (fields_of c es)
+fields-plain c tree.end l h = tt
+fields-plain c (tree.more p es) l (a_field i span semantic_id k v hk hv, h) = (value-plain (inside c Kind.PropertyDefinition i (field_parts k v) 1) v l hv, fields-plain c es l h)
 
-  -- where no class has the name of the helpers
-  module _ (free : declared (codes "babelHelpers") names ≡ None) where
-    define-read : (n k : ℕ) (s : String) (v : Tree) → first ≤ k → read (in_constructor n) (define_at k s v) ≡ steps (and (define (ThisOf n) (value (ConstantOf (StringOf s))) (read (in_constructor n) v)) done)
-    define-read n k s v new =
-        let later : nat_le first (k + 3) ≡ true = le-leb first (k + 3) (omega (arith, new)) in
-        rw (free, later) (refl {a = steps (and (define (ThisOf n) (value (ConstantOf (StringOf s))) (read (in_constructor n) v)) done)})
+fields-read : (c : Context) (es : Parts) → c.options ≡ class_properties_alone → AreFields es → codes_in (read_items c es) ≡ field_codes (fields_of c es)
+fields-read c tree.end o h = refl
+fields-read c (tree.more p es) o (a_field i span semantic_id k v (a_key j jspan j_semantic_id s) hv, h) =
+    ap₂ and
+    (ap (λ (x : Options). field false (field_form x false (spelled s) (read_part (inside c Kind.PropertyDefinition i (field_parts k v) 1) v)) (value (ConstantOf (StringOf s))) (value_in c i k v)) o)
+    (fields-read c es o h)
 
-    definitions-read : (n : ℕ) (es : Parts) → AreFields es → (k : ℕ) → first ≤ k → codes_in (read_items (in_constructor n) (trees (definitions_from k es))) ≡ definition_codes n (fields_of n es)
-    definitions-read n tree.end h k new = refl
-    definitions-read n (tree.more p es) (a_field i span semantic_id key v (a_key j jspan j_semantic_id s) hv, h) k new =
-        ap₂ and
-        (define-read n k s (value_from (k + 7) v) new ∙ ap (λ e. steps (and (define (ThisOf n) (value (ConstantOf (StringOf s))) e) done)) (value-read n (k + 7) v hv))
-        (definitions-read n es h _ (still_new k _ new))
+-- a name reads alike where the same is known of it
+kind-same : (c d : Context) (m : ℕ) (s : String) (kind : NameKind) → IsNotGenerated kind → d.writes_arguments ≡ c.writes_arguments → d.arguments ≡ c.arguments → name_or_arguments d m s kind ≡ name_or_arguments c m s kind
+kind-same c d m s kind (fixed b) w a = refl
+kind-same c d m s kind (changing (Bound b)) w a = refl
+kind-same c d m s kind (changing (Free t)) w a = rw (w, a) refl
+kind-same c d m s kind (means_class n b) w a = refl
 
-    constructor-read : (n k : ℕ) (ts : List Tree) → first ≤ k → lexical_items (trees ts) ≡ [] → body_names (trees ts) ≡ [] → read (in_class n) (constructor_at k ts) ≡ constructor (function (k + 2) plain_form done (steps (codes_in (read_items (in_constructor n) (trees ts)))))
-    constructor-read n k ts new lexical body =
-        let later : nat_le first (k + 2) ≡ true = le-leb first (k + 2) (omega (arith, new)) in
-        rw (later, body, lexical, joined-done (codes_in (read_items (in_constructor n) (trees ts)))) refl
+name-same : (c d : Context) (m : ℕ) (s : String) → c.ledger ≡ [] → d.ledger ≡ [] → d.first_new ≡ c.first_new → d.written ≡ c.written → d.names ≡ c.names → d.writes_arguments ≡ c.writes_arguments → d.arguments ≡ c.arguments → name_code d m s ≡ name_code c m s
+name-same c d m s l k first written names w a = rw (l, k, first, written, names) (kind-same c d m s (found_kind c.first_new c.written s (declared s c.names)) (not_generated-found c.first_new c.written s (declared s c.names)) w a)
 
-    elements-read : (n : ℕ) (es : Parts) → AreFields es → (k : ℕ) → first ≤ k → codes_in (read_items (in_class n) (lowered_elements k es)) ≡ lowered_codes n (k + 2) (fields_of n es)
-    elements-read n tree.end h k new = refl
-    elements-read n (tree.more p es) (a_field i span semantic_id key v hk hv, h) k new =
-        let all : AreFields (tree.more p es) = (a_field i span semantic_id key v hk hv, h) in
-        ap (λ c. and c done)
-        (constructor-read n k (definitions_from (k + 4) (tree.more p es)) new (lexical-definitions (tree.more p es) all (k + 4)) (names-definitions (tree.more p es) all (k + 4))
-        ∙ ap (λ cs. constructor (function (k + 2) plain_form done (steps cs))) (definitions-read n (tree.more p es) all (k + 4) (still_new k 4 new)))
+-- ---- statements of the constructor
 
-    classes-read : (ps : Parts) → AreClasses ps → (k : ℕ) → first ≤ k → ArePairs (codes_in (read_items context ps)) (codes_in (read_items context (lowered_statements k ps)))
-    classes-read tree.end h k new = tt
-    classes-read (tree.more p ps) (a_class n span semantic_id id body (a_class_name i ispan i_semantic_id s other) (a_body j bspan b_semantic_id es he), h) k new = (
-      rw (joined-done (codes_in (read_items (in_class n) es)), joined-done (codes_in (read_items (in_class n) (lowered_elements k es))), fields-read n es he, elements-read n es he k new)
-          (pair_of_classes n (k + 2) _ (fields_of n es) (fields-plain n es he)),
-      classes-read ps h _ (still_new k _ new),
+-- a value reads in the constructor as in the field
+value-same : (c d : Context) (k m : ℕ) (key v : Part) → c.ledger ≡ [] → IsInConstructor c d → IsValue v → read d (value_from k v) ≡ value_in c m key v
+value-same c d k m key v l i no_value = refl
+value-same c d k m key v l i (a_literal j span semantic_id w) = refl
+value-same c d k m key v l i (a_reference j span semantic_id s) =
+    name-same (inside c Kind.PropertyDefinition m (field_parts key v) 1) d j s l i.ledger i.first_new i.written i.names i.writes_arguments i.arguments
+
+-- the context of an argument of the call
+abbrev in_call : Context → ℕ → Context
+in_call d k = inside (inside d Kind.ExpressionStatement k tree.end 0) Kind.CallExpression (k + 1) tree.end 1
+
+define-read : (c d : Context) (k : ℕ) (s : String) (w : Tree) → declared (codes "babelHelpers") c.names ≡ None → c.first_new ≤ k → IsInConstructor c d → read d (define_at k s w) ≡ steps (and (define (k + 1) (ThisOf c.class) (value (ConstantOf (StringOf s))) (read (in_call d k) w)) done)
+define-read c d k s w helpers new i =
+    let later : nat_le c.first_new (k + 3) ≡ true = le-leb c.first_new (k + 3) (omega (arith, new)) in
+    rw (i.ledger, i.names, helpers, i.first_new, later, i.this) refl
+
+definition-read : (c d : Context) (k m : ℕ) (key v : Part) (s : String) → c.ledger ≡ [] → declared (codes "babelHelpers") c.names ≡ None → c.first_new ≤ k → IsInConstructor c d → IsValue v → read d (define_at k s (value_from (k + 7) v)) ≡ steps (and (define (k + 1) (ThisOf c.class) (value (ConstantOf (StringOf s))) (value_in c m key v)) done)
+definition-read c d k m key v s l helpers new i h =
+    let there : IsInConstructor c (in_call d k) = record { ledger = i.ledger; first_new = i.first_new; written = i.written; writes_arguments = i.writes_arguments; names = i.names; this = i.this; arguments = i.arguments } in
+    define-read c d k s (value_from (k + 7) v) helpers new i ∙ ap (λ x. steps (and (define (k + 1) (ThisOf c.class) (value (ConstantOf (StringOf s))) x) done)) (value-same c (in_call d k) (k + 7) m key v l there h)
+
+definitions-read : (c d : Context) (es : Parts) → c.ledger ≡ [] → declared (codes "babelHelpers") c.names ≡ None → IsInConstructor c d → AreFields es → (k : ℕ) → c.first_new ≤ k → Defines c.class (fields_of c es) (codes_in (read_items d (trees (definitions_from k es))))
+definitions-read c d tree.end l free i h k new = none_defined
+definitions-read c d (tree.more p es) l free i (a_field m span semantic_id key v (a_key j jspan j_semantic_id s) hv, h) k new =
+    let rest : Codes = codes_in (read_items d (trees (definitions_from _ es))) in
+    subst (λ x. Defines c.class (fields_of c (tree.more p es)) (and x rest)) (sym (definition-read c d k m key v s l free new i hv))
+    (defined (k + 1) (definitions-read c d es l free i h _ (still_new k _ new)))
+
+-- ---- classes
+
+-- two contexts where the same is known of names, in a body of the same class
+pub record AreAlike (c d : Context) : Type 0 where
+  pub ledger : d.ledger ≡ []
+  pub first_new : d.first_new ≡ c.first_new
+  pub written : d.written ≡ c.written
+  pub writes_arguments : d.writes_arguments ≡ c.writes_arguments
+  pub names : d.names ≡ c.names
+  pub class : d.class ≡ c.class
+
+-- in the constructor k with these statements
+abbrev body_parts : List Tree → Parts
+body_parts ts = tree.more (tree.list (trees ts)) tree.end
+
+abbrev function_parts : ℕ → List Tree → Parts
+function_parts k ts = tree.more tree.absent (tree.more (tree.list tree.end) (tree.more (tree.child (Node Kind.BlockStatement (k + 3) None None (body_parts ts))) (tree.more (tree.boolean false) (tree.more (tree.boolean false) tree.end))))
+
+abbrev method_parts : ℕ → List Tree → Parts
+method_parts k ts = tree.more (tree.child (Node Kind.IdentifierName (k + 1) None None (tree.more (tree.string (codes "constructor")) tree.end))) (tree.more (tree.child (Node Kind.FunctionExpression (k + 2) None None (function_parts k ts))) (tree.more (tree.string (codes "constructor")) (tree.more (tree.boolean false) (tree.more (tree.boolean false) tree.end))))
+
+abbrev in_constructor : Context → ℕ → List Tree → Context
+in_constructor c k ts = inside (inside (inside c Kind.MethodDefinition k (method_parts k ts) 1) Kind.FunctionExpression (k + 2) (function_parts k ts) 2) Kind.BlockStatement (k + 3) (body_parts ts) 0
+
+constructor-context : (c d : Context) (k : ℕ) (ts : List Tree) → AreAlike c d → body_names (trees ts) ≡ [] → IsInConstructor c (in_constructor d k ts)
+constructor-context c d k ts a no_names = record { ledger = a.ledger; first_new = a.first_new; written = a.written; writes_arguments = a.writes_arguments; names = rw no_names a.names; this = ap ThisOf a.class; arguments = ap ArgumentsOf a.class }
+
+constructor-read : (d : Context) (k : ℕ) (ts : List Tree) → d.first_new ≤ k → read d (constructor_at k ts) ≡ constructor (new_function (k + 2) plain_form done (steps (codes_in (read_items (in_constructor d k ts) (trees ts)))))
+constructor-read d k ts new =
+    let later : nat_le d.first_new (k + 2) ≡ true = le-leb d.first_new (k + 2) (omega (arith, new)) in
+    rw (joined-done (codes_in (read_items (in_constructor d k ts) (trees ts))), later) refl
+
+elements-read : (c d : Context) (es : Parts) → c.ledger ≡ [] → declared (codes "babelHelpers") c.names ≡ None → AreAlike c d → AreFields es → (k : ℕ) → c.first_new ≤ k → AreLowered c.class (fields_of c es) (codes_in (read_items d (lowered_elements k es)))
+elements-read c d tree.end l free a h k new = no_constructor
+elements-read c d (tree.more p es) l free a (a_field m span semantic_id key v (a_key j jspan j_semantic_id s) hv, h) k new =
+    let all : AreFields (tree.more p es) = (a_field m span semantic_id key v (a_key j jspan j_semantic_id s) hv, h) in
+    let ts : List Tree = definitions_from (k + 4) (tree.more p es) in
+    let i : IsInConstructor c (in_constructor d k ts) = constructor-context c d k ts a (names-definitions (tree.more p es) all (k + 4)) in
+    let new_there : d.first_new ≤ k = rw a.first_new new in
+    subst (λ x. AreLowered c.class (fields_of c (tree.more p es)) (and x done)) (sym (constructor-read d k ts new_there))
+    (one_constructor (k + 2) (definitions-read c (in_constructor d k ts) (tree.more p es) l free i all (k + 4) (still_new k 4 new)))
+
+name_kind-same : (c d : Context) (s : String) → c.ledger ≡ [] → AreAlike c d → name_kind d s ≡ name_kind c s
+name_kind-same c d s l a = rw (l, a.ledger, a.first_new, a.written, a.names) refl
+
+classes-read : (c d : Context) (ps : Parts) → IsPlainContext c → AreAlike c d → AreClasses ps → (k : ℕ) → c.first_new ≤ k → ArePairs (codes_in (read_items c ps)) (codes_in (read_items d (lowered_statements k ps)))
+classes-read c d tree.end x a h k new = tt
+classes-read c d (tree.more p ps) x a (a_class n span semantic_id id body (a_class_name i ispan i_semantic_id s other) (a_body j bspan b_semantic_id es he), h) k new =
+    let elements : Parts = tree.more (tree.list es) tree.end in
+    let lowered : Parts = tree.more (tree.list (lowered_elements k es)) tree.end in
+    let parts : Parts = tree.more id (tree.more tree.absent (tree.more body tree.end)) in
+    let lowered_parts : Parts = tree.more id (tree.more tree.absent (tree.more (tree.child (Node Kind.ClassBody j bspan b_semantic_id lowered)) tree.end)) in
+    let e : Context = inside (inside c Kind.ClassDeclaration n parts 2) Kind.ClassBody j elements 0 in
+    let f : Context = inside (inside d Kind.ClassDeclaration n lowered_parts 2) Kind.ClassBody j lowered 0 in
+    let alike : AreAlike e f = record { ledger = a.ledger; first_new = a.first_new; written = a.written; writes_arguments = a.writes_arguments; names = a.names; class = refl } in (
+      rw (joined-done (codes_in (read_items e es)), joined-done (codes_in (read_items f (lowered_elements k es))), fields-read e es x.options he, name_kind-same c d s x.ledger a)
+          (pair_of_classes n _ (fields_of e es) _ (fields-plain e es x.ledger he) (elements-read e f es x.ledger x.helpers alike he k new)),
+      classes-read c d ps x a h _ (still_new k _ new),
     )
 
 -- ---- programs
@@ -123,19 +205,45 @@ helpers-free tree.end h = refl
 helpers-free (tree.more p ps) (a_class n span semantic_id id body (a_class_name i ispan i_semantic_id s other) hbody, h) =
     rw (or_false (bytes_eq (codes "babelHelpers") s) _ other) (helpers-free ps h)
 
-program-means : (t : Tree) → IsProgram t → means (nodes t) class_properties_alone [] (numbered.lowered t) ≡ source_means class_properties_alone t
+abbrev terms : ℕ → Options → List PrivateMember → Terms
+terms first options members = record { first_new = first; options = options; ledger = []; members = members; late = [] }
+
+abbrev nothing_listed : Option Listed
+nothing_listed = Some (record { events = none; value = Undefined })
+
+pairs-mean : (first : ℕ) (options : Options) (members : List PrivateMember) (p q : Tree) (cs ds : Codes) → members ≡ [] → ArePairs cs ds → HasNone p → HasNone q
+    → source_type_of q ≡ source_type_of p → declaring first ClassDeclared q ≡ declaring first ClassDeclared p → means_of (terms first options members) q (steps ds) ≡ means_of (terms first options members) p (steps cs)
+pairs-mean first options members p q cs ds none_there h np nq source_type bindings =
+    let o : Terms = terms first options members in
+    let run : RunAlike (opening (definitions (steps cs))) (opening (definitions (steps ds))) first cs ds = pairs-run (opening (definitions (steps cs))) (opening (definitions (steps ds))) first cs ds h in
+    let es : Option (List (ℕ × Entry)) = whole (entries (opening (definitions (steps cs))) first [] [] [] (steps cs)) in
+    let here : means_of o p (steps cs) ≡ with_all o p nothing_listed es (Some []) (Some []) = rw (run.source, np.exports (in_body (start o p) p) [], none_there) refl in
+    let there : means_of o q (steps ds) ≡ with_all o q nothing_listed es (Some []) (Some []) = rw (run.lowered, nq.exports (in_body (start o q) q) [], run.entries, none_there) refl in
+    there ∙ told es ∙ sym here
+  where
+    told : (es : Option (List (ℕ × Entry))) → with_all (terms first options members) q nothing_listed es (Some []) (Some []) ≡ with_all (terms first options members) p nothing_listed es (Some []) (Some [])
+    told None = refl
+    told (Some es) = rw (source_type, bindings, nq.functions, np.functions, nq.links first, np.links first) refl
+
+program-means : (t : Tree) → IsProgram t → lowered_means class_properties_alone [] t (numbered.lowered t) ≡ source_means class_properties_alone t
 program-means t (a_program m span semantic_id s all h) =
     let first : ℕ = nodes t in
     let p : IsProgram t = a_program m span semantic_id s all h in
-    let c : Context = context first (written t) (body_names all ++ []) m in
+    let q : Tree = numbered.lowered t in
+    let o : Terms = source_terms class_properties_alone t in
+    let low : Parts = lowered_statements first all in
+    let c : Context = inside (start o t) Kind.Program m (tree.more (tree.string s) (tree.more (tree.list all) tree.end)) 1 in
+    let d : Context = inside (start o q) Kind.Program m (tree.more (tree.string s) (tree.more (tree.list low) tree.end)) 1 in
+    let np : HasNone t = source-none t p in
+    let nq : HasNone q = lowered-none first t p in
+    let plain : IsPlainContext c = record { ledger = refl; options = refl; helpers = helpers-free all h } in
+    let alike : AreAlike c d = record { ledger = refl; first_new = refl; written = written-lowered first t p; writes_arguments = nq.free ∙ sym np.free; names = ap (λ ns. ns ++ []) (names-lowered all h first); class = refl } in
     let here : Codes = codes_in (read_items c all) in
-    let there : Codes = codes_in (read_items c (lowered_statements first all)) in
-    let source : read (start first class_properties_alone [] t) t ≡ steps here = ap steps (joined-done here) in
-    let low : read (start first class_properties_alone [] (numbered.lowered t)) (numbered.lowered t) ≡ steps there = rw (written-lowered first t p, names-lowered all h first) (ap steps (joined-done there)) in
-    ap (means_of first [] (numbered.lowered t)) low
-    ∙ lowered_classes_mean first t (numbered.lowered t) here there (classes-read first (written t) (body_names all ++ []) m (helpers-free all h) all h first (omega arith)) refl (functions-lowered first t p) (declaring-lowered first t p)
-    ∙ sym (ap (means_of first [] t) source)
+    let there : Codes = codes_in (read_items d low) in
+    ap (λ cs. means_of o q (steps cs)) (joined-done there)
+    ∙ pairs-mean first class_properties_alone (private_members t) t q here there np.members (classes-read c d all plain alike h first (omega arith)) np nq refl (declaring-lowered first first t p)
+    ∙ sym (ap (λ cs. means_of o t (steps cs)) (joined-done here))
 
 -- the lowered program means what its source means
-pub lowered-means : (t : Tree) → conforms Place.Program t ≡ true → is_first_form t [] ≡ true → t ≡ numbered_from 0 t → means (nodes t) class_properties_alone [] (lowered t) ≡ source_means class_properties_alone t
-lowered-means t f h e = ap (means (nodes t) class_properties_alone []) (lowered-numbered t f h e) ∙ program-means t (first_form-shaped t [] f h)
+pub lowered-means : (t : Tree) → conforms Place.Program t ≡ true → is_first_form t [] ≡ true → t ≡ numbered_from 0 t → lowered_means class_properties_alone [] t (lowered t) ≡ source_means class_properties_alone t
+lowered-means t f h e = ap (lowered_means class_properties_alone [] t) (lowered-numbered t f h e) ∙ program-means t (first_form-shaped t [] f h)
