@@ -5,6 +5,8 @@ from files import BASE, NODE, code_head, snake, spec_head, write
 from kinds import FIXED_WORDS, ROWS, WORDS
 from print_parts import NUMBERS, SHAPES
 
+WIDTH, NO_BREAK = 100, '\u00a0'
+
 # module of kinds.py: (its crate, what its file has)
 MODULES = {
     'program': ('es_tree', 'The root.'),
@@ -37,8 +39,8 @@ class Member:
     """A member: how it is read (`as_..` and `into_..` of `Part`), what holds it, and its part in specs and in code."""
 
     def __init__(self, estree, field, sort):
-        self.is_field, self.name, self.is_word = field is not None, field or estree, sort[0] == 'Word'
-        if self.is_word:
+        self.is_field, self.name = field is not None, field or estree
+        if sort[0] == 'Word':
             word = sort[1]
             self.method, self.owned, self.borrowed, self.spec_type = snake(word), word, word, word
             self.spec_part, self.code_part = f'string ({snake(word)}_string {{}})', f'Part::Word(Word::{word}({{}}))'
@@ -57,10 +59,10 @@ class Member:
     def seen(self, value):
         """what the borrowed member is to a contract"""
         if self.borrowed.startswith('&'): return f'{value}.now'
-        return f'(option_map (λ x. x.now) {value})' if '&' in self.borrowed else value
+        return unbroken(f'(option_map (λ x. x.now) {value})') if '&' in self.borrowed else value
 
 
-class Form:
+class NodeKind:
     """A kind with its members."""
 
     def __init__(self, kind, row):
@@ -69,8 +71,6 @@ class Form:
         self.id, self.id_type = bears or (None, None)
         self.members = [Member(*m) for m in members]
         self.fields = [m for m in self.members if m.is_field]
-        # words are read last: where a word is known to be one of its set, fewer proofs find the shapes of other parts
-        self.read = sorted(self.fields, key=lambda m: m.is_word)
         self.count = NUMBERS[len(members)]
         # a program has the numbers of its foreign nodes beside its tree
         self.has_foreign = kind == 'Program'
@@ -79,28 +79,46 @@ class Form:
 
     def tree(self, value, seen=lambda m, x: x):
         """the tree of a struct's value"""
-        semantic_id = [f'({self.number()} {value}.{self.id})'] if self.id else []
-        return ' '.join([self.name, f'{value}.node_id.0', f'(span_of {value}.span)'] + semantic_id + [seen(m, f'{value}.{m.name}') for m in self.fields])
+        semantic_id = [unbroken(f'({self.number()} {value}.{self.id})')] if self.id else []
+        return ' '.join([self.name, f'{value}.node_id.0', unbroken(f'(span_of {value}.span)')] + semantic_id + [seen(m, f'{value}.{m.name}') for m in self.fields])
 
     def seen_tree(self, value): return self.tree(value, Member.seen)
 
 
+def unbroken(text): return text.replace(' ', NO_BREAK)
+
+
+def wrapped(text, indent, deeper):
+    """the text in lines of at most WIDTH characters"""
+    lines = [indent]
+    for piece in text.split(' '):
+        if len(lines[-1]) + len(piece) > WIDTH: lines.append(deeper)
+        lines[-1] += piece + ' '
+    return '\n'.join(line.rstrip(' ') for line in lines).replace(NO_BREAK, ' ')
+
+
+def clause(name, fact, indent=' ' * 8): return wrapped(f'{unbroken(name + " { ")}{fact}{NO_BREAK}}}', indent, indent + '    ')
+
+
+def documented(text): return wrapped(text, '/// ', '/// ')
+
+
 def spec(form):
     arguments = [('node_id', 'ℕ'), ('span', 'Option (ℕ × ℕ)')] + ([(form.id, 'Option ℕ')] if form.id else []) + [(m.name, m.spec_type) for m in form.fields]
-    parts = 'end'
-    for m in reversed(form.members):
-        parts = f'more ({m.spec_part.format(m.name)}) {parts if parts == "end" else f"({parts})"}'
-    parts = parts if parts == 'end' else f'({parts})'
+    parts = ''.join(unbroken(f'(more ({m.spec_part.format(m.name)})') + ' ' for m in form.members) + 'end' + ')' * len(form.members)
+    node = f'Node Kind.{form.kind} node_id span {form.id or "None"} {parts}'
     return f'''
--- {form.doc}
-abbrev pub {form.name} : {' → '.join(t for _, t in arguments)} → Tree
-{form.name} {' '.join(n for n, _ in arguments)} = Node Kind.{form.kind} node_id span {form.id or 'None'} {parts}
+{wrapped(form.doc, '-- ', '-- ')}
+{wrapped(f"abbrev pub {form.name} : {' → '.join(unbroken(t) for _, t in arguments)} → Tree".replace('→ ', '→' + NO_BREAK), '', '    ')}
+{form.name} {' '.join(n for n, _ in arguments)} =
+{wrapped(node, '    ', '      ')}
 '''
 
 
 def clauses(form, tree, foreign):
-    """the clauses of a conversion: the tree alone, and of a program its foreign nodes too"""
-    return f'ensures tree {{ {tree} }}\n        ensures foreign {{ {foreign} }}' if form.has_foreign else f'ensures {{ {tree} }}'
+    """the clauses of a conversion: of the tree, and for a program of its foreign nodes too"""
+    if not form.has_foreign: return clause('ensures', tree)
+    return clause('ensures tree', tree) + '\n' + clause('ensures foreign', foreign)
 
 
 def struct_fields(form, types, foreign):
@@ -116,13 +134,16 @@ def owned(form):
     pattern = names if len(form.members) == 1 else f'({names})'
     constants = ''.join(f'        {m.name}.into_{m.method}();\n' for m in form.members if not m.is_field)
     semantic_id = f'{form.id}: {form.id}_of(contents.semantic_id), ' if form.id else ''
-    fields = ''.join(f'{m.name}: {m.name}.into_{m.method}(), ' for m in form.read)
+    fields = ''.join(f'{m.name}: {m.name}.into_{m.method}(), ' for m in form.fields)
     parts = ', '.join(m.code_part.format(f'self.{m.name}') for m in form.members)
     node = f'Node::new(Kind::{form.kind}, Contents {{ node_id: self.node_id, span: self.span, semantic_id: {f"{form.number()}(self.{form.id})" if form.id else "None"}, parts }})'
-    parameter, given, answer, result = ('', '', 'Node', 'result')
-    if form.has_foreign: parameter, given, answer, result, node = ', foreign: List<NodeId>', 'foreign, ', '(Node, List<NodeId>)', 'result.0', f'({node}, self.foreign)'
+    parameter, given, answer, result, also, back = '', '', 'Node', 'result', '', ''
+    if form.has_foreign:
+        parameter, given, answer, result = ', foreign: List<NodeId>', 'foreign, ', '(Node, List<NodeId>)', 'result.0'
+        also, back = '; `foreign` has the numbers of its foreign nodes', ', with the numbers of its foreign nodes'
+        node = f'({node}, self.foreign)'
     return f'''
-/// {form.doc}
+{documented(form.doc)}
 #[derive(Drop)]
 pub struct {form.kind} {{
 {struct_fields(form, [m.owned for m in form.fields], 'List<NodeId>')}    emptied_parts: List<Part>,
@@ -130,10 +151,10 @@ pub struct {form.kind} {{
 }}
 
 impl {form.kind} {{
-    /// Takes a node of this kind apart.
+    /// Takes a node of this kind apart{also}.
     pub fn from_node(node: Node{parameter}) -> {form.kind}
         requires {{ kind_of node ≡ Kind.{form.kind} }}
-        {clauses(form, f'node ≡ {form.tree("result")}', 'result.foreign ≡ foreign')}
+{clauses(form, f'node ≡ {form.tree("result")}', 'result.foreign ≡ foreign')}
     {{
         let contents = node.into_contents();
         let mut emptied_parts = contents.parts;
@@ -141,9 +162,9 @@ impl {form.kind} {{
 {constants}        {form.kind} {{ node_id: contents.node_id, span: contents.span, {semantic_id}{fields}{given}emptied_parts }}
     }}
 
-    /// Puts the node together again. Takes no memory.
+    /// Puts the node together again{back}. Takes no memory.
     pub fn into_node(self) -> {answer}
-        {clauses(form, f'{result} ≡ {form.tree("self")}', 'result.1 ≡ self.foreign')}
+{clauses(form, f'{result} ≡ {form.tree("self")}', 'result.1 ≡ self.foreign')}
     {{
         let mut parts = self.emptied_parts;
         put_{form.count}(&mut parts, {parts});
@@ -156,13 +177,13 @@ impl {form.kind} {{
 def into_expression(form):
     """a declaration as an expression"""
     if not form.kind.endswith('Declaration') or len(form.kinds) != 2: return ''
-    to = Form(form.kinds[1], (None, form.kinds, (form.id, form.id_type), form.doc, []))
+    to = NodeKind(form.kinds[1], (None, form.kinds, (form.id, form.id_type), form.doc, []))
     to.fields = form.fields
     names = ['node_id', 'span'] + ([form.id] if form.id else []) + [m.name for m in form.fields] + ['emptied_parts']
     return f'''
     /// The same as an expression: the kind alone changes.
     pub fn into_expression(self) -> {to.kind}
-        ensures {{ {to.tree('result')} ≡ of_kind Kind.{to.kind} ({form.tree('self')}) }}
+{clause('ensures', f"{to.tree('result')} {unbroken(f'≡ of_kind Kind.{to.kind}')} ({form.tree('self')})")}
     {{
         {to.kind} {{ {', '.join(f'{n}: self.{n}' for n in names)} }}
     }}
@@ -173,7 +194,7 @@ def borrowed(form):
     names = ', '.join(m.name for m in form.members)
     constants = ''.join(f'                {m.name}.as_{m.method}();\n' for m in form.members if not m.is_field)
     semantic_id = f'{form.id}: {form.id}_of(node.semantic_id()), ' if form.id else ''
-    fields = ''.join(f'{m.name}: {m.name}.as_{m.method}(), ' for m in form.read)
+    fields = ''.join(f'{m.name}: {m.name}.as_{m.method}(), ' for m in form.fields)
     parameter, given = (", foreign: &'a [NodeId]", 'foreign, ') if form.has_foreign else ('', '')
     value = f'{form.ref} {{ node_id: node.node_id(), span: node.span(), {semantic_id}{fields}{given}}}'
     arm = f'{{\n{constants}                {value}\n            }}' if constants else value
@@ -187,7 +208,7 @@ impl<'a> {form.ref}<'a> {{
     /// Reads a node of this kind.
     pub fn from_node(node: &'a Node{parameter}) -> {form.ref}<'a>
         requires {{ kind_of node.now ≡ Kind.{form.kind} }}
-        {clauses(form, f'node.now ≡ {form.seen_tree("result")}', 'result.foreign.now ≡ foreign.now')}
+{clauses(form, f'node.now ≡ {form.seen_tree("result")}', 'result.foreign.now ≡ foreign.now')}
     {{
         match node.parts() {{
             [{names}] => {arm},
@@ -202,10 +223,9 @@ def maker(form):
     tree = ' '.join([form.name, 'unnumbered', 'None'] + (['None'] if form.id else []) + [m.name for m in form.fields])
     parts = ', '.join(m.code_part.format(m.name) for m in form.members)
     return f'''
-/// Makes a node of this kind, which has no number yet: {form.doc[:1].lower() + form.doc[1:]}
-/// Fails on allocation failure alone.
+{documented(f'Makes a node of this kind, which has no number yet: {form.doc[:1].lower() + form.doc[1:]} Fails on allocation failure alone.')}
 pub fn make_{form.name}(alloc: Global{''.join(f', {m.name}: {m.owned}' for m in form.fields)}) -> Result<Node, AllocError>
-    ensures {{ IfOk result (λ t. t ≡ {tree}) }}
+{clause('ensures', f'IfOk result (λ t. t ≡ {tree})', '    ')}
 {{
     let parts = {f'vec![in alloc; {parts}]?' if parts else 'Vec::new(alloc)'};
     Ok(Node::new(Kind::{form.kind}, Contents {{ node_id: NodeId::DUMMY, span: None, semantic_id: None, parts: List::from_vec(parts) }}))
@@ -224,7 +244,7 @@ def import_lines(body, sources, line):
 
 def code_imports(body, specs_of, forms):
     numbers = ['scope_number', 'symbol_number', 'reference_number']
-    ghost = import_lines('\n'.join(x for x in body.split('\n') if re.search(r'requires|ensures|ghost', x)), [
+    ghost = import_lines('\n'.join(re.findall(r'(?:requires|ensures|ghost) [^{]*\{[^}]*\}', body)), [
         ('Rattle.std.specs.Prelude', ['◌≡◌', 'IfOk', 'None', 'length', 'option_map']),
         (f'Rattle.{BASE}.specs.Carried', ['span_of'] + numbers),
         (f'Rattle.{BASE}.specs.Numbered', ['unnumbered']),
@@ -257,9 +277,9 @@ def spec_imports(body):
 
 def write_layer():
     for module, (crate, what) in MODULES.items():
-        forms = [Form(kind, row) for row in ROWS.values() if row[0] == module for kind in row[1]]
+        forms = [NodeKind(kind, row) for row in ROWS.values() if row[0] == module for kind in row[1]]
         specs, file = ''.join(map(spec, forms)), module.capitalize()
         lines = '\n'.join(x for x in specs.split('\n') if not x.startswith('--'))
         write(f'specs/{file}.antt', spec_head(what[:-1] + ': the tree of each kind by its members (ESTree; the order of members is our own).') + spec_imports(lines) + specs, crate)
         body = ''.join((owned(f) + borrowed(f) if f.members else '') + maker(f) for f in forms)
-        write(f'src/{module}.rt', code_head(what + ' Each kind has a struct of its members, which keeps the emptied list of its\n// node\'s parts, the same borrowed, and a maker.') + '\n' + code_imports(body, f'Rattle.{crate}.specs.{file}', forms) + body, crate)
+        write(f'src/{module}.rt', code_head(wrapped(f'{what} Each kind has a struct of its members, which keeps the emptied list of its node\'s parts, the same borrowed, and a maker.', '', '// ')) + '\n' + code_imports(body, f'Rattle.{crate}.specs.{file}', forms) + body, crate)

@@ -57,6 +57,13 @@ impl<T> List<T> {
         self.items.as_slice()
     }
 
+    /// The empty list, with this list's allocator. Allocates nothing.
+    pub fn empty_list(&self) -> List<T>
+        ensures { result ≡ [] }
+    {
+        List::new(*self.items.allocator())
+    }
+
     /// The items, to be changed: when the borrow ends, the list has what the slice shows last.
     pub fn as_mut_slice(&mut self) -> &mut [T]
         ensures* writes_back { sem 𝓛 (Lends (the_row T.row) (Array T.row 0) self.entry result (refilled self.old)) }

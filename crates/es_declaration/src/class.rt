@@ -1,6 +1,6 @@
 // Printed by tools/tree.py from tools/kinds.py.
-// Classes and their elements. Each kind has a struct of its members, which keeps the emptied list of its
-// node's parts, the same borrowed, and a maker.
+// Classes and their elements. Each kind has a struct of its members, which keeps the emptied list of
+// its node's parts, the same borrowed, and a maker.
 
 ghost use Rattle.std.specs.Prelude.{◌≡◌, IfOk, None, length, option_map};
 ghost use Rattle.es_base.specs.Carried.{span_of, scope_number};
@@ -39,7 +39,8 @@ impl ClassDeclaration {
     /// Takes a node of this kind apart.
     pub fn from_node(node: Node) -> ClassDeclaration
         requires { kind_of node ≡ Kind.ClassDeclaration }
-        ensures { node ≡ class_declaration result.node_id.0 (span_of result.span) (scope_number result.scope_id) result.id result.super_class result.body }
+        ensures { node ≡ class_declaration result.node_id.0 (span_of result.span)
+            (scope_number result.scope_id) result.id result.super_class result.body }
     {
         let contents = node.into_contents();
         let mut emptied_parts = contents.parts;
@@ -57,7 +58,8 @@ impl ClassDeclaration {
 
     /// Puts the node together again. Takes no memory.
     pub fn into_node(self) -> Node
-        ensures { result ≡ class_declaration self.node_id.0 (span_of self.span) (scope_number self.scope_id) self.id self.super_class self.body }
+        ensures { result ≡ class_declaration self.node_id.0 (span_of self.span)
+            (scope_number self.scope_id) self.id self.super_class self.body }
     {
         let mut parts = self.emptied_parts;
         put_three(
@@ -79,7 +81,10 @@ impl ClassDeclaration {
 
     /// The same as an expression: the kind alone changes.
     pub fn into_expression(self) -> ClassExpression
-        ensures { class_expression result.node_id.0 (span_of result.span) (scope_number result.scope_id) result.id result.super_class result.body ≡ of_kind Kind.ClassExpression (class_declaration self.node_id.0 (span_of self.span) (scope_number self.scope_id) self.id self.super_class self.body) }
+        ensures { class_expression result.node_id.0 (span_of result.span)
+            (scope_number result.scope_id) result.id result.super_class result.body
+            ≡ of_kind Kind.ClassExpression (class_declaration self.node_id.0 (span_of self.span)
+            (scope_number self.scope_id) self.id self.super_class self.body) }
     {
         ClassExpression {
             node_id: self.node_id,
@@ -108,7 +113,9 @@ impl<'a> ClassDeclarationRef<'a> {
     /// Reads a node of this kind.
     pub fn from_node(node: &'a Node) -> ClassDeclarationRef<'a>
         requires { kind_of node.now ≡ Kind.ClassDeclaration }
-        ensures { node.now ≡ class_declaration result.node_id.0 (span_of result.span) (scope_number result.scope_id) (option_map (λ x. x.now) result.id) (option_map (λ x. x.now) result.super_class) result.body.now }
+        ensures { node.now ≡ class_declaration result.node_id.0 (span_of result.span)
+            (scope_number result.scope_id) (option_map (λ x. x.now) result.id)
+            (option_map (λ x. x.now) result.super_class) result.body.now }
     {
         match node.parts() {
             [id, super_class, body] => ClassDeclarationRef {
@@ -124,8 +131,8 @@ impl<'a> ClassDeclarationRef<'a> {
     }
 }
 
-/// Makes a node of this kind, which has no number yet: `class id extends superClass body` (ECMA-262, 15.7).
-/// Fails on allocation failure alone.
+/// Makes a node of this kind, which has no number yet: `class id extends superClass body`
+/// (ECMA-262, 15.7). Fails on allocation failure alone.
 pub fn make_class_declaration(
     alloc: Global,
     id: Option<Node>,
@@ -167,7 +174,8 @@ impl ClassExpression {
     /// Takes a node of this kind apart.
     pub fn from_node(node: Node) -> ClassExpression
         requires { kind_of node ≡ Kind.ClassExpression }
-        ensures { node ≡ class_expression result.node_id.0 (span_of result.span) (scope_number result.scope_id) result.id result.super_class result.body }
+        ensures { node ≡ class_expression result.node_id.0 (span_of result.span)
+            (scope_number result.scope_id) result.id result.super_class result.body }
     {
         let contents = node.into_contents();
         let mut emptied_parts = contents.parts;
@@ -185,7 +193,8 @@ impl ClassExpression {
 
     /// Puts the node together again. Takes no memory.
     pub fn into_node(self) -> Node
-        ensures { result ≡ class_expression self.node_id.0 (span_of self.span) (scope_number self.scope_id) self.id self.super_class self.body }
+        ensures { result ≡ class_expression self.node_id.0 (span_of self.span)
+            (scope_number self.scope_id) self.id self.super_class self.body }
     {
         let mut parts = self.emptied_parts;
         put_three(
@@ -221,7 +230,9 @@ impl<'a> ClassExpressionRef<'a> {
     /// Reads a node of this kind.
     pub fn from_node(node: &'a Node) -> ClassExpressionRef<'a>
         requires { kind_of node.now ≡ Kind.ClassExpression }
-        ensures { node.now ≡ class_expression result.node_id.0 (span_of result.span) (scope_number result.scope_id) (option_map (λ x. x.now) result.id) (option_map (λ x. x.now) result.super_class) result.body.now }
+        ensures { node.now ≡ class_expression result.node_id.0 (span_of result.span)
+            (scope_number result.scope_id) (option_map (λ x. x.now) result.id)
+            (option_map (λ x. x.now) result.super_class) result.body.now }
     {
         match node.parts() {
             [id, super_class, body] => ClassExpressionRef {
@@ -237,8 +248,8 @@ impl<'a> ClassExpressionRef<'a> {
     }
 }
 
-/// Makes a node of this kind, which has no number yet: `class id extends superClass body` (ECMA-262, 15.7).
-/// Fails on allocation failure alone.
+/// Makes a node of this kind, which has no number yet: `class id extends superClass body`
+/// (ECMA-262, 15.7). Fails on allocation failure alone.
 pub fn make_class_expression(
     alloc: Global,
     id: Option<Node>,
@@ -333,8 +344,8 @@ impl<'a> ClassBodyRef<'a> {
     }
 }
 
-/// Makes a node of this kind, which has no number yet: the elements of a class, in braces (ECMA-262, 15.7).
-/// Fails on allocation failure alone.
+/// Makes a node of this kind, which has no number yet: the elements of a class, in braces
+/// (ECMA-262, 15.7). Fails on allocation failure alone.
 pub fn make_class_body(alloc: Global, body: List<Node>) -> Result<Node, AllocError>
     ensures { IfOk result (λ t. t ≡ class_body unnumbered None body) }
 {
@@ -368,7 +379,8 @@ impl MethodDefinition {
     /// Takes a node of this kind apart.
     pub fn from_node(node: Node) -> MethodDefinition
         requires { kind_of node ≡ Kind.MethodDefinition }
-        ensures { node ≡ method_definition result.node_id.0 (span_of result.span) result.key result.value result.kind result.computed result.is_static }
+        ensures { node ≡ method_definition result.node_id.0 (span_of result.span) result.key
+            result.value result.kind result.computed result.is_static }
     {
         let contents = node.into_contents();
         let mut emptied_parts = contents.parts;
@@ -378,16 +390,17 @@ impl MethodDefinition {
             span: contents.span,
             key: key.into_child(),
             value: value.into_child(),
+            kind: kind.into_method_definition_kind(),
             computed: computed.into_boolean(),
             is_static: is_static.into_boolean(),
-            kind: kind.into_method_definition_kind(),
             emptied_parts,
         }
     }
 
     /// Puts the node together again. Takes no memory.
     pub fn into_node(self) -> Node
-        ensures { result ≡ method_definition self.node_id.0 (span_of self.span) self.key self.value self.kind self.computed self.is_static }
+        ensures { result ≡ method_definition self.node_id.0 (span_of self.span) self.key self.value
+            self.kind self.computed self.is_static }
     {
         let mut parts = self.emptied_parts;
         put_five(
@@ -426,7 +439,8 @@ impl<'a> MethodDefinitionRef<'a> {
     /// Reads a node of this kind.
     pub fn from_node(node: &'a Node) -> MethodDefinitionRef<'a>
         requires { kind_of node.now ≡ Kind.MethodDefinition }
-        ensures { node.now ≡ method_definition result.node_id.0 (span_of result.span) result.key.now result.value.now result.kind result.computed result.is_static }
+        ensures { node.now ≡ method_definition result.node_id.0 (span_of result.span) result.key.now
+            result.value.now result.kind result.computed result.is_static }
     {
         match node.parts() {
             [key, value, kind, computed, is_static] => MethodDefinitionRef {
@@ -434,17 +448,17 @@ impl<'a> MethodDefinitionRef<'a> {
                 span: node.span(),
                 key: key.as_child(),
                 value: value.as_child(),
+                kind: kind.as_method_definition_kind(),
                 computed: computed.as_boolean(),
                 is_static: is_static.as_boolean(),
-                kind: kind.as_method_definition_kind(),
             },
             _ => unreachable!(),
         }
     }
 }
 
-/// Makes a node of this kind, which has no number yet: a method, an accessor or the constructor of a class (ECMA-262, 15.4 and 15.7).
-/// Fails on allocation failure alone.
+/// Makes a node of this kind, which has no number yet: a method, an accessor or the constructor of
+/// a class (ECMA-262, 15.4 and 15.7). Fails on allocation failure alone.
 pub fn make_method_definition(
     alloc: Global,
     key: Node,
@@ -453,7 +467,8 @@ pub fn make_method_definition(
     computed: bool,
     is_static: bool,
 ) -> Result<Node, AllocError>
-    ensures { IfOk result (λ t. t ≡ method_definition unnumbered None key value kind computed is_static) }
+    ensures { IfOk result (λ t. t ≡ method_definition unnumbered None key value kind computed
+        is_static) }
 {
     let parts = vec![in alloc;
         Part::Child(key),
@@ -490,7 +505,8 @@ impl PropertyDefinition {
     /// Takes a node of this kind apart.
     pub fn from_node(node: Node) -> PropertyDefinition
         requires { kind_of node ≡ Kind.PropertyDefinition }
-        ensures { node ≡ property_definition result.node_id.0 (span_of result.span) result.key result.value result.computed result.is_static }
+        ensures { node ≡ property_definition result.node_id.0 (span_of result.span) result.key
+            result.value result.computed result.is_static }
     {
         let contents = node.into_contents();
         let mut emptied_parts = contents.parts;
@@ -508,7 +524,8 @@ impl PropertyDefinition {
 
     /// Puts the node together again. Takes no memory.
     pub fn into_node(self) -> Node
-        ensures { result ≡ property_definition self.node_id.0 (span_of self.span) self.key self.value self.computed self.is_static }
+        ensures { result ≡ property_definition self.node_id.0 (span_of self.span) self.key
+            self.value self.computed self.is_static }
     {
         let mut parts = self.emptied_parts;
         put_four(
@@ -545,7 +562,8 @@ impl<'a> PropertyDefinitionRef<'a> {
     /// Reads a node of this kind.
     pub fn from_node(node: &'a Node) -> PropertyDefinitionRef<'a>
         requires { kind_of node.now ≡ Kind.PropertyDefinition }
-        ensures { node.now ≡ property_definition result.node_id.0 (span_of result.span) result.key.now (option_map (λ x. x.now) result.value) result.computed result.is_static }
+        ensures { node.now ≡ property_definition result.node_id.0 (span_of result.span)
+            result.key.now (option_map (λ x. x.now) result.value) result.computed result.is_static }
     {
         match node.parts() {
             [key, value, computed, is_static] => PropertyDefinitionRef {
@@ -561,8 +579,8 @@ impl<'a> PropertyDefinitionRef<'a> {
     }
 }
 
-/// Makes a node of this kind, which has no number yet: a field of a class (ECMA-262, 15.7, FieldDefinition).
-/// Fails on allocation failure alone.
+/// Makes a node of this kind, which has no number yet: a field of a class (ECMA-262, 15.7,
+/// FieldDefinition). Fails on allocation failure alone.
 pub fn make_property_definition(
     alloc: Global,
     key: Node,
@@ -570,7 +588,8 @@ pub fn make_property_definition(
     computed: bool,
     is_static: bool,
 ) -> Result<Node, AllocError>
-    ensures { IfOk result (λ t. t ≡ property_definition unnumbered None key value computed is_static) }
+    ensures { IfOk result (λ t. t ≡ property_definition unnumbered None key value computed
+        is_static) }
 {
     let parts = vec![in alloc;
         Part::Child(key),
@@ -604,7 +623,8 @@ impl StaticBlock {
     /// Takes a node of this kind apart.
     pub fn from_node(node: Node) -> StaticBlock
         requires { kind_of node ≡ Kind.StaticBlock }
-        ensures { node ≡ static_block result.node_id.0 (span_of result.span) (scope_number result.scope_id) result.body }
+        ensures { node ≡ static_block result.node_id.0 (span_of result.span)
+            (scope_number result.scope_id) result.body }
     {
         let contents = node.into_contents();
         let mut emptied_parts = contents.parts;
@@ -620,7 +640,8 @@ impl StaticBlock {
 
     /// Puts the node together again. Takes no memory.
     pub fn into_node(self) -> Node
-        ensures { result ≡ static_block self.node_id.0 (span_of self.span) (scope_number self.scope_id) self.body }
+        ensures { result ≡ static_block self.node_id.0 (span_of self.span)
+            (scope_number self.scope_id) self.body }
     {
         let mut parts = self.emptied_parts;
         put_one(&mut parts, Part::List(self.body));
@@ -649,7 +670,8 @@ impl<'a> StaticBlockRef<'a> {
     /// Reads a node of this kind.
     pub fn from_node(node: &'a Node) -> StaticBlockRef<'a>
         requires { kind_of node.now ≡ Kind.StaticBlock }
-        ensures { node.now ≡ static_block result.node_id.0 (span_of result.span) (scope_number result.scope_id) result.body.now }
+        ensures { node.now ≡ static_block result.node_id.0 (span_of result.span)
+            (scope_number result.scope_id) result.body.now }
     {
         match node.parts() {
             [body] => StaticBlockRef {
@@ -663,8 +685,8 @@ impl<'a> StaticBlockRef<'a> {
     }
 }
 
-/// Makes a node of this kind, which has no number yet: `static { body }` (ECMA-262, 15.7, ClassStaticBlock).
-/// Fails on allocation failure alone.
+/// Makes a node of this kind, which has no number yet: `static { body }` (ECMA-262, 15.7,
+/// ClassStaticBlock). Fails on allocation failure alone.
 pub fn make_static_block(alloc: Global, body: List<Node>) -> Result<Node, AllocError>
     ensures { IfOk result (λ t. t ≡ static_block unnumbered None None body) }
 {

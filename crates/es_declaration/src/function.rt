@@ -1,6 +1,6 @@
 // Printed by tools/tree.py from tools/kinds.py.
-// Functions. Each kind has a struct of its members, which keeps the emptied list of its
-// node's parts, the same borrowed, and a maker.
+// Functions. Each kind has a struct of its members, which keeps the emptied list of its node's parts,
+// the same borrowed, and a maker.
 
 ghost use Rattle.std.specs.Prelude.{◌≡◌, IfOk, None, length, option_map};
 ghost use Rattle.es_base.specs.Carried.{span_of, scope_number};
@@ -38,7 +38,9 @@ impl FunctionDeclaration {
     /// Takes a node of this kind apart.
     pub fn from_node(node: Node) -> FunctionDeclaration
         requires { kind_of node ≡ Kind.FunctionDeclaration }
-        ensures { node ≡ function_declaration result.node_id.0 (span_of result.span) (scope_number result.scope_id) result.id result.params result.body result.is_async result.generator }
+        ensures { node ≡ function_declaration result.node_id.0 (span_of result.span)
+            (scope_number result.scope_id) result.id result.params result.body result.is_async
+            result.generator }
     {
         let contents = node.into_contents();
         let mut emptied_parts = contents.parts;
@@ -58,7 +60,9 @@ impl FunctionDeclaration {
 
     /// Puts the node together again. Takes no memory.
     pub fn into_node(self) -> Node
-        ensures { result ≡ function_declaration self.node_id.0 (span_of self.span) (scope_number self.scope_id) self.id self.params self.body self.is_async self.generator }
+        ensures { result ≡ function_declaration self.node_id.0 (span_of self.span)
+            (scope_number self.scope_id) self.id self.params self.body self.is_async
+            self.generator }
     {
         let mut parts = self.emptied_parts;
         put_five(
@@ -82,7 +86,11 @@ impl FunctionDeclaration {
 
     /// The same as an expression: the kind alone changes.
     pub fn into_expression(self) -> FunctionExpression
-        ensures { function_expression result.node_id.0 (span_of result.span) (scope_number result.scope_id) result.id result.params result.body result.is_async result.generator ≡ of_kind Kind.FunctionExpression (function_declaration self.node_id.0 (span_of self.span) (scope_number self.scope_id) self.id self.params self.body self.is_async self.generator) }
+        ensures { function_expression result.node_id.0 (span_of result.span)
+            (scope_number result.scope_id) result.id result.params result.body result.is_async
+            result.generator ≡ of_kind Kind.FunctionExpression (function_declaration self.node_id.0
+            (span_of self.span) (scope_number self.scope_id) self.id self.params self.body
+            self.is_async self.generator) }
     {
         FunctionExpression {
             node_id: self.node_id,
@@ -115,7 +123,9 @@ impl<'a> FunctionDeclarationRef<'a> {
     /// Reads a node of this kind.
     pub fn from_node(node: &'a Node) -> FunctionDeclarationRef<'a>
         requires { kind_of node.now ≡ Kind.FunctionDeclaration }
-        ensures { node.now ≡ function_declaration result.node_id.0 (span_of result.span) (scope_number result.scope_id) (option_map (λ x. x.now) result.id) result.params.now result.body.now result.is_async result.generator }
+        ensures { node.now ≡ function_declaration result.node_id.0 (span_of result.span)
+            (scope_number result.scope_id) (option_map (λ x. x.now) result.id) result.params.now
+            result.body.now result.is_async result.generator }
     {
         match node.parts() {
             [id, params, body, is_async, generator] => FunctionDeclarationRef {
@@ -133,8 +143,8 @@ impl<'a> FunctionDeclarationRef<'a> {
     }
 }
 
-/// Makes a node of this kind, which has no number yet: a function that is no arrow, and the value of a method (ECMA-262, 15.2, 15.4 to 15.6 and 15.8).
-/// Fails on allocation failure alone.
+/// Makes a node of this kind, which has no number yet: a function that is no arrow, and the value
+/// of a method (ECMA-262, 15.2, 15.4 to 15.6 and 15.8). Fails on allocation failure alone.
 pub fn make_function_declaration(
     alloc: Global,
     id: Option<Node>,
@@ -143,7 +153,8 @@ pub fn make_function_declaration(
     is_async: bool,
     generator: bool,
 ) -> Result<Node, AllocError>
-    ensures { IfOk result (λ t. t ≡ function_declaration unnumbered None None id params body is_async generator) }
+    ensures { IfOk result (λ t. t ≡ function_declaration unnumbered None None id params body
+        is_async generator) }
 {
     let parts = vec![in alloc;
         nullable_part(id),
@@ -182,7 +193,9 @@ impl FunctionExpression {
     /// Takes a node of this kind apart.
     pub fn from_node(node: Node) -> FunctionExpression
         requires { kind_of node ≡ Kind.FunctionExpression }
-        ensures { node ≡ function_expression result.node_id.0 (span_of result.span) (scope_number result.scope_id) result.id result.params result.body result.is_async result.generator }
+        ensures { node ≡ function_expression result.node_id.0 (span_of result.span)
+            (scope_number result.scope_id) result.id result.params result.body result.is_async
+            result.generator }
     {
         let contents = node.into_contents();
         let mut emptied_parts = contents.parts;
@@ -202,7 +215,9 @@ impl FunctionExpression {
 
     /// Puts the node together again. Takes no memory.
     pub fn into_node(self) -> Node
-        ensures { result ≡ function_expression self.node_id.0 (span_of self.span) (scope_number self.scope_id) self.id self.params self.body self.is_async self.generator }
+        ensures { result ≡ function_expression self.node_id.0 (span_of self.span)
+            (scope_number self.scope_id) self.id self.params self.body self.is_async
+            self.generator }
     {
         let mut parts = self.emptied_parts;
         put_five(
@@ -242,7 +257,9 @@ impl<'a> FunctionExpressionRef<'a> {
     /// Reads a node of this kind.
     pub fn from_node(node: &'a Node) -> FunctionExpressionRef<'a>
         requires { kind_of node.now ≡ Kind.FunctionExpression }
-        ensures { node.now ≡ function_expression result.node_id.0 (span_of result.span) (scope_number result.scope_id) (option_map (λ x. x.now) result.id) result.params.now result.body.now result.is_async result.generator }
+        ensures { node.now ≡ function_expression result.node_id.0 (span_of result.span)
+            (scope_number result.scope_id) (option_map (λ x. x.now) result.id) result.params.now
+            result.body.now result.is_async result.generator }
     {
         match node.parts() {
             [id, params, body, is_async, generator] => FunctionExpressionRef {
@@ -260,8 +277,8 @@ impl<'a> FunctionExpressionRef<'a> {
     }
 }
 
-/// Makes a node of this kind, which has no number yet: a function that is no arrow, and the value of a method (ECMA-262, 15.2, 15.4 to 15.6 and 15.8).
-/// Fails on allocation failure alone.
+/// Makes a node of this kind, which has no number yet: a function that is no arrow, and the value
+/// of a method (ECMA-262, 15.2, 15.4 to 15.6 and 15.8). Fails on allocation failure alone.
 pub fn make_function_expression(
     alloc: Global,
     id: Option<Node>,
@@ -270,7 +287,8 @@ pub fn make_function_expression(
     is_async: bool,
     generator: bool,
 ) -> Result<Node, AllocError>
-    ensures { IfOk result (λ t. t ≡ function_expression unnumbered None None id params body is_async generator) }
+    ensures { IfOk result (λ t. t ≡ function_expression unnumbered None None id params body is_async
+        generator) }
 {
     let parts = vec![in alloc;
         nullable_part(id),
@@ -307,7 +325,8 @@ impl ArrowFunctionExpression {
     /// Takes a node of this kind apart.
     pub fn from_node(node: Node) -> ArrowFunctionExpression
         requires { kind_of node ≡ Kind.ArrowFunctionExpression }
-        ensures { node ≡ arrow_function_expression result.node_id.0 (span_of result.span) (scope_number result.scope_id) result.params result.body result.is_async }
+        ensures { node ≡ arrow_function_expression result.node_id.0 (span_of result.span)
+            (scope_number result.scope_id) result.params result.body result.is_async }
     {
         let contents = node.into_contents();
         let mut emptied_parts = contents.parts;
@@ -325,7 +344,8 @@ impl ArrowFunctionExpression {
 
     /// Puts the node together again. Takes no memory.
     pub fn into_node(self) -> Node
-        ensures { result ≡ arrow_function_expression self.node_id.0 (span_of self.span) (scope_number self.scope_id) self.params self.body self.is_async }
+        ensures { result ≡ arrow_function_expression self.node_id.0 (span_of self.span)
+            (scope_number self.scope_id) self.params self.body self.is_async }
     {
         let mut parts = self.emptied_parts;
         put_three(
@@ -361,7 +381,8 @@ impl<'a> ArrowFunctionExpressionRef<'a> {
     /// Reads a node of this kind.
     pub fn from_node(node: &'a Node) -> ArrowFunctionExpressionRef<'a>
         requires { kind_of node.now ≡ Kind.ArrowFunctionExpression }
-        ensures { node.now ≡ arrow_function_expression result.node_id.0 (span_of result.span) (scope_number result.scope_id) result.params.now result.body.now result.is_async }
+        ensures { node.now ≡ arrow_function_expression result.node_id.0 (span_of result.span)
+            (scope_number result.scope_id) result.params.now result.body.now result.is_async }
     {
         match node.parts() {
             [params, body, is_async] => ArrowFunctionExpressionRef {
@@ -377,15 +398,16 @@ impl<'a> ArrowFunctionExpressionRef<'a> {
     }
 }
 
-/// Makes a node of this kind, which has no number yet: `(params) => body` (ECMA-262, 15.3 and 15.9).
-/// Fails on allocation failure alone.
+/// Makes a node of this kind, which has no number yet: `(params) => body` (ECMA-262, 15.3 and
+/// 15.9). Fails on allocation failure alone.
 pub fn make_arrow_function_expression(
     alloc: Global,
     params: List<Node>,
     body: Node,
     is_async: bool,
 ) -> Result<Node, AllocError>
-    ensures { IfOk result (λ t. t ≡ arrow_function_expression unnumbered None None params body is_async) }
+    ensures { IfOk result (λ t. t ≡ arrow_function_expression unnumbered None None params body
+        is_async) }
 {
     let parts = vec![in alloc;
         Part::List(params),

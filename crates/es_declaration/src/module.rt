@@ -32,7 +32,8 @@ impl ImportDeclaration {
     /// Takes a node of this kind apart.
     pub fn from_node(node: Node) -> ImportDeclaration
         requires { kind_of node ≡ Kind.ImportDeclaration }
-        ensures { node ≡ import_declaration result.node_id.0 (span_of result.span) result.specifiers result.source }
+        ensures { node ≡ import_declaration result.node_id.0 (span_of result.span) result.specifiers
+            result.source }
     {
         let contents = node.into_contents();
         let mut emptied_parts = contents.parts;
@@ -48,7 +49,8 @@ impl ImportDeclaration {
 
     /// Puts the node together again. Takes no memory.
     pub fn into_node(self) -> Node
-        ensures { result ≡ import_declaration self.node_id.0 (span_of self.span) self.specifiers self.source }
+        ensures { result ≡ import_declaration self.node_id.0 (span_of self.span) self.specifiers
+            self.source }
     {
         let mut parts = self.emptied_parts;
         put_two(
@@ -81,7 +83,8 @@ impl<'a> ImportDeclarationRef<'a> {
     /// Reads a node of this kind.
     pub fn from_node(node: &'a Node) -> ImportDeclarationRef<'a>
         requires { kind_of node.now ≡ Kind.ImportDeclaration }
-        ensures { node.now ≡ import_declaration result.node_id.0 (span_of result.span) result.specifiers.now result.source.now }
+        ensures { node.now ≡ import_declaration result.node_id.0 (span_of result.span)
+            result.specifiers.now result.source.now }
     {
         match node.parts() {
             [specifiers, source] => ImportDeclarationRef {
@@ -95,8 +98,8 @@ impl<'a> ImportDeclarationRef<'a> {
     }
 }
 
-/// Makes a node of this kind, which has no number yet: `import specifiers from source` (ECMA-262, 16.2.2).
-/// Fails on allocation failure alone.
+/// Makes a node of this kind, which has no number yet: `import specifiers from source` (ECMA-262,
+/// 16.2.2). Fails on allocation failure alone.
 pub fn make_import_declaration(
     alloc: Global,
     specifiers: List<Node>,
@@ -131,7 +134,8 @@ impl ImportSpecifier {
     /// Takes a node of this kind apart.
     pub fn from_node(node: Node) -> ImportSpecifier
         requires { kind_of node ≡ Kind.ImportSpecifier }
-        ensures { node ≡ import_specifier result.node_id.0 (span_of result.span) result.imported result.local }
+        ensures { node ≡ import_specifier result.node_id.0 (span_of result.span) result.imported
+            result.local }
     {
         let contents = node.into_contents();
         let mut emptied_parts = contents.parts;
@@ -147,7 +151,8 @@ impl ImportSpecifier {
 
     /// Puts the node together again. Takes no memory.
     pub fn into_node(self) -> Node
-        ensures { result ≡ import_specifier self.node_id.0 (span_of self.span) self.imported self.local }
+        ensures { result ≡ import_specifier self.node_id.0 (span_of self.span) self.imported
+            self.local }
     {
         let mut parts = self.emptied_parts;
         put_two(
@@ -180,7 +185,8 @@ impl<'a> ImportSpecifierRef<'a> {
     /// Reads a node of this kind.
     pub fn from_node(node: &'a Node) -> ImportSpecifierRef<'a>
         requires { kind_of node.now ≡ Kind.ImportSpecifier }
-        ensures { node.now ≡ import_specifier result.node_id.0 (span_of result.span) result.imported.now result.local.now }
+        ensures { node.now ≡ import_specifier result.node_id.0 (span_of result.span)
+            result.imported.now result.local.now }
     {
         match node.parts() {
             [imported, local] => ImportSpecifierRef {
@@ -225,7 +231,8 @@ impl ImportDefaultSpecifier {
     /// Takes a node of this kind apart.
     pub fn from_node(node: Node) -> ImportDefaultSpecifier
         requires { kind_of node ≡ Kind.ImportDefaultSpecifier }
-        ensures { node ≡ import_default_specifier result.node_id.0 (span_of result.span) result.local }
+        ensures { node ≡ import_default_specifier result.node_id.0 (span_of result.span)
+            result.local }
     {
         let contents = node.into_contents();
         let mut emptied_parts = contents.parts;
@@ -268,7 +275,8 @@ impl<'a> ImportDefaultSpecifierRef<'a> {
     /// Reads a node of this kind.
     pub fn from_node(node: &'a Node) -> ImportDefaultSpecifierRef<'a>
         requires { kind_of node.now ≡ Kind.ImportDefaultSpecifier }
-        ensures { node.now ≡ import_default_specifier result.node_id.0 (span_of result.span) result.local.now }
+        ensures { node.now ≡ import_default_specifier result.node_id.0 (span_of result.span)
+            result.local.now }
     {
         match node.parts() {
             [local] => ImportDefaultSpecifierRef {
@@ -281,8 +289,8 @@ impl<'a> ImportDefaultSpecifierRef<'a> {
     }
 }
 
-/// Makes a node of this kind, which has no number yet: the name of a default import (ECMA-262, 16.2.2).
-/// Fails on allocation failure alone.
+/// Makes a node of this kind, which has no number yet: the name of a default import (ECMA-262,
+/// 16.2.2). Fails on allocation failure alone.
 pub fn make_import_default_specifier(alloc: Global, local: Node) -> Result<Node, AllocError>
     ensures { IfOk result (λ t. t ≡ import_default_specifier unnumbered None local) }
 {
@@ -312,7 +320,8 @@ impl ImportNamespaceSpecifier {
     /// Takes a node of this kind apart.
     pub fn from_node(node: Node) -> ImportNamespaceSpecifier
         requires { kind_of node ≡ Kind.ImportNamespaceSpecifier }
-        ensures { node ≡ import_namespace_specifier result.node_id.0 (span_of result.span) result.local }
+        ensures { node ≡ import_namespace_specifier result.node_id.0 (span_of result.span)
+            result.local }
     {
         let contents = node.into_contents();
         let mut emptied_parts = contents.parts;
@@ -327,7 +336,8 @@ impl ImportNamespaceSpecifier {
 
     /// Puts the node together again. Takes no memory.
     pub fn into_node(self) -> Node
-        ensures { result ≡ import_namespace_specifier self.node_id.0 (span_of self.span) self.local }
+        ensures { result ≡ import_namespace_specifier self.node_id.0 (span_of self.span)
+            self.local }
     {
         let mut parts = self.emptied_parts;
         put_one(&mut parts, Part::Child(self.local));
@@ -355,7 +365,8 @@ impl<'a> ImportNamespaceSpecifierRef<'a> {
     /// Reads a node of this kind.
     pub fn from_node(node: &'a Node) -> ImportNamespaceSpecifierRef<'a>
         requires { kind_of node.now ≡ Kind.ImportNamespaceSpecifier }
-        ensures { node.now ≡ import_namespace_specifier result.node_id.0 (span_of result.span) result.local.now }
+        ensures { node.now ≡ import_namespace_specifier result.node_id.0 (span_of result.span)
+            result.local.now }
     {
         match node.parts() {
             [local] => ImportNamespaceSpecifierRef {
@@ -368,8 +379,8 @@ impl<'a> ImportNamespaceSpecifierRef<'a> {
     }
 }
 
-/// Makes a node of this kind, which has no number yet: `* as local` (ECMA-262, 16.2.2).
-/// Fails on allocation failure alone.
+/// Makes a node of this kind, which has no number yet: `* as local` (ECMA-262, 16.2.2). Fails on
+/// allocation failure alone.
 pub fn make_import_namespace_specifier(alloc: Global, local: Node) -> Result<Node, AllocError>
     ensures { IfOk result (λ t. t ≡ import_namespace_specifier unnumbered None local) }
 {
@@ -401,7 +412,8 @@ impl ExportNamedDeclaration {
     /// Takes a node of this kind apart.
     pub fn from_node(node: Node) -> ExportNamedDeclaration
         requires { kind_of node ≡ Kind.ExportNamedDeclaration }
-        ensures { node ≡ export_named_declaration result.node_id.0 (span_of result.span) result.declaration result.specifiers result.source }
+        ensures { node ≡ export_named_declaration result.node_id.0 (span_of result.span)
+            result.declaration result.specifiers result.source }
     {
         let contents = node.into_contents();
         let mut emptied_parts = contents.parts;
@@ -418,7 +430,8 @@ impl ExportNamedDeclaration {
 
     /// Puts the node together again. Takes no memory.
     pub fn into_node(self) -> Node
-        ensures { result ≡ export_named_declaration self.node_id.0 (span_of self.span) self.declaration self.specifiers self.source }
+        ensures { result ≡ export_named_declaration self.node_id.0 (span_of self.span)
+            self.declaration self.specifiers self.source }
     {
         let mut parts = self.emptied_parts;
         put_three(
@@ -453,7 +466,9 @@ impl<'a> ExportNamedDeclarationRef<'a> {
     /// Reads a node of this kind.
     pub fn from_node(node: &'a Node) -> ExportNamedDeclarationRef<'a>
         requires { kind_of node.now ≡ Kind.ExportNamedDeclaration }
-        ensures { node.now ≡ export_named_declaration result.node_id.0 (span_of result.span) (option_map (λ x. x.now) result.declaration) result.specifiers.now (option_map (λ x. x.now) result.source) }
+        ensures { node.now ≡ export_named_declaration result.node_id.0 (span_of result.span)
+            (option_map (λ x. x.now) result.declaration) result.specifiers.now
+            (option_map (λ x. x.now) result.source) }
     {
         match node.parts() {
             [declaration, specifiers, source] => ExportNamedDeclarationRef {
@@ -468,15 +483,16 @@ impl<'a> ExportNamedDeclarationRef<'a> {
     }
 }
 
-/// Makes a node of this kind, which has no number yet: `export declaration` or `export { specifiers } from source` (ECMA-262, 16.2.3).
-/// Fails on allocation failure alone.
+/// Makes a node of this kind, which has no number yet: `export declaration` or `export { specifiers
+/// } from source` (ECMA-262, 16.2.3). Fails on allocation failure alone.
 pub fn make_export_named_declaration(
     alloc: Global,
     declaration: Option<Node>,
     specifiers: List<Node>,
     source: Option<Node>,
 ) -> Result<Node, AllocError>
-    ensures { IfOk result (λ t. t ≡ export_named_declaration unnumbered None declaration specifiers source) }
+    ensures { IfOk result (λ t. t ≡ export_named_declaration unnumbered None declaration specifiers
+        source) }
 {
     let parts = vec![in alloc;
         nullable_part(declaration),
@@ -509,7 +525,8 @@ impl ExportSpecifier {
     /// Takes a node of this kind apart.
     pub fn from_node(node: Node) -> ExportSpecifier
         requires { kind_of node ≡ Kind.ExportSpecifier }
-        ensures { node ≡ export_specifier result.node_id.0 (span_of result.span) result.local result.exported }
+        ensures { node ≡ export_specifier result.node_id.0 (span_of result.span) result.local
+            result.exported }
     {
         let contents = node.into_contents();
         let mut emptied_parts = contents.parts;
@@ -525,7 +542,8 @@ impl ExportSpecifier {
 
     /// Puts the node together again. Takes no memory.
     pub fn into_node(self) -> Node
-        ensures { result ≡ export_specifier self.node_id.0 (span_of self.span) self.local self.exported }
+        ensures { result ≡ export_specifier self.node_id.0 (span_of self.span) self.local
+            self.exported }
     {
         let mut parts = self.emptied_parts;
         put_two(
@@ -558,7 +576,8 @@ impl<'a> ExportSpecifierRef<'a> {
     /// Reads a node of this kind.
     pub fn from_node(node: &'a Node) -> ExportSpecifierRef<'a>
         requires { kind_of node.now ≡ Kind.ExportSpecifier }
-        ensures { node.now ≡ export_specifier result.node_id.0 (span_of result.span) result.local.now result.exported.now }
+        ensures { node.now ≡ export_specifier result.node_id.0 (span_of result.span)
+            result.local.now result.exported.now }
     {
         match node.parts() {
             [local, exported] => ExportSpecifierRef {
@@ -603,7 +622,8 @@ impl ExportDefaultDeclaration {
     /// Takes a node of this kind apart.
     pub fn from_node(node: Node) -> ExportDefaultDeclaration
         requires { kind_of node ≡ Kind.ExportDefaultDeclaration }
-        ensures { node ≡ export_default_declaration result.node_id.0 (span_of result.span) result.declaration }
+        ensures { node ≡ export_default_declaration result.node_id.0 (span_of result.span)
+            result.declaration }
     {
         let contents = node.into_contents();
         let mut emptied_parts = contents.parts;
@@ -618,7 +638,8 @@ impl ExportDefaultDeclaration {
 
     /// Puts the node together again. Takes no memory.
     pub fn into_node(self) -> Node
-        ensures { result ≡ export_default_declaration self.node_id.0 (span_of self.span) self.declaration }
+        ensures { result ≡ export_default_declaration self.node_id.0 (span_of self.span)
+            self.declaration }
     {
         let mut parts = self.emptied_parts;
         put_one(&mut parts, Part::Child(self.declaration));
@@ -646,7 +667,8 @@ impl<'a> ExportDefaultDeclarationRef<'a> {
     /// Reads a node of this kind.
     pub fn from_node(node: &'a Node) -> ExportDefaultDeclarationRef<'a>
         requires { kind_of node.now ≡ Kind.ExportDefaultDeclaration }
-        ensures { node.now ≡ export_default_declaration result.node_id.0 (span_of result.span) result.declaration.now }
+        ensures { node.now ≡ export_default_declaration result.node_id.0 (span_of result.span)
+            result.declaration.now }
     {
         match node.parts() {
             [declaration] => ExportDefaultDeclarationRef {
@@ -659,8 +681,8 @@ impl<'a> ExportDefaultDeclarationRef<'a> {
     }
 }
 
-/// Makes a node of this kind, which has no number yet: `export default declaration` (ECMA-262, 16.2.3).
-/// Fails on allocation failure alone.
+/// Makes a node of this kind, which has no number yet: `export default declaration` (ECMA-262,
+/// 16.2.3). Fails on allocation failure alone.
 pub fn make_export_default_declaration(alloc: Global, declaration: Node) -> Result<Node, AllocError>
     ensures { IfOk result (λ t. t ≡ export_default_declaration unnumbered None declaration) }
 {
@@ -691,7 +713,8 @@ impl ExportAllDeclaration {
     /// Takes a node of this kind apart.
     pub fn from_node(node: Node) -> ExportAllDeclaration
         requires { kind_of node ≡ Kind.ExportAllDeclaration }
-        ensures { node ≡ export_all_declaration result.node_id.0 (span_of result.span) result.exported result.source }
+        ensures { node ≡ export_all_declaration result.node_id.0 (span_of result.span)
+            result.exported result.source }
     {
         let contents = node.into_contents();
         let mut emptied_parts = contents.parts;
@@ -707,7 +730,8 @@ impl ExportAllDeclaration {
 
     /// Puts the node together again. Takes no memory.
     pub fn into_node(self) -> Node
-        ensures { result ≡ export_all_declaration self.node_id.0 (span_of self.span) self.exported self.source }
+        ensures { result ≡ export_all_declaration self.node_id.0 (span_of self.span) self.exported
+            self.source }
     {
         let mut parts = self.emptied_parts;
         put_two(
@@ -740,7 +764,8 @@ impl<'a> ExportAllDeclarationRef<'a> {
     /// Reads a node of this kind.
     pub fn from_node(node: &'a Node) -> ExportAllDeclarationRef<'a>
         requires { kind_of node.now ≡ Kind.ExportAllDeclaration }
-        ensures { node.now ≡ export_all_declaration result.node_id.0 (span_of result.span) (option_map (λ x. x.now) result.exported) result.source.now }
+        ensures { node.now ≡ export_all_declaration result.node_id.0 (span_of result.span)
+            (option_map (λ x. x.now) result.exported) result.source.now }
     {
         match node.parts() {
             [exported, source] => ExportAllDeclarationRef {
@@ -754,8 +779,8 @@ impl<'a> ExportAllDeclarationRef<'a> {
     }
 }
 
-/// Makes a node of this kind, which has no number yet: `export * as exported from source` (ECMA-262, 16.2.3).
-/// Fails on allocation failure alone.
+/// Makes a node of this kind, which has no number yet: `export * as exported from source`
+/// (ECMA-262, 16.2.3). Fails on allocation failure alone.
 pub fn make_export_all_declaration(
     alloc: Global,
     exported: Option<Node>,

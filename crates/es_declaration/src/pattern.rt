@@ -1,6 +1,6 @@
 // Printed by tools/tree.py from tools/kinds.py.
-// Patterns that declare, and patterns that are assigned to. Each kind has a struct of its members, which keeps the emptied list of its
-// node's parts, the same borrowed, and a maker.
+// Patterns that declare, and patterns that are assigned to. Each kind has a struct of its members,
+// which keeps the emptied list of its node's parts, the same borrowed, and a maker.
 
 ghost use Rattle.std.specs.Prelude.{◌≡◌, IfOk, None, length};
 ghost use Rattle.es_base.specs.Carried.{span_of};
@@ -74,7 +74,8 @@ impl<'a> ObjectPatternRef<'a> {
     /// Reads a node of this kind.
     pub fn from_node(node: &'a Node) -> ObjectPatternRef<'a>
         requires { kind_of node.now ≡ Kind.ObjectPattern }
-        ensures { node.now ≡ object_pattern result.node_id.0 (span_of result.span) result.properties.now }
+        ensures { node.now ≡ object_pattern result.node_id.0 (span_of result.span)
+            result.properties.now }
     {
         match node.parts() {
             [properties] => ObjectPatternRef {
@@ -87,8 +88,8 @@ impl<'a> ObjectPatternRef<'a> {
     }
 }
 
-/// Makes a node of this kind, which has no number yet: `{ properties }` that declares (ECMA-262, 14.3.3).
-/// Fails on allocation failure alone.
+/// Makes a node of this kind, which has no number yet: `{ properties }` that declares (ECMA-262,
+/// 14.3.3). Fails on allocation failure alone.
 pub fn make_object_pattern(alloc: Global, properties: List<Node>) -> Result<Node, AllocError>
     ensures { IfOk result (λ t. t ≡ object_pattern unnumbered None properties) }
 {
@@ -121,7 +122,8 @@ impl BindingProperty {
     /// Takes a node of this kind apart.
     pub fn from_node(node: Node) -> BindingProperty
         requires { kind_of node ≡ Kind.BindingProperty }
-        ensures { node ≡ binding_property result.node_id.0 (span_of result.span) result.key result.value result.shorthand result.computed }
+        ensures { node ≡ binding_property result.node_id.0 (span_of result.span) result.key
+            result.value result.shorthand result.computed }
     {
         let contents = node.into_contents();
         let mut emptied_parts = contents.parts;
@@ -141,7 +143,8 @@ impl BindingProperty {
 
     /// Puts the node together again. Takes no memory.
     pub fn into_node(self) -> Node
-        ensures { result ≡ binding_property self.node_id.0 (span_of self.span) self.key self.value self.shorthand self.computed }
+        ensures { result ≡ binding_property self.node_id.0 (span_of self.span) self.key self.value
+            self.shorthand self.computed }
     {
         let mut parts = self.emptied_parts;
         put_six(
@@ -180,7 +183,8 @@ impl<'a> BindingPropertyRef<'a> {
     /// Reads a node of this kind.
     pub fn from_node(node: &'a Node) -> BindingPropertyRef<'a>
         requires { kind_of node.now ≡ Kind.BindingProperty }
-        ensures { node.now ≡ binding_property result.node_id.0 (span_of result.span) result.key.now result.value.now result.shorthand result.computed }
+        ensures { node.now ≡ binding_property result.node_id.0 (span_of result.span) result.key.now
+            result.value.now result.shorthand result.computed }
     {
         match node.parts() {
             [key, value, kind, method, shorthand, computed] => {
@@ -200,8 +204,8 @@ impl<'a> BindingPropertyRef<'a> {
     }
 }
 
-/// Makes a node of this kind, which has no number yet: `key: value` in an object pattern that declares (ECMA-262, 14.3.3).
-/// Fails on allocation failure alone.
+/// Makes a node of this kind, which has no number yet: `key: value` in an object pattern that
+/// declares (ECMA-262, 14.3.3). Fails on allocation failure alone.
 pub fn make_binding_property(
     alloc: Global,
     key: Node,
@@ -287,7 +291,8 @@ impl<'a> ArrayPatternRef<'a> {
     /// Reads a node of this kind.
     pub fn from_node(node: &'a Node) -> ArrayPatternRef<'a>
         requires { kind_of node.now ≡ Kind.ArrayPattern }
-        ensures { node.now ≡ array_pattern result.node_id.0 (span_of result.span) result.elements.now }
+        ensures { node.now ≡ array_pattern result.node_id.0 (span_of result.span)
+            result.elements.now }
     {
         match node.parts() {
             [elements] => ArrayPatternRef {
@@ -300,8 +305,8 @@ impl<'a> ArrayPatternRef<'a> {
     }
 }
 
-/// Makes a node of this kind, which has no number yet: `[elements]` that declares (ECMA-262, 14.3.3).
-/// Fails on allocation failure alone.
+/// Makes a node of this kind, which has no number yet: `[elements]` that declares (ECMA-262,
+/// 14.3.3). Fails on allocation failure alone.
 pub fn make_array_pattern(alloc: Global, elements: List<Option<Node>>) -> Result<Node, AllocError>
     ensures { IfOk result (λ t. t ≡ array_pattern unnumbered None elements) }
 {
@@ -332,7 +337,8 @@ impl AssignmentPattern {
     /// Takes a node of this kind apart.
     pub fn from_node(node: Node) -> AssignmentPattern
         requires { kind_of node ≡ Kind.AssignmentPattern }
-        ensures { node ≡ assignment_pattern result.node_id.0 (span_of result.span) result.left result.right }
+        ensures { node ≡ assignment_pattern result.node_id.0 (span_of result.span) result.left
+            result.right }
     {
         let contents = node.into_contents();
         let mut emptied_parts = contents.parts;
@@ -348,7 +354,8 @@ impl AssignmentPattern {
 
     /// Puts the node together again. Takes no memory.
     pub fn into_node(self) -> Node
-        ensures { result ≡ assignment_pattern self.node_id.0 (span_of self.span) self.left self.right }
+        ensures { result ≡ assignment_pattern self.node_id.0 (span_of self.span) self.left
+            self.right }
     {
         let mut parts = self.emptied_parts;
         put_two(&mut parts, Part::Child(self.left), Part::Child(self.right));
@@ -377,7 +384,8 @@ impl<'a> AssignmentPatternRef<'a> {
     /// Reads a node of this kind.
     pub fn from_node(node: &'a Node) -> AssignmentPatternRef<'a>
         requires { kind_of node.now ≡ Kind.AssignmentPattern }
-        ensures { node.now ≡ assignment_pattern result.node_id.0 (span_of result.span) result.left.now result.right.now }
+        ensures { node.now ≡ assignment_pattern result.node_id.0 (span_of result.span)
+            result.left.now result.right.now }
     {
         match node.parts() {
             [left, right] => AssignmentPatternRef {
@@ -391,8 +399,8 @@ impl<'a> AssignmentPatternRef<'a> {
     }
 }
 
-/// Makes a node of this kind, which has no number yet: `left = right` in a pattern that declares: a default value (ECMA-262, 14.3.3).
-/// Fails on allocation failure alone.
+/// Makes a node of this kind, which has no number yet: `left = right` in a pattern that declares: a
+/// default value (ECMA-262, 14.3.3). Fails on allocation failure alone.
 pub fn make_assignment_pattern(alloc: Global, left: Node, right: Node) -> Result<Node, AllocError>
     ensures { IfOk result (λ t. t ≡ assignment_pattern unnumbered None left right) }
 {
@@ -465,7 +473,8 @@ impl<'a> RestElementRef<'a> {
     /// Reads a node of this kind.
     pub fn from_node(node: &'a Node) -> RestElementRef<'a>
         requires { kind_of node.now ≡ Kind.RestElement }
-        ensures { node.now ≡ rest_element result.node_id.0 (span_of result.span) result.argument.now }
+        ensures { node.now ≡ rest_element result.node_id.0 (span_of result.span)
+            result.argument.now }
     {
         match node.parts() {
             [argument] => RestElementRef {
@@ -478,8 +487,8 @@ impl<'a> RestElementRef<'a> {
     }
 }
 
-/// Makes a node of this kind, which has no number yet: `...argument` in a pattern that declares, or the last parameter (ECMA-262, 14.3.3 and 15.1).
-/// Fails on allocation failure alone.
+/// Makes a node of this kind, which has no number yet: `...argument` in a pattern that declares, or
+/// the last parameter (ECMA-262, 14.3.3 and 15.1). Fails on allocation failure alone.
 pub fn make_rest_element(alloc: Global, argument: Node) -> Result<Node, AllocError>
     ensures { IfOk result (λ t. t ≡ rest_element unnumbered None argument) }
 {
@@ -509,7 +518,8 @@ impl ObjectAssignmentTarget {
     /// Takes a node of this kind apart.
     pub fn from_node(node: Node) -> ObjectAssignmentTarget
         requires { kind_of node ≡ Kind.ObjectAssignmentTarget }
-        ensures { node ≡ object_assignment_target result.node_id.0 (span_of result.span) result.properties }
+        ensures { node ≡ object_assignment_target result.node_id.0 (span_of result.span)
+            result.properties }
     {
         let contents = node.into_contents();
         let mut emptied_parts = contents.parts;
@@ -524,7 +534,8 @@ impl ObjectAssignmentTarget {
 
     /// Puts the node together again. Takes no memory.
     pub fn into_node(self) -> Node
-        ensures { result ≡ object_assignment_target self.node_id.0 (span_of self.span) self.properties }
+        ensures { result ≡ object_assignment_target self.node_id.0 (span_of self.span)
+            self.properties }
     {
         let mut parts = self.emptied_parts;
         put_one(&mut parts, Part::List(self.properties));
@@ -552,7 +563,8 @@ impl<'a> ObjectAssignmentTargetRef<'a> {
     /// Reads a node of this kind.
     pub fn from_node(node: &'a Node) -> ObjectAssignmentTargetRef<'a>
         requires { kind_of node.now ≡ Kind.ObjectAssignmentTarget }
-        ensures { node.now ≡ object_assignment_target result.node_id.0 (span_of result.span) result.properties.now }
+        ensures { node.now ≡ object_assignment_target result.node_id.0 (span_of result.span)
+            result.properties.now }
     {
         match node.parts() {
             [properties] => ObjectAssignmentTargetRef {
@@ -565,8 +577,8 @@ impl<'a> ObjectAssignmentTargetRef<'a> {
     }
 }
 
-/// Makes a node of this kind, which has no number yet: `{ properties }` that is assigned to (ECMA-262, 13.15.5).
-/// Fails on allocation failure alone.
+/// Makes a node of this kind, which has no number yet: `{ properties }` that is assigned to
+/// (ECMA-262, 13.15.5). Fails on allocation failure alone.
 pub fn make_object_assignment_target(
     alloc: Global,
     properties: List<Node>,
@@ -602,7 +614,8 @@ impl AssignmentTargetProperty {
     /// Takes a node of this kind apart.
     pub fn from_node(node: Node) -> AssignmentTargetProperty
         requires { kind_of node ≡ Kind.AssignmentTargetProperty }
-        ensures { node ≡ assignment_target_property result.node_id.0 (span_of result.span) result.key result.value result.shorthand result.computed }
+        ensures { node ≡ assignment_target_property result.node_id.0 (span_of result.span)
+            result.key result.value result.shorthand result.computed }
     {
         let contents = node.into_contents();
         let mut emptied_parts = contents.parts;
@@ -622,7 +635,8 @@ impl AssignmentTargetProperty {
 
     /// Puts the node together again. Takes no memory.
     pub fn into_node(self) -> Node
-        ensures { result ≡ assignment_target_property self.node_id.0 (span_of self.span) self.key self.value self.shorthand self.computed }
+        ensures { result ≡ assignment_target_property self.node_id.0 (span_of self.span) self.key
+            self.value self.shorthand self.computed }
     {
         let mut parts = self.emptied_parts;
         put_six(
@@ -661,7 +675,8 @@ impl<'a> AssignmentTargetPropertyRef<'a> {
     /// Reads a node of this kind.
     pub fn from_node(node: &'a Node) -> AssignmentTargetPropertyRef<'a>
         requires { kind_of node.now ≡ Kind.AssignmentTargetProperty }
-        ensures { node.now ≡ assignment_target_property result.node_id.0 (span_of result.span) result.key.now result.value.now result.shorthand result.computed }
+        ensures { node.now ≡ assignment_target_property result.node_id.0 (span_of result.span)
+            result.key.now result.value.now result.shorthand result.computed }
     {
         match node.parts() {
             [key, value, kind, method, shorthand, computed] => {
@@ -681,8 +696,8 @@ impl<'a> AssignmentTargetPropertyRef<'a> {
     }
 }
 
-/// Makes a node of this kind, which has no number yet: `key: value` in an object pattern that is assigned to (ECMA-262, 13.15.5).
-/// Fails on allocation failure alone.
+/// Makes a node of this kind, which has no number yet: `key: value` in an object pattern that is
+/// assigned to (ECMA-262, 13.15.5). Fails on allocation failure alone.
 pub fn make_assignment_target_property(
     alloc: Global,
     key: Node,
@@ -690,7 +705,8 @@ pub fn make_assignment_target_property(
     shorthand: bool,
     computed: bool,
 ) -> Result<Node, AllocError>
-    ensures { IfOk result (λ t. t ≡ assignment_target_property unnumbered None key value shorthand computed) }
+    ensures { IfOk result (λ t. t ≡ assignment_target_property unnumbered None key value shorthand
+        computed) }
 {
     let parts = vec![in alloc;
         Part::Child(key),
@@ -725,7 +741,8 @@ impl ArrayAssignmentTarget {
     /// Takes a node of this kind apart.
     pub fn from_node(node: Node) -> ArrayAssignmentTarget
         requires { kind_of node ≡ Kind.ArrayAssignmentTarget }
-        ensures { node ≡ array_assignment_target result.node_id.0 (span_of result.span) result.elements }
+        ensures { node ≡ array_assignment_target result.node_id.0 (span_of result.span)
+            result.elements }
     {
         let contents = node.into_contents();
         let mut emptied_parts = contents.parts;
@@ -740,7 +757,8 @@ impl ArrayAssignmentTarget {
 
     /// Puts the node together again. Takes no memory.
     pub fn into_node(self) -> Node
-        ensures { result ≡ array_assignment_target self.node_id.0 (span_of self.span) self.elements }
+        ensures { result ≡ array_assignment_target self.node_id.0 (span_of self.span)
+            self.elements }
     {
         let mut parts = self.emptied_parts;
         put_one(&mut parts, Part::Holes(self.elements));
@@ -768,7 +786,8 @@ impl<'a> ArrayAssignmentTargetRef<'a> {
     /// Reads a node of this kind.
     pub fn from_node(node: &'a Node) -> ArrayAssignmentTargetRef<'a>
         requires { kind_of node.now ≡ Kind.ArrayAssignmentTarget }
-        ensures { node.now ≡ array_assignment_target result.node_id.0 (span_of result.span) result.elements.now }
+        ensures { node.now ≡ array_assignment_target result.node_id.0 (span_of result.span)
+            result.elements.now }
     {
         match node.parts() {
             [elements] => ArrayAssignmentTargetRef {
@@ -781,8 +800,8 @@ impl<'a> ArrayAssignmentTargetRef<'a> {
     }
 }
 
-/// Makes a node of this kind, which has no number yet: `[elements]` that is assigned to (ECMA-262, 13.15.5).
-/// Fails on allocation failure alone.
+/// Makes a node of this kind, which has no number yet: `[elements]` that is assigned to (ECMA-262,
+/// 13.15.5). Fails on allocation failure alone.
 pub fn make_array_assignment_target(
     alloc: Global,
     elements: List<Option<Node>>,
@@ -816,7 +835,8 @@ impl AssignmentTargetWithDefault {
     /// Takes a node of this kind apart.
     pub fn from_node(node: Node) -> AssignmentTargetWithDefault
         requires { kind_of node ≡ Kind.AssignmentTargetWithDefault }
-        ensures { node ≡ assignment_target_with_default result.node_id.0 (span_of result.span) result.left result.right }
+        ensures { node ≡ assignment_target_with_default result.node_id.0 (span_of result.span)
+            result.left result.right }
     {
         let contents = node.into_contents();
         let mut emptied_parts = contents.parts;
@@ -832,7 +852,8 @@ impl AssignmentTargetWithDefault {
 
     /// Puts the node together again. Takes no memory.
     pub fn into_node(self) -> Node
-        ensures { result ≡ assignment_target_with_default self.node_id.0 (span_of self.span) self.left self.right }
+        ensures { result ≡ assignment_target_with_default self.node_id.0 (span_of self.span)
+            self.left self.right }
     {
         let mut parts = self.emptied_parts;
         put_two(&mut parts, Part::Child(self.left), Part::Child(self.right));
@@ -861,7 +882,8 @@ impl<'a> AssignmentTargetWithDefaultRef<'a> {
     /// Reads a node of this kind.
     pub fn from_node(node: &'a Node) -> AssignmentTargetWithDefaultRef<'a>
         requires { kind_of node.now ≡ Kind.AssignmentTargetWithDefault }
-        ensures { node.now ≡ assignment_target_with_default result.node_id.0 (span_of result.span) result.left.now result.right.now }
+        ensures { node.now ≡ assignment_target_with_default result.node_id.0 (span_of result.span)
+            result.left.now result.right.now }
     {
         match node.parts() {
             [left, right] => AssignmentTargetWithDefaultRef {
@@ -875,8 +897,8 @@ impl<'a> AssignmentTargetWithDefaultRef<'a> {
     }
 }
 
-/// Makes a node of this kind, which has no number yet: `left = right` in a pattern that is assigned to: a default value (ECMA-262, 13.15.5).
-/// Fails on allocation failure alone.
+/// Makes a node of this kind, which has no number yet: `left = right` in a pattern that is assigned
+/// to: a default value (ECMA-262, 13.15.5). Fails on allocation failure alone.
 pub fn make_assignment_target_with_default(
     alloc: Global,
     left: Node,
@@ -910,7 +932,8 @@ impl AssignmentTargetRest {
     /// Takes a node of this kind apart.
     pub fn from_node(node: Node) -> AssignmentTargetRest
         requires { kind_of node ≡ Kind.AssignmentTargetRest }
-        ensures { node ≡ assignment_target_rest result.node_id.0 (span_of result.span) result.argument }
+        ensures { node ≡ assignment_target_rest result.node_id.0 (span_of result.span)
+            result.argument }
     {
         let contents = node.into_contents();
         let mut emptied_parts = contents.parts;
@@ -953,7 +976,8 @@ impl<'a> AssignmentTargetRestRef<'a> {
     /// Reads a node of this kind.
     pub fn from_node(node: &'a Node) -> AssignmentTargetRestRef<'a>
         requires { kind_of node.now ≡ Kind.AssignmentTargetRest }
-        ensures { node.now ≡ assignment_target_rest result.node_id.0 (span_of result.span) result.argument.now }
+        ensures { node.now ≡ assignment_target_rest result.node_id.0 (span_of result.span)
+            result.argument.now }
     {
         match node.parts() {
             [argument] => AssignmentTargetRestRef {
@@ -966,8 +990,8 @@ impl<'a> AssignmentTargetRestRef<'a> {
     }
 }
 
-/// Makes a node of this kind, which has no number yet: `...argument` in a pattern that is assigned to (ECMA-262, 13.15.5).
-/// Fails on allocation failure alone.
+/// Makes a node of this kind, which has no number yet: `...argument` in a pattern that is assigned
+/// to (ECMA-262, 13.15.5). Fails on allocation failure alone.
 pub fn make_assignment_target_rest(alloc: Global, argument: Node) -> Result<Node, AllocError>
     ensures { IfOk result (λ t. t ≡ assignment_target_rest unnumbered None argument) }
 {

@@ -7,4 +7,5 @@ use Rattle.es_base.specs.declared.literal.LiteralValue.{LiteralValue}
 
 -- A literal (ECMA-262, 12.8 and 13.2.3).
 abbrev pub literal : ℕ → Option (ℕ × ℕ) → LiteralValue → Tree
-literal node_id span value = Node Kind.Literal node_id span None (more (literal_part value) end)
+literal node_id span value =
+    Node Kind.Literal node_id span None (more (literal_part value) end)

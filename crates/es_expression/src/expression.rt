@@ -1,6 +1,6 @@
 // Printed by tools/tree.py from tools/kinds.py.
-// Expressions. Each kind has a struct of its members, which keeps the emptied list of its
-// node's parts, the same borrowed, and a maker.
+// Expressions. Each kind has a struct of its members, which keeps the emptied list of its node's
+// parts, the same borrowed, and a maker.
 
 ghost use Rattle.std.specs.Prelude.{◌≡◌, IfOk, None, length, option_map};
 ghost use Rattle.es_base.specs.Carried.{span_of};
@@ -25,8 +25,8 @@ use es_node::room::{
 };
 use std::alloc::{AllocError, Global};
 
-/// Makes a node of this kind, which has no number yet: `this` (ECMA-262, 13.2.1).
-/// Fails on allocation failure alone.
+/// Makes a node of this kind, which has no number yet: `this` (ECMA-262, 13.2.1). Fails on
+/// allocation failure alone.
 pub fn make_this_expression(alloc: Global) -> Result<Node, AllocError>
     ensures { IfOk result (λ t. t ≡ this_expression unnumbered None) }
 {
@@ -42,8 +42,8 @@ pub fn make_this_expression(alloc: Global) -> Result<Node, AllocError>
     ))
 }
 
-/// Makes a node of this kind, which has no number yet: `super`, as an object or a callee (ECMA-262, 13.3.7).
-/// Fails on allocation failure alone.
+/// Makes a node of this kind, which has no number yet: `super`, as an object or a callee (ECMA-262,
+/// 13.3.7). Fails on allocation failure alone.
 pub fn make_super(alloc: Global) -> Result<Node, AllocError>
     ensures { IfOk result (λ t. t ≡ super unnumbered None) }
 {
@@ -116,7 +116,8 @@ impl<'a> ArrayExpressionRef<'a> {
     /// Reads a node of this kind.
     pub fn from_node(node: &'a Node) -> ArrayExpressionRef<'a>
         requires { kind_of node.now ≡ Kind.ArrayExpression }
-        ensures { node.now ≡ array_expression result.node_id.0 (span_of result.span) result.elements.now }
+        ensures { node.now ≡ array_expression result.node_id.0 (span_of result.span)
+            result.elements.now }
     {
         match node.parts() {
             [elements] => ArrayExpressionRef {
@@ -129,8 +130,8 @@ impl<'a> ArrayExpressionRef<'a> {
     }
 }
 
-/// Makes a node of this kind, which has no number yet: `[elements]`, which may have holes (ECMA-262, 13.2.4).
-/// Fails on allocation failure alone.
+/// Makes a node of this kind, which has no number yet: `[elements]`, which may have holes
+/// (ECMA-262, 13.2.4). Fails on allocation failure alone.
 pub fn make_array_expression(
     alloc: Global,
     elements: List<Option<Node>>,
@@ -163,7 +164,8 @@ impl ObjectExpression {
     /// Takes a node of this kind apart.
     pub fn from_node(node: Node) -> ObjectExpression
         requires { kind_of node ≡ Kind.ObjectExpression }
-        ensures { node ≡ object_expression result.node_id.0 (span_of result.span) result.properties }
+        ensures { node ≡ object_expression result.node_id.0 (span_of result.span)
+            result.properties }
     {
         let contents = node.into_contents();
         let mut emptied_parts = contents.parts;
@@ -206,7 +208,8 @@ impl<'a> ObjectExpressionRef<'a> {
     /// Reads a node of this kind.
     pub fn from_node(node: &'a Node) -> ObjectExpressionRef<'a>
         requires { kind_of node.now ≡ Kind.ObjectExpression }
-        ensures { node.now ≡ object_expression result.node_id.0 (span_of result.span) result.properties.now }
+        ensures { node.now ≡ object_expression result.node_id.0 (span_of result.span)
+            result.properties.now }
     {
         match node.parts() {
             [properties] => ObjectExpressionRef {
@@ -219,8 +222,8 @@ impl<'a> ObjectExpressionRef<'a> {
     }
 }
 
-/// Makes a node of this kind, which has no number yet: `{ properties }` (ECMA-262, 13.2.5).
-/// Fails on allocation failure alone.
+/// Makes a node of this kind, which has no number yet: `{ properties }` (ECMA-262, 13.2.5). Fails
+/// on allocation failure alone.
 pub fn make_object_expression(alloc: Global, properties: List<Node>) -> Result<Node, AllocError>
     ensures { IfOk result (λ t. t ≡ object_expression unnumbered None properties) }
 {
@@ -255,7 +258,8 @@ impl Property {
     /// Takes a node of this kind apart.
     pub fn from_node(node: Node) -> Property
         requires { kind_of node ≡ Kind.Property }
-        ensures { node ≡ property result.node_id.0 (span_of result.span) result.key result.value result.kind result.method result.shorthand result.computed }
+        ensures { node ≡ property result.node_id.0 (span_of result.span) result.key result.value
+            result.kind result.method result.shorthand result.computed }
     {
         let contents = node.into_contents();
         let mut emptied_parts = contents.parts;
@@ -265,17 +269,18 @@ impl Property {
             span: contents.span,
             key: key.into_child(),
             value: value.into_child(),
+            kind: kind.into_property_kind(),
             method: method.into_boolean(),
             shorthand: shorthand.into_boolean(),
             computed: computed.into_boolean(),
-            kind: kind.into_property_kind(),
             emptied_parts,
         }
     }
 
     /// Puts the node together again. Takes no memory.
     pub fn into_node(self) -> Node
-        ensures { result ≡ property self.node_id.0 (span_of self.span) self.key self.value self.kind self.method self.shorthand self.computed }
+        ensures { result ≡ property self.node_id.0 (span_of self.span) self.key self.value self.kind
+            self.method self.shorthand self.computed }
     {
         let mut parts = self.emptied_parts;
         put_six(
@@ -316,7 +321,8 @@ impl<'a> PropertyRef<'a> {
     /// Reads a node of this kind.
     pub fn from_node(node: &'a Node) -> PropertyRef<'a>
         requires { kind_of node.now ≡ Kind.Property }
-        ensures { node.now ≡ property result.node_id.0 (span_of result.span) result.key.now result.value.now result.kind result.method result.shorthand result.computed }
+        ensures { node.now ≡ property result.node_id.0 (span_of result.span) result.key.now
+            result.value.now result.kind result.method result.shorthand result.computed }
     {
         match node.parts() {
             [key, value, kind, method, shorthand, computed] => PropertyRef {
@@ -324,18 +330,18 @@ impl<'a> PropertyRef<'a> {
                 span: node.span(),
                 key: key.as_child(),
                 value: value.as_child(),
+                kind: kind.as_property_kind(),
                 method: method.as_boolean(),
                 shorthand: shorthand.as_boolean(),
                 computed: computed.as_boolean(),
-                kind: kind.as_property_kind(),
             },
             _ => unreachable!(),
         }
     }
 }
 
-/// Makes a node of this kind, which has no number yet: a property, a method or an accessor of an object literal (ECMA-262, 13.2.5).
-/// Fails on allocation failure alone.
+/// Makes a node of this kind, which has no number yet: a property, a method or an accessor of an
+/// object literal (ECMA-262, 13.2.5). Fails on allocation failure alone.
 pub fn make_property(
     alloc: Global,
     key: Node,
@@ -345,7 +351,8 @@ pub fn make_property(
     shorthand: bool,
     computed: bool,
 ) -> Result<Node, AllocError>
-    ensures { IfOk result (λ t. t ≡ property unnumbered None key value kind method shorthand computed) }
+    ensures { IfOk result (λ t. t ≡ property unnumbered None key value kind method shorthand
+        computed) }
 {
     let parts = vec![in alloc;
         Part::Child(key),
@@ -423,7 +430,8 @@ impl<'a> SpreadElementRef<'a> {
     /// Reads a node of this kind.
     pub fn from_node(node: &'a Node) -> SpreadElementRef<'a>
         requires { kind_of node.now ≡ Kind.SpreadElement }
-        ensures { node.now ≡ spread_element result.node_id.0 (span_of result.span) result.argument.now }
+        ensures { node.now ≡ spread_element result.node_id.0 (span_of result.span)
+            result.argument.now }
     {
         match node.parts() {
             [argument] => SpreadElementRef {
@@ -436,8 +444,8 @@ impl<'a> SpreadElementRef<'a> {
     }
 }
 
-/// Makes a node of this kind, which has no number yet: `...argument` in an array, an object or a call (ECMA-262, 13.2.4, 13.2.5 and 13.3.8).
-/// Fails on allocation failure alone.
+/// Makes a node of this kind, which has no number yet: `...argument` in an array, an object or a
+/// call (ECMA-262, 13.2.4, 13.2.5 and 13.3.8). Fails on allocation failure alone.
 pub fn make_spread_element(alloc: Global, argument: Node) -> Result<Node, AllocError>
     ensures { IfOk result (λ t. t ≡ spread_element unnumbered None argument) }
 {
@@ -468,7 +476,8 @@ impl TemplateLiteral {
     /// Takes a node of this kind apart.
     pub fn from_node(node: Node) -> TemplateLiteral
         requires { kind_of node ≡ Kind.TemplateLiteral }
-        ensures { node ≡ template_literal result.node_id.0 (span_of result.span) result.quasis result.expressions }
+        ensures { node ≡ template_literal result.node_id.0 (span_of result.span) result.quasis
+            result.expressions }
     {
         let contents = node.into_contents();
         let mut emptied_parts = contents.parts;
@@ -484,7 +493,8 @@ impl TemplateLiteral {
 
     /// Puts the node together again. Takes no memory.
     pub fn into_node(self) -> Node
-        ensures { result ≡ template_literal self.node_id.0 (span_of self.span) self.quasis self.expressions }
+        ensures { result ≡ template_literal self.node_id.0 (span_of self.span) self.quasis
+            self.expressions }
     {
         let mut parts = self.emptied_parts;
         put_two(
@@ -517,7 +527,8 @@ impl<'a> TemplateLiteralRef<'a> {
     /// Reads a node of this kind.
     pub fn from_node(node: &'a Node) -> TemplateLiteralRef<'a>
         requires { kind_of node.now ≡ Kind.TemplateLiteral }
-        ensures { node.now ≡ template_literal result.node_id.0 (span_of result.span) result.quasis.now result.expressions.now }
+        ensures { node.now ≡ template_literal result.node_id.0 (span_of result.span)
+            result.quasis.now result.expressions.now }
     {
         match node.parts() {
             [quasis, expressions] => TemplateLiteralRef {
@@ -531,8 +542,8 @@ impl<'a> TemplateLiteralRef<'a> {
     }
 }
 
-/// Makes a node of this kind, which has no number yet: a template: its strings, and the expressions between them (ECMA-262, 13.2.8).
-/// Fails on allocation failure alone.
+/// Makes a node of this kind, which has no number yet: a template: its strings, and the expressions
+/// between them (ECMA-262, 13.2.8). Fails on allocation failure alone.
 pub fn make_template_literal(
     alloc: Global,
     quasis: List<Node>,
@@ -568,7 +579,8 @@ impl TemplateElement {
     /// Takes a node of this kind apart.
     pub fn from_node(node: Node) -> TemplateElement
         requires { kind_of node ≡ Kind.TemplateElement }
-        ensures { node ≡ template_element result.node_id.0 (span_of result.span) result.raw result.cooked result.tail }
+        ensures { node ≡ template_element result.node_id.0 (span_of result.span) result.raw
+            result.cooked result.tail }
     {
         let contents = node.into_contents();
         let mut emptied_parts = contents.parts;
@@ -585,7 +597,8 @@ impl TemplateElement {
 
     /// Puts the node together again. Takes no memory.
     pub fn into_node(self) -> Node
-        ensures { result ≡ template_element self.node_id.0 (span_of self.span) self.raw self.cooked self.tail }
+        ensures { result ≡ template_element self.node_id.0 (span_of self.span) self.raw self.cooked
+            self.tail }
     {
         let mut parts = self.emptied_parts;
         put_three(
@@ -620,7 +633,8 @@ impl<'a> TemplateElementRef<'a> {
     /// Reads a node of this kind.
     pub fn from_node(node: &'a Node) -> TemplateElementRef<'a>
         requires { kind_of node.now ≡ Kind.TemplateElement }
-        ensures { node.now ≡ template_element result.node_id.0 (span_of result.span) result.raw.now (option_map (λ x. x.now) result.cooked) result.tail }
+        ensures { node.now ≡ template_element result.node_id.0 (span_of result.span) result.raw.now
+            (option_map (λ x. x.now) result.cooked) result.tail }
     {
         match node.parts() {
             [raw, cooked, tail] => TemplateElementRef {
@@ -635,8 +649,8 @@ impl<'a> TemplateElementRef<'a> {
     }
 }
 
-/// Makes a node of this kind, which has no number yet: a string of a template; `cooked` is absent where an escape is not valid (ECMA-262, 12.8.6).
-/// Fails on allocation failure alone.
+/// Makes a node of this kind, which has no number yet: a string of a template; `cooked` is absent
+/// where an escape is not valid (ECMA-262, 12.8.6). Fails on allocation failure alone.
 pub fn make_template_element(
     alloc: Global,
     raw: Name,
@@ -676,7 +690,8 @@ impl TaggedTemplateExpression {
     /// Takes a node of this kind apart.
     pub fn from_node(node: Node) -> TaggedTemplateExpression
         requires { kind_of node ≡ Kind.TaggedTemplateExpression }
-        ensures { node ≡ tagged_template_expression result.node_id.0 (span_of result.span) result.tag result.quasi }
+        ensures { node ≡ tagged_template_expression result.node_id.0 (span_of result.span)
+            result.tag result.quasi }
     {
         let contents = node.into_contents();
         let mut emptied_parts = contents.parts;
@@ -692,7 +707,8 @@ impl TaggedTemplateExpression {
 
     /// Puts the node together again. Takes no memory.
     pub fn into_node(self) -> Node
-        ensures { result ≡ tagged_template_expression self.node_id.0 (span_of self.span) self.tag self.quasi }
+        ensures { result ≡ tagged_template_expression self.node_id.0 (span_of self.span) self.tag
+            self.quasi }
     {
         let mut parts = self.emptied_parts;
         put_two(&mut parts, Part::Child(self.tag), Part::Child(self.quasi));
@@ -721,7 +737,8 @@ impl<'a> TaggedTemplateExpressionRef<'a> {
     /// Reads a node of this kind.
     pub fn from_node(node: &'a Node) -> TaggedTemplateExpressionRef<'a>
         requires { kind_of node.now ≡ Kind.TaggedTemplateExpression }
-        ensures { node.now ≡ tagged_template_expression result.node_id.0 (span_of result.span) result.tag.now result.quasi.now }
+        ensures { node.now ≡ tagged_template_expression result.node_id.0 (span_of result.span)
+            result.tag.now result.quasi.now }
     {
         match node.parts() {
             [tag, quasi] => TaggedTemplateExpressionRef {
@@ -773,7 +790,8 @@ impl MemberExpression {
     /// Takes a node of this kind apart.
     pub fn from_node(node: Node) -> MemberExpression
         requires { kind_of node ≡ Kind.MemberExpression }
-        ensures { node ≡ member_expression result.node_id.0 (span_of result.span) result.object result.property result.computed result.optional }
+        ensures { node ≡ member_expression result.node_id.0 (span_of result.span) result.object
+            result.property result.computed result.optional }
     {
         let contents = node.into_contents();
         let mut emptied_parts = contents.parts;
@@ -791,7 +809,8 @@ impl MemberExpression {
 
     /// Puts the node together again. Takes no memory.
     pub fn into_node(self) -> Node
-        ensures { result ≡ member_expression self.node_id.0 (span_of self.span) self.object self.property self.computed self.optional }
+        ensures { result ≡ member_expression self.node_id.0 (span_of self.span) self.object
+            self.property self.computed self.optional }
     {
         let mut parts = self.emptied_parts;
         put_four(
@@ -828,7 +847,8 @@ impl<'a> MemberExpressionRef<'a> {
     /// Reads a node of this kind.
     pub fn from_node(node: &'a Node) -> MemberExpressionRef<'a>
         requires { kind_of node.now ≡ Kind.MemberExpression }
-        ensures { node.now ≡ member_expression result.node_id.0 (span_of result.span) result.object.now result.property.now result.computed result.optional }
+        ensures { node.now ≡ member_expression result.node_id.0 (span_of result.span)
+            result.object.now result.property.now result.computed result.optional }
     {
         match node.parts() {
             [object, property, computed, optional] => MemberExpressionRef {
@@ -844,8 +864,8 @@ impl<'a> MemberExpressionRef<'a> {
     }
 }
 
-/// Makes a node of this kind, which has no number yet: `object.property` or `object[property]` (ECMA-262, 13.3.2 and 13.3.9).
-/// Fails on allocation failure alone.
+/// Makes a node of this kind, which has no number yet: `object.property` or `object[property]`
+/// (ECMA-262, 13.3.2 and 13.3.9). Fails on allocation failure alone.
 pub fn make_member_expression(
     alloc: Global,
     object: Node,
@@ -853,7 +873,8 @@ pub fn make_member_expression(
     computed: bool,
     optional: bool,
 ) -> Result<Node, AllocError>
-    ensures { IfOk result (λ t. t ≡ member_expression unnumbered None object property computed optional) }
+    ensures { IfOk result (λ t. t ≡ member_expression unnumbered None object property computed
+        optional) }
 {
     let parts = vec![in alloc;
         Part::Child(object),
@@ -888,7 +909,8 @@ impl PrivateField {
     /// Takes a node of this kind apart.
     pub fn from_node(node: Node) -> PrivateField
         requires { kind_of node ≡ Kind.PrivateField }
-        ensures { node ≡ private_field result.node_id.0 (span_of result.span) result.object result.property result.optional }
+        ensures { node ≡ private_field result.node_id.0 (span_of result.span) result.object
+            result.property result.optional }
     {
         let contents = node.into_contents();
         let mut emptied_parts = contents.parts;
@@ -906,7 +928,8 @@ impl PrivateField {
 
     /// Puts the node together again. Takes no memory.
     pub fn into_node(self) -> Node
-        ensures { result ≡ private_field self.node_id.0 (span_of self.span) self.object self.property self.optional }
+        ensures { result ≡ private_field self.node_id.0 (span_of self.span) self.object
+            self.property self.optional }
     {
         let mut parts = self.emptied_parts;
         put_four(
@@ -942,7 +965,8 @@ impl<'a> PrivateFieldRef<'a> {
     /// Reads a node of this kind.
     pub fn from_node(node: &'a Node) -> PrivateFieldRef<'a>
         requires { kind_of node.now ≡ Kind.PrivateField }
-        ensures { node.now ≡ private_field result.node_id.0 (span_of result.span) result.object.now result.property.now result.optional }
+        ensures { node.now ≡ private_field result.node_id.0 (span_of result.span) result.object.now
+            result.property.now result.optional }
     {
         match node.parts() {
             [object, property, computed, optional] => {
@@ -960,8 +984,8 @@ impl<'a> PrivateFieldRef<'a> {
     }
 }
 
-/// Makes a node of this kind, which has no number yet: `object.#property` (ECMA-262, 13.3.2 and 13.3.9).
-/// Fails on allocation failure alone.
+/// Makes a node of this kind, which has no number yet: `object.#property` (ECMA-262, 13.3.2 and
+/// 13.3.9). Fails on allocation failure alone.
 pub fn make_private_field(
     alloc: Global,
     object: Node,
@@ -1002,7 +1026,8 @@ impl UnaryExpression {
     /// Takes a node of this kind apart.
     pub fn from_node(node: Node) -> UnaryExpression
         requires { kind_of node ≡ Kind.UnaryExpression }
-        ensures { node ≡ unary_expression result.node_id.0 (span_of result.span) result.operator result.argument }
+        ensures { node ≡ unary_expression result.node_id.0 (span_of result.span) result.operator
+            result.argument }
     {
         let contents = node.into_contents();
         let mut emptied_parts = contents.parts;
@@ -1010,15 +1035,16 @@ impl UnaryExpression {
         UnaryExpression {
             node_id: contents.node_id,
             span: contents.span,
-            argument: argument.into_child(),
             operator: operator.into_unary_operator(),
+            argument: argument.into_child(),
             emptied_parts,
         }
     }
 
     /// Puts the node together again. Takes no memory.
     pub fn into_node(self) -> Node
-        ensures { result ≡ unary_expression self.node_id.0 (span_of self.span) self.operator self.argument }
+        ensures { result ≡ unary_expression self.node_id.0 (span_of self.span) self.operator
+            self.argument }
     {
         let mut parts = self.emptied_parts;
         put_two(
@@ -1051,22 +1077,23 @@ impl<'a> UnaryExpressionRef<'a> {
     /// Reads a node of this kind.
     pub fn from_node(node: &'a Node) -> UnaryExpressionRef<'a>
         requires { kind_of node.now ≡ Kind.UnaryExpression }
-        ensures { node.now ≡ unary_expression result.node_id.0 (span_of result.span) result.operator result.argument.now }
+        ensures { node.now ≡ unary_expression result.node_id.0 (span_of result.span) result.operator
+            result.argument.now }
     {
         match node.parts() {
             [operator, argument] => UnaryExpressionRef {
                 node_id: node.node_id(),
                 span: node.span(),
-                argument: argument.as_child(),
                 operator: operator.as_unary_operator(),
+                argument: argument.as_child(),
             },
             _ => unreachable!(),
         }
     }
 }
 
-/// Makes a node of this kind, which has no number yet: an operator before its operand (ECMA-262, 13.5).
-/// Fails on allocation failure alone.
+/// Makes a node of this kind, which has no number yet: an operator before its operand (ECMA-262,
+/// 13.5). Fails on allocation failure alone.
 pub fn make_unary_expression(
     alloc: Global,
     operator: UnaryOperator,
@@ -1105,7 +1132,8 @@ impl UpdateExpression {
     /// Takes a node of this kind apart.
     pub fn from_node(node: Node) -> UpdateExpression
         requires { kind_of node ≡ Kind.UpdateExpression }
-        ensures { node ≡ update_expression result.node_id.0 (span_of result.span) result.operator result.argument result.prefix }
+        ensures { node ≡ update_expression result.node_id.0 (span_of result.span) result.operator
+            result.argument result.prefix }
     {
         let contents = node.into_contents();
         let mut emptied_parts = contents.parts;
@@ -1113,16 +1141,17 @@ impl UpdateExpression {
         UpdateExpression {
             node_id: contents.node_id,
             span: contents.span,
+            operator: operator.into_update_operator(),
             argument: argument.into_child(),
             prefix: prefix.into_boolean(),
-            operator: operator.into_update_operator(),
             emptied_parts,
         }
     }
 
     /// Puts the node together again. Takes no memory.
     pub fn into_node(self) -> Node
-        ensures { result ≡ update_expression self.node_id.0 (span_of self.span) self.operator self.argument self.prefix }
+        ensures { result ≡ update_expression self.node_id.0 (span_of self.span) self.operator
+            self.argument self.prefix }
     {
         let mut parts = self.emptied_parts;
         put_three(
@@ -1157,23 +1186,24 @@ impl<'a> UpdateExpressionRef<'a> {
     /// Reads a node of this kind.
     pub fn from_node(node: &'a Node) -> UpdateExpressionRef<'a>
         requires { kind_of node.now ≡ Kind.UpdateExpression }
-        ensures { node.now ≡ update_expression result.node_id.0 (span_of result.span) result.operator result.argument.now result.prefix }
+        ensures { node.now ≡ update_expression result.node_id.0 (span_of result.span)
+            result.operator result.argument.now result.prefix }
     {
         match node.parts() {
             [operator, argument, prefix] => UpdateExpressionRef {
                 node_id: node.node_id(),
                 span: node.span(),
+                operator: operator.as_update_operator(),
                 argument: argument.as_child(),
                 prefix: prefix.as_boolean(),
-                operator: operator.as_update_operator(),
             },
             _ => unreachable!(),
         }
     }
 }
 
-/// Makes a node of this kind, which has no number yet: `++` or `--`, before or after its target (ECMA-262, 13.4).
-/// Fails on allocation failure alone.
+/// Makes a node of this kind, which has no number yet: `++` or `--`, before or after its target
+/// (ECMA-262, 13.4). Fails on allocation failure alone.
 pub fn make_update_expression(
     alloc: Global,
     operator: UpdateOperator,
@@ -1214,7 +1244,8 @@ impl BinaryExpression {
     /// Takes a node of this kind apart.
     pub fn from_node(node: Node) -> BinaryExpression
         requires { kind_of node ≡ Kind.BinaryExpression }
-        ensures { node ≡ binary_expression result.node_id.0 (span_of result.span) result.operator result.left result.right }
+        ensures { node ≡ binary_expression result.node_id.0 (span_of result.span) result.operator
+            result.left result.right }
     {
         let contents = node.into_contents();
         let mut emptied_parts = contents.parts;
@@ -1222,16 +1253,17 @@ impl BinaryExpression {
         BinaryExpression {
             node_id: contents.node_id,
             span: contents.span,
+            operator: operator.into_binary_operator(),
             left: left.into_child(),
             right: right.into_child(),
-            operator: operator.into_binary_operator(),
             emptied_parts,
         }
     }
 
     /// Puts the node together again. Takes no memory.
     pub fn into_node(self) -> Node
-        ensures { result ≡ binary_expression self.node_id.0 (span_of self.span) self.operator self.left self.right }
+        ensures { result ≡ binary_expression self.node_id.0 (span_of self.span) self.operator
+            self.left self.right }
     {
         let mut parts = self.emptied_parts;
         put_three(
@@ -1266,23 +1298,24 @@ impl<'a> BinaryExpressionRef<'a> {
     /// Reads a node of this kind.
     pub fn from_node(node: &'a Node) -> BinaryExpressionRef<'a>
         requires { kind_of node.now ≡ Kind.BinaryExpression }
-        ensures { node.now ≡ binary_expression result.node_id.0 (span_of result.span) result.operator result.left.now result.right.now }
+        ensures { node.now ≡ binary_expression result.node_id.0 (span_of result.span)
+            result.operator result.left.now result.right.now }
     {
         match node.parts() {
             [operator, left, right] => BinaryExpressionRef {
                 node_id: node.node_id(),
                 span: node.span(),
+                operator: operator.as_binary_operator(),
                 left: left.as_child(),
                 right: right.as_child(),
-                operator: operator.as_binary_operator(),
             },
             _ => unreachable!(),
         }
     }
 }
 
-/// Makes a node of this kind, which has no number yet: an operator between two operands (ECMA-262, 13.6 to 13.12).
-/// Fails on allocation failure alone.
+/// Makes a node of this kind, which has no number yet: an operator between two operands (ECMA-262,
+/// 13.6 to 13.12). Fails on allocation failure alone.
 pub fn make_binary_expression(
     alloc: Global,
     operator: BinaryOperator,
@@ -1322,7 +1355,8 @@ impl PrivateIn {
     /// Takes a node of this kind apart.
     pub fn from_node(node: Node) -> PrivateIn
         requires { kind_of node ≡ Kind.PrivateIn }
-        ensures { node ≡ private_in result.node_id.0 (span_of result.span) result.left result.right }
+        ensures { node ≡ private_in result.node_id.0 (span_of result.span) result.left
+            result.right }
     {
         let contents = node.into_contents();
         let mut emptied_parts = contents.parts;
@@ -1373,7 +1407,8 @@ impl<'a> PrivateInRef<'a> {
     /// Reads a node of this kind.
     pub fn from_node(node: &'a Node) -> PrivateInRef<'a>
         requires { kind_of node.now ≡ Kind.PrivateIn }
-        ensures { node.now ≡ private_in result.node_id.0 (span_of result.span) result.left.now result.right.now }
+        ensures { node.now ≡ private_in result.node_id.0 (span_of result.span) result.left.now
+            result.right.now }
     {
         match node.parts() {
             [operator, left, right] => {
@@ -1390,8 +1425,8 @@ impl<'a> PrivateInRef<'a> {
     }
 }
 
-/// Makes a node of this kind, which has no number yet: `#left in right` (ECMA-262, 13.10).
-/// Fails on allocation failure alone.
+/// Makes a node of this kind, which has no number yet: `#left in right` (ECMA-262, 13.10). Fails on
+/// allocation failure alone.
 pub fn make_private_in(alloc: Global, left: Node, right: Node) -> Result<Node, AllocError>
     ensures { IfOk result (λ t. t ≡ private_in unnumbered None left right) }
 {
@@ -1423,7 +1458,8 @@ impl LogicalExpression {
     /// Takes a node of this kind apart.
     pub fn from_node(node: Node) -> LogicalExpression
         requires { kind_of node ≡ Kind.LogicalExpression }
-        ensures { node ≡ logical_expression result.node_id.0 (span_of result.span) result.operator result.left result.right }
+        ensures { node ≡ logical_expression result.node_id.0 (span_of result.span) result.operator
+            result.left result.right }
     {
         let contents = node.into_contents();
         let mut emptied_parts = contents.parts;
@@ -1431,16 +1467,17 @@ impl LogicalExpression {
         LogicalExpression {
             node_id: contents.node_id,
             span: contents.span,
+            operator: operator.into_logical_operator(),
             left: left.into_child(),
             right: right.into_child(),
-            operator: operator.into_logical_operator(),
             emptied_parts,
         }
     }
 
     /// Puts the node together again. Takes no memory.
     pub fn into_node(self) -> Node
-        ensures { result ≡ logical_expression self.node_id.0 (span_of self.span) self.operator self.left self.right }
+        ensures { result ≡ logical_expression self.node_id.0 (span_of self.span) self.operator
+            self.left self.right }
     {
         let mut parts = self.emptied_parts;
         put_three(
@@ -1475,23 +1512,24 @@ impl<'a> LogicalExpressionRef<'a> {
     /// Reads a node of this kind.
     pub fn from_node(node: &'a Node) -> LogicalExpressionRef<'a>
         requires { kind_of node.now ≡ Kind.LogicalExpression }
-        ensures { node.now ≡ logical_expression result.node_id.0 (span_of result.span) result.operator result.left.now result.right.now }
+        ensures { node.now ≡ logical_expression result.node_id.0 (span_of result.span)
+            result.operator result.left.now result.right.now }
     {
         match node.parts() {
             [operator, left, right] => LogicalExpressionRef {
                 node_id: node.node_id(),
                 span: node.span(),
+                operator: operator.as_logical_operator(),
                 left: left.as_child(),
                 right: right.as_child(),
-                operator: operator.as_logical_operator(),
             },
             _ => unreachable!(),
         }
     }
 }
 
-/// Makes a node of this kind, which has no number yet: `||`, `&&` or `??` between two operands (ECMA-262, 13.13).
-/// Fails on allocation failure alone.
+/// Makes a node of this kind, which has no number yet: `||`, `&&` or `??` between two operands
+/// (ECMA-262, 13.13). Fails on allocation failure alone.
 pub fn make_logical_expression(
     alloc: Global,
     operator: LogicalOperator,
@@ -1532,7 +1570,8 @@ impl AssignmentExpression {
     /// Takes a node of this kind apart.
     pub fn from_node(node: Node) -> AssignmentExpression
         requires { kind_of node ≡ Kind.AssignmentExpression }
-        ensures { node ≡ assignment_expression result.node_id.0 (span_of result.span) result.operator result.left result.right }
+        ensures { node ≡ assignment_expression result.node_id.0 (span_of result.span)
+            result.operator result.left result.right }
     {
         let contents = node.into_contents();
         let mut emptied_parts = contents.parts;
@@ -1540,16 +1579,17 @@ impl AssignmentExpression {
         AssignmentExpression {
             node_id: contents.node_id,
             span: contents.span,
+            operator: operator.into_assignment_operator(),
             left: left.into_child(),
             right: right.into_child(),
-            operator: operator.into_assignment_operator(),
             emptied_parts,
         }
     }
 
     /// Puts the node together again. Takes no memory.
     pub fn into_node(self) -> Node
-        ensures { result ≡ assignment_expression self.node_id.0 (span_of self.span) self.operator self.left self.right }
+        ensures { result ≡ assignment_expression self.node_id.0 (span_of self.span) self.operator
+            self.left self.right }
     {
         let mut parts = self.emptied_parts;
         put_three(
@@ -1584,23 +1624,24 @@ impl<'a> AssignmentExpressionRef<'a> {
     /// Reads a node of this kind.
     pub fn from_node(node: &'a Node) -> AssignmentExpressionRef<'a>
         requires { kind_of node.now ≡ Kind.AssignmentExpression }
-        ensures { node.now ≡ assignment_expression result.node_id.0 (span_of result.span) result.operator result.left.now result.right.now }
+        ensures { node.now ≡ assignment_expression result.node_id.0 (span_of result.span)
+            result.operator result.left.now result.right.now }
     {
         match node.parts() {
             [operator, left, right] => AssignmentExpressionRef {
                 node_id: node.node_id(),
                 span: node.span(),
+                operator: operator.as_assignment_operator(),
                 left: left.as_child(),
                 right: right.as_child(),
-                operator: operator.as_assignment_operator(),
             },
             _ => unreachable!(),
         }
     }
 }
 
-/// Makes a node of this kind, which has no number yet: `left = right`, or with another operator (ECMA-262, 13.15).
-/// Fails on allocation failure alone.
+/// Makes a node of this kind, which has no number yet: `left = right`, or with another operator
+/// (ECMA-262, 13.15). Fails on allocation failure alone.
 pub fn make_assignment_expression(
     alloc: Global,
     operator: AssignmentOperator,
@@ -1641,7 +1682,8 @@ impl ConditionalExpression {
     /// Takes a node of this kind apart.
     pub fn from_node(node: Node) -> ConditionalExpression
         requires { kind_of node ≡ Kind.ConditionalExpression }
-        ensures { node ≡ conditional_expression result.node_id.0 (span_of result.span) result.test result.consequent result.alternate }
+        ensures { node ≡ conditional_expression result.node_id.0 (span_of result.span) result.test
+            result.consequent result.alternate }
     {
         let contents = node.into_contents();
         let mut emptied_parts = contents.parts;
@@ -1658,7 +1700,8 @@ impl ConditionalExpression {
 
     /// Puts the node together again. Takes no memory.
     pub fn into_node(self) -> Node
-        ensures { result ≡ conditional_expression self.node_id.0 (span_of self.span) self.test self.consequent self.alternate }
+        ensures { result ≡ conditional_expression self.node_id.0 (span_of self.span) self.test
+            self.consequent self.alternate }
     {
         let mut parts = self.emptied_parts;
         put_three(
@@ -1693,7 +1736,8 @@ impl<'a> ConditionalExpressionRef<'a> {
     /// Reads a node of this kind.
     pub fn from_node(node: &'a Node) -> ConditionalExpressionRef<'a>
         requires { kind_of node.now ≡ Kind.ConditionalExpression }
-        ensures { node.now ≡ conditional_expression result.node_id.0 (span_of result.span) result.test.now result.consequent.now result.alternate.now }
+        ensures { node.now ≡ conditional_expression result.node_id.0 (span_of result.span)
+            result.test.now result.consequent.now result.alternate.now }
     {
         match node.parts() {
             [test, consequent, alternate] => ConditionalExpressionRef {
@@ -1708,15 +1752,16 @@ impl<'a> ConditionalExpressionRef<'a> {
     }
 }
 
-/// Makes a node of this kind, which has no number yet: `test ? consequent : alternate` (ECMA-262, 13.14).
-/// Fails on allocation failure alone.
+/// Makes a node of this kind, which has no number yet: `test ? consequent : alternate` (ECMA-262,
+/// 13.14). Fails on allocation failure alone.
 pub fn make_conditional_expression(
     alloc: Global,
     test: Node,
     consequent: Node,
     alternate: Node,
 ) -> Result<Node, AllocError>
-    ensures { IfOk result (λ t. t ≡ conditional_expression unnumbered None test consequent alternate) }
+    ensures { IfOk result (λ t. t ≡ conditional_expression unnumbered None test consequent
+        alternate) }
 {
     let parts = vec![in alloc;
         Part::Child(test),
@@ -1750,7 +1795,8 @@ impl CallExpression {
     /// Takes a node of this kind apart.
     pub fn from_node(node: Node) -> CallExpression
         requires { kind_of node ≡ Kind.CallExpression }
-        ensures { node ≡ call_expression result.node_id.0 (span_of result.span) result.callee result.arguments result.optional }
+        ensures { node ≡ call_expression result.node_id.0 (span_of result.span) result.callee
+            result.arguments result.optional }
     {
         let contents = node.into_contents();
         let mut emptied_parts = contents.parts;
@@ -1767,7 +1813,8 @@ impl CallExpression {
 
     /// Puts the node together again. Takes no memory.
     pub fn into_node(self) -> Node
-        ensures { result ≡ call_expression self.node_id.0 (span_of self.span) self.callee self.arguments self.optional }
+        ensures { result ≡ call_expression self.node_id.0 (span_of self.span) self.callee
+            self.arguments self.optional }
     {
         let mut parts = self.emptied_parts;
         put_three(
@@ -1802,7 +1849,8 @@ impl<'a> CallExpressionRef<'a> {
     /// Reads a node of this kind.
     pub fn from_node(node: &'a Node) -> CallExpressionRef<'a>
         requires { kind_of node.now ≡ Kind.CallExpression }
-        ensures { node.now ≡ call_expression result.node_id.0 (span_of result.span) result.callee.now result.arguments.now result.optional }
+        ensures { node.now ≡ call_expression result.node_id.0 (span_of result.span)
+            result.callee.now result.arguments.now result.optional }
     {
         match node.parts() {
             [callee, arguments, optional] => CallExpressionRef {
@@ -1817,8 +1865,8 @@ impl<'a> CallExpressionRef<'a> {
     }
 }
 
-/// Makes a node of this kind, which has no number yet: `callee(arguments)` (ECMA-262, 13.3.6, 13.3.7 and 13.3.9).
-/// Fails on allocation failure alone.
+/// Makes a node of this kind, which has no number yet: `callee(arguments)` (ECMA-262, 13.3.6,
+/// 13.3.7 and 13.3.9). Fails on allocation failure alone.
 pub fn make_call_expression(
     alloc: Global,
     callee: Node,
@@ -1858,7 +1906,8 @@ impl NewExpression {
     /// Takes a node of this kind apart.
     pub fn from_node(node: Node) -> NewExpression
         requires { kind_of node ≡ Kind.NewExpression }
-        ensures { node ≡ new_expression result.node_id.0 (span_of result.span) result.callee result.arguments }
+        ensures { node ≡ new_expression result.node_id.0 (span_of result.span) result.callee
+            result.arguments }
     {
         let contents = node.into_contents();
         let mut emptied_parts = contents.parts;
@@ -1874,7 +1923,8 @@ impl NewExpression {
 
     /// Puts the node together again. Takes no memory.
     pub fn into_node(self) -> Node
-        ensures { result ≡ new_expression self.node_id.0 (span_of self.span) self.callee self.arguments }
+        ensures { result ≡ new_expression self.node_id.0 (span_of self.span) self.callee
+            self.arguments }
     {
         let mut parts = self.emptied_parts;
         put_two(
@@ -1907,7 +1957,8 @@ impl<'a> NewExpressionRef<'a> {
     /// Reads a node of this kind.
     pub fn from_node(node: &'a Node) -> NewExpressionRef<'a>
         requires { kind_of node.now ≡ Kind.NewExpression }
-        ensures { node.now ≡ new_expression result.node_id.0 (span_of result.span) result.callee.now result.arguments.now }
+        ensures { node.now ≡ new_expression result.node_id.0 (span_of result.span) result.callee.now
+            result.arguments.now }
     {
         match node.parts() {
             [callee, arguments] => NewExpressionRef {
@@ -1956,7 +2007,8 @@ impl SequenceExpression {
     /// Takes a node of this kind apart.
     pub fn from_node(node: Node) -> SequenceExpression
         requires { kind_of node ≡ Kind.SequenceExpression }
-        ensures { node ≡ sequence_expression result.node_id.0 (span_of result.span) result.expressions }
+        ensures { node ≡ sequence_expression result.node_id.0 (span_of result.span)
+            result.expressions }
     {
         let contents = node.into_contents();
         let mut emptied_parts = contents.parts;
@@ -1999,7 +2051,8 @@ impl<'a> SequenceExpressionRef<'a> {
     /// Reads a node of this kind.
     pub fn from_node(node: &'a Node) -> SequenceExpressionRef<'a>
         requires { kind_of node.now ≡ Kind.SequenceExpression }
-        ensures { node.now ≡ sequence_expression result.node_id.0 (span_of result.span) result.expressions.now }
+        ensures { node.now ≡ sequence_expression result.node_id.0 (span_of result.span)
+            result.expressions.now }
     {
         match node.parts() {
             [expressions] => SequenceExpressionRef {
@@ -2012,8 +2065,8 @@ impl<'a> SequenceExpressionRef<'a> {
     }
 }
 
-/// Makes a node of this kind, which has no number yet: expressions with commas between them; there is at least one (ECMA-262, 13.16).
-/// Fails on allocation failure alone.
+/// Makes a node of this kind, which has no number yet: expressions with commas between them; there
+/// is at least one (ECMA-262, 13.16). Fails on allocation failure alone.
 pub fn make_sequence_expression(alloc: Global, expressions: List<Node>) -> Result<Node, AllocError>
     ensures { IfOk result (λ t. t ≡ sequence_expression unnumbered None expressions) }
 {
@@ -2044,7 +2097,8 @@ impl YieldExpression {
     /// Takes a node of this kind apart.
     pub fn from_node(node: Node) -> YieldExpression
         requires { kind_of node ≡ Kind.YieldExpression }
-        ensures { node ≡ yield_expression result.node_id.0 (span_of result.span) result.argument result.delegate }
+        ensures { node ≡ yield_expression result.node_id.0 (span_of result.span) result.argument
+            result.delegate }
     {
         let contents = node.into_contents();
         let mut emptied_parts = contents.parts;
@@ -2060,7 +2114,8 @@ impl YieldExpression {
 
     /// Puts the node together again. Takes no memory.
     pub fn into_node(self) -> Node
-        ensures { result ≡ yield_expression self.node_id.0 (span_of self.span) self.argument self.delegate }
+        ensures { result ≡ yield_expression self.node_id.0 (span_of self.span) self.argument
+            self.delegate }
     {
         let mut parts = self.emptied_parts;
         put_two(
@@ -2093,7 +2148,8 @@ impl<'a> YieldExpressionRef<'a> {
     /// Reads a node of this kind.
     pub fn from_node(node: &'a Node) -> YieldExpressionRef<'a>
         requires { kind_of node.now ≡ Kind.YieldExpression }
-        ensures { node.now ≡ yield_expression result.node_id.0 (span_of result.span) (option_map (λ x. x.now) result.argument) result.delegate }
+        ensures { node.now ≡ yield_expression result.node_id.0 (span_of result.span)
+            (option_map (λ x. x.now) result.argument) result.delegate }
     {
         match node.parts() {
             [argument, delegate] => YieldExpressionRef {
@@ -2107,8 +2163,8 @@ impl<'a> YieldExpressionRef<'a> {
     }
 }
 
-/// Makes a node of this kind, which has no number yet: `yield argument` or `yield* argument` (ECMA-262, 15.5).
-/// Fails on allocation failure alone.
+/// Makes a node of this kind, which has no number yet: `yield argument` or `yield* argument`
+/// (ECMA-262, 15.5). Fails on allocation failure alone.
 pub fn make_yield_expression(
     alloc: Global,
     argument: Option<Node>,
@@ -2185,7 +2241,8 @@ impl<'a> AwaitExpressionRef<'a> {
     /// Reads a node of this kind.
     pub fn from_node(node: &'a Node) -> AwaitExpressionRef<'a>
         requires { kind_of node.now ≡ Kind.AwaitExpression }
-        ensures { node.now ≡ await_expression result.node_id.0 (span_of result.span) result.argument.now }
+        ensures { node.now ≡ await_expression result.node_id.0 (span_of result.span)
+            result.argument.now }
     {
         match node.parts() {
             [argument] => AwaitExpressionRef {
@@ -2198,8 +2255,8 @@ impl<'a> AwaitExpressionRef<'a> {
     }
 }
 
-/// Makes a node of this kind, which has no number yet: `await argument` (ECMA-262, 15.8).
-/// Fails on allocation failure alone.
+/// Makes a node of this kind, which has no number yet: `await argument` (ECMA-262, 15.8). Fails on
+/// allocation failure alone.
 pub fn make_await_expression(alloc: Global, argument: Node) -> Result<Node, AllocError>
     ensures { IfOk result (λ t. t ≡ await_expression unnumbered None argument) }
 {
@@ -2272,7 +2329,8 @@ impl<'a> ImportExpressionRef<'a> {
     /// Reads a node of this kind.
     pub fn from_node(node: &'a Node) -> ImportExpressionRef<'a>
         requires { kind_of node.now ≡ Kind.ImportExpression }
-        ensures { node.now ≡ import_expression result.node_id.0 (span_of result.span) result.source.now }
+        ensures { node.now ≡ import_expression result.node_id.0 (span_of result.span)
+            result.source.now }
     {
         match node.parts() {
             [source] => ImportExpressionRef {
@@ -2285,8 +2343,8 @@ impl<'a> ImportExpressionRef<'a> {
     }
 }
 
-/// Makes a node of this kind, which has no number yet: `import(source)` (ECMA-262, 13.3.10).
-/// Fails on allocation failure alone.
+/// Makes a node of this kind, which has no number yet: `import(source)` (ECMA-262, 13.3.10). Fails
+/// on allocation failure alone.
 pub fn make_import_expression(alloc: Global, source: Node) -> Result<Node, AllocError>
     ensures { IfOk result (λ t. t ≡ import_expression unnumbered None source) }
 {
@@ -2317,7 +2375,8 @@ impl MetaProperty {
     /// Takes a node of this kind apart.
     pub fn from_node(node: Node) -> MetaProperty
         requires { kind_of node ≡ Kind.MetaProperty }
-        ensures { node ≡ meta_property result.node_id.0 (span_of result.span) result.meta result.property }
+        ensures { node ≡ meta_property result.node_id.0 (span_of result.span) result.meta
+            result.property }
     {
         let contents = node.into_contents();
         let mut emptied_parts = contents.parts;
@@ -2333,7 +2392,8 @@ impl MetaProperty {
 
     /// Puts the node together again. Takes no memory.
     pub fn into_node(self) -> Node
-        ensures { result ≡ meta_property self.node_id.0 (span_of self.span) self.meta self.property }
+        ensures { result ≡ meta_property self.node_id.0 (span_of self.span) self.meta
+            self.property }
     {
         let mut parts = self.emptied_parts;
         put_two(
@@ -2366,7 +2426,8 @@ impl<'a> MetaPropertyRef<'a> {
     /// Reads a node of this kind.
     pub fn from_node(node: &'a Node) -> MetaPropertyRef<'a>
         requires { kind_of node.now ≡ Kind.MetaProperty }
-        ensures { node.now ≡ meta_property result.node_id.0 (span_of result.span) result.meta.now result.property.now }
+        ensures { node.now ≡ meta_property result.node_id.0 (span_of result.span) result.meta.now
+            result.property.now }
     {
         match node.parts() {
             [meta, property] => MetaPropertyRef {
@@ -2380,8 +2441,8 @@ impl<'a> MetaPropertyRef<'a> {
     }
 }
 
-/// Makes a node of this kind, which has no number yet: `new.target` or `import.meta` (ECMA-262, 13.3.12).
-/// Fails on allocation failure alone.
+/// Makes a node of this kind, which has no number yet: `new.target` or `import.meta` (ECMA-262,
+/// 13.3.12). Fails on allocation failure alone.
 pub fn make_meta_property(alloc: Global, meta: Node, property: Node) -> Result<Node, AllocError>
     ensures { IfOk result (λ t. t ≡ meta_property unnumbered None meta property) }
 {
@@ -2454,7 +2515,8 @@ impl<'a> ChainExpressionRef<'a> {
     /// Reads a node of this kind.
     pub fn from_node(node: &'a Node) -> ChainExpressionRef<'a>
         requires { kind_of node.now ≡ Kind.ChainExpression }
-        ensures { node.now ≡ chain_expression result.node_id.0 (span_of result.span) result.expression.now }
+        ensures { node.now ≡ chain_expression result.node_id.0 (span_of result.span)
+            result.expression.now }
     {
         match node.parts() {
             [expression] => ChainExpressionRef {
@@ -2467,8 +2529,8 @@ impl<'a> ChainExpressionRef<'a> {
     }
 }
 
-/// Makes a node of this kind, which has no number yet: a chain of members and calls with `?.` in it, whole (ECMA-262, 13.3.9).
-/// Fails on allocation failure alone.
+/// Makes a node of this kind, which has no number yet: a chain of members and calls with `?.` in
+/// it, whole (ECMA-262, 13.3.9). Fails on allocation failure alone.
 pub fn make_chain_expression(alloc: Global, expression: Node) -> Result<Node, AllocError>
     ensures { IfOk result (λ t. t ≡ chain_expression unnumbered None expression) }
 {

@@ -1,6 +1,6 @@
 // Printed by tools/tree.py from tools/kinds.py.
-// Identifiers. Each kind has a struct of its members, which keeps the emptied list of its
-// node's parts, the same borrowed, and a maker.
+// Identifiers. Each kind has a struct of its members, which keeps the emptied list of its node's
+// parts, the same borrowed, and a maker.
 
 ghost use Rattle.std.specs.Prelude.{◌≡◌, IfOk, None, length};
 ghost use Rattle.es_base.specs.Carried.{span_of, symbol_number, reference_number};
@@ -75,7 +75,8 @@ impl<'a> PrivateIdentifierRef<'a> {
     /// Reads a node of this kind.
     pub fn from_node(node: &'a Node) -> PrivateIdentifierRef<'a>
         requires { kind_of node.now ≡ Kind.PrivateIdentifier }
-        ensures { node.now ≡ private_identifier result.node_id.0 (span_of result.span) result.name.now }
+        ensures { node.now ≡ private_identifier result.node_id.0 (span_of result.span)
+            result.name.now }
     {
         match node.parts() {
             [name] => PrivateIdentifierRef {
@@ -88,8 +89,8 @@ impl<'a> PrivateIdentifierRef<'a> {
     }
 }
 
-/// Makes a node of this kind, which has no number yet: `#name`, whose string has no `#` (ECMA-262, 12.7).
-/// Fails on allocation failure alone.
+/// Makes a node of this kind, which has no number yet: `#name`, whose string has no `#` (ECMA-262,
+/// 12.7). Fails on allocation failure alone.
 pub fn make_private_identifier(alloc: Global, name: Name) -> Result<Node, AllocError>
     ensures { IfOk result (λ t. t ≡ private_identifier unnumbered None name) }
 {
@@ -120,7 +121,8 @@ impl IdentifierReference {
     /// Takes a node of this kind apart.
     pub fn from_node(node: Node) -> IdentifierReference
         requires { kind_of node ≡ Kind.IdentifierReference }
-        ensures { node ≡ identifier_reference result.node_id.0 (span_of result.span) (reference_number result.reference_id) result.name }
+        ensures { node ≡ identifier_reference result.node_id.0 (span_of result.span)
+            (reference_number result.reference_id) result.name }
     {
         let contents = node.into_contents();
         let mut emptied_parts = contents.parts;
@@ -136,7 +138,8 @@ impl IdentifierReference {
 
     /// Puts the node together again. Takes no memory.
     pub fn into_node(self) -> Node
-        ensures { result ≡ identifier_reference self.node_id.0 (span_of self.span) (reference_number self.reference_id) self.name }
+        ensures { result ≡ identifier_reference self.node_id.0 (span_of self.span)
+            (reference_number self.reference_id) self.name }
     {
         let mut parts = self.emptied_parts;
         put_one(&mut parts, Part::String(self.name));
@@ -165,7 +168,8 @@ impl<'a> IdentifierReferenceRef<'a> {
     /// Reads a node of this kind.
     pub fn from_node(node: &'a Node) -> IdentifierReferenceRef<'a>
         requires { kind_of node.now ≡ Kind.IdentifierReference }
-        ensures { node.now ≡ identifier_reference result.node_id.0 (span_of result.span) (reference_number result.reference_id) result.name.now }
+        ensures { node.now ≡ identifier_reference result.node_id.0 (span_of result.span)
+            (reference_number result.reference_id) result.name.now }
     {
         match node.parts() {
             [name] => IdentifierReferenceRef {
@@ -179,8 +183,8 @@ impl<'a> IdentifierReferenceRef<'a> {
     }
 }
 
-/// Makes a node of this kind, which has no number yet: an identifier that is read or written (ECMA-262, 13.1).
-/// Fails on allocation failure alone.
+/// Makes a node of this kind, which has no number yet: an identifier that is read or written
+/// (ECMA-262, 13.1). Fails on allocation failure alone.
 pub fn make_identifier_reference(alloc: Global, name: Name) -> Result<Node, AllocError>
     ensures { IfOk result (λ t. t ≡ identifier_reference unnumbered None None name) }
 {
@@ -211,7 +215,8 @@ impl BindingIdentifier {
     /// Takes a node of this kind apart.
     pub fn from_node(node: Node) -> BindingIdentifier
         requires { kind_of node ≡ Kind.BindingIdentifier }
-        ensures { node ≡ binding_identifier result.node_id.0 (span_of result.span) (symbol_number result.symbol_id) result.name }
+        ensures { node ≡ binding_identifier result.node_id.0 (span_of result.span)
+            (symbol_number result.symbol_id) result.name }
     {
         let contents = node.into_contents();
         let mut emptied_parts = contents.parts;
@@ -227,7 +232,8 @@ impl BindingIdentifier {
 
     /// Puts the node together again. Takes no memory.
     pub fn into_node(self) -> Node
-        ensures { result ≡ binding_identifier self.node_id.0 (span_of self.span) (symbol_number self.symbol_id) self.name }
+        ensures { result ≡ binding_identifier self.node_id.0 (span_of self.span)
+            (symbol_number self.symbol_id) self.name }
     {
         let mut parts = self.emptied_parts;
         put_one(&mut parts, Part::String(self.name));
@@ -256,7 +262,8 @@ impl<'a> BindingIdentifierRef<'a> {
     /// Reads a node of this kind.
     pub fn from_node(node: &'a Node) -> BindingIdentifierRef<'a>
         requires { kind_of node.now ≡ Kind.BindingIdentifier }
-        ensures { node.now ≡ binding_identifier result.node_id.0 (span_of result.span) (symbol_number result.symbol_id) result.name.now }
+        ensures { node.now ≡ binding_identifier result.node_id.0 (span_of result.span)
+            (symbol_number result.symbol_id) result.name.now }
     {
         match node.parts() {
             [name] => BindingIdentifierRef {
@@ -270,8 +277,8 @@ impl<'a> BindingIdentifierRef<'a> {
     }
 }
 
-/// Makes a node of this kind, which has no number yet: an identifier that declares (ECMA-262, 13.1).
-/// Fails on allocation failure alone.
+/// Makes a node of this kind, which has no number yet: an identifier that declares (ECMA-262,
+/// 13.1). Fails on allocation failure alone.
 pub fn make_binding_identifier(alloc: Global, name: Name) -> Result<Node, AllocError>
     ensures { IfOk result (λ t. t ≡ binding_identifier unnumbered None None name) }
 {
@@ -344,7 +351,8 @@ impl<'a> IdentifierNameRef<'a> {
     /// Reads a node of this kind.
     pub fn from_node(node: &'a Node) -> IdentifierNameRef<'a>
         requires { kind_of node.now ≡ Kind.IdentifierName }
-        ensures { node.now ≡ identifier_name result.node_id.0 (span_of result.span) result.name.now }
+        ensures { node.now ≡ identifier_name result.node_id.0 (span_of result.span)
+            result.name.now }
     {
         match node.parts() {
             [name] => IdentifierNameRef {
@@ -357,8 +365,8 @@ impl<'a> IdentifierNameRef<'a> {
     }
 }
 
-/// Makes a node of this kind, which has no number yet: an identifier that is a mere name, as a label or an uncomputed key (ECMA-262, 12.7).
-/// Fails on allocation failure alone.
+/// Makes a node of this kind, which has no number yet: an identifier that is a mere name, as a
+/// label or an uncomputed key (ECMA-262, 12.7). Fails on allocation failure alone.
 pub fn make_identifier_name(alloc: Global, name: Name) -> Result<Node, AllocError>
     ensures { IfOk result (λ t. t ≡ identifier_name unnumbered None name) }
 {

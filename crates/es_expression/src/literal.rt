@@ -1,6 +1,6 @@
 // Printed by tools/tree.py from tools/kinds.py.
-// Literals. Each kind has a struct of its members, which keeps the emptied list of its
-// node's parts, the same borrowed, and a maker.
+// Literals. Each kind has a struct of its members, which keeps the emptied list of its node's parts,
+// the same borrowed, and a maker.
 
 ghost use Rattle.std.specs.Prelude.{◌≡◌, IfOk, None, length};
 ghost use Rattle.es_base.specs.Carried.{span_of};
@@ -87,8 +87,8 @@ impl<'a> LiteralRef<'a> {
     }
 }
 
-/// Makes a node of this kind, which has no number yet: a literal (ECMA-262, 12.8 and 13.2.3).
-/// Fails on allocation failure alone.
+/// Makes a node of this kind, which has no number yet: a literal (ECMA-262, 12.8 and 13.2.3). Fails
+/// on allocation failure alone.
 pub fn make_literal(alloc: Global, value: LiteralValue) -> Result<Node, AllocError>
     ensures { IfOk result (λ t. t ≡ literal unnumbered None value) }
 {

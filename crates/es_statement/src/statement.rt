@@ -1,6 +1,6 @@
 // Printed by tools/tree.py from tools/kinds.py.
-// Statements. Each kind has a struct of its members, which keeps the emptied list of its
-// node's parts, the same borrowed, and a maker.
+// Statements. Each kind has a struct of its members, which keeps the emptied list of its node's parts,
+// the same borrowed, and a maker.
 
 ghost use Rattle.std.specs.Prelude.{◌≡◌, IfOk, None, length, option_map};
 ghost use Rattle.es_base.specs.Carried.{span_of, scope_number};
@@ -37,7 +37,8 @@ impl ExpressionStatement {
     /// Takes a node of this kind apart.
     pub fn from_node(node: Node) -> ExpressionStatement
         requires { kind_of node ≡ Kind.ExpressionStatement }
-        ensures { node ≡ expression_statement result.node_id.0 (span_of result.span) result.expression result.directive }
+        ensures { node ≡ expression_statement result.node_id.0 (span_of result.span)
+            result.expression result.directive }
     {
         let contents = node.into_contents();
         let mut emptied_parts = contents.parts;
@@ -53,7 +54,8 @@ impl ExpressionStatement {
 
     /// Puts the node together again. Takes no memory.
     pub fn into_node(self) -> Node
-        ensures { result ≡ expression_statement self.node_id.0 (span_of self.span) self.expression self.directive }
+        ensures { result ≡ expression_statement self.node_id.0 (span_of self.span) self.expression
+            self.directive }
     {
         let mut parts = self.emptied_parts;
         put_two(
@@ -86,7 +88,8 @@ impl<'a> ExpressionStatementRef<'a> {
     /// Reads a node of this kind.
     pub fn from_node(node: &'a Node) -> ExpressionStatementRef<'a>
         requires { kind_of node.now ≡ Kind.ExpressionStatement }
-        ensures { node.now ≡ expression_statement result.node_id.0 (span_of result.span) result.expression.now (option_map (λ x. x.now) result.directive) }
+        ensures { node.now ≡ expression_statement result.node_id.0 (span_of result.span)
+            result.expression.now (option_map (λ x. x.now) result.directive) }
     {
         match node.parts() {
             [expression, directive] => ExpressionStatementRef {
@@ -100,8 +103,8 @@ impl<'a> ExpressionStatementRef<'a> {
     }
 }
 
-/// Makes a node of this kind, which has no number yet: `expression;`, with the raw string of a directive (ECMA-262, 14.5 and 11.2.1).
-/// Fails on allocation failure alone.
+/// Makes a node of this kind, which has no number yet: `expression;`, with the raw string of a
+/// directive (ECMA-262, 14.5 and 11.2.1). Fails on allocation failure alone.
 pub fn make_expression_statement(
     alloc: Global,
     expression: Node,
@@ -136,7 +139,8 @@ impl BlockStatement {
     /// Takes a node of this kind apart.
     pub fn from_node(node: Node) -> BlockStatement
         requires { kind_of node ≡ Kind.BlockStatement }
-        ensures { node ≡ block_statement result.node_id.0 (span_of result.span) (scope_number result.scope_id) result.body }
+        ensures { node ≡ block_statement result.node_id.0 (span_of result.span)
+            (scope_number result.scope_id) result.body }
     {
         let contents = node.into_contents();
         let mut emptied_parts = contents.parts;
@@ -152,7 +156,8 @@ impl BlockStatement {
 
     /// Puts the node together again. Takes no memory.
     pub fn into_node(self) -> Node
-        ensures { result ≡ block_statement self.node_id.0 (span_of self.span) (scope_number self.scope_id) self.body }
+        ensures { result ≡ block_statement self.node_id.0 (span_of self.span)
+            (scope_number self.scope_id) self.body }
     {
         let mut parts = self.emptied_parts;
         put_one(&mut parts, Part::List(self.body));
@@ -181,7 +186,8 @@ impl<'a> BlockStatementRef<'a> {
     /// Reads a node of this kind.
     pub fn from_node(node: &'a Node) -> BlockStatementRef<'a>
         requires { kind_of node.now ≡ Kind.BlockStatement }
-        ensures { node.now ≡ block_statement result.node_id.0 (span_of result.span) (scope_number result.scope_id) result.body.now }
+        ensures { node.now ≡ block_statement result.node_id.0 (span_of result.span)
+            (scope_number result.scope_id) result.body.now }
     {
         match node.parts() {
             [body] => BlockStatementRef {
@@ -195,8 +201,8 @@ impl<'a> BlockStatementRef<'a> {
     }
 }
 
-/// Makes a node of this kind, which has no number yet: `{ body }`, a block or the body of a function (ECMA-262, 14.2).
-/// Fails on allocation failure alone.
+/// Makes a node of this kind, which has no number yet: `{ body }`, a block or the body of a
+/// function (ECMA-262, 14.2). Fails on allocation failure alone.
 pub fn make_block_statement(alloc: Global, body: List<Node>) -> Result<Node, AllocError>
     ensures { IfOk result (λ t. t ≡ block_statement unnumbered None None body) }
 {
@@ -212,8 +218,8 @@ pub fn make_block_statement(alloc: Global, body: List<Node>) -> Result<Node, All
     ))
 }
 
-/// Makes a node of this kind, which has no number yet: `;` (ECMA-262, 14.4).
-/// Fails on allocation failure alone.
+/// Makes a node of this kind, which has no number yet: `;` (ECMA-262, 14.4). Fails on allocation
+/// failure alone.
 pub fn make_empty_statement(alloc: Global) -> Result<Node, AllocError>
     ensures { IfOk result (λ t. t ≡ empty_statement unnumbered None) }
 {
@@ -229,8 +235,8 @@ pub fn make_empty_statement(alloc: Global) -> Result<Node, AllocError>
     ))
 }
 
-/// Makes a node of this kind, which has no number yet: `debugger;` (ECMA-262, 14.16).
-/// Fails on allocation failure alone.
+/// Makes a node of this kind, which has no number yet: `debugger;` (ECMA-262, 14.16). Fails on
+/// allocation failure alone.
 pub fn make_debugger_statement(alloc: Global) -> Result<Node, AllocError>
     ensures { IfOk result (λ t. t ≡ debugger_statement unnumbered None) }
 {
@@ -261,7 +267,8 @@ impl WithStatement {
     /// Takes a node of this kind apart.
     pub fn from_node(node: Node) -> WithStatement
         requires { kind_of node ≡ Kind.WithStatement }
-        ensures { node ≡ with_statement result.node_id.0 (span_of result.span) result.object result.body }
+        ensures { node ≡ with_statement result.node_id.0 (span_of result.span) result.object
+            result.body }
     {
         let contents = node.into_contents();
         let mut emptied_parts = contents.parts;
@@ -306,7 +313,8 @@ impl<'a> WithStatementRef<'a> {
     /// Reads a node of this kind.
     pub fn from_node(node: &'a Node) -> WithStatementRef<'a>
         requires { kind_of node.now ≡ Kind.WithStatement }
-        ensures { node.now ≡ with_statement result.node_id.0 (span_of result.span) result.object.now result.body.now }
+        ensures { node.now ≡ with_statement result.node_id.0 (span_of result.span) result.object.now
+            result.body.now }
     {
         match node.parts() {
             [object, body] => WithStatementRef {
@@ -394,7 +402,8 @@ impl<'a> ReturnStatementRef<'a> {
     /// Reads a node of this kind.
     pub fn from_node(node: &'a Node) -> ReturnStatementRef<'a>
         requires { kind_of node.now ≡ Kind.ReturnStatement }
-        ensures { node.now ≡ return_statement result.node_id.0 (span_of result.span) (option_map (λ x. x.now) result.argument) }
+        ensures { node.now ≡ return_statement result.node_id.0 (span_of result.span)
+            (option_map (λ x. x.now) result.argument) }
     {
         match node.parts() {
             [argument] => ReturnStatementRef {
@@ -407,8 +416,8 @@ impl<'a> ReturnStatementRef<'a> {
     }
 }
 
-/// Makes a node of this kind, which has no number yet: `return argument;` (ECMA-262, 14.10).
-/// Fails on allocation failure alone.
+/// Makes a node of this kind, which has no number yet: `return argument;` (ECMA-262, 14.10). Fails
+/// on allocation failure alone.
 pub fn make_return_statement(alloc: Global, argument: Option<Node>) -> Result<Node, AllocError>
     ensures { IfOk result (λ t. t ≡ return_statement unnumbered None argument) }
 {
@@ -481,7 +490,8 @@ impl<'a> ThrowStatementRef<'a> {
     /// Reads a node of this kind.
     pub fn from_node(node: &'a Node) -> ThrowStatementRef<'a>
         requires { kind_of node.now ≡ Kind.ThrowStatement }
-        ensures { node.now ≡ throw_statement result.node_id.0 (span_of result.span) result.argument.now }
+        ensures { node.now ≡ throw_statement result.node_id.0 (span_of result.span)
+            result.argument.now }
     {
         match node.parts() {
             [argument] => ThrowStatementRef {
@@ -494,8 +504,8 @@ impl<'a> ThrowStatementRef<'a> {
     }
 }
 
-/// Makes a node of this kind, which has no number yet: `throw argument;` (ECMA-262, 14.14).
-/// Fails on allocation failure alone.
+/// Makes a node of this kind, which has no number yet: `throw argument;` (ECMA-262, 14.14). Fails
+/// on allocation failure alone.
 pub fn make_throw_statement(alloc: Global, argument: Node) -> Result<Node, AllocError>
     ensures { IfOk result (λ t. t ≡ throw_statement unnumbered None argument) }
 {
@@ -526,7 +536,8 @@ impl LabeledStatement {
     /// Takes a node of this kind apart.
     pub fn from_node(node: Node) -> LabeledStatement
         requires { kind_of node ≡ Kind.LabeledStatement }
-        ensures { node ≡ labeled_statement result.node_id.0 (span_of result.span) result.label result.body }
+        ensures { node ≡ labeled_statement result.node_id.0 (span_of result.span) result.label
+            result.body }
     {
         let contents = node.into_contents();
         let mut emptied_parts = contents.parts;
@@ -542,7 +553,8 @@ impl LabeledStatement {
 
     /// Puts the node together again. Takes no memory.
     pub fn into_node(self) -> Node
-        ensures { result ≡ labeled_statement self.node_id.0 (span_of self.span) self.label self.body }
+        ensures { result ≡ labeled_statement self.node_id.0 (span_of self.span) self.label
+            self.body }
     {
         let mut parts = self.emptied_parts;
         put_two(&mut parts, Part::Child(self.label), Part::Child(self.body));
@@ -571,7 +583,8 @@ impl<'a> LabeledStatementRef<'a> {
     /// Reads a node of this kind.
     pub fn from_node(node: &'a Node) -> LabeledStatementRef<'a>
         requires { kind_of node.now ≡ Kind.LabeledStatement }
-        ensures { node.now ≡ labeled_statement result.node_id.0 (span_of result.span) result.label.now result.body.now }
+        ensures { node.now ≡ labeled_statement result.node_id.0 (span_of result.span)
+            result.label.now result.body.now }
     {
         match node.parts() {
             [label, body] => LabeledStatementRef {
@@ -585,8 +598,8 @@ impl<'a> LabeledStatementRef<'a> {
     }
 }
 
-/// Makes a node of this kind, which has no number yet: `label: body` (ECMA-262, 14.13).
-/// Fails on allocation failure alone.
+/// Makes a node of this kind, which has no number yet: `label: body` (ECMA-262, 14.13). Fails on
+/// allocation failure alone.
 pub fn make_labeled_statement(alloc: Global, label: Node, body: Node) -> Result<Node, AllocError>
     ensures { IfOk result (λ t. t ≡ labeled_statement unnumbered None label body) }
 {
@@ -659,7 +672,8 @@ impl<'a> BreakStatementRef<'a> {
     /// Reads a node of this kind.
     pub fn from_node(node: &'a Node) -> BreakStatementRef<'a>
         requires { kind_of node.now ≡ Kind.BreakStatement }
-        ensures { node.now ≡ break_statement result.node_id.0 (span_of result.span) (option_map (λ x. x.now) result.label) }
+        ensures { node.now ≡ break_statement result.node_id.0 (span_of result.span)
+            (option_map (λ x. x.now) result.label) }
     {
         match node.parts() {
             [label] => BreakStatementRef {
@@ -672,8 +686,8 @@ impl<'a> BreakStatementRef<'a> {
     }
 }
 
-/// Makes a node of this kind, which has no number yet: `break label;` (ECMA-262, 14.9).
-/// Fails on allocation failure alone.
+/// Makes a node of this kind, which has no number yet: `break label;` (ECMA-262, 14.9). Fails on
+/// allocation failure alone.
 pub fn make_break_statement(alloc: Global, label: Option<Node>) -> Result<Node, AllocError>
     ensures { IfOk result (λ t. t ≡ break_statement unnumbered None label) }
 {
@@ -746,7 +760,8 @@ impl<'a> ContinueStatementRef<'a> {
     /// Reads a node of this kind.
     pub fn from_node(node: &'a Node) -> ContinueStatementRef<'a>
         requires { kind_of node.now ≡ Kind.ContinueStatement }
-        ensures { node.now ≡ continue_statement result.node_id.0 (span_of result.span) (option_map (λ x. x.now) result.label) }
+        ensures { node.now ≡ continue_statement result.node_id.0 (span_of result.span)
+            (option_map (λ x. x.now) result.label) }
     {
         match node.parts() {
             [label] => ContinueStatementRef {
@@ -759,8 +774,8 @@ impl<'a> ContinueStatementRef<'a> {
     }
 }
 
-/// Makes a node of this kind, which has no number yet: `continue label;` (ECMA-262, 14.8).
-/// Fails on allocation failure alone.
+/// Makes a node of this kind, which has no number yet: `continue label;` (ECMA-262, 14.8). Fails on
+/// allocation failure alone.
 pub fn make_continue_statement(alloc: Global, label: Option<Node>) -> Result<Node, AllocError>
     ensures { IfOk result (λ t. t ≡ continue_statement unnumbered None label) }
 {
@@ -792,7 +807,8 @@ impl IfStatement {
     /// Takes a node of this kind apart.
     pub fn from_node(node: Node) -> IfStatement
         requires { kind_of node ≡ Kind.IfStatement }
-        ensures { node ≡ if_statement result.node_id.0 (span_of result.span) result.test result.consequent result.alternate }
+        ensures { node ≡ if_statement result.node_id.0 (span_of result.span) result.test
+            result.consequent result.alternate }
     {
         let contents = node.into_contents();
         let mut emptied_parts = contents.parts;
@@ -809,7 +825,8 @@ impl IfStatement {
 
     /// Puts the node together again. Takes no memory.
     pub fn into_node(self) -> Node
-        ensures { result ≡ if_statement self.node_id.0 (span_of self.span) self.test self.consequent self.alternate }
+        ensures { result ≡ if_statement self.node_id.0 (span_of self.span) self.test self.consequent
+            self.alternate }
     {
         let mut parts = self.emptied_parts;
         put_three(
@@ -844,7 +861,8 @@ impl<'a> IfStatementRef<'a> {
     /// Reads a node of this kind.
     pub fn from_node(node: &'a Node) -> IfStatementRef<'a>
         requires { kind_of node.now ≡ Kind.IfStatement }
-        ensures { node.now ≡ if_statement result.node_id.0 (span_of result.span) result.test.now result.consequent.now (option_map (λ x. x.now) result.alternate) }
+        ensures { node.now ≡ if_statement result.node_id.0 (span_of result.span) result.test.now
+            result.consequent.now (option_map (λ x. x.now) result.alternate) }
     {
         match node.parts() {
             [test, consequent, alternate] => IfStatementRef {
@@ -859,8 +877,8 @@ impl<'a> IfStatementRef<'a> {
     }
 }
 
-/// Makes a node of this kind, which has no number yet: `if (test) consequent else alternate` (ECMA-262, 14.6).
-/// Fails on allocation failure alone.
+/// Makes a node of this kind, which has no number yet: `if (test) consequent else alternate`
+/// (ECMA-262, 14.6). Fails on allocation failure alone.
 pub fn make_if_statement(
     alloc: Global,
     test: Node,
@@ -901,7 +919,8 @@ impl SwitchStatement {
     /// Takes a node of this kind apart.
     pub fn from_node(node: Node) -> SwitchStatement
         requires { kind_of node ≡ Kind.SwitchStatement }
-        ensures { node ≡ switch_statement result.node_id.0 (span_of result.span) (scope_number result.scope_id) result.discriminant result.cases }
+        ensures { node ≡ switch_statement result.node_id.0 (span_of result.span)
+            (scope_number result.scope_id) result.discriminant result.cases }
     {
         let contents = node.into_contents();
         let mut emptied_parts = contents.parts;
@@ -918,7 +937,8 @@ impl SwitchStatement {
 
     /// Puts the node together again. Takes no memory.
     pub fn into_node(self) -> Node
-        ensures { result ≡ switch_statement self.node_id.0 (span_of self.span) (scope_number self.scope_id) self.discriminant self.cases }
+        ensures { result ≡ switch_statement self.node_id.0 (span_of self.span)
+            (scope_number self.scope_id) self.discriminant self.cases }
     {
         let mut parts = self.emptied_parts;
         put_two(
@@ -952,7 +972,8 @@ impl<'a> SwitchStatementRef<'a> {
     /// Reads a node of this kind.
     pub fn from_node(node: &'a Node) -> SwitchStatementRef<'a>
         requires { kind_of node.now ≡ Kind.SwitchStatement }
-        ensures { node.now ≡ switch_statement result.node_id.0 (span_of result.span) (scope_number result.scope_id) result.discriminant.now result.cases.now }
+        ensures { node.now ≡ switch_statement result.node_id.0 (span_of result.span)
+            (scope_number result.scope_id) result.discriminant.now result.cases.now }
     {
         match node.parts() {
             [discriminant, cases] => SwitchStatementRef {
@@ -967,8 +988,8 @@ impl<'a> SwitchStatementRef<'a> {
     }
 }
 
-/// Makes a node of this kind, which has no number yet: `switch (discriminant) { cases }` (ECMA-262, 14.12).
-/// Fails on allocation failure alone.
+/// Makes a node of this kind, which has no number yet: `switch (discriminant) { cases }` (ECMA-262,
+/// 14.12). Fails on allocation failure alone.
 pub fn make_switch_statement(
     alloc: Global,
     discriminant: Node,
@@ -1003,7 +1024,8 @@ impl SwitchCase {
     /// Takes a node of this kind apart.
     pub fn from_node(node: Node) -> SwitchCase
         requires { kind_of node ≡ Kind.SwitchCase }
-        ensures { node ≡ switch_case result.node_id.0 (span_of result.span) result.test result.consequent }
+        ensures { node ≡ switch_case result.node_id.0 (span_of result.span) result.test
+            result.consequent }
     {
         let contents = node.into_contents();
         let mut emptied_parts = contents.parts;
@@ -1019,7 +1041,8 @@ impl SwitchCase {
 
     /// Puts the node together again. Takes no memory.
     pub fn into_node(self) -> Node
-        ensures { result ≡ switch_case self.node_id.0 (span_of self.span) self.test self.consequent }
+        ensures { result ≡ switch_case self.node_id.0 (span_of self.span) self.test
+            self.consequent }
     {
         let mut parts = self.emptied_parts;
         put_two(
@@ -1052,7 +1075,8 @@ impl<'a> SwitchCaseRef<'a> {
     /// Reads a node of this kind.
     pub fn from_node(node: &'a Node) -> SwitchCaseRef<'a>
         requires { kind_of node.now ≡ Kind.SwitchCase }
-        ensures { node.now ≡ switch_case result.node_id.0 (span_of result.span) (option_map (λ x. x.now) result.test) result.consequent.now }
+        ensures { node.now ≡ switch_case result.node_id.0 (span_of result.span)
+            (option_map (λ x. x.now) result.test) result.consequent.now }
     {
         match node.parts() {
             [test, consequent] => SwitchCaseRef {
@@ -1066,8 +1090,8 @@ impl<'a> SwitchCaseRef<'a> {
     }
 }
 
-/// Makes a node of this kind, which has no number yet: `case test: consequent`, or `default: consequent` without a test (ECMA-262, 14.12).
-/// Fails on allocation failure alone.
+/// Makes a node of this kind, which has no number yet: `case test: consequent`, or `default:
+/// consequent` without a test (ECMA-262, 14.12). Fails on allocation failure alone.
 pub fn make_switch_case(
     alloc: Global,
     test: Option<Node>,
@@ -1103,7 +1127,8 @@ impl TryStatement {
     /// Takes a node of this kind apart.
     pub fn from_node(node: Node) -> TryStatement
         requires { kind_of node ≡ Kind.TryStatement }
-        ensures { node ≡ try_statement result.node_id.0 (span_of result.span) result.block result.handler result.finalizer }
+        ensures { node ≡ try_statement result.node_id.0 (span_of result.span) result.block
+            result.handler result.finalizer }
     {
         let contents = node.into_contents();
         let mut emptied_parts = contents.parts;
@@ -1120,7 +1145,8 @@ impl TryStatement {
 
     /// Puts the node together again. Takes no memory.
     pub fn into_node(self) -> Node
-        ensures { result ≡ try_statement self.node_id.0 (span_of self.span) self.block self.handler self.finalizer }
+        ensures { result ≡ try_statement self.node_id.0 (span_of self.span) self.block self.handler
+            self.finalizer }
     {
         let mut parts = self.emptied_parts;
         put_three(
@@ -1155,7 +1181,8 @@ impl<'a> TryStatementRef<'a> {
     /// Reads a node of this kind.
     pub fn from_node(node: &'a Node) -> TryStatementRef<'a>
         requires { kind_of node.now ≡ Kind.TryStatement }
-        ensures { node.now ≡ try_statement result.node_id.0 (span_of result.span) result.block.now (option_map (λ x. x.now) result.handler) (option_map (λ x. x.now) result.finalizer) }
+        ensures { node.now ≡ try_statement result.node_id.0 (span_of result.span) result.block.now
+            (option_map (λ x. x.now) result.handler) (option_map (λ x. x.now) result.finalizer) }
     {
         match node.parts() {
             [block, handler, finalizer] => TryStatementRef {
@@ -1170,8 +1197,8 @@ impl<'a> TryStatementRef<'a> {
     }
 }
 
-/// Makes a node of this kind, which has no number yet: `try block catch .. finally finalizer` (ECMA-262, 14.15).
-/// Fails on allocation failure alone.
+/// Makes a node of this kind, which has no number yet: `try block catch .. finally finalizer`
+/// (ECMA-262, 14.15). Fails on allocation failure alone.
 pub fn make_try_statement(
     alloc: Global,
     block: Node,
@@ -1212,7 +1239,8 @@ impl CatchClause {
     /// Takes a node of this kind apart.
     pub fn from_node(node: Node) -> CatchClause
         requires { kind_of node ≡ Kind.CatchClause }
-        ensures { node ≡ catch_clause result.node_id.0 (span_of result.span) (scope_number result.scope_id) result.param result.body }
+        ensures { node ≡ catch_clause result.node_id.0 (span_of result.span)
+            (scope_number result.scope_id) result.param result.body }
     {
         let contents = node.into_contents();
         let mut emptied_parts = contents.parts;
@@ -1229,7 +1257,8 @@ impl CatchClause {
 
     /// Puts the node together again. Takes no memory.
     pub fn into_node(self) -> Node
-        ensures { result ≡ catch_clause self.node_id.0 (span_of self.span) (scope_number self.scope_id) self.param self.body }
+        ensures { result ≡ catch_clause self.node_id.0 (span_of self.span)
+            (scope_number self.scope_id) self.param self.body }
     {
         let mut parts = self.emptied_parts;
         put_two(
@@ -1263,7 +1292,8 @@ impl<'a> CatchClauseRef<'a> {
     /// Reads a node of this kind.
     pub fn from_node(node: &'a Node) -> CatchClauseRef<'a>
         requires { kind_of node.now ≡ Kind.CatchClause }
-        ensures { node.now ≡ catch_clause result.node_id.0 (span_of result.span) (scope_number result.scope_id) (option_map (λ x. x.now) result.param) result.body.now }
+        ensures { node.now ≡ catch_clause result.node_id.0 (span_of result.span)
+            (scope_number result.scope_id) (option_map (λ x. x.now) result.param) result.body.now }
     {
         match node.parts() {
             [param, body] => CatchClauseRef {
@@ -1310,7 +1340,8 @@ impl WhileStatement {
     /// Takes a node of this kind apart.
     pub fn from_node(node: Node) -> WhileStatement
         requires { kind_of node ≡ Kind.WhileStatement }
-        ensures { node ≡ while_statement result.node_id.0 (span_of result.span) result.test result.body }
+        ensures { node ≡ while_statement result.node_id.0 (span_of result.span) result.test
+            result.body }
     {
         let contents = node.into_contents();
         let mut emptied_parts = contents.parts;
@@ -1355,7 +1386,8 @@ impl<'a> WhileStatementRef<'a> {
     /// Reads a node of this kind.
     pub fn from_node(node: &'a Node) -> WhileStatementRef<'a>
         requires { kind_of node.now ≡ Kind.WhileStatement }
-        ensures { node.now ≡ while_statement result.node_id.0 (span_of result.span) result.test.now result.body.now }
+        ensures { node.now ≡ while_statement result.node_id.0 (span_of result.span) result.test.now
+            result.body.now }
     {
         match node.parts() {
             [test, body] => WhileStatementRef {
@@ -1401,7 +1433,8 @@ impl DoWhileStatement {
     /// Takes a node of this kind apart.
     pub fn from_node(node: Node) -> DoWhileStatement
         requires { kind_of node ≡ Kind.DoWhileStatement }
-        ensures { node ≡ do_while_statement result.node_id.0 (span_of result.span) result.body result.test }
+        ensures { node ≡ do_while_statement result.node_id.0 (span_of result.span) result.body
+            result.test }
     {
         let contents = node.into_contents();
         let mut emptied_parts = contents.parts;
@@ -1417,7 +1450,8 @@ impl DoWhileStatement {
 
     /// Puts the node together again. Takes no memory.
     pub fn into_node(self) -> Node
-        ensures { result ≡ do_while_statement self.node_id.0 (span_of self.span) self.body self.test }
+        ensures { result ≡ do_while_statement self.node_id.0 (span_of self.span) self.body
+            self.test }
     {
         let mut parts = self.emptied_parts;
         put_two(&mut parts, Part::Child(self.body), Part::Child(self.test));
@@ -1446,7 +1480,8 @@ impl<'a> DoWhileStatementRef<'a> {
     /// Reads a node of this kind.
     pub fn from_node(node: &'a Node) -> DoWhileStatementRef<'a>
         requires { kind_of node.now ≡ Kind.DoWhileStatement }
-        ensures { node.now ≡ do_while_statement result.node_id.0 (span_of result.span) result.body.now result.test.now }
+        ensures { node.now ≡ do_while_statement result.node_id.0 (span_of result.span)
+            result.body.now result.test.now }
     {
         match node.parts() {
             [body, test] => DoWhileStatementRef {
@@ -1495,7 +1530,8 @@ impl ForStatement {
     /// Takes a node of this kind apart.
     pub fn from_node(node: Node) -> ForStatement
         requires { kind_of node ≡ Kind.ForStatement }
-        ensures { node ≡ for_statement result.node_id.0 (span_of result.span) (scope_number result.scope_id) result.init result.test result.update result.body }
+        ensures { node ≡ for_statement result.node_id.0 (span_of result.span)
+            (scope_number result.scope_id) result.init result.test result.update result.body }
     {
         let contents = node.into_contents();
         let mut emptied_parts = contents.parts;
@@ -1514,7 +1550,8 @@ impl ForStatement {
 
     /// Puts the node together again. Takes no memory.
     pub fn into_node(self) -> Node
-        ensures { result ≡ for_statement self.node_id.0 (span_of self.span) (scope_number self.scope_id) self.init self.test self.update self.body }
+        ensures { result ≡ for_statement self.node_id.0 (span_of self.span)
+            (scope_number self.scope_id) self.init self.test self.update self.body }
     {
         let mut parts = self.emptied_parts;
         put_four(
@@ -1552,7 +1589,10 @@ impl<'a> ForStatementRef<'a> {
     /// Reads a node of this kind.
     pub fn from_node(node: &'a Node) -> ForStatementRef<'a>
         requires { kind_of node.now ≡ Kind.ForStatement }
-        ensures { node.now ≡ for_statement result.node_id.0 (span_of result.span) (scope_number result.scope_id) (option_map (λ x. x.now) result.init) (option_map (λ x. x.now) result.test) (option_map (λ x. x.now) result.update) result.body.now }
+        ensures { node.now ≡ for_statement result.node_id.0 (span_of result.span)
+            (scope_number result.scope_id) (option_map (λ x. x.now) result.init)
+            (option_map (λ x. x.now) result.test) (option_map (λ x. x.now) result.update)
+            result.body.now }
     {
         match node.parts() {
             [init, test, update, body] => ForStatementRef {
@@ -1569,8 +1609,8 @@ impl<'a> ForStatementRef<'a> {
     }
 }
 
-/// Makes a node of this kind, which has no number yet: `for (init; test; update) body` (ECMA-262, 14.7.4).
-/// Fails on allocation failure alone.
+/// Makes a node of this kind, which has no number yet: `for (init; test; update) body` (ECMA-262,
+/// 14.7.4). Fails on allocation failure alone.
 pub fn make_for_statement(
     alloc: Global,
     init: Option<Node>,
@@ -1614,7 +1654,8 @@ impl ForInStatement {
     /// Takes a node of this kind apart.
     pub fn from_node(node: Node) -> ForInStatement
         requires { kind_of node ≡ Kind.ForInStatement }
-        ensures { node ≡ for_in_statement result.node_id.0 (span_of result.span) (scope_number result.scope_id) result.left result.right result.body }
+        ensures { node ≡ for_in_statement result.node_id.0 (span_of result.span)
+            (scope_number result.scope_id) result.left result.right result.body }
     {
         let contents = node.into_contents();
         let mut emptied_parts = contents.parts;
@@ -1632,7 +1673,8 @@ impl ForInStatement {
 
     /// Puts the node together again. Takes no memory.
     pub fn into_node(self) -> Node
-        ensures { result ≡ for_in_statement self.node_id.0 (span_of self.span) (scope_number self.scope_id) self.left self.right self.body }
+        ensures { result ≡ for_in_statement self.node_id.0 (span_of self.span)
+            (scope_number self.scope_id) self.left self.right self.body }
     {
         let mut parts = self.emptied_parts;
         put_three(
@@ -1668,7 +1710,8 @@ impl<'a> ForInStatementRef<'a> {
     /// Reads a node of this kind.
     pub fn from_node(node: &'a Node) -> ForInStatementRef<'a>
         requires { kind_of node.now ≡ Kind.ForInStatement }
-        ensures { node.now ≡ for_in_statement result.node_id.0 (span_of result.span) (scope_number result.scope_id) result.left.now result.right.now result.body.now }
+        ensures { node.now ≡ for_in_statement result.node_id.0 (span_of result.span)
+            (scope_number result.scope_id) result.left.now result.right.now result.body.now }
     {
         match node.parts() {
             [left, right, body] => ForInStatementRef {
@@ -1684,8 +1727,8 @@ impl<'a> ForInStatementRef<'a> {
     }
 }
 
-/// Makes a node of this kind, which has no number yet: `for (left in right) body` (ECMA-262, 14.7.5).
-/// Fails on allocation failure alone.
+/// Makes a node of this kind, which has no number yet: `for (left in right) body` (ECMA-262,
+/// 14.7.5). Fails on allocation failure alone.
 pub fn make_for_in_statement(
     alloc: Global,
     left: Node,
@@ -1724,7 +1767,8 @@ impl ForOfStatement {
     /// Takes a node of this kind apart.
     pub fn from_node(node: Node) -> ForOfStatement
         requires { kind_of node ≡ Kind.ForOfStatement }
-        ensures { node ≡ for_of_statement result.node_id.0 (span_of result.span) (scope_number result.scope_id) result.left result.right result.body result.is_await }
+        ensures { node ≡ for_of_statement result.node_id.0 (span_of result.span)
+            (scope_number result.scope_id) result.left result.right result.body result.is_await }
     {
         let contents = node.into_contents();
         let mut emptied_parts = contents.parts;
@@ -1743,7 +1787,8 @@ impl ForOfStatement {
 
     /// Puts the node together again. Takes no memory.
     pub fn into_node(self) -> Node
-        ensures { result ≡ for_of_statement self.node_id.0 (span_of self.span) (scope_number self.scope_id) self.left self.right self.body self.is_await }
+        ensures { result ≡ for_of_statement self.node_id.0 (span_of self.span)
+            (scope_number self.scope_id) self.left self.right self.body self.is_await }
     {
         let mut parts = self.emptied_parts;
         put_four(
@@ -1781,7 +1826,9 @@ impl<'a> ForOfStatementRef<'a> {
     /// Reads a node of this kind.
     pub fn from_node(node: &'a Node) -> ForOfStatementRef<'a>
         requires { kind_of node.now ≡ Kind.ForOfStatement }
-        ensures { node.now ≡ for_of_statement result.node_id.0 (span_of result.span) (scope_number result.scope_id) result.left.now result.right.now result.body.now result.is_await }
+        ensures { node.now ≡ for_of_statement result.node_id.0 (span_of result.span)
+            (scope_number result.scope_id) result.left.now result.right.now result.body.now
+            result.is_await }
     {
         match node.parts() {
             [left, right, body, is_await] => ForOfStatementRef {
@@ -1798,8 +1845,8 @@ impl<'a> ForOfStatementRef<'a> {
     }
 }
 
-/// Makes a node of this kind, which has no number yet: `for (left of right) body` or `for await (left of right) body` (ECMA-262, 14.7.5).
-/// Fails on allocation failure alone.
+/// Makes a node of this kind, which has no number yet: `for (left of right) body` or `for await
+/// (left of right) body` (ECMA-262, 14.7.5). Fails on allocation failure alone.
 pub fn make_for_of_statement(
     alloc: Global,
     left: Node,
@@ -1807,7 +1854,8 @@ pub fn make_for_of_statement(
     body: Node,
     is_await: bool,
 ) -> Result<Node, AllocError>
-    ensures { IfOk result (λ t. t ≡ for_of_statement unnumbered None None left right body is_await) }
+    ensures { IfOk result (λ t. t ≡ for_of_statement unnumbered None None left right body
+        is_await) }
 {
     let parts = vec![in alloc;
         Part::Child(left),
@@ -1841,7 +1889,8 @@ impl VariableDeclaration {
     /// Takes a node of this kind apart.
     pub fn from_node(node: Node) -> VariableDeclaration
         requires { kind_of node ≡ Kind.VariableDeclaration }
-        ensures { node ≡ variable_declaration result.node_id.0 (span_of result.span) result.kind result.declarations }
+        ensures { node ≡ variable_declaration result.node_id.0 (span_of result.span) result.kind
+            result.declarations }
     {
         let contents = node.into_contents();
         let mut emptied_parts = contents.parts;
@@ -1849,15 +1898,16 @@ impl VariableDeclaration {
         VariableDeclaration {
             node_id: contents.node_id,
             span: contents.span,
-            declarations: declarations.into_list(),
             kind: kind.into_variable_declaration_kind(),
+            declarations: declarations.into_list(),
             emptied_parts,
         }
     }
 
     /// Puts the node together again. Takes no memory.
     pub fn into_node(self) -> Node
-        ensures { result ≡ variable_declaration self.node_id.0 (span_of self.span) self.kind self.declarations }
+        ensures { result ≡ variable_declaration self.node_id.0 (span_of self.span) self.kind
+            self.declarations }
     {
         let mut parts = self.emptied_parts;
         put_two(
@@ -1890,22 +1940,23 @@ impl<'a> VariableDeclarationRef<'a> {
     /// Reads a node of this kind.
     pub fn from_node(node: &'a Node) -> VariableDeclarationRef<'a>
         requires { kind_of node.now ≡ Kind.VariableDeclaration }
-        ensures { node.now ≡ variable_declaration result.node_id.0 (span_of result.span) result.kind result.declarations.now }
+        ensures { node.now ≡ variable_declaration result.node_id.0 (span_of result.span) result.kind
+            result.declarations.now }
     {
         match node.parts() {
             [kind, declarations] => VariableDeclarationRef {
                 node_id: node.node_id(),
                 span: node.span(),
-                declarations: declarations.as_list(),
                 kind: kind.as_variable_declaration_kind(),
+                declarations: declarations.as_list(),
             },
             _ => unreachable!(),
         }
     }
 }
 
-/// Makes a node of this kind, which has no number yet: `var`, `let` or `const` with its declarators (ECMA-262, 14.3).
-/// Fails on allocation failure alone.
+/// Makes a node of this kind, which has no number yet: `var`, `let` or `const` with its declarators
+/// (ECMA-262, 14.3). Fails on allocation failure alone.
 pub fn make_variable_declaration(
     alloc: Global,
     kind: VariableDeclarationKind,
@@ -1943,7 +1994,8 @@ impl VariableDeclarator {
     /// Takes a node of this kind apart.
     pub fn from_node(node: Node) -> VariableDeclarator
         requires { kind_of node ≡ Kind.VariableDeclarator }
-        ensures { node ≡ variable_declarator result.node_id.0 (span_of result.span) result.id result.init }
+        ensures { node ≡ variable_declarator result.node_id.0 (span_of result.span) result.id
+            result.init }
     {
         let contents = node.into_contents();
         let mut emptied_parts = contents.parts;
@@ -1959,7 +2011,8 @@ impl VariableDeclarator {
 
     /// Puts the node together again. Takes no memory.
     pub fn into_node(self) -> Node
-        ensures { result ≡ variable_declarator self.node_id.0 (span_of self.span) self.id self.init }
+        ensures { result ≡ variable_declarator self.node_id.0 (span_of self.span) self.id
+            self.init }
     {
         let mut parts = self.emptied_parts;
         put_two(&mut parts, Part::Child(self.id), nullable_part(self.init));
@@ -1988,7 +2041,8 @@ impl<'a> VariableDeclaratorRef<'a> {
     /// Reads a node of this kind.
     pub fn from_node(node: &'a Node) -> VariableDeclaratorRef<'a>
         requires { kind_of node.now ≡ Kind.VariableDeclarator }
-        ensures { node.now ≡ variable_declarator result.node_id.0 (span_of result.span) result.id.now (option_map (λ x. x.now) result.init) }
+        ensures { node.now ≡ variable_declarator result.node_id.0 (span_of result.span)
+            result.id.now (option_map (λ x. x.now) result.init) }
     {
         match node.parts() {
             [id, init] => VariableDeclaratorRef {
@@ -2002,8 +2056,8 @@ impl<'a> VariableDeclaratorRef<'a> {
     }
 }
 
-/// Makes a node of this kind, which has no number yet: `id = init` in a variable declaration (ECMA-262, 14.3).
-/// Fails on allocation failure alone.
+/// Makes a node of this kind, which has no number yet: `id = init` in a variable declaration
+/// (ECMA-262, 14.3). Fails on allocation failure alone.
 pub fn make_variable_declarator(
     alloc: Global,
     id: Node,

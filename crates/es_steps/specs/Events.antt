@@ -4,8 +4,8 @@ use Rattle.std.specs.Prelude.{ℕ, List, Bool, true, false, ◌||◌, cond, Opti
 use Rattle.es_base.specs.declared.kind.Kind.{Kind}
 use Rattle.es_steps.specs.Values.{String, Constant, Value, Referent, Undefined}
 
--- What a kind of operation has beside its operands, member by member: where an operand stands, strings, truth
--- values, empty places, keys that are not computed, and where a list begins and ends.
+-- What a kind of operation has beside its operands, member by member: where an operand stands, strings,
+-- booleans, empty places, keys that are not computed, and where a list begins and ends.
 pub data Mark : Type 0 where
   Operand : Mark
   Empty : Mark

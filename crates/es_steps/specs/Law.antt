@@ -22,7 +22,7 @@ use Rattle.es_steps.specs.References.{declared}
 use Rattle.es_steps.specs.Standing.{meaning_numbers, generated_classes, all_old}
 use Rattle.es_steps.specs.Values.{Value, Undefined}
 
--- marks are no part of a meaning
+-- semantic ids are no part of a meaning
 abbrev pub SemanticIdsLaw : Type 0
 SemanticIdsLaw = (first : ℕ) (o : Options) (ledger : List LedgerEntry) (t : Tree) → means first o ledger (stripped t) ≡ means first o ledger t
 

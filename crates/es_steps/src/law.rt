@@ -13,7 +13,7 @@ ghost use Rattle.es_steps.specs.Rows.{one_field, one_field_lowered, one_field_wi
 ghost use Rattle.es_steps.specs.Values.{BindingOf, ThisOf, ResultOf, Undefined, Free};
 ghost use Rattle.es_steps.specs.WiderRows.{sets_fields, both_routes, shadowed, shadowed_with, set_field, static_name, static_name_lowered, computed_key, computed_key_lowered, computed_key_with, computed_key_names, compound_row, static_block_row, static_block_lowered, static_block_names, nested_privates};
 
-/// Marks are no part of a meaning, nor of the private members and of what private names mean.
+/// Semantic ids are no part of a meaning, nor of the private members and of what private names mean.
 pub fn semantic_ids_mean_nothing()
     ensures meaning { SemanticIdsLaw }
     ensures private_names { PrivateSemanticIdsLaw }

@@ -4,6 +4,8 @@ use Rattle.std.specs.Prelude.{ℕ, List, Option, None}
 use Rattle.es_base.specs.Tree.{Tree, Node, end, more, string}
 use Rattle.es_base.specs.declared.kind.Kind.{Kind}
 
--- A node of TypeScript, JSX, a decorator or an accessor property, of which only the string of `type` is kept.
+-- A node of TypeScript, JSX, a decorator or an accessor property, of which only the string of
+-- `type` is kept.
 abbrev pub foreign : ℕ → Option (ℕ × ℕ) → List ℕ → Tree
-foreign node_id span kind = Node Kind.Foreign node_id span None (more (string kind) end)
+foreign node_id span kind =
+    Node Kind.Foreign node_id span None (more (string kind) end)

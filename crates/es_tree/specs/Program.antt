@@ -8,4 +8,6 @@ use Rattle.es_base.specs.declared.operator.SourceType.{SourceType}
 
 -- A script or a module (ECMA-262, 16).
 abbrev pub program : ℕ → Option (ℕ × ℕ) → Option ℕ → SourceType → List Tree → Tree
-program node_id span scope_id source_type body = Node Kind.Program node_id span scope_id (more (string (source_type_string source_type)) (more (list (trees body)) end))
+program node_id span scope_id source_type body =
+    Node Kind.Program node_id span scope_id (more (string (source_type_string source_type))
+    (more (list (trees body)) end))

@@ -1,6 +1,6 @@
 // Printed by tools/tree.py from tools/kinds.py.
-// What the trees here do not describe. Each kind has a struct of its members, which keeps the emptied list of its
-// node's parts, the same borrowed, and a maker.
+// What the trees here do not describe. Each kind has a struct of its members, which keeps the emptied
+// list of its node's parts, the same borrowed, and a maker.
 
 ghost use Rattle.std.specs.Prelude.{◌≡◌, IfOk, None, length};
 ghost use Rattle.es_base.specs.Carried.{span_of};
@@ -17,7 +17,8 @@ use es_node::node::{Contents, Node, Part};
 use es_node::room::{put_one, take_one};
 use std::alloc::{AllocError, Global};
 
-/// A node of TypeScript, JSX, a decorator or an accessor property, of which only the string of `type` is kept.
+/// A node of TypeScript, JSX, a decorator or an accessor property, of which only the string of
+/// `type` is kept.
 #[derive(Drop)]
 pub struct Foreign {
     pub node_id: NodeId,
@@ -87,8 +88,9 @@ impl<'a> ForeignRef<'a> {
     }
 }
 
-/// Makes a node of this kind, which has no number yet: a node of TypeScript, JSX, a decorator or an accessor property, of which only the string of `type` is kept.
-/// Fails on allocation failure alone.
+/// Makes a node of this kind, which has no number yet: a node of TypeScript, JSX, a decorator or an
+/// accessor property, of which only the string of `type` is kept. Fails on allocation failure
+/// alone.
 pub fn make_foreign(alloc: Global, kind: Name) -> Result<Node, AllocError>
     ensures { IfOk result (λ t. t ≡ foreign unnumbered None kind) }
 {

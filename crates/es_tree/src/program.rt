@@ -1,6 +1,6 @@
 // Printed by tools/tree.py from tools/kinds.py.
-// The root. Each kind has a struct of its members, which keeps the emptied list of its
-// node's parts, the same borrowed, and a maker.
+// The root. Each kind has a struct of its members, which keeps the emptied list of its node's parts,
+// the same borrowed, and a maker.
 
 ghost use Rattle.std.specs.Prelude.{◌≡◌, IfOk, None, length};
 ghost use Rattle.es_base.specs.Carried.{span_of, scope_number};
@@ -33,10 +33,11 @@ pub struct Program {
 }
 
 impl Program {
-    /// Takes a node of this kind apart.
+    /// Takes a node of this kind apart; `foreign` has the numbers of its foreign nodes.
     pub fn from_node(node: Node, foreign: List<NodeId>) -> Program
         requires { kind_of node ≡ Kind.Program }
-        ensures tree { node ≡ program result.node_id.0 (span_of result.span) (scope_number result.scope_id) result.source_type result.body }
+        ensures tree { node ≡ program result.node_id.0 (span_of result.span)
+            (scope_number result.scope_id) result.source_type result.body }
         ensures foreign { result.foreign ≡ foreign }
     {
         let contents = node.into_contents();
@@ -46,16 +47,17 @@ impl Program {
             node_id: contents.node_id,
             span: contents.span,
             scope_id: scope_id_of(contents.semantic_id),
-            body: body.into_list(),
             source_type: source_type.into_source_type(),
+            body: body.into_list(),
             foreign,
             emptied_parts,
         }
     }
 
-    /// Puts the node together again. Takes no memory.
+    /// Puts the node together again, with the numbers of its foreign nodes. Takes no memory.
     pub fn into_node(self) -> (Node, List<NodeId>)
-        ensures tree { result.0 ≡ program self.node_id.0 (span_of self.span) (scope_number self.scope_id) self.source_type self.body }
+        ensures tree { result.0 ≡ program self.node_id.0 (span_of self.span)
+            (scope_number self.scope_id) self.source_type self.body }
         ensures foreign { result.1 ≡ self.foreign }
     {
         let mut parts = self.emptied_parts;
@@ -95,7 +97,8 @@ impl<'a> ProgramRef<'a> {
     /// Reads a node of this kind.
     pub fn from_node(node: &'a Node, foreign: &'a [NodeId]) -> ProgramRef<'a>
         requires { kind_of node.now ≡ Kind.Program }
-        ensures tree { node.now ≡ program result.node_id.0 (span_of result.span) (scope_number result.scope_id) result.source_type result.body.now }
+        ensures tree { node.now ≡ program result.node_id.0 (span_of result.span)
+            (scope_number result.scope_id) result.source_type result.body.now }
         ensures foreign { result.foreign.now ≡ foreign.now }
     {
         match node.parts() {
@@ -103,8 +106,8 @@ impl<'a> ProgramRef<'a> {
                 node_id: node.node_id(),
                 span: node.span(),
                 scope_id: scope_id_of(node.semantic_id()),
-                body: body.as_list(),
                 source_type: source_type.as_source_type(),
+                body: body.as_list(),
                 foreign,
             },
             _ => unreachable!(),
@@ -112,8 +115,8 @@ impl<'a> ProgramRef<'a> {
     }
 }
 
-/// Makes a node of this kind, which has no number yet: a script or a module (ECMA-262, 16).
-/// Fails on allocation failure alone.
+/// Makes a node of this kind, which has no number yet: a script or a module (ECMA-262, 16). Fails
+/// on allocation failure alone.
 pub fn make_program(
     alloc: Global,
     source_type: SourceType,

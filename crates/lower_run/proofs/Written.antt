@@ -10,9 +10,9 @@ use Rattle.serde_json.specs.Written.{compact_text, has_float}
 use Rattle.serde_json.specs.declared.value.Value.{Value}
 use Rattle.es_base.specs.Tree.{Tree}
 use Rattle.es_base.specs.declared.ledger.LedgerEntry.{LedgerEntry}
-use Rattle.es_json_law.proofs.Counted.{values-read_text}
-use Rattle.es_json_law.proofs.Lowered.{lowered_no_float}
-use Rattle.es_lowered.specs.Lowered.{Writes, write_lowered}
+use Rattle.es_json.proofs.Counted.{values-read_text}
+use Rattle.es_json.proofs.Lowered.{lowered_no_float}
+use Rattle.es_writing.specs.Lowered.{Writes, write_lowered}
 use Rattle.es_reading.specs.Told.{values}
 use Rattle.lower_run.specs.Lines.{line}
 use Rattle.lower_run.specs.Outcome.{most_bytes}

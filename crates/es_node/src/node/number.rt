@@ -1,6 +1,6 @@
 // Numbers in preorder.
 
-ghost use Rattle.std.specs.Prelude.{◌≡◌, ◌+◌, ◌<◌, ◌^◌, List, Option};
+ghost use Rattle.std.specs.Prelude.{◌≡◌, ◌+◌, ◌<◌, ◌^◌, All, List, Option};
 ghost use Rattle.es_base.specs.Preorder.{nodes, news, news_of, news_of_part, numbered_from, renumbered, renumbered_part, renumbered_parts};
 ghost use Rattle.es_base.specs.Numbered.{EachOnce, IsNumbered, old_numbers, unnumbered};
 ghost use Rattle.es_base.specs.Table.{Field};
@@ -38,6 +38,9 @@ impl Node {
         requires { next + news unnumbered self.old < 2 ^ 32 }
         ensures tree { self.new ≡ renumbered unnumbered next self.old }
         ensures next { result ≡ next + news unnumbered self.old }
+        ensures numbered { All (λ k. k < next) (old_numbers unnumbered self.old)
+            → EachOnce (old_numbers unnumbered self.old)
+            → IsNumbered next self.new }
     {
         renumber_node(self, NodeId::DUMMY.0, next)
     }
