@@ -28,11 +28,22 @@ void_0 = unary_expression unnumbered None UnaryOperator.Void (literal unnumbered
 
 -- `babelHelpers.defineProperty`
 abbrev pub define_property_helper : Tree
-define_property_helper = member_expression unnumbered None (identifier_reference unnumbered None None (codes "babelHelpers")) (identifier_name unnumbered None (codes "defineProperty")) false false
+define_property_helper =
+    member_expression unnumbered None
+    (identifier_reference unnumbered None None (codes "babelHelpers"))
+    (identifier_name unnumbered None (codes "defineProperty"))
+    false
+    false
 
 -- `babelHelpers.defineProperty(this, "key", value);`
 abbrev pub define_property : String → Tree → Tree
-define_property key value = expression_statement unnumbered None (call_expression unnumbered None define_property_helper (this_expression unnumbered None ∷ literal unnumbered None (literal_value.String key None) ∷ value ∷ []) false) None
+define_property key value =
+    expression_statement unnumbered None
+    (call_expression unnumbered None
+    define_property_helper
+    (this_expression unnumbered None ∷ literal unnumbered None (literal_value.String key None) ∷ value ∷ [])
+    false)
+    None
 
 -- `constructor() { statements }`
 abbrev pub constructor : List Tree → Tree
@@ -44,9 +55,11 @@ constructor statements =
     false
     false
 
+-- the name that is a key
 abbrev pub key_name : Tree → String
 key_name (Node kind id span semantic_id ps) = string_of (at 0 ps)
 
+-- the value of a field, or `void 0` where it has none
 abbrev pub value_or_void : Part → Tree
 value_or_void (child t) = t
 value_or_void p = void_0
