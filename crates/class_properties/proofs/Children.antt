@@ -1,5 +1,5 @@
 -- The nodes of a list, and how many more a lowered program has.
-use Rattle.std.proofs.Common.{◌≡◌, refl, ap, ℕ, ◌+◌, ◌*◌, ◌≤◌, List, [], ◌∷◌, map, arith}
+use Rattle.std.proofs.Common.{◌≡◌, refl, ap, ◌+◌, ◌*◌, ◌≤◌, List, [], ◌∷◌, map, arith}
 use Rattle.es_base.specs.Preorder.{nodes, nodes_of, nodes_of_part}
 use Rattle.es_base.specs.Tree.{Tree, Part, Parts, Node, end, more, child, list, trees}
 use Rattle.class_properties.specs.Lowering.{children, value_or_void, definition, lowered_elements, lowered_body, lowered_class, with_constructors}

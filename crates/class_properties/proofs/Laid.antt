@@ -12,7 +12,7 @@ use Rattle.es_steps.specs.Lowered.{is_lowered_kind, kind_of, none_lowered, all_a
 use Rattle.es_steps.specs.Options.{class_properties_alone}
 use Rattle.es_steps.specs.Scopes.{is_binding_identifier}
 
--- kinds that stay, and kinds of nodes that are made
+-- kinds that stay, and kinds of new nodes
 abbrev pub stays : Kind → Bool
 stays kind = not (is_lowered_kind class_properties_alone kind)
 

@@ -1,13 +1,13 @@
 -- What the kind of a node says: of one that conforms, of its parts; of one that is of another kind, that it is not as the
 -- form asks.
-use Rattle.std.proofs.Common.{◌≡◌, refl, ap, ◌∙◌, subst, ℕ, Option, Some, None, List, [], ◌∷◌, Bool, true, false, ◌&&◌, ◌||◌, not}
+use Rattle.std.proofs.Common.{◌≡◌, refl, subst, ℕ, Option, List, [], ◌∷◌, Bool, true, false, ◌&&◌, ◌||◌, not}
 use Rattle.std.specs.List.{All}
-use Rattle.std.specs.Prelude.{IfSome, codes}
+use Rattle.std.specs.Prelude.{codes}
 use Rattle.std.proofs.lemmas.Bool.{and_parts}
 use Rattle.std.proofs.lemmas.List.Elements.{All-nil, All-cons}
 use Rattle.es_base.specs.Conforms.{conforms, parts_conform, part_conforms, items_conform, is_rest, is_end, boolean_at}
 use Rattle.es_base.specs.Table.{members_of}
-use Rattle.es_base.specs.Tree.{Tree, Part, Parts, Node, end, more, child, absent, list, string, trees}
+use Rattle.es_base.specs.Tree.{Tree, Part, Parts, Node, end, more, child, absent, string, trees}
 use Rattle.es_base.specs.declared.kind.Kind.{Kind}
 use Rattle.es_base.specs.declared.operator.SourceType.{SourceType}
 use Rattle.es_base.specs.declared.table.Place.{Place}
@@ -15,7 +15,7 @@ use Rattle.es_tree.specs.Program.{program}
 use Rattle.es_base.specs.declared.table.Sort.{Sort}
 use Rattle.es_base.specs.declared.table.Words.{Words}
 use Rattle.es_base.specs.Words.{source_type_string}
-use Rattle.es_node.specs.View.{kind_of, parts_in, number_in}
+use Rattle.es_node.specs.View.{kind_of, number_in}
 use Rattle.es_steps.proofs.FirstMeaning.{no_false}
 use Rattle.es_steps.specs.FirstForm.{class_names, statement_breaches, is_field, is_plain_key, is_plain_value}
 use Rattle.es_steps.specs.Values.{String}

@@ -25,7 +25,7 @@ use Rattle.class_properties.specs.Lowering.{lowered}
 laid-no_more : {first hi m lo n : ℕ} {ts : List Tree} → Laid first hi m lo n ts → Laid first hi m lo n (ts ++ [])
 laid-no_more h = laid-append h (none (omega arith) refl)
 
--- ---- the nodes that are made
+-- ---- the new nodes
 
 void-laid : {first hi m lo : ℕ} (n : ℕ) → lo ≤ hi → n + 2 ≡ m → Laid first hi m lo n (preorder (void_at n))
 void-laid n l e = generated refl refl (generated refl refl (none l (omega (arith, e))))

@@ -1,6 +1,6 @@
 -- Giving the new nodes of a lowered program their numbers gives the program whose numbers are written out one by one.
 use Rattle.std.specs.Prelude.{nat_le}
-use Rattle.std.proofs.Common.{◌≡◌, refl, sym, ap, ap₂, ◌∙◌, subst, ℕ, ◌+◌, ◌<◌, ◌≤◌, List, [], ◌∷◌, map, Bool, true, false, arith}
+use Rattle.std.proofs.Common.{◌≡◌, refl, sym, ap, ap₂, ◌∙◌, subst, ℕ, ◌+◌, ◌≤◌, List, [], map, Bool, true, false, arith}
 use Rattle.std.proofs.lemmas.Bool.{le-leb, lt-leb}
 use Rattle.es_base.specs.Conforms.{conforms}
 use Rattle.es_base.specs.Numbered.{unnumbered}
@@ -11,10 +11,10 @@ use Rattle.es_base.specs.declared.table.Place.{Place}
 use Rattle.es_steps.specs.FirstForm.{is_first_form}
 use Rattle.es_steps.specs.Generated.{constructor_at, define_at, void_at}
 use Rattle.es_steps.specs.Values.{String}
-use Rattle.class_properties.specs.Lowering.{children, void_0, define_property, constructor, value_or_void, definition, lowered_elements, lowered_body, lowered_class, with_constructors, lowered}
+use Rattle.class_properties.specs.Lowering.{children, void_0, define_property, constructor, value_or_void, definition, lowered_elements, lowered_class, with_constructors, lowered}
 use Rattle.class_properties.proofs.Numbered as numbered
 use Rattle.class_properties.proofs.Small.{form-fits}
-use Rattle.class_properties.proofs.Shaped.{IsValue, no_value, a_literal, a_reference, a_key, IsField, a_field, AreFields, a_name, IsBody, a_body, IsClass, a_class, AreClasses, IsProgram, a_program, first_form-shaped}
+use Rattle.class_properties.proofs.Shaped.{IsValue, no_value, a_literal, a_reference, a_key, a_field, AreFields, a_name, a_body, a_class, AreClasses, IsProgram, a_program, first_form-shaped}
 
 -- ---- a tree without new nodes stays as it is
 

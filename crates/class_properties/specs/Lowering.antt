@@ -1,6 +1,6 @@
 -- What a program of the first form is lowered to: the fields of each class are defined by a constructor, in their order.
--- (ECMA-262, 15.7.14 and 7.3.34, DefineField; the helper is Babel's.)
-use Rattle.std.specs.Prelude.{List, [], ◌∷◌, map, false, codes, Some, None}
+-- (ECMA-262, 15.7.14 and 7.3.32, DefineField; the helper is Babel's.)
+use Rattle.std.specs.Prelude.{List, [], ◌∷◌, map, false, codes, None}
 use Rattle.es_base.specs.Numbered.{unnumbered}
 use Rattle.es_base.specs.Preorder.{nodes, renumbered}
 use Rattle.es_base.specs.Tree.{Tree, Part, Parts, Node, end, more, child, list, trees}
@@ -27,12 +27,23 @@ abbrev pub void_0 : Tree
 void_0 = unary_expression unnumbered None UnaryOperator.Void (literal unnumbered None (literal_value.Number (codes "0")))
 
 -- `babelHelpers.defineProperty`
-abbrev pub helper : Tree
-helper = member_expression unnumbered None (identifier_reference unnumbered None None (codes "babelHelpers")) (identifier_name unnumbered None (codes "defineProperty")) false false
+abbrev pub define_property_helper : Tree
+define_property_helper =
+    member_expression unnumbered None
+    (identifier_reference unnumbered None None (codes "babelHelpers"))
+    (identifier_name unnumbered None (codes "defineProperty"))
+    false
+    false
 
 -- `babelHelpers.defineProperty(this, "key", value);`
 abbrev pub define_property : String → Tree → Tree
-define_property key value = expression_statement unnumbered None (call_expression unnumbered None helper (this_expression unnumbered None ∷ literal unnumbered None (literal_value.String key None) ∷ value ∷ []) false) None
+define_property key value =
+    expression_statement unnumbered None
+    (call_expression unnumbered None
+    define_property_helper
+    (this_expression unnumbered None ∷ literal unnumbered None (literal_value.String key None) ∷ value ∷ [])
+    false)
+    None
 
 -- `constructor() { statements }`
 abbrev pub constructor : List Tree → Tree
@@ -44,9 +55,11 @@ constructor statements =
     false
     false
 
+-- the name that is a key
 abbrev pub key_name : Tree → String
 key_name (Node kind id span semantic_id ps) = string_of (at 0 ps)
 
+-- the value of a field, or `void 0` where it has none
 abbrev pub value_or_void : Part → Tree
 value_or_void (child t) = t
 value_or_void p = void_0

@@ -20,5 +20,6 @@ pub fn create_constructor(alloc: Global, statements: List<Node>) -> Result<Node,
     let key = make_identifier_name(alloc, Name::from_ascii(alloc, "constructor")?)?;
     let body = make_block_statement(alloc, statements)?;
     let function = make_function_expression(alloc, None, List::new(alloc), body, false, false)?;
-    make_method_definition(alloc, key, function, MethodDefinitionKind::Constructor, false, false)
+    let kind = MethodDefinitionKind::Constructor;
+    make_method_definition(alloc, key, function, kind, false, false)
 }

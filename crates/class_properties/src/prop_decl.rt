@@ -1,9 +1,8 @@
 // Fields as statements of a constructor.
 
 ghost use Rattle.std.specs.Prelude.{◌≡◌, IfOk};
-ghost use Rattle.es_base.specs.Tree.{nullable};
 ghost use Rattle.class_properties.specs.Form.{IsField};
-ghost use Rattle.class_properties.specs.Lowering.{void_0, helper, define_property, value_or_void, definition};
+ghost use Rattle.class_properties.specs.Lowering.{void_0, define_property_helper, define_property, definition};
 
 use es_base::list::List;
 use es_base::literal::LiteralValue;
@@ -26,18 +25,11 @@ pub fn convert_instance_property(alloc: Global, field: Node) -> Result<Node, All
     ensures { IfOk result (λ t. t ≡ definition field) }
 {
     let field = PropertyDefinition::from_node(field);
-    let key = IdentifierName::from_node(field.key);
-    let value = value_or_void_0(alloc, field.value)?;
-    create_define_property(alloc, key.name, value)
-}
-
-/// The value of a field; `void 0` where it has none.
-fn value_or_void_0(alloc: Global, value: Option<Node>) -> Result<Node, AllocError>
-    ensures { IfOk result (λ t. t ≡ value_or_void (nullable value)) }
-{
+    let key = IdentifierName::from_node(field.key).name;
+    let value = field.value;
     match value {
-        Some(value) => Ok(value),
-        None => create_void_0(alloc),
+        Some(value) => create_define_property(alloc, key, value),
+        None => create_define_property(alloc, key, create_void_0(alloc)?),
     }
 }
 
@@ -45,7 +37,7 @@ fn value_or_void_0(alloc: Global, value: Option<Node>) -> Result<Node, AllocErro
 fn create_define_property(alloc: Global, key: Name, value: Node) -> Result<Node, AllocError>
     ensures { IfOk result (λ t. t ≡ define_property key value) }
 {
-    let callee = create_helper(alloc)?;
+    let callee = create_define_property_helper(alloc)?;
     let this = make_this_expression(alloc)?;
     let raw = None;
     let key = make_literal(alloc, LiteralValue::String { value: key, raw })?;
@@ -55,8 +47,8 @@ fn create_define_property(alloc: Global, key: Name, value: Node) -> Result<Node,
 }
 
 /// `babelHelpers.defineProperty`
-fn create_helper(alloc: Global) -> Result<Node, AllocError>
-    ensures { IfOk result (λ t. t ≡ helper) }
+fn create_define_property_helper(alloc: Global) -> Result<Node, AllocError>
+    ensures { IfOk result (λ t. t ≡ define_property_helper) }
 {
     let object = make_identifier_reference(alloc, Name::from_ascii(alloc, "babelHelpers")?)?;
     let property = make_identifier_name(alloc, Name::from_ascii(alloc, "defineProperty")?)?;

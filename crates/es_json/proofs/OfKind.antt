@@ -1,5 +1,5 @@
 -- What stands as a program is a program.
-use Rattle.std.proofs.Common.{◌≡◌, refl, true, Bool, ◌&&◌}
+use Rattle.std.proofs.Common.{◌≡◌, refl, true, false, Bool, ◌&&◌}
 use Rattle.es_base.specs.Conforms.{conforms}
 use Rattle.es_base.specs.Table.{stands_in}
 use Rattle.es_base.specs.Tree.{Tree, Node}

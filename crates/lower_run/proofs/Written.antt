@@ -27,8 +27,8 @@ none_permuted ys p = empty ys (length_permutation [] ys p)
 -- the value of a program with none of them
 written-value : (v : Value) (t : Tree) → Writes v t [] [] [] → view v ≡ write_lowered t [] [] []
 written-value v t w = w.written
-    ∙ ap (λ names. write_lowered t names w.told []) (none_permuted w.names w.names_in_order.same)
-    ∙ ap (λ told. write_lowered t [] told []) (none_permuted w.told w.told_in_order.same)
+    ∙ ap (λ names. write_lowered t names w.ordered []) (none_permuted w.names w.names_in_order.same)
+    ∙ ap (λ warnings. write_lowered t [] warnings []) (none_permuted w.ordered w.warnings_in_order.same)
 
 -- what was written with no names
 pub nothing-generated : {E : Type 0} (result : Result Value E) (t : Tree) (names : List LedgerEntry) → names ≡ [] → IfOk result (λ v. Writes v t names [] []) → IfOk result (λ v. view v ≡ write_lowered t [] [] [])

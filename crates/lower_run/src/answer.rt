@@ -24,12 +24,12 @@ use class_properties::not_yet::not_yet;
 use es_base::ids::NodeId;
 use es_base::ledger::Ledger;
 use es_base::list::List;
-use es_writing::lowered::write_lowered;
 use es_node::node::Node;
 use es_reading::fault::ReadError;
 use es_reading::numbers::Numbers;
 use es_reading::tree::read_tree;
 use es_steps::error::LowerError;
+use es_writing::lowered::write_lowered;
 use serde_json::Value;
 use std::alloc::{AllocError, Global};
 

@@ -34,12 +34,12 @@ enum Way {
 fn lowered_text(alloc: Global, value: &Value) -> Result<String, ReadError>
     requires { values (view value.now) + 1 < 2 ^ 32 }
 {
-    let program = read_program(alloc, value)?;
+    let (program, _foreign) = read_program(alloc, value)?.into_node();
     let mut entries = List::new(alloc);
     let name = Name::new(alloc, "_C")?;
     let kind = GeneratedKind::ClassTemp(NodeId(1));
     entries.push(LedgerEntry { name, kind })?;
-    let lowered = write_lowered(alloc, &program.tree, &Ledger { entries }, &[], &[Shape::S2])?;
+    let lowered = write_lowered(alloc, &program, &Ledger { entries }, &[], &[Shape::S2])?;
     Ok(lowered.to_string(alloc)?)
 }
 
@@ -52,7 +52,8 @@ fn rewritten(alloc: Global, value: &Value, way: Way) -> Result<String, ReadError
         Way::Given => read_numbered(alloc, value)?,
         Way::Lowered => return lowered_text(alloc, value),
     };
-    Ok(write_program(alloc, &program.tree)?.to_string(alloc)?)
+    let (program, _foreign) = program.into_node();
+    Ok(write_program(alloc, &program)?.to_string(alloc)?)
 }
 
 /// What is written of the program that a text is, or the refusal.

@@ -10,3 +10,5 @@ mod json;
 mod layer;
 #[cfg(test)]
 mod programs;
+#[cfg(test)]
+mod readme;
