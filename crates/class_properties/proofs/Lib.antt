@@ -17,6 +17,7 @@ pub mod Renumbered
 pub mod Same
 pub mod SameNames
 pub mod Shaped
+pub mod Shapeless
 pub mod Small
 pub mod Standing
 pub mod Steps
