@@ -7,7 +7,7 @@ use Rattle.es_reading.specs.Fault.{Fault, Read}
 use Rattle.es_reading.specs.Reading.{read, root}
 use Rattle.es_reading.specs.declared.numbers.Numbers.{Numbers}
 use Rattle.es_steps.specs.FirstForm.{not_yet}
-use Rattle.es_steps.specs.Options.{Options}
+use Rattle.es_steps.specs.declared.options.Options.{Options}
 use Rattle.lower_run.specs.Outcome.{IsOutputOfBytes, IsOutputOfSource, Cause, Complete, IsWritten, IsLowerable, HasLowered, most_bytes}
 use Rattle.lower_run.specs.declared.status.Status.{Status}
 use Rattle.lower_io.specs.Held.{Extends}

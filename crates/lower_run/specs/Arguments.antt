@@ -3,7 +3,8 @@ use Rattle.std.specs.Prelude.{List, [], ◌∷◌, ℕ, Bool, true, cond, ◌&&�
 use Rattle.es_base.specs.Tree.{Tree}
 use Rattle.class_properties.specs.Lowering.{lowered}
 use Rattle.lower_run.specs.declared.arguments.Lowering.{Lowering}
-use Rattle.es_steps.specs.Options.{Options, no_options, class_properties_alone}
+use Rattle.es_steps.specs.Options.{no_options, class_properties_alone}
+use Rattle.es_steps.specs.declared.options.Options.{Options}
 
 abbrev pub is_class_properties : List ℕ → Bool
 is_class_properties argument = bytes_eq (codes "--class-properties") argument

@@ -1,21 +1,27 @@
 -- What a run ends with, and why: the tree of the bytes, what is written of it, and the cause of each status.
-use Rattle.std.specs.Prelude.{◌≡◌, ◌≤◌, ◌<◌, List, [], ◌++◌, ℕ, length, Option, Some, None, IfSome, Ok, Err, IsUtf8, ◌⊎◌, is_some, true}
+use Rattle.std.specs.Prelude.{◌≡◌, ◌≤◌, ◌<◌, List, [], ◌++◌, map, ℕ, length, Option, Some, None, IfSome, OnSome, Ok, Err, IsUtf8, ◌⊎◌, is_some, true}
 use Rattle.serde_json.specs.Data.{Data}
 use Rattle.serde_json.specs.Read.{read as read_text}
 use Rattle.serde_json.specs.Written.{compact_text}
+use Rattle.es_base.specs.Conforms.{conforms}
 use Rattle.es_base.specs.Preorder.{nodes}
 use Rattle.es_base.specs.Tree.{Tree}
-use Rattle.es_writing.specs.Lowered.{write_lowered}
+use Rattle.es_base.specs.declared.diagnostic.Diagnostic.{Diagnostic}
+use Rattle.es_base.specs.declared.ledger.LedgerEntry.{LedgerEntry}
+use Rattle.es_base.specs.declared.table.Place.{Place}
+use Rattle.es_writing.specs.Kept.{IsKept}
+use Rattle.es_writing.specs.Lowered.{NamesFit, WarningsFit, write_lowered}
 use Rattle.es_reading.specs.Fault.{Fault, not_a_tree, float_at}
 use Rattle.es_reading.specs.Reading.{read, root}
 use Rattle.es_reading.specs.declared.fault.ReadError.{ReadError}
 use Rattle.es_reading.specs.declared.numbers.Numbers.{Numbers}
 use Rattle.es_steps.specs.FirstForm.{not_yet, is_first_form}
-use Rattle.es_steps.specs.Lowered.{IsLowered}
-use Rattle.es_steps.specs.Meaning.{Meaning, means, source_means}
-use Rattle.es_steps.specs.Options.{Options}
-use Rattle.es_steps.specs.Told.{shapes}
+use Rattle.es_steps.specs.Lowered.{IsLowered, IsUnchanged}
+use Rattle.es_steps.specs.Meaning.{Meaning, lowered_means, source_means}
+use Rattle.es_steps.specs.Shapes.{shapes}
+use Rattle.es_steps.specs.Told.{warnings_of}
 use Rattle.es_steps.specs.declared.error.LowerError.{LowerError}
+use Rattle.es_steps.specs.declared.options.Options.{Options}
 use Rattle.lower_run.specs.Lines.{line, bad_arguments_line, read_fault_line, too_long_line, json_line, fault_line, not_yet_line}
 use Rattle.lower_run.specs.declared.status.Status.{Status}
 use Rattle.lower_io.specs.Causes.{Rose}
@@ -27,15 +33,24 @@ most_bytes = 67108864
 
 -- ---- what is written of a program
 
--- the text of the tree q that p was lowered to, with no generated name and no warning, and with the shapes of p; and what q
--- owes: nothing that the options lower is left, every generated name has its declaration, and q means what p means
-pub record IsLoweredTree (o : Options) (p : Tree) (text : List ℕ) : Type 0 where
+-- the text of the tree q that p was lowered to, with these generated names, and with the warnings and the shapes of p. q is a
+-- program of the grammar, and all that is written is such as JSON holds, so the text fixes it. And what q owes: nothing that
+-- the options lower is left, every generated name has its declaration, a program with nothing to lower is unchanged, and q
+-- means what p means.
+pub record IsLoweredTree (o : Options) (p : Tree) (names : List LedgerEntry) (text : List ℕ) : Type 0 where
   pub q : Tree
-  pub written : text ≡ line (compact_text (write_lowered q [] [] (shapes p)))
-  pub owed : IsLowered (nodes p) o [] p q
+  pub warnings : List Diagnostic
+  pub written : text ≡ line (compact_text (write_lowered q names warnings (shapes o p)))
+  pub program : conforms Place.Program q ≡ true
+  pub kept : IsKept q
+  pub names_kept : NamesFit names
+  pub warnings_kept : WarningsFit warnings
+  pub warned : map (λ d. d.node.0) warnings ≡ warnings_of o p
+  pub owed : IsLowered (nodes p) o names p q
+  pub unchanged : IsUnchanged o names p q
   pub meaning : Meaning
   pub source : source_means o p ≡ Some meaning
-  pub same : means (nodes p) o [] q ≡ Some meaning
+  pub same : lowered_means o names p q ≡ Some meaning
 
 -- the line that names the least node that is not as the form asks
 pub record IsNotYet (p : Tree) (foreign : List ℕ) (text : List ℕ) : Type 0 where
@@ -52,9 +67,10 @@ abbrev pub IsRefused : Tree → List ℕ → LowerError → Type 0
 IsRefused p foreign LowerError.NoMemory = Unit
 IsRefused p foreign (LowerError.NotYet node) = not_yet p foreign ≡ Some node.0
 
--- of a program, and its nodes that have members outside the table
+-- of a program, and its nodes that have members outside the table: what is lowered is of the form, which needs no generated
+-- name
 abbrev pub IsOutputOfTree : Options → Tree → List ℕ → Status → List ℕ → Type 0
-IsOutputOfTree o p foreign Status.Done text = (foreign ≡ []) × IsLoweredTree o p text
+IsOutputOfTree o p foreign Status.Done text = IsOfForm p foreign × IsLoweredTree o p [] text
 IsOutputOfTree o p foreign Status.Refused text = IsNotYet p foreign text
 IsOutputOfTree o p foreign status text = ⊥
 
@@ -114,6 +130,13 @@ IsOutputOfSource (Some o) left before now Status.NoMemory text = ⊥
 IsOutputOfSource (Some o) left before now Status.ReadFault text = Rose before now × (text ≡ read_fault_line)
 IsOutputOfSource (Some o) left before now Status.TooLong text = IfSome left (λ b. most_bytes < length b) × (text ≡ too_long_line)
 IsOutputOfSource (Some o) left before now status text = IfSome left (λ b. (length b ≤ most_bytes) × IsOutputOfBytes o b status text)
+
+-- nothing is left in a source that tells its bytes, where the status tells of all of them
+abbrev pub IsReadToEnd : Option (List ℕ) → Option (List ℕ) → Status → Type 0
+IsReadToEnd left rest Status.Done = OnSome left (rest ≡ Some [])
+IsReadToEnd left rest Status.NotATree = OnSome left (rest ≡ Some [])
+IsReadToEnd left rest Status.Refused = OnSome left (rest ≡ Some [])
+IsReadToEnd left rest status = Unit
 
 -- ---- the causes of the statuses
 

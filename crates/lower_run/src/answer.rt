@@ -4,6 +4,7 @@ ghost use Rattle.std.specs.Prelude.{◌≡◌, ◌≤◌, ◌<◌, ◌+◌, ◌^
 ghost use Rattle.es_base.specs.Conforms.{conforms};
 ghost use Rattle.es_base.specs.Preorder.{numbered_from};
 ghost use Rattle.es_base.specs.declared.table.Place.{Place};
+ghost use Rattle.es_writing.specs.Kept.{IsKept};
 ghost use Rattle.es_writing.specs.Lowered.{write_lowered};
 ghost use Rattle.es_reading.specs.Reading.{read, root};
 ghost use Rattle.es_reading.specs.Told.{Tells, ids, values};
@@ -147,7 +148,8 @@ fn lower_by(alloc: Global, lowering: Lowering, tree: Node) -> Result<Node, Alloc
 
 /// The text of a lowered program with no generated name, warning or shape, and a line feed.
 fn text_of(alloc: Global, tree: Node) -> Result<String, AllocError>
-    ensures { IfOk result (λ s. string_bytes s ≡ line (compact_text (write_lowered tree [] [] []))) }
+    ensures text { IfOk result (λ s. string_bytes s ≡ line (compact_text (write_lowered tree [] [] []))) }
+    ensures kept { IfOk result (λ _. IsKept tree) }
 {
     let mut text = value_of(alloc, tree)?.to_string(alloc)?;
     text.push('\n')?;
@@ -156,7 +158,8 @@ fn text_of(alloc: Global, tree: Node) -> Result<String, AllocError>
 
 /// The value of such a program. The tree is let go.
 fn value_of(alloc: Global, tree: Node) -> Result<Value, AllocError>
-    ensures { IfOk result (λ v. view v ≡ write_lowered tree [] [] []) }
+    ensures value { IfOk result (λ v. view v ≡ write_lowered tree [] [] []) }
+    ensures kept { IfOk result (λ _. IsKept tree) }
 {
     let ledger = Ledger {
         entries: List::new(alloc),

@@ -1,7 +1,7 @@
 // The run: from the bytes of a source to what a sink gets.
 
 ghost use Rattle.std.specs.Prelude.{◌≡◌, ◌≤◌, IfOk, List, ℕ, [], Some, map, string_bytes};
-ghost use Rattle.lower_run.specs.Outcome.{IsOutputOfSource, Cause, Complete, HasLowered};
+ghost use Rattle.lower_run.specs.Outcome.{IsOutputOfSource, IsReadToEnd, Cause, Complete, HasLowered};
 ghost use Rattle.lower_run.specs.Arguments.{options_of};
 ghost use Rattle.lower_run.specs.declared.status.Status.{Status};
 
@@ -20,11 +20,12 @@ const MOST_BYTES: usize = 67_108_864;
 /// Reads the source to its end, lowers the tree that its bytes are, and writes the lowered tree, or why
 /// there is none, to the sink. The arguments are none, or `--class-properties` once or more.
 ///
-/// With `Done` the sink has gained the compact JSON text of the lowered tree, with its names, warnings and
-/// shapes, and a line feed: nothing that the options lower is left in that tree, its new numbers are those
-/// of preorder, and it means what the source's tree means. `NoMemory` comes before anything is
-/// written, `WriteFault` only where the sink failed, and then it has gained a part; with each other status
-/// it has gained a line that tells the cause.
+/// With `Done` the source's tree is of the form that is lowered, and the sink has gained the compact JSON text
+/// of the lowered tree, with its names, warnings and shapes, and a line feed: nothing that the options lower
+/// is left in that tree, its new numbers are those of preorder, it means what the source's tree means, and it
+/// is that tree where there is nothing to lower. `NoMemory` comes before anything is written, `WriteFault`
+/// only where the sink failed, and then it has gained a part; with each other status it has gained a line
+/// that tells the cause. After `Done`, `NotATree` and `Refused` the source was read to its end.
 pub fn run<S: Source, K: Sink>(
     alloc: Global,
     arguments: &[String],
@@ -34,6 +35,7 @@ pub fn run<S: Source, K: Sink>(
     ensures done { result ≡ Status.Done → (b held now : List ℕ) → S.left source.old ≡ Some b → K.held sink.old ≡ Some held → K.held sink.new ≡ Some now → HasLowered (options_of (map string_bytes arguments.now)) b held now }
     ensures cause { Cause (options_of (map string_bytes arguments.now)) (S.left source.old) (S.faults source.old) (S.faults source.new) (K.held sink.old) (K.held sink.new) (K.faults sink.old) (K.faults sink.new) result }
     ensures complete { Complete (options_of (map string_bytes arguments.now)) (S.left source.old) (S.faults source.old) (S.faults source.new) (K.faults sink.old) (K.faults sink.new) result }
+    ensures end { IsReadToEnd (S.left source.old) (S.left source.new) result }
     ensures source_later { S.faults source.old ≤ S.faults source.new }
     ensures sink_later { K.faults sink.old ≤ K.faults sink.new }
 {
@@ -47,6 +49,7 @@ fn read_and_write<S: Source, K: Sink>(
     sink: &mut K,
 ) -> Status
     ensures cause { Cause (options_of (map string_bytes arguments.now)) (S.left source.old) (S.faults source.old) (S.faults source.new) (K.held sink.old) (K.held sink.new) (K.faults sink.old) (K.faults sink.new) result }
+    ensures end { IsReadToEnd (S.left source.old) (S.left source.new) result }
     ensures source_later { S.faults source.old ≤ S.faults source.new }
     ensures sink_later { K.faults sink.old ≤ K.faults sink.new }
 {
@@ -67,6 +70,7 @@ fn output_of<S: Source>(
     source: &mut S,
 ) -> Result<Output, AllocError>
     ensures output { IfOk result (λ s. IsOutputOfSource (options_of (map string_bytes arguments.now)) (S.left source.old) (S.faults source.old) (S.faults source.new) s.status (string_bytes s.text)) }
+    ensures end { IfOk result (λ s. IsReadToEnd (S.left source.old) (S.left source.new) s.status) }
     ensures later { S.faults source.old ≤ S.faults source.new }
 {
     let Some(lowering) = lowering_of(arguments) else {
