@@ -131,4 +131,5 @@ function main() {
   console.log(`${modules.length} printed, ${failed} failed`);
   process.exit(failed ? 1 : 0);
 }
-main();
+if (require.main === module) main();
+module.exports = { numberRow, optionsOf };

@@ -195,4 +195,4 @@ function literalPlain(l) {
   }
 }
 
-module.exports = { json, compact, generatedJson, moduleText, readModule, plain };
+module.exports = { json, compact, generatedJson, moduleText, readModule, plain, term, imports, entryTerm, optionsTerm };

@@ -1,3 +1,1 @@
-pub mod Computed
-pub mod ComputedOwed
-pub mod Try
+

@@ -1,2 +1,5 @@
-//! Worked programs, and that what they are lowered to means what they mean; computed.
+//! Worked programs with what they are lowered to, and programs that have to be told apart: their meanings, what a lowered
+//! program owes and the shapes of its source, computed.
 #![tactic(auto)]
+
+pub mod law;

@@ -6,7 +6,7 @@ use Rattle.es_steps.specs.Code.{FunctionForm}
 use Rattle.es_steps.specs.Entries.{Parameter, Identifier, RestIdentifier, Pattern, Method, Listed, Entry, FunctionEntry, ClassEntry}
 use Rattle.es_steps.specs.Events.{Detail, Operand, Empty, Spelled, Flag, Key, Opens, Closes, Prototype, Index, Rest, Operation, OfKind, Delete, Take, Place, RightOf, Default, Part, Event, ReadName, SetName, Get, Set, Define, Call, Construct, Operate, Update, PrivateGet, PrivateSet, PrivateInitialize, PrivateIn, AddBrand, SuperGet, SuperSet, SuperCall, SuperCallWithAll, Throw, Short, Held, Events, none, then}
 use Rattle.es_steps.specs.Meaning.{Meaning, DeclarationKind, Variable, FunctionName, ParameterName, CaughtName, ImportName, ClassDeclared, MemberEntry, IsField, FunctionIs}
-use Rattle.es_steps.specs.Modules.{Specifier, Imported, ImportedDefault, ImportedNamespace, Reexported, ReexportedAll, ModuleLink, Exported, ExportedClass, ExportedBinding, ExportedValue}
+use Rattle.es_steps.specs.Modules.{Specifier, Imported, ImportedDefault, ImportedNamespace, Reexported, ReexportedAll, ModuleLink, Exported, ExportedClass, ExportedBinding, ExportedFree, ExportedValue}
 use Rattle.es_steps.specs.SameMeanings.{same_list, same_option, same_detail, same_operation, same_place, same_referent, same_home, same_test, same_event, same_events, same_listed, same_form, same_parameter, same_method, same_entry, same_numbered, same_member, same_declaration, same_specifier, same_link, same_exported, same_export, same_meaning, same_meanings}
 use Rattle.es_steps.specs.SameTrees.{kind_number}
 use Rattle.es_steps.specs.SameValues.{same_boolean, same_nullable_string, same_constant, same_value}
@@ -178,6 +178,7 @@ link-same l = both (number-same l.number) (both (string-same l.source) (list-sam
 exported-same : (x : Exported) → same_exported x x ≡ true
 exported-same (ExportedClass n) = number-same n
 exported-same (ExportedBinding b) = number-same b
+exported-same (ExportedFree s) = string-same s
 exported-same (ExportedValue v) = value-same v
 
 export-same : (p : String × Exported) → same_export p p ≡ true

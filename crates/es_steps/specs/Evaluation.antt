@@ -224,9 +224,9 @@ abbrev pub template_constant : String → Option String → Constant
 template_constant raw None = RawTemplate raw
 template_constant raw (Some s) = StringOf s
 
--- a template without expressions is a constant
+-- a template without expressions is a constant, one whose string is not said to be the last of a kind of its own
 abbrev pub ev_template : ℕ → List TemplateString → List Value → Evaluation
-ev_template m (t ∷ []) [] = cond t.is_tail (gives (ConstantOf (template_constant t.raw t.cooked))) no_meaning
+ev_template m (t ∷ []) [] = gives (ConstantOf (cond t.is_tail (template_constant t.raw t.cooked) (TagString t.raw t.cooked)))
 ev_template m ts vs = event (Operate m (OfKind Kind.TemplateLiteral (template_details ts)) vs) (ResultOf m)
 
 -- what a tag is called with
@@ -295,7 +295,7 @@ module _ (opens : Opened → Evaluation) where
     ev (chain m e) = held m (Part 0) None (ev e)
     ev (short e) = settle (bind (ev e) (λ v. event (Short v) v))
     ev (tested o again e) = settle (tested_then (ev o) (λ v. ev_again v again) (ev e))
-    ev (pattern m to) = no_meaning
+    ev (pattern m to) = settle (ev_target to (λ t. bind (write_ready t Undefined) (λ w. gives Undefined)))
     ev (takes m ds k to) = no_meaning
     ev (steps es) = settle (ev_all es (λ vs. gives Undefined))
     ev (gives_to m to) = settle (ev_target to (λ t. bind (write_ready t (ResultOf m)) (λ w. gives Undefined)))

@@ -81,7 +81,7 @@ all_equal (t ∷ ts) qs = stands_equal t qs && all_equal ts qs
 abbrev pub statements_kept : Options → Tree → Tree → Bool
 statements_kept o p q = all_equal (free_statements o p) (preorder q)
 
--- ---- those of one list stand in one list, in order
+-- ---- those of one list stand in the list of the same node, in order
 
 abbrev pub statement_list : Kind → Parts → Parts
 statement_list Kind.Program ps = items (at 1 ps)
@@ -106,23 +106,24 @@ abbrev pub free_numbers : Options → Parts → List ℕ
 free_numbers o end = []
 free_numbers o (more p ps) = free_number o p ++ free_numbers o ps
 
--- the numbers of such statements, list by list, outside lowered classes
+-- the numbers of such statements, list by list, outside lowered classes; each list with the number of its node
 abbrev mutual
-  pub free_lists : Options → Tree → List (List ℕ)
-  free_lists o (Node kind m span semantic_id ps) = cond (is_lowered_class o kind ps) [] (free_numbers o (statement_list kind ps) ∷ free_lists_in o ps)
+  pub free_lists : Options → Tree → List (ℕ × List ℕ)
+  free_lists o (Node kind m span semantic_id ps) = cond (is_lowered_class o kind ps) [] ((m, free_numbers o (statement_list kind ps)) ∷ free_lists_in o ps)
 
-  pub free_lists_at : Options → Part → List (List ℕ)
+  pub free_lists_at : Options → Part → List (ℕ × List ℕ)
   free_lists_at o (child t) = free_lists o t
   free_lists_at o (list ps) = free_lists_in o ps
   free_lists_at o p = []
 
-  pub free_lists_in : Options → Parts → List (List ℕ)
+  pub free_lists_in : Options → Parts → List (ℕ × List ℕ)
   free_lists_in o end = []
   free_lists_in o (more p ps) = free_lists_at o p ++ free_lists_in o ps
 
-abbrev pub all_lists : List Tree → List (List ℕ)
-all_lists [] = []
-all_lists (Node kind m span semantic_id ps ∷ ts) = item_numbers (statement_list kind ps) ∷ all_lists ts
+-- the numbers in the list of node m
+abbrev pub list_of : ℕ → List Tree → List ℕ
+list_of m [] = []
+list_of m (Node kind k span semantic_id ps ∷ ts) = cond (nat_eq m k) (item_numbers (statement_list kind ps)) (list_of m ts)
 
 -- whether the first list is the second without some of its members
 abbrev pub is_within : List ℕ → List ℕ → Bool
@@ -130,14 +131,9 @@ is_within [] ys = true
 is_within (x ∷ xs) [] = false
 is_within (x ∷ xs) (y ∷ ys) = cond (nat_eq x y) (is_within xs ys) (is_within (x ∷ xs) ys)
 
-abbrev pub within_one : List ℕ → List (List ℕ) → Bool
-within_one [] yss = true
-within_one (x ∷ xs) [] = false
-within_one (x ∷ xs) (ys ∷ yss) = is_within (x ∷ xs) ys || within_one (x ∷ xs) yss
-
-abbrev pub all_within : List (List ℕ) → List (List ℕ) → Bool
-all_within [] yss = true
-all_within (xs ∷ xss) yss = within_one xs yss && all_within xss yss
+abbrev pub all_within : List (ℕ × List ℕ) → List Tree → Bool
+all_within [] qs = true
+all_within (l ∷ ls) qs = is_within l.1 (list_of l.0 qs) && all_within ls qs
 
 abbrev pub lists_kept : Options → Tree → Tree → Bool
-lists_kept o p q = all_within (free_lists o p) (all_lists (preorder q))
+lists_kept o p q = all_within (free_lists o p) (preorder q)

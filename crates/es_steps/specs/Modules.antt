@@ -78,6 +78,8 @@ links_in first (more p ps) = old_links first (link_of p) ++ links_in first ps
 pub data Exported : Type 0 where
   ExportedClass : (n : ℕ) → Exported
   ExportedBinding : (b : ℕ) → Exported
+  -- a name that nothing declares
+  ExportedFree : (spelling : String) → Exported
   ExportedValue : (v : Value) → Exported
 
 pub record Export : Type 0 where
@@ -87,7 +89,7 @@ pub record Export : Type 0 where
 
 abbrev pub exported_referent : Referent → Option Exported
 exported_referent (Bound b) = Some (ExportedBinding b)
-exported_referent (Free s) = None
+exported_referent (Free s) = Some (ExportedFree s)
 
 abbrev pub exported_as : NameKind → Option Exported
 exported_as (Fixed b) = Some (ExportedBinding b)

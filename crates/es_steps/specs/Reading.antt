@@ -7,13 +7,13 @@ use Rattle.es_steps.specs.Code.{Code, nothing, no_rule, value, spelled, super, b
 use Rattle.es_steps.specs.Context.{Context, name_kind, inside}
 use Rattle.es_steps.specs.Expressions.{literal_code, name_code, private_name_code, template_string_code, template_code, meta_code, member_code, private_field_code, private_in_code, assignment_code, update_code, unary_code, binary_code, logical_code, chain_code, call_code, tag_code, new_code, conditional_code, property_code, operation_of}
 use Rattle.es_steps.specs.Members.{Member, Members, code, absent, list, string, no_string, boolean, literal, end, more, at, codes_in, codes_of, word_of}
-use Rattle.es_steps.specs.Statements.{held_from, case_code, catch_code, for_each_code, declarator_code, return_code, suspension_code, default_export_code, default_code, rest_code, pattern_property_code, array_pattern_code, object_pattern_code, function_expression_code, function_declaration_code, arrow_code, declared_by, declared_by_let, class_of, field_code, method_code}
+use Rattle.es_steps.specs.Statements.{held_from, case_code, catch_code, expression_code, for_each_code, declarator_code, return_code, suspension_code, default_export_code, default_code, rest_code, pattern_property_code, array_pattern_code, object_pattern_code, function_expression_code, function_declaration_code, arrow_code, declared_by, declared_by_let, class_of, field_code, method_code}
 
 -- statements that are their parts in order, and those with parts that may run or not, or again; `with` and nodes outside
 -- the table have no rule
 abbrev pub statement_code : Context → Kind → ℕ → Members → Code
 statement_code c Kind.Program m ps = steps (codes_in ps)
-statement_code c Kind.ExpressionStatement m ps = steps (codes_in ps)
+statement_code c Kind.ExpressionStatement m ps = expression_code c m ps
 statement_code c Kind.BlockStatement m ps = steps (codes_in ps)
 statement_code c Kind.VariableDeclaration m ps = steps (codes_in ps)
 statement_code c Kind.CatchClause m ps = catch_code m ps

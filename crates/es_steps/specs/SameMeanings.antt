@@ -4,7 +4,7 @@ use Rattle.es_steps.specs.Code.{FunctionForm}
 use Rattle.es_steps.specs.Entries.{Parameter, Identifier, RestIdentifier, Pattern, Method, Listed, Entry, FunctionEntry, ClassEntry}
 use Rattle.es_steps.specs.Events.{Detail, Operand, Empty, Spelled, Flag, Key, Opens, Closes, Prototype, Index, Rest, Operation, OfKind, Delete, Take, Place, RightOf, Default, Part, Event, ReadName, SetName, Get, Set, Define, Call, Construct, Operate, Update, PrivateGet, PrivateSet, PrivateInitialize, PrivateIn, AddBrand, SuperGet, SuperSet, SuperCall, SuperCallWithAll, Throw, Short, Held, Events, none, then}
 use Rattle.es_steps.specs.Meaning.{Meaning, DeclarationKind, Variable, FunctionName, ParameterName, CaughtName, ImportName, ClassDeclared, MemberEntry, IsField, FunctionIs}
-use Rattle.es_steps.specs.Modules.{Specifier, Imported, ImportedDefault, ImportedNamespace, Reexported, ReexportedAll, ModuleLink, Exported, ExportedClass, ExportedBinding, ExportedValue}
+use Rattle.es_steps.specs.Modules.{Specifier, Imported, ImportedDefault, ImportedNamespace, Reexported, ReexportedAll, ModuleLink, Exported, ExportedClass, ExportedBinding, ExportedFree, ExportedValue}
 use Rattle.es_steps.specs.SameTrees.{same_kind}
 use Rattle.es_steps.specs.SameValues.{same_boolean, same_nullable_string, same_constant, same_value}
 use Rattle.es_steps.specs.Values.{String, Referent, Bound, Free, Home, OfClass, OfPrototype, OfObject, PrivateTest, HasField, HasBrand, IsClass}
@@ -148,6 +148,7 @@ same_link a b = nat_eq a.number b.number && (bytes_eq a.source b.source && same_
 abbrev pub same_exported : Exported → Exported → Bool
 same_exported (ExportedClass n) (ExportedClass k) = nat_eq n k
 same_exported (ExportedBinding b) (ExportedBinding c) = nat_eq b c
+same_exported (ExportedFree s) (ExportedFree t) = bytes_eq s t
 same_exported (ExportedValue v) (ExportedValue w) = same_value v w
 same_exported x y = false
 

@@ -7,7 +7,7 @@ use Rattle.es_steps.specs.Context.{Context, Generated, MeansClass, new_here, is_
 use Rattle.es_steps.specs.Events.{Detail, Operand, Index, Rest, OfKind}
 use Rattle.es_steps.specs.Expressions.{the_code, key_code, key_details, target_of}
 use Rattle.es_steps.specs.GeneratedForms.{given}
-use Rattle.es_steps.specs.Members.{Member, Members, code, absent, list, more, end, at, from, before, operands, details, codes_in, codes_of, word_of, flag_of}
+use Rattle.es_steps.specs.Members.{Member, Members, code, absent, list, string, more, end, at, from, before, operands, details, codes_in, codes_of, word_of, flag_of}
 use Rattle.es_steps.specs.Options.{sets_fields, leaves_out_fields}
 use Rattle.es_steps.specs.Values.{String, StringOf, ConstantOf, Undefined}
 use Rattle.es_steps.specs.declared.options.Options.{Options}
@@ -30,21 +30,44 @@ given_codes m (and c cs) = and (gives_to m (target_of c)) (given_codes m cs)
 abbrev pub catch_code : ℕ → Members → Code
 catch_code m ps = steps (joined (given_codes m (codes_of (at 0 ps))) (codes_of (at 1 ps)))
 
--- the head of a for-in or for-of: a declaration of one target, or a target; a `var` may have an initializer
-abbrev pub head_target : Code → Target
-head_target (steps (and (assign to e) done)) = to
-head_target (steps (and c done)) = target_of c
-head_target c = target_of c
+-- the head of a for-in or for-of: the targets of a declaration, or a target; a `var` may have an initializer
+abbrev pub is_initialized : Code → Codes
+is_initialized (assign to e) = and (assign to e) done
+is_initialized c = done
 
-abbrev pub head_initializer : Code → Codes
-head_initializer (steps (and (assign to e) done)) = and (assign to e) done
-head_initializer c = done
+abbrev pub initialized_first : Codes → Codes
+initialized_first done = done
+initialized_first (and c cs) = joined (is_initialized c) (initialized_first cs)
+
+abbrev pub head_initializers : Code → Codes
+head_initializers (steps cs) = initialized_first cs
+head_initializers c = done
+
+abbrev pub declared_target : Code → Target
+declared_target (assign to e) = to
+declared_target c = target_of c
+
+abbrev pub given_targets : ℕ → Codes → Codes
+given_targets m done = done
+given_targets m (and c cs) = and (gives_to m (declared_target c)) (given_targets m cs)
+
+abbrev pub head_targets : ℕ → Code → Codes
+head_targets m (steps cs) = given_targets m cs
+head_targets m c = one (gives_to m (target_of c))
 
 -- each time the head is given the next value, and then the body runs
 abbrev pub for_each_code : Kind → ℕ → Members → Code
 for_each_code kind m ps =
     let head : Code = the_code (at 0 ps) in
-    operation m (OfKind kind (details (from 1 ps))) (joined (head_initializer head) (codes_of (at 1 ps))) (one (steps (and (gives_to m (head_target head)) (codes_of (at 2 ps)))))
+    operation m (OfKind kind (details (from 1 ps))) (joined (head_initializers head) (codes_of (at 1 ps))) (one (steps (joined (head_targets m head) (codes_of (at 2 ps)))))
+
+-- a new directive stands in a new function alone
+abbrev pub is_directive : Member → Bool
+is_directive (string s) = true
+is_directive p = false
+
+abbrev pub expression_code : Context → ℕ → Members → Code
+expression_code c m ps = cond (is_directive (at 1 ps) && (new_here c m && not c.in_new_function)) no_rule (steps (codes_in ps))
 
 -- a new declarator of a name that was not generated is a `let` of a class
 abbrev pub declarator_of : Context → ℕ → Bool → Code → Member → Code

@@ -1,0 +1,41 @@
+use Rattle.std.specs.Prelude.{refl}
+use Rattle.es_rows.proofs.law.programs_are_told_apart.Goals as goal
+
+pub returns-clause-arguments_behind_a_write : goal.returns-clause-arguments_behind_a_write
+returns-clause-arguments_behind_a_write c = (refl, refl, refl)
+
+pub returns-clause-caught_names_exchanged : goal.returns-clause-caught_names_exchanged
+returns-clause-caught_names_exchanged c = (refl, refl, refl)
+
+pub returns-clause-default_exports : goal.returns-clause-default_exports
+returns-clause-default_exports c = (refl, refl, refl)
+
+pub returns-clause-imports_exchanged : goal.returns-clause-imports_exchanged
+returns-clause-imports_exchanged c = (refl, refl, refl)
+
+pub returns-clause-loop_heads_exchanged : goal.returns-clause-loop_heads_exchanged
+returns-clause-loop_heads_exchanged c = (refl, refl, refl)
+
+pub returns-clause-own_names_exchanged : goal.returns-clause-own_names_exchanged
+returns-clause-own_names_exchanged c = (refl, refl, refl)
+
+pub returns-clause-parameters_exchanged : goal.returns-clause-parameters_exchanged
+returns-clause-parameters_exchanged c = (refl, refl, refl)
+
+pub returns-clause-pattern_keys : goal.returns-clause-pattern_keys
+returns-clause-pattern_keys c = (refl, refl, refl)
+
+pub returns-clause-rest_dropped : goal.returns-clause-rest_dropped
+returns-clause-rest_dropped c = (refl, refl, refl)
+
+pub returns-clause-statement_of_an_if : goal.returns-clause-statement_of_an_if
+returns-clause-statement_of_an_if c = (refl, refl, refl)
+
+pub returns-clause-template_key : goal.returns-clause-template_key
+returns-clause-template_key c = (refl, refl, refl)
+
+pub returns-clause-tested_name : goal.returns-clause-tested_name
+returns-clause-tested_name c = (refl, refl, refl)
+
+pub returns-clause-void_of_a_template : goal.returns-clause-void_of_a_template
+returns-clause-void_of_a_template c = (refl, refl, refl)

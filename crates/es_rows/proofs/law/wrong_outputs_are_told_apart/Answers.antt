@@ -1,0 +1,68 @@
+use Rattle.std.specs.Prelude.{refl}
+use Rattle.es_rows.proofs.law.wrong_outputs_are_told_apart.Goals as goal
+
+pub returns-clause-another_literal : goal.returns-clause-another_literal
+returns-clause-another_literal c = refl
+
+pub returns-clause-binding_not_renamed : goal.returns-clause-binding_not_renamed
+returns-clause-binding_not_renamed c = refl
+
+pub returns-clause-block_behind_fields : goal.returns-clause-block_behind_fields
+returns-clause-block_behind_fields c = refl
+
+pub returns-clause-body_dropped : goal.returns-clause-body_dropped
+returns-clause-body_dropped c = refl
+
+pub returns-clause-definitions_nested : goal.returns-clause-definitions_nested
+returns-clause-definitions_nested c = refl
+
+pub returns-clause-field_before_super : goal.returns-clause-field_before_super
+returns-clause-field_before_super c = refl
+
+pub returns-clause-field_doubled : goal.returns-clause-field_doubled
+returns-clause-field_doubled c = refl
+
+pub returns-clause-field_dropped : goal.returns-clause-field_dropped
+returns-clause-field_dropped c = refl
+
+pub returns-clause-fields_exchanged : goal.returns-clause-fields_exchanged
+returns-clause-fields_exchanged c = refl
+
+pub returns-clause-key_read_twice : goal.returns-clause-key_read_twice
+returns-clause-key_read_twice c = refl
+
+pub returns-clause-method_without_brand : goal.returns-clause-method_without_brand
+returns-clause-method_without_brand c = refl
+
+pub returns-clause-object_evaluated_twice : goal.returns-clause-object_evaluated_twice
+returns-clause-object_evaluated_twice c = refl
+
+pub returns-clause-odd_constructor : goal.returns-clause-odd_constructor
+returns-clause-odd_constructor c = refl
+
+pub returns-clause-private_name_of_the_outer_class : goal.returns-clause-private_name_of_the_outer_class
+returns-clause-private_name_of_the_outer_class c = refl
+
+pub returns-clause-read_moved : goal.returns-clause-read_moved
+returns-clause-read_moved c = refl
+
+pub returns-clause-result_of_the_setter : goal.returns-clause-result_of_the_setter
+returns-clause-result_of_the_setter c = refl
+
+pub returns-clause-return_in_an_arrow : goal.returns-clause-return_in_an_arrow
+returns-clause-return_in_an_arrow c = refl
+
+pub returns-clause-spread_for_a_parameter : goal.returns-clause-spread_for_a_parameter
+returns-clause-spread_for_a_parameter c = refl
+
+pub returns-clause-temporary_given_late : goal.returns-clause-temporary_given_late
+returns-clause-temporary_given_late c = refl
+
+pub returns-clause-temporary_never_given : goal.returns-clause-temporary_never_given
+returns-clause-temporary_never_given c = refl
+
+pub returns-clause-test_of_another_object : goal.returns-clause-test_of_another_object
+returns-clause-test_of_another_object c = refl
+
+pub returns-clause-two_constructors : goal.returns-clause-two_constructors
+returns-clause-two_constructors c = refl

@@ -1,0 +1,266 @@
+// Worked rows and witnesses: functions that do nothing. Printed by tools/rows/print_laws.py.
+
+ghost use Rattle.std.specs.Prelude.{◌≡◌, false};
+ghost use Rattle.es_rows.specs.Owed.{Kept, KeptAfter, Owed, TellsApart, Refused};
+ghost use Rattle.es_steps.specs.KeptNodes.{lists_kept};
+ghost use Rattle.es_steps.specs.Meaning.{source_means};
+ghost use Rattle.es_rows.specs.rows.InstanceField.{source_instance_field, output_instance_field, generated_instance_field, options_instance_field, outside_instance_field};
+ghost use Rattle.es_rows.specs.rows.SetField.{source_set_field, output_set_field, generated_set_field, options_set_field, outside_set_field};
+ghost use Rattle.es_rows.specs.rows.SetThisKey.{source_set_this_key, output_set_this_key, generated_set_this_key, options_set_this_key, outside_set_this_key};
+ghost use Rattle.es_rows.specs.rows.ClashingParameter.{source_clashing_parameter, output_clashing_parameter, generated_clashing_parameter, options_clashing_parameter, outside_clashing_parameter};
+ghost use Rattle.es_rows.specs.rows.ParameterWithDefault.{source_parameter_with_default, output_parameter_with_default, generated_parameter_with_default, options_parameter_with_default, outside_parameter_with_default};
+ghost use Rattle.es_rows.specs.rows.LoosePrivateField.{source_loose_private_field, output_loose_private_field, generated_loose_private_field, options_loose_private_field, outside_loose_private_field};
+ghost use Rattle.es_rows.specs.rows.TwoFields.{source_two_fields, output_two_fields, generated_two_fields, options_two_fields, outside_two_fields};
+ghost use Rattle.es_rows.specs.rows.EmptyClass.{source_empty_class, output_empty_class, generated_empty_class, options_empty_class, outside_empty_class};
+ghost use Rattle.es_rows.specs.rows.TwoKeys.{source_two_keys, output_two_keys, generated_two_keys, options_two_keys, outside_two_keys};
+ghost use Rattle.es_rows.specs.rows.RemovedField.{source_removed_field, output_removed_field, generated_removed_field, options_removed_field, outside_removed_field};
+ghost use Rattle.es_rows.specs.rows.KeyOfExpression.{source_key_of_expression, output_key_of_expression, generated_key_of_expression, options_key_of_expression, outside_key_of_expression};
+ghost use Rattle.es_rows.specs.rows.TargetInField.{source_target_in_field, output_target_in_field, generated_target_in_field, options_target_in_field, outside_target_in_field};
+ghost use Rattle.es_rows.specs.rows.WrittenClassName.{source_written_class_name, output_written_class_name, generated_written_class_name, options_written_class_name, outside_written_class_name};
+ghost use Rattle.es_rows.specs.rows.AssumedSetField.{source_assumed_set_field, output_assumed_set_field, generated_assumed_set_field, options_assumed_set_field, outside_assumed_set_field};
+ghost use Rattle.es_rows.specs.rows.LoosePrivateWrites.{source_loose_private_writes, output_loose_private_writes, generated_loose_private_writes, options_loose_private_writes, outside_loose_private_writes};
+ghost use Rattle.es_rows.specs.rows.SuperInBranches.{source_super_in_branches, output_super_in_branches, generated_super_in_branches, options_super_in_branches, outside_super_in_branches};
+ghost use Rattle.es_rows.specs.rows.SuperInParameters.{source_super_in_parameters, output_super_in_parameters, generated_super_in_parameters, options_super_in_parameters, outside_super_in_parameters};
+ghost use Rattle.es_rows.specs.rows.StaticSuperMember.{source_static_super_member, output_static_super_member, generated_static_super_member, options_static_super_member, outside_static_super_member};
+ghost use Rattle.es_rows.specs.rows.DerivedClass.{source_derived_class, output_derived_class, generated_derived_class, options_derived_class, outside_derived_class};
+ghost use Rattle.es_rows.specs.rows.TwoSupers.{source_two_supers, output_two_supers, generated_two_supers, options_two_supers, outside_two_supers};
+ghost use Rattle.es_rows.specs.rows.NoSuper.{source_no_super, output_no_super, generated_no_super, options_no_super, outside_no_super};
+ghost use Rattle.es_rows.specs.rows.SuperInParametersOfExpression.{source_super_in_parameters_of_expression, output_super_in_parameters_of_expression, generated_super_in_parameters_of_expression, options_super_in_parameters_of_expression, outside_super_in_parameters_of_expression};
+ghost use Rattle.es_rows.specs.rows.NamesTaken.{source_names_taken, output_names_taken, generated_names_taken, options_names_taken, outside_names_taken};
+ghost use Rattle.es_rows.specs.rows.SuperMemberWrites.{source_super_member_writes, output_super_member_writes, generated_super_member_writes, options_super_member_writes, outside_super_member_writes};
+ghost use Rattle.es_rows.specs.rows.SetStaticName.{source_set_static_name, output_set_static_name, generated_set_static_name, options_set_static_name, outside_set_static_name};
+ghost use Rattle.es_rows.specs.rows.StaticOwnName.{source_static_own_name, output_static_own_name, generated_static_own_name, options_static_own_name, outside_static_own_name};
+ghost use Rattle.es_rows.specs.rows.StaticKeyAndBlock.{source_static_key_and_block, output_static_key_and_block, generated_static_key_and_block, options_static_key_and_block, outside_static_key_and_block};
+ghost use Rattle.es_rows.specs.rows.StaticOfExpression.{source_static_of_expression, output_static_of_expression, generated_static_of_expression, options_static_of_expression, outside_static_of_expression};
+ghost use Rattle.es_rows.specs.rows.BlockOfExpression.{source_block_of_expression, output_block_of_expression, generated_block_of_expression, options_block_of_expression, outside_block_of_expression};
+ghost use Rattle.es_rows.specs.rows.StaticThisAndTarget.{source_static_this_and_target, output_static_this_and_target, generated_static_this_and_target, options_static_this_and_target, outside_static_this_and_target};
+ghost use Rattle.es_rows.specs.rows.KeptBlock.{source_kept_block, output_kept_block, generated_kept_block, options_kept_block, outside_kept_block};
+ghost use Rattle.es_rows.specs.rows.BlockWithHeritage.{source_block_with_heritage, output_block_with_heritage, generated_block_with_heritage, options_block_with_heritage, outside_block_with_heritage};
+ghost use Rattle.es_rows.specs.rows.LoosePrivateStaticField.{source_loose_private_static_field, output_loose_private_static_field, generated_loose_private_static_field, options_loose_private_static_field, outside_loose_private_static_field};
+ghost use Rattle.es_rows.specs.rows.BlockOfStatements.{source_block_of_statements, output_block_of_statements, generated_block_of_statements, options_block_of_statements, outside_block_of_statements};
+ghost use Rattle.es_rows.specs.rows.DeletedThis.{source_deleted_this, output_deleted_this, generated_deleted_this, options_deleted_this, outside_deleted_this};
+ghost use Rattle.es_rows.specs.rows.NestedStaticClasses.{source_nested_static_classes, output_nested_static_classes, generated_nested_static_classes, options_nested_static_classes, outside_nested_static_classes};
+ghost use Rattle.es_rows.specs.rows.PrivateCompoundWrite.{source_private_compound_write, output_private_compound_write, generated_private_compound_write, options_private_compound_write, outside_private_compound_write};
+ghost use Rattle.es_rows.specs.rows.PrivateAccessors.{source_private_accessors, output_private_accessors, generated_private_accessors, options_private_accessors, outside_private_accessors};
+ghost use Rattle.es_rows.specs.rows.PrivateUpdateInModule.{source_private_update_in_module, output_private_update_in_module, generated_private_update_in_module, options_private_update_in_module, outside_private_update_in_module};
+ghost use Rattle.es_rows.specs.rows.PrivateInMethod.{source_private_in_method, output_private_in_method, generated_private_in_method, options_private_in_method, outside_private_in_method};
+ghost use Rattle.es_rows.specs.rows.PrivateFieldForms.{source_private_field_forms, output_private_field_forms, generated_private_field_forms, options_private_field_forms, outside_private_field_forms};
+ghost use Rattle.es_rows.specs.rows.PrivateStaticField.{source_private_static_field, output_private_static_field, generated_private_static_field, options_private_static_field, outside_private_static_field};
+ghost use Rattle.es_rows.specs.rows.PrivateMethodWithSuper.{source_private_method_with_super, output_private_method_with_super, generated_private_method_with_super, options_private_method_with_super, outside_private_method_with_super};
+ghost use Rattle.es_rows.specs.rows.PrivateMethodWritten.{source_private_method_written, output_private_method_written, generated_private_method_written, options_private_method_written, outside_private_method_written};
+ghost use Rattle.es_rows.specs.rows.PrivateMethodOfExpression.{source_private_method_of_expression, output_private_method_of_expression, generated_private_method_of_expression, options_private_method_of_expression, outside_private_method_of_expression};
+ghost use Rattle.es_rows.specs.rows.PrivateMethodOfDefaultExport.{source_private_method_of_default_export, output_private_method_of_default_export, generated_private_method_of_default_export, options_private_method_of_default_export, outside_private_method_of_default_export};
+ghost use Rattle.es_rows.specs.rows.NestedPrivateNames.{source_nested_private_names, output_nested_private_names, generated_nested_private_names, options_nested_private_names, outside_nested_private_names};
+ghost use Rattle.es_rows.specs.rows.PrivateStaticWrite.{source_private_static_write, output_private_static_write, generated_private_static_write, options_private_static_write, outside_private_static_write};
+ghost use Rattle.es_rows.specs.rows.PrivateStaticCompoundWrite.{source_private_static_compound_write, output_private_static_compound_write, generated_private_static_compound_write, options_private_static_compound_write, outside_private_static_compound_write};
+ghost use Rattle.es_rows.specs.rows.PrivateStaticMethodOnClass.{source_private_static_method_on_class, output_private_static_method_on_class, generated_private_static_method_on_class, options_private_static_method_on_class, outside_private_static_method_on_class};
+ghost use Rattle.es_rows.specs.rows.PrivateStaticAccessorsOnClass.{source_private_static_accessors_on_class, output_private_static_accessors_on_class, generated_private_static_accessors_on_class, options_private_static_accessors_on_class, outside_private_static_accessors_on_class};
+ghost use Rattle.es_rows.specs.rows.PrivateInField.{source_private_in_field, output_private_in_field, generated_private_in_field, options_private_in_field, outside_private_in_field};
+ghost use Rattle.es_rows.specs.rows.PrivateInStatic.{source_private_in_static, output_private_in_static, generated_private_in_static, options_private_in_static, outside_private_in_static};
+ghost use Rattle.es_rows.specs.rows.PrivateTag.{source_private_tag, output_private_tag, generated_private_tag, options_private_tag, outside_private_tag};
+ghost use Rattle.es_rows.specs.rows.PrivatePrefixUpdate.{source_private_prefix_update, output_private_prefix_update, generated_private_prefix_update, options_private_prefix_update, outside_private_prefix_update};
+ghost use Rattle.es_rows.specs.rows.PrivateSetterRead.{source_private_setter_read, output_private_setter_read, generated_private_setter_read, options_private_setter_read, outside_private_setter_read};
+ghost use Rattle.es_rows.specs.rows.PrivateSetterTargets.{source_private_setter_targets, output_private_setter_targets, generated_private_setter_targets, options_private_setter_targets, outside_private_setter_targets};
+ghost use Rattle.es_rows.specs.rows.PrivateStaticOfExpression.{source_private_static_of_expression, output_private_static_of_expression, generated_private_static_of_expression, options_private_static_of_expression, outside_private_static_of_expression};
+ghost use Rattle.es_rows.specs.rows.PrivateMethodBehindStatement.{source_private_method_behind_statement, output_private_method_behind_statement, generated_private_method_behind_statement, options_private_method_behind_statement, outside_private_method_behind_statement};
+ghost use Rattle.es_rows.specs.rows.DeletePrivateChain.{source_delete_private_chain, output_delete_private_chain, generated_delete_private_chain, options_delete_private_chain, outside_delete_private_chain};
+ghost use Rattle.es_rows.specs.rows.PrivateChainCall.{source_private_chain_call, output_private_chain_call, generated_private_chain_call, options_private_chain_call, outside_private_chain_call};
+ghost use Rattle.es_rows.specs.rows.PrivateChainCallNoDocumentAll.{source_private_chain_call_no_document_all, output_private_chain_call_no_document_all, generated_private_chain_call_no_document_all, options_private_chain_call_no_document_all, outside_private_chain_call_no_document_all};
+ghost use Rattle.es_rows.specs.rows.CalledPrivateChain.{source_called_private_chain, output_called_private_chain, generated_called_private_chain, options_called_private_chain, outside_called_private_chain};
+ghost use Rattle.es_rows.specs.rows.PrivateOptionalCall.{source_private_optional_call, output_private_optional_call, generated_private_optional_call, options_private_optional_call, outside_private_optional_call};
+ghost use Rattle.es_rows.specs.rows.PrivateChainKept.{source_private_chain_kept, output_private_chain_kept, generated_private_chain_kept, options_private_chain_kept, outside_private_chain_kept};
+ghost use Rattle.es_rows.specs.rows.TrailingBlock.{source_trailing_block, output_trailing_block, generated_trailing_block, options_trailing_block, outside_trailing_block};
+ghost use Rattle.es_rows.specs.rows.AwaitedAtTop.{source_awaited_at_top, output_awaited_at_top, generated_awaited_at_top, options_awaited_at_top, outside_awaited_at_top};
+ghost use Rattle.es_rows.specs.rows.BlockBeforeField.{source_block_before_field, output_block_before_field, generated_block_before_field, options_block_before_field, outside_block_before_field};
+ghost use Rattle.es_rows.specs.rows.BlockBehindField.{source_block_behind_field, output_block_behind_field, generated_block_behind_field, options_block_behind_field, outside_block_behind_field};
+ghost use Rattle.es_rows.specs.rows.TrailingBlockOfNamedExpression.{source_trailing_block_of_named_expression, output_trailing_block_of_named_expression, generated_trailing_block_of_named_expression, options_trailing_block_of_named_expression, outside_trailing_block_of_named_expression};
+ghost use Rattle.es_rows.specs.rows.BlockBeforeNamedFunction.{source_block_before_named_function, output_block_before_named_function, generated_block_before_named_function, options_block_before_named_function, outside_block_before_named_function};
+ghost use Rattle.es_rows.specs.rows.BlockInParameter.{source_block_in_parameter, output_block_in_parameter, generated_block_in_parameter, options_block_in_parameter, outside_block_in_parameter};
+ghost use Rattle.es_rows.specs.rows.ClosureNameTaken.{source_closure_name_taken, output_closure_name_taken, generated_closure_name_taken, options_closure_name_taken, outside_closure_name_taken};
+ghost use Rattle.es_rows.specs.rows.PrivateNameTaken.{source_private_name_taken, output_private_name_taken, generated_private_name_taken, options_private_name_taken, outside_private_name_taken};
+ghost use Rattle.es_rows.specs.rows.BlockOfStatementsAlone.{source_block_of_statements_alone, output_block_of_statements_alone, generated_block_of_statements_alone, options_block_of_statements_alone, outside_block_of_statements_alone};
+ghost use Rattle.es_rows.specs.witnesses.AnotherLiteral.{source_another_literal, output_another_literal, generated_another_literal, options_another_literal};
+ghost use Rattle.es_rows.specs.witnesses.ArgumentsBehindAWrite.{first_arguments_behind_a_write, second_arguments_behind_a_write, options_arguments_behind_a_write};
+ghost use Rattle.es_rows.specs.witnesses.BindingNotRenamed.{source_binding_not_renamed, output_binding_not_renamed, generated_binding_not_renamed, options_binding_not_renamed};
+ghost use Rattle.es_rows.specs.witnesses.BlockBehindFields.{source_block_behind_fields, output_block_behind_fields, generated_block_behind_fields, options_block_behind_fields};
+ghost use Rattle.es_rows.specs.witnesses.BodyDropped.{source_body_dropped, output_body_dropped, generated_body_dropped, options_body_dropped};
+ghost use Rattle.es_rows.specs.witnesses.CaughtNamesExchanged.{first_caught_names_exchanged, second_caught_names_exchanged, options_caught_names_exchanged};
+ghost use Rattle.es_rows.specs.witnesses.ClassInAConstructor.{source_class_in_a_constructor, output_class_in_a_constructor, generated_class_in_a_constructor, options_class_in_a_constructor};
+ghost use Rattle.es_rows.specs.witnesses.DefaultExports.{first_default_exports, second_default_exports, options_default_exports};
+ghost use Rattle.es_rows.specs.witnesses.DefinitionsNested.{source_definitions_nested, output_definitions_nested, generated_definitions_nested, options_definitions_nested};
+ghost use Rattle.es_rows.specs.witnesses.FieldBeforeSuper.{source_field_before_super, output_field_before_super, generated_field_before_super, options_field_before_super};
+ghost use Rattle.es_rows.specs.witnesses.FieldDoubled.{source_field_doubled, output_field_doubled, generated_field_doubled, options_field_doubled};
+ghost use Rattle.es_rows.specs.witnesses.FieldDropped.{source_field_dropped, output_field_dropped, generated_field_dropped, options_field_dropped};
+ghost use Rattle.es_rows.specs.witnesses.FieldsExchanged.{source_fields_exchanged, output_fields_exchanged, generated_fields_exchanged, options_fields_exchanged};
+ghost use Rattle.es_rows.specs.witnesses.ImportsExchanged.{first_imports_exchanged, second_imports_exchanged, options_imports_exchanged};
+ghost use Rattle.es_rows.specs.witnesses.KeyOfAMethod.{first_key_of_a_method, second_key_of_a_method, options_key_of_a_method};
+ghost use Rattle.es_rows.specs.witnesses.KeyReadTwice.{source_key_read_twice, output_key_read_twice, generated_key_read_twice, options_key_read_twice};
+ghost use Rattle.es_rows.specs.witnesses.LoopHeadsExchanged.{first_loop_heads_exchanged, second_loop_heads_exchanged, options_loop_heads_exchanged};
+ghost use Rattle.es_rows.specs.witnesses.MethodWithoutBrand.{source_method_without_brand, output_method_without_brand, generated_method_without_brand, options_method_without_brand};
+ghost use Rattle.es_rows.specs.witnesses.ObjectEvaluatedTwice.{source_object_evaluated_twice, output_object_evaluated_twice, generated_object_evaluated_twice, options_object_evaluated_twice};
+ghost use Rattle.es_rows.specs.witnesses.OddConstructor.{source_odd_constructor, output_odd_constructor, generated_odd_constructor, options_odd_constructor};
+ghost use Rattle.es_rows.specs.witnesses.OwnNamesExchanged.{first_own_names_exchanged, second_own_names_exchanged, options_own_names_exchanged};
+ghost use Rattle.es_rows.specs.witnesses.ParametersExchanged.{first_parameters_exchanged, second_parameters_exchanged, options_parameters_exchanged};
+ghost use Rattle.es_rows.specs.witnesses.PatternKeys.{first_pattern_keys, second_pattern_keys, options_pattern_keys};
+ghost use Rattle.es_rows.specs.witnesses.PrivateNameOfTheOuterClass.{source_private_name_of_the_outer_class, output_private_name_of_the_outer_class, generated_private_name_of_the_outer_class, options_private_name_of_the_outer_class};
+ghost use Rattle.es_rows.specs.witnesses.ReadMoved.{source_read_moved, output_read_moved, generated_read_moved, options_read_moved};
+ghost use Rattle.es_rows.specs.witnesses.RestDropped.{first_rest_dropped, second_rest_dropped, options_rest_dropped};
+ghost use Rattle.es_rows.specs.witnesses.ResultOfTheSetter.{source_result_of_the_setter, output_result_of_the_setter, generated_result_of_the_setter, options_result_of_the_setter};
+ghost use Rattle.es_rows.specs.witnesses.ReturnInAnArrow.{source_return_in_an_arrow, output_return_in_an_arrow, generated_return_in_an_arrow, options_return_in_an_arrow};
+ghost use Rattle.es_rows.specs.witnesses.SpreadForAParameter.{source_spread_for_a_parameter, output_spread_for_a_parameter, generated_spread_for_a_parameter, options_spread_for_a_parameter};
+ghost use Rattle.es_rows.specs.witnesses.StatementOfAnIf.{first_statement_of_an_if, second_statement_of_an_if, options_statement_of_an_if};
+ghost use Rattle.es_rows.specs.witnesses.TemplateKey.{first_template_key, second_template_key, options_template_key};
+ghost use Rattle.es_rows.specs.witnesses.TemporaryGivenLate.{source_temporary_given_late, output_temporary_given_late, generated_temporary_given_late, options_temporary_given_late};
+ghost use Rattle.es_rows.specs.witnesses.TemporaryNeverGiven.{source_temporary_never_given, output_temporary_never_given, generated_temporary_never_given, options_temporary_never_given};
+ghost use Rattle.es_rows.specs.witnesses.TestOfAnotherObject.{source_test_of_another_object, output_test_of_another_object, generated_test_of_another_object, options_test_of_another_object};
+ghost use Rattle.es_rows.specs.witnesses.TestedName.{first_tested_name, second_tested_name, options_tested_name};
+ghost use Rattle.es_rows.specs.witnesses.TwoConstructors.{source_two_constructors, output_two_constructors, generated_two_constructors, options_two_constructors};
+ghost use Rattle.es_rows.specs.witnesses.VoidOfATemplate.{first_void_of_a_template, second_void_of_a_template, options_void_of_a_template};
+
+/// Instance fields and their keys, defined and set, and what is kept as a property.
+pub fn instance_fields_keep_their_meaning()
+    ensures instance_field { Kept options_instance_field generated_instance_field source_instance_field output_instance_field outside_instance_field }
+    ensures set_field { Kept options_set_field generated_set_field source_set_field output_set_field outside_set_field }
+    ensures set_this_key { Kept options_set_this_key generated_set_this_key source_set_this_key output_set_this_key outside_set_this_key }
+    ensures clashing_parameter { Kept options_clashing_parameter generated_clashing_parameter source_clashing_parameter output_clashing_parameter outside_clashing_parameter }
+    ensures parameter_with_default { KeptAfter options_parameter_with_default generated_parameter_with_default source_parameter_with_default output_parameter_with_default outside_parameter_with_default }
+    ensures loose_private_field { Kept options_loose_private_field generated_loose_private_field source_loose_private_field output_loose_private_field outside_loose_private_field }
+    ensures two_fields { Kept options_two_fields generated_two_fields source_two_fields output_two_fields outside_two_fields }
+    ensures empty_class { Kept options_empty_class generated_empty_class source_empty_class output_empty_class outside_empty_class }
+    ensures two_keys { Kept options_two_keys generated_two_keys source_two_keys output_two_keys outside_two_keys }
+    ensures removed_field { Kept options_removed_field generated_removed_field source_removed_field output_removed_field outside_removed_field }
+    ensures key_of_expression { Kept options_key_of_expression generated_key_of_expression source_key_of_expression output_key_of_expression outside_key_of_expression }
+    ensures target_in_field { Kept options_target_in_field generated_target_in_field source_target_in_field output_target_in_field outside_target_in_field }
+    ensures written_class_name { Owed options_written_class_name generated_written_class_name source_written_class_name output_written_class_name outside_written_class_name }
+    ensures assumed_set_field { Kept options_assumed_set_field generated_assumed_set_field source_assumed_set_field output_assumed_set_field outside_assumed_set_field }
+    ensures loose_private_writes { Kept options_loose_private_writes generated_loose_private_writes source_loose_private_writes output_loose_private_writes outside_loose_private_writes }
+{}
+
+/// Classes with a heritage: where fields stand behind `super(..)`, and `super` members.
+pub fn derived_classes_keep_their_meaning()
+    ensures super_in_branches { Kept options_super_in_branches generated_super_in_branches source_super_in_branches output_super_in_branches outside_super_in_branches }
+    ensures super_in_parameters { Kept options_super_in_parameters generated_super_in_parameters source_super_in_parameters output_super_in_parameters outside_super_in_parameters }
+    ensures static_super_member { Kept options_static_super_member generated_static_super_member source_static_super_member output_static_super_member outside_static_super_member }
+    ensures derived_class { Kept options_derived_class generated_derived_class source_derived_class output_derived_class outside_derived_class }
+    ensures two_supers { Kept options_two_supers generated_two_supers source_two_supers output_two_supers outside_two_supers }
+    ensures no_super { Kept options_no_super generated_no_super source_no_super output_no_super outside_no_super }
+    ensures super_in_parameters_of_expression { Kept options_super_in_parameters_of_expression generated_super_in_parameters_of_expression source_super_in_parameters_of_expression output_super_in_parameters_of_expression outside_super_in_parameters_of_expression }
+    ensures names_taken { Kept options_names_taken generated_names_taken source_names_taken output_names_taken outside_names_taken }
+    ensures super_member_writes { Kept options_super_member_writes generated_super_member_writes source_super_member_writes output_super_member_writes outside_super_member_writes }
+{}
+
+/// Static fields and blocks, and names of the class.
+pub fn static_elements_keep_their_meaning()
+    ensures set_static_name { Kept options_set_static_name generated_set_static_name source_set_static_name output_set_static_name outside_set_static_name }
+    ensures static_own_name { Kept options_static_own_name generated_static_own_name source_static_own_name output_static_own_name outside_static_own_name }
+    ensures static_key_and_block { Kept options_static_key_and_block generated_static_key_and_block source_static_key_and_block output_static_key_and_block outside_static_key_and_block }
+    ensures static_of_expression { Kept options_static_of_expression generated_static_of_expression source_static_of_expression output_static_of_expression outside_static_of_expression }
+    ensures block_of_expression { Kept options_block_of_expression generated_block_of_expression source_block_of_expression output_block_of_expression outside_block_of_expression }
+    ensures static_this_and_target { Kept options_static_this_and_target generated_static_this_and_target source_static_this_and_target output_static_this_and_target outside_static_this_and_target }
+    ensures kept_block { Kept options_kept_block generated_kept_block source_kept_block output_kept_block outside_kept_block }
+    ensures block_with_heritage { Owed options_block_with_heritage generated_block_with_heritage source_block_with_heritage output_block_with_heritage outside_block_with_heritage }
+    ensures loose_private_static_field { Kept options_loose_private_static_field generated_loose_private_static_field source_loose_private_static_field output_loose_private_static_field outside_loose_private_static_field }
+    ensures block_of_statements { Kept options_block_of_statements generated_block_of_statements source_block_of_statements output_block_of_statements outside_block_of_statements }
+    ensures deleted_this { Kept options_deleted_this generated_deleted_this source_deleted_this output_deleted_this outside_deleted_this }
+    ensures nested_static_classes { Kept options_nested_static_classes generated_nested_static_classes source_nested_static_classes output_nested_static_classes outside_nested_static_classes }
+{}
+
+/// Private fields, methods and accessors, static and not, in all their uses.
+pub fn private_members_keep_their_meaning()
+    ensures private_compound_write { Kept options_private_compound_write generated_private_compound_write source_private_compound_write output_private_compound_write outside_private_compound_write }
+    ensures private_accessors { Kept options_private_accessors generated_private_accessors source_private_accessors output_private_accessors outside_private_accessors }
+    ensures private_update_in_module { Kept options_private_update_in_module generated_private_update_in_module source_private_update_in_module output_private_update_in_module outside_private_update_in_module }
+    ensures private_in_method { Kept options_private_in_method generated_private_in_method source_private_in_method output_private_in_method outside_private_in_method }
+    ensures private_field_forms { Kept options_private_field_forms generated_private_field_forms source_private_field_forms output_private_field_forms outside_private_field_forms }
+    ensures private_static_field { Kept options_private_static_field generated_private_static_field source_private_static_field output_private_static_field outside_private_static_field }
+    ensures private_method_with_super { Kept options_private_method_with_super generated_private_method_with_super source_private_method_with_super output_private_method_with_super outside_private_method_with_super }
+    ensures private_method_written { Kept options_private_method_written generated_private_method_written source_private_method_written output_private_method_written outside_private_method_written }
+    ensures private_method_of_expression { Kept options_private_method_of_expression generated_private_method_of_expression source_private_method_of_expression output_private_method_of_expression outside_private_method_of_expression }
+    ensures private_method_of_default_export { Kept options_private_method_of_default_export generated_private_method_of_default_export source_private_method_of_default_export output_private_method_of_default_export outside_private_method_of_default_export }
+    ensures nested_private_names { Kept options_nested_private_names generated_nested_private_names source_nested_private_names output_nested_private_names outside_nested_private_names }
+    ensures private_static_write { Kept options_private_static_write generated_private_static_write source_private_static_write output_private_static_write outside_private_static_write }
+    ensures private_static_compound_write { Kept options_private_static_compound_write generated_private_static_compound_write source_private_static_compound_write output_private_static_compound_write outside_private_static_compound_write }
+    ensures private_static_method_on_class { Kept options_private_static_method_on_class generated_private_static_method_on_class source_private_static_method_on_class output_private_static_method_on_class outside_private_static_method_on_class }
+    ensures private_static_accessors_on_class { Kept options_private_static_accessors_on_class generated_private_static_accessors_on_class source_private_static_accessors_on_class output_private_static_accessors_on_class outside_private_static_accessors_on_class }
+    ensures private_in_field { Kept options_private_in_field generated_private_in_field source_private_in_field output_private_in_field outside_private_in_field }
+    ensures private_in_static { Kept options_private_in_static generated_private_in_static source_private_in_static output_private_in_static outside_private_in_static }
+    ensures private_tag { Kept options_private_tag generated_private_tag source_private_tag output_private_tag outside_private_tag }
+    ensures private_prefix_update { Kept options_private_prefix_update generated_private_prefix_update source_private_prefix_update output_private_prefix_update outside_private_prefix_update }
+    ensures private_setter_read { Kept options_private_setter_read generated_private_setter_read source_private_setter_read output_private_setter_read outside_private_setter_read }
+    ensures private_setter_targets { Kept options_private_setter_targets generated_private_setter_targets source_private_setter_targets output_private_setter_targets outside_private_setter_targets }
+    ensures private_static_of_expression { Kept options_private_static_of_expression generated_private_static_of_expression source_private_static_of_expression output_private_static_of_expression outside_private_static_of_expression }
+    ensures private_method_behind_statement { Kept options_private_method_behind_statement generated_private_method_behind_statement source_private_method_behind_statement output_private_method_behind_statement outside_private_method_behind_statement }
+{}
+
+/// Private names in optional chains.
+pub fn private_chains_keep_their_meaning()
+    ensures delete_private_chain { Kept options_delete_private_chain generated_delete_private_chain source_delete_private_chain output_delete_private_chain outside_delete_private_chain }
+    ensures private_chain_call { Kept options_private_chain_call generated_private_chain_call source_private_chain_call output_private_chain_call outside_private_chain_call }
+    ensures private_chain_call_no_document_all { Kept options_private_chain_call_no_document_all generated_private_chain_call_no_document_all source_private_chain_call_no_document_all output_private_chain_call_no_document_all outside_private_chain_call_no_document_all }
+    ensures called_private_chain { Kept options_called_private_chain generated_called_private_chain source_called_private_chain output_called_private_chain outside_called_private_chain }
+    ensures private_optional_call { Kept options_private_optional_call generated_private_optional_call source_private_optional_call output_private_optional_call outside_private_optional_call }
+    ensures private_chain_kept { Kept options_private_chain_kept generated_private_chain_kept source_private_chain_kept output_private_chain_kept outside_private_chain_kept }
+{}
+
+/// Static blocks where class fields are not lowered.
+pub fn static_blocks_alone_keep_their_meaning()
+    ensures trailing_block { Kept options_trailing_block generated_trailing_block source_trailing_block output_trailing_block outside_trailing_block }
+    ensures awaited_at_top { Kept options_awaited_at_top generated_awaited_at_top source_awaited_at_top output_awaited_at_top outside_awaited_at_top }
+    ensures block_before_field { Kept options_block_before_field generated_block_before_field source_block_before_field output_block_before_field outside_block_before_field }
+    ensures block_behind_field { Kept options_block_behind_field generated_block_behind_field source_block_behind_field output_block_behind_field outside_block_behind_field }
+    ensures trailing_block_of_named_expression { Kept options_trailing_block_of_named_expression generated_trailing_block_of_named_expression source_trailing_block_of_named_expression output_trailing_block_of_named_expression outside_trailing_block_of_named_expression }
+    ensures block_before_named_function { Kept options_block_before_named_function generated_block_before_named_function source_block_before_named_function output_block_before_named_function outside_block_before_named_function }
+    ensures block_in_parameter { Kept options_block_in_parameter generated_block_in_parameter source_block_in_parameter output_block_in_parameter outside_block_in_parameter }
+    ensures closure_name_taken { Kept options_closure_name_taken generated_closure_name_taken source_closure_name_taken output_closure_name_taken outside_closure_name_taken }
+    ensures private_name_taken { Kept options_private_name_taken generated_private_name_taken source_private_name_taken output_private_name_taken outside_private_name_taken }
+    ensures block_of_statements_alone { Kept options_block_of_statements_alone generated_block_of_statements_alone source_block_of_statements_alone output_block_of_statements_alone outside_block_of_statements_alone }
+{}
+
+/// Pairs of programs that share their numbers and behave differently have meanings that differ.
+pub fn programs_are_told_apart()
+    ensures arguments_behind_a_write { TellsApart options_arguments_behind_a_write first_arguments_behind_a_write second_arguments_behind_a_write }
+    ensures caught_names_exchanged { TellsApart options_caught_names_exchanged first_caught_names_exchanged second_caught_names_exchanged }
+    ensures default_exports { TellsApart options_default_exports first_default_exports second_default_exports }
+    ensures imports_exchanged { TellsApart options_imports_exchanged first_imports_exchanged second_imports_exchanged }
+    ensures loop_heads_exchanged { TellsApart options_loop_heads_exchanged first_loop_heads_exchanged second_loop_heads_exchanged }
+    ensures own_names_exchanged { TellsApart options_own_names_exchanged first_own_names_exchanged second_own_names_exchanged }
+    ensures parameters_exchanged { TellsApart options_parameters_exchanged first_parameters_exchanged second_parameters_exchanged }
+    ensures pattern_keys { TellsApart options_pattern_keys first_pattern_keys second_pattern_keys }
+    ensures rest_dropped { TellsApart options_rest_dropped first_rest_dropped second_rest_dropped }
+    ensures statement_of_an_if { TellsApart options_statement_of_an_if first_statement_of_an_if second_statement_of_an_if }
+    ensures template_key { TellsApart options_template_key first_template_key second_template_key }
+    ensures tested_name { TellsApart options_tested_name first_tested_name second_tested_name }
+    ensures void_of_a_template { TellsApart options_void_of_a_template first_void_of_a_template second_void_of_a_template }
+{}
+
+/// Wrong outputs of worked rows do not mean what their sources mean.
+pub fn wrong_outputs_are_told_apart()
+    ensures another_literal { Refused options_another_literal generated_another_literal source_another_literal output_another_literal }
+    ensures binding_not_renamed { Refused options_binding_not_renamed generated_binding_not_renamed source_binding_not_renamed output_binding_not_renamed }
+    ensures block_behind_fields { Refused options_block_behind_fields generated_block_behind_fields source_block_behind_fields output_block_behind_fields }
+    ensures body_dropped { Refused options_body_dropped generated_body_dropped source_body_dropped output_body_dropped }
+    ensures definitions_nested { Refused options_definitions_nested generated_definitions_nested source_definitions_nested output_definitions_nested }
+    ensures field_before_super { Refused options_field_before_super generated_field_before_super source_field_before_super output_field_before_super }
+    ensures field_doubled { Refused options_field_doubled generated_field_doubled source_field_doubled output_field_doubled }
+    ensures field_dropped { Refused options_field_dropped generated_field_dropped source_field_dropped output_field_dropped }
+    ensures fields_exchanged { Refused options_fields_exchanged generated_fields_exchanged source_fields_exchanged output_fields_exchanged }
+    ensures key_read_twice { Refused options_key_read_twice generated_key_read_twice source_key_read_twice output_key_read_twice }
+    ensures method_without_brand { Refused options_method_without_brand generated_method_without_brand source_method_without_brand output_method_without_brand }
+    ensures object_evaluated_twice { Refused options_object_evaluated_twice generated_object_evaluated_twice source_object_evaluated_twice output_object_evaluated_twice }
+    ensures odd_constructor { Refused options_odd_constructor generated_odd_constructor source_odd_constructor output_odd_constructor }
+    ensures private_name_of_the_outer_class { Refused options_private_name_of_the_outer_class generated_private_name_of_the_outer_class source_private_name_of_the_outer_class output_private_name_of_the_outer_class }
+    ensures read_moved { Refused options_read_moved generated_read_moved source_read_moved output_read_moved }
+    ensures result_of_the_setter { Refused options_result_of_the_setter generated_result_of_the_setter source_result_of_the_setter output_result_of_the_setter }
+    ensures return_in_an_arrow { Refused options_return_in_an_arrow generated_return_in_an_arrow source_return_in_an_arrow output_return_in_an_arrow }
+    ensures spread_for_a_parameter { Refused options_spread_for_a_parameter generated_spread_for_a_parameter source_spread_for_a_parameter output_spread_for_a_parameter }
+    ensures temporary_given_late { Refused options_temporary_given_late generated_temporary_given_late source_temporary_given_late output_temporary_given_late }
+    ensures temporary_never_given { Refused options_temporary_never_given generated_temporary_never_given source_temporary_never_given output_temporary_never_given }
+    ensures test_of_another_object { Refused options_test_of_another_object generated_test_of_another_object source_test_of_another_object output_test_of_another_object }
+    ensures two_constructors { Refused options_two_constructors generated_two_constructors source_two_constructors output_two_constructors }
+{}
+
+/// A template and a string are one key; a class that is moved alone is caught by the clause on lists.
+pub fn the_same_in_other_words()
+    ensures class_in_a_constructor { lists_kept options_class_in_a_constructor source_class_in_a_constructor output_class_in_a_constructor ≡ false }
+    ensures key_of_a_method { source_means options_key_of_a_method second_key_of_a_method ≡ source_means options_key_of_a_method first_key_of_a_method }
+{}

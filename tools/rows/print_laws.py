@@ -1,0 +1,111 @@
+"""Prints the laws of crates/es_rows: a function for each group of worked rows, and one for each group of witnesses, with their answers.
+
+    python3 tools/rows/print_laws.py crates/es_rows
+"""
+import json, os, re, sys
+
+HERE = os.path.dirname(os.path.abspath(__file__))
+CRATE = sys.argv[1]
+rows = [r for f in ('rows.json', 'forms.json') for r in json.load(open(f'{HERE}/{f}'))]
+
+
+def module(name):
+    return ''.join(w.capitalize() for w in name.split('_'))
+
+
+# the group of a row: what it shows
+def group(r):
+    n, options = r['name'], r['options']
+    if 'chain' in n or 'optional' in n:
+        return 'private_chains_keep_their_meaning'
+    if '--class-properties' not in options:
+        return 'static_blocks_alone_keep_their_meaning'
+    if 'private' in n and 'loose' not in n:
+        return 'private_members_keep_their_meaning'
+    if 'super' in n or 'derived' in n or n == 'names_taken':
+        return 'derived_classes_keep_their_meaning'
+    if 'static' in n or 'block' in n or n == 'deleted_this':
+        return 'static_elements_keep_their_meaning'
+    return 'instance_fields_keep_their_meaning'
+
+
+SAYS = {
+    'instance_fields_keep_their_meaning': 'Instance fields and their keys, defined and set, and what is kept as a property.',
+    'derived_classes_keep_their_meaning': 'Classes with a heritage: where fields stand behind `super(..)`, and `super` members.',
+    'static_elements_keep_their_meaning': 'Static fields and blocks, and names of the class.',
+    'private_members_keep_their_meaning': 'Private fields, methods and accessors, static and not, in all their uses.',
+    'private_chains_keep_their_meaning': 'Private names in optional chains.',
+    'static_blocks_alone_keep_their_meaning': 'Static blocks where class fields are not lowered.',
+}
+# what differs where it is not the meaning
+CLAUSES = ['nothing_left', 'names_declared', 'declarations_accounted', 'initializations_stand', 'keys_stand', 'nodes_kept', 'statements_kept', 'lists_kept', 'definitions_stand', 'elements_kept', 'printable']
+
+
+def write(path, text):
+    os.makedirs(os.path.dirname(path), exist_ok=True)
+    open(path, 'w').write(text)
+
+
+def answers(function, clauses):
+    lines = [f'use Rattle.std.specs.Prelude.{{refl}}', f'use Rattle.es_rows.proofs.law.{function}.Goals as goal', '']
+    for name, proof in clauses:
+        lines += [f'pub returns-clause-{name} : goal.returns-clause-{name}', f'returns-clause-{name} c = {proof}', '']
+    write(f'{CRATE}/proofs/law/{function}/Answers.antt', '\n'.join(lines[:-1]) + '\n')
+
+
+uses, functions = [], []
+groups = {}
+for r in rows:
+    groups.setdefault(group(r), []).append(r)
+for function in SAYS:
+    lines, proofs = [], []
+    for r in groups[function]:
+        n, outside = r['name'], r.get('outside') or []
+        uses.append(f'ghost use Rattle.es_rows.specs.rows.{module(n)}.{{source_{n}, output_{n}, generated_{n}, options_{n}, outside_{n}}};')
+        if outside in ([], [8]):
+            word, proof = 'Kept', '(refl, refl, refl, refl)'
+        elif outside == [2]:
+            word, proof = 'KeptAfter', '(refl, refl, refl, refl)'
+        else:
+            word, proof = 'Owed', '(refl, refl)'
+        lines.append(f'    ensures {n} {{ {word} options_{n} generated_{n} source_{n} output_{n} outside_{n} }}')
+        proofs.append((n, proof))
+    functions.append(f'/// {SAYS[function]}\npub fn {function}()\n' + '\n'.join(lines) + '\n{}\n')
+    answers(function, proofs)
+
+pairs, wrong, kept = [], [], []
+folder = f'{CRATE}/specs/witnesses'
+for f in sorted(os.listdir(folder)):
+    text = open(f'{folder}/{f}').read()
+    n = re.search(r'abbrev pub options_(\w+)', text).group(1)
+    if f'first_{n} ' in text:
+        uses.append(f'ghost use Rattle.es_rows.specs.witnesses.{f[:-5]}.{{first_{n}, second_{n}, options_{n}}};')
+        if n == 'key_of_a_method':
+            kept.append((n, f'source_means options_{n} second_{n} ≡ source_means options_{n} first_{n}'))
+        else:
+            pairs.append((n, f'TellsApart options_{n} first_{n} second_{n}'))
+    else:
+        uses.append(f'ghost use Rattle.es_rows.specs.witnesses.{f[:-5]}.{{source_{n}, output_{n}, generated_{n}, options_{n}}};')
+        if n == 'class_in_a_constructor':
+            kept.append((n, f'lists_kept options_{n} source_{n} output_{n} ≡ false'))
+        else:
+            wrong.append((n, f'Refused options_{n} generated_{n} source_{n} output_{n}'))
+
+
+def listed(function, says, clauses, proof):
+    functions.append(f'/// {says}\npub fn {function}()\n' + '\n'.join(f'    ensures {n} {{ {t} }}' for n, t in clauses) + '\n{}\n')
+    answers(function, [(n, proof) for n, t in clauses])
+
+
+listed('programs_are_told_apart', 'Pairs of programs that share their numbers and behave differently have meanings that differ.', pairs, '(refl, refl, refl)')
+listed('wrong_outputs_are_told_apart', 'Wrong outputs of worked rows do not mean what their sources mean.', wrong, 'refl')
+listed('the_same_in_other_words', 'A template and a string are one key; a class that is moved alone is caught by the clause on lists.', kept, 'refl')
+
+text = '''// Worked rows and witnesses: functions that do nothing. Printed by tools/rows/print_laws.py.
+
+ghost use Rattle.std.specs.Prelude.{◌≡◌, false};
+ghost use Rattle.es_rows.specs.Owed.{Kept, KeptAfter, Owed, TellsApart, Refused};
+ghost use Rattle.es_steps.specs.KeptNodes.{lists_kept};
+ghost use Rattle.es_steps.specs.Meaning.{source_means};
+''' + '\n'.join(uses) + '\n\n' + '\n'.join(functions)
+write(f'{CRATE}/src/law.rt', text)
