@@ -12,7 +12,7 @@ use Rattle.es_base.specs.Tree.{Tree, Part, Parts, Node, end, more, child, absent
 use Rattle.es_base.specs.declared.kind.Kind.{Kind}
 use Rattle.es_steps.proofs.Reflexive.{number-same}
 use Rattle.es_steps.specs.Definitions.{chosen, element_numbers, body_numbers, elements_kept}
-use Rattle.es_steps.specs.KeptNodes.{statement_list, item_numbers, free_numbers, free_lists, free_lists_at, free_lists_in, all_lists, is_within, all_within, is_free_statement, free_statements, free_at, free_in}
+use Rattle.es_steps.specs.KeptNodes.{statement_list, item_numbers, free_numbers, free_lists, free_lists_at, free_lists_in, list_of, is_within, all_within, is_free_statement, free_statements, free_at, free_in}
 use Rattle.es_steps.specs.Lowered.{IsLowered, is_lowered_kind, kind_of, none_lowered, own_name_numbers, all_accounted}
 use Rattle.es_steps.specs.LoweredClasses.{Element, elements_of, is_lowered_element, is_lowered_class}
 use Rattle.es_steps.specs.Meaning.{lowered_means, source_means}
@@ -21,7 +21,7 @@ use Rattle.es_steps.specs.Printable.{is_printable}
 use Rattle.es_steps.specs.PrivateNames.{is_class}
 use Rattle.es_steps.specs.Scopes.{is_binding_identifier}
 use Rattle.es_steps.specs.declared.options.Options.{Options}
-use Rattle.class_properties.proofs.Standing.{both, In, here, later, Among, among-append, all-equal, all-stand, within-more, within-both, within-same, within-one, all_within-more, all_within-append, apart-sym}
+use Rattle.class_properties.proofs.Standing.{both, In, here, later, in-left, in-right, Among, among-append, all-equal, all-stand, within-more, within-both, within-same, all_within-append, apart-sym}
 
 -- ---- no number is new
 
@@ -123,35 +123,7 @@ free_numbers-within o (more no_string ps) = free_numbers-within o ps
 free_numbers-within o (more (boolean b) ps) = free_numbers-within o ps
 free_numbers-within o (more (literal v) ps) = free_numbers-within o ps
 
-all_lists-append : (ts us : List Tree) → all_lists (ts ++ us) ≡ all_lists ts ++ all_lists us
-all_lists-append [] us = refl
-all_lists-append (Node kind m span semantic_id ps ∷ ts) us = rw (all_lists-append ts us) refl
-
-lists-either : (xs ys : List ℕ) (xss yss : List (List ℕ)) (b : Bool) → is_within xs ys ≡ true → all_within xss yss ≡ true → all_within (cond b [] (xs ∷ xss)) (ys ∷ yss) ≡ true
-lists-either xs ys xss yss true h i = refl
-lists-either xs ys xss yss false h i = both (within-one xs ys yss h) (all_within-more xss ys yss i)
-
-mutual
-  lists-within : (o : Options) (t : Tree) → all_within (free_lists o t) (all_lists (preorder t)) ≡ true
-  lists-within o (Node kind m span semantic_id ps) =
-      lists-either (free_numbers o (statement_list kind ps)) (item_numbers (statement_list kind ps)) (free_lists_in o ps) (all_lists (preorder_of ps)) (is_lowered_class o kind ps) (free_numbers-within o (statement_list kind ps)) (lists_in-within o ps)
-
-  lists_at-within : (o : Options) (p : Part) → all_within (free_lists_at o p) (all_lists (preorder_of_part p)) ≡ true
-  lists_at-within o (child t) = lists-within o t
-  lists_at-within o absent = refl
-  lists_at-within o (list ps) = lists_in-within o ps
-  lists_at-within o (string s) = refl
-  lists_at-within o no_string = refl
-  lists_at-within o (boolean b) = refl
-  lists_at-within o (literal v) = refl
-
-  lists_in-within : (o : Options) (ps : Parts) → all_within (free_lists_in o ps) (all_lists (preorder_of ps)) ≡ true
-  lists_in-within o end = refl
-  lists_in-within o (more p ps) =
-      rw (all_lists-append (preorder_of_part p) (preorder_of ps))
-      (all_within-append (free_lists_at o p) (free_lists_in o ps) (all_lists (preorder_of_part p)) (all_lists (preorder_of ps)) (lists_at-within o p) (lists_in-within o ps))
-
--- ---- the elements of a class stand in it
+-- ---- the statements of a list and the elements of a class stand in it
 
 unlowered : (es : List Element) → chosen (λ e. not (is_lowered_element no_options e)) es ≡ es
 unlowered [] = refl
@@ -162,6 +134,48 @@ number-apart k t [] a h = elim h [ ]
 number-apart k t (u ∷ ts) a here = a.0
 number-apart k t (u ∷ ts) a (later i) = number-apart k t ts a.1 i
 
+-- the statements of a node
+node-list : (kind : Kind) (n : ℕ) (span : Option (ℕ × ℕ)) (semantic_id : Option ℕ) (ps : Parts) (qs : List Tree) → EachOnce (map number_of qs) → In (Node kind n span semantic_id ps) qs → list_of n qs ≡ item_numbers (statement_list kind ps)
+unfolding IsDistinct
+node-list kind n span semantic_id ps [] once h = elim h [ ]
+node-list kind n span semantic_id ps (q ∷ qs) once here = rw (number-same n) refl
+node-list kind n span semantic_id ps (Node other k kspan k_semantic_id ks ∷ qs) once (later i) =
+    rw (apart-sym k n (number-apart k (Node kind n span semantic_id ps) qs once.0 i)) (node-list kind n span semantic_id ps qs once.1 i)
+
+lists-either : (l : ℕ × List ℕ) (ls : List (ℕ × List ℕ)) (qs : List Tree) (b : Bool) → is_within l.1 (list_of l.0 qs) ≡ true → all_within ls qs ≡ true → all_within (cond b [] (l ∷ ls)) qs ≡ true
+lists-either l ls qs true h i = refl
+lists-either l ls qs false h i = both h i
+
+among-first : (ts us qs : List Tree) → Among (ts ++ us) qs → Among ts qs
+among-first ts us qs h t i = h t (in-left t ts us i)
+
+among-second : (ts us qs : List Tree) → Among (ts ++ us) qs → Among us qs
+among-second ts us qs h t i = h t (in-right t ts us i)
+
+module _ (o : Options) (qs : List Tree) (once : EachOnce (map number_of qs)) where
+  mutual
+    lists-within : (t : Tree) → Among (preorder t) qs → all_within (free_lists o t) qs ≡ true
+    lists-within (Node kind m span semantic_id ps) h =
+        let stands : is_within (free_numbers o (statement_list kind ps)) (list_of m qs) ≡ true = rw (node-list kind m span semantic_id ps qs once (h (Node kind m span semantic_id ps) here)) (free_numbers-within o (statement_list kind ps)) in
+        lists-either (m, free_numbers o (statement_list kind ps)) (free_lists_in o ps) qs (is_lowered_class o kind ps) stands (lists_in-within ps (λ u i. h u (later i)))
+
+    lists_at-within : (p : Part) → Among (preorder_of_part p) qs → all_within (free_lists_at o p) qs ≡ true
+    lists_at-within (child t) h = lists-within t h
+    lists_at-within absent h = refl
+    lists_at-within (list ps) h = lists_in-within ps h
+    lists_at-within (string s) h = refl
+    lists_at-within no_string h = refl
+    lists_at-within (boolean b) h = refl
+    lists_at-within (literal v) h = refl
+
+    lists_in-within : (ps : Parts) → Among (preorder_of ps) qs → all_within (free_lists_in o ps) qs ≡ true
+    lists_in-within end h = refl
+    lists_in-within (more p ps) h =
+        all_within-append (free_lists_at o p) (free_lists_in o ps) qs
+        (lists_at-within p (among-first (preorder_of_part p) (preorder_of ps) qs h))
+        (lists_in-within ps (among-second (preorder_of_part p) (preorder_of ps) qs h))
+
+-- the elements of a class
 class-body : (kind : Kind) (n : ℕ) (span : Option (ℕ × ℕ)) (semantic_id : Option ℕ) (ps : Parts) (qs : List Tree) → is_class kind ≡ true → EachOnce (map number_of qs) → In (Node kind n span semantic_id ps) qs → body_numbers n qs ≡ element_numbers (elements_of ps)
 unfolding IsDistinct
 class-body kind n span semantic_id ps [] c once h = elim h [ ]
@@ -207,7 +221,7 @@ source-owes t e =
       keys = refl;
       nodes = all-stand (preorder t) (preorder t) (λ u i. i);
       statements = all-equal (free_statements no_options t) (preorder t) (free-among no_options t);
-      lists = lists-within no_options t;
+      lists = lists-within no_options (preorder t) turn.once t (λ u i. i);
       definitions = refl;
       elements = elements-stand (preorder t) (preorder t) (λ u i. i) turn.once;
       printable = same_or (is_printable t);

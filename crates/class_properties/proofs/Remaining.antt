@@ -8,14 +8,14 @@ use Rattle.es_base.specs.Preorder.{preorder, preorder_of, preorder_of_part}
 use Rattle.es_base.specs.Tree.{Tree, Part, Parts, Node, end, more}
 use Rattle.es_steps.proofs.Reflexive.{number-same}
 use Rattle.es_steps.specs.Definitions.{chosen, element_numbers, body_numbers, elements_kept}
-use Rattle.es_steps.specs.KeptNodes.{a_class as class_sort, sort_of, is_kept_sort, stands_as, all_stand, nodes_kept, free_in, all_equal, statements_kept, item_numbers, free_numbers, free_lists_in, all_lists, is_within, all_within, lists_kept}
+use Rattle.es_steps.specs.KeptNodes.{a_class as class_sort, sort_of, is_kept_sort, stands_as, all_stand, nodes_kept, free_in, all_equal, statements_kept, item_numbers, free_numbers, free_lists_in, list_of, is_within, all_within, lists_kept}
 use Rattle.es_steps.specs.LoweredClasses.{elements_of, elements_in, is_lowered_element}
 use Rattle.es_steps.specs.Options.{class_properties_alone}
 use Rattle.es_steps.specs.PrivateNames.{is_class}
 use Rattle.class_properties.proofs.Declared.{two_ends}
 use Rattle.class_properties.proofs.Numbered.{lowered_elements, statement_size, lowered_statements, lowered_from}
 use Rattle.class_properties.proofs.Shaped.{no_value, a_literal, a_reference, a_key, a_field, AreFields, a_body, a_name, a_class, AreClasses, IsProgram, a_program}
-use Rattle.class_properties.proofs.Standing.{both, In, here, later, in-left, in-right, Among, stands_as-in, stands-equal, within-more, within-both, within-one}
+use Rattle.class_properties.proofs.Standing.{both, In, here, later, in-left, in-right, Among, stands_as-in, stands-equal, within-more, within-both}
 
 -- ---- classes
 
@@ -61,10 +61,10 @@ numbers-within (more p ps) (a_class n span semantic_id id body (a_name i ispan i
     let next : ℕ = k + statement_size p in
     within-more (free_numbers class_properties_alone ps) n (item_numbers (lowered_statements next ps)) (numbers-within ps h next)
 
-lists-empty : (ps : Parts) → AreClasses ps → (yss : List (List ℕ)) → all_within (free_lists_in class_properties_alone ps) yss ≡ true
-lists-empty end h yss = refl
-lists-empty (more p ps) (a_class n span semantic_id id body (a_name i ispan i_semantic_id s free) (a_body j bspan b_semantic_id end he), h) yss = lists-empty ps h yss
-lists-empty (more p ps) (a_class n span semantic_id id body (a_name i ispan i_semantic_id s free) (a_body j bspan b_semantic_id (more e es) (a_field m fspan f_semantic_id key v hk hv, he)), h) yss = lists-empty ps h yss
+lists-empty : (ps : Parts) → AreClasses ps → (qs : List Tree) → all_within (free_lists_in class_properties_alone ps) qs ≡ true
+lists-empty end h qs = refl
+lists-empty (more p ps) (a_class n span semantic_id id body (a_name i ispan i_semantic_id s free) (a_body j bspan b_semantic_id end he), h) qs = lists-empty ps h qs
+lists-empty (more p ps) (a_class n span semantic_id id body (a_name i ispan i_semantic_id s free) (a_body j bspan b_semantic_id (more e es) (a_field m fspan f_semantic_id key v hk hv, he)), h) qs = lists-empty ps h qs
 
 -- ---- all elements are lowered
 
@@ -101,10 +101,11 @@ pub remains : (k : ℕ) (t : Tree) → IsProgram t → Remains k t
 remains k t (a_program m span semantic_id s all h) =
     let low : Parts = lowered_statements k all in
     let q : Tree = lowered_from k t in
-    let among : Among (preorder_of low) (preorder q) = λ u i. later (in-left u (preorder_of low) [] i) in record {
+    let among : Among (preorder_of low) (preorder q) = λ u i. later (in-left u (preorder_of low) [] i) in
+    let first : is_within (free_numbers class_properties_alone all) (list_of m (preorder q)) ≡ true = rw (number-same m) (numbers-within all h k) in
+    let others : all_within (free_lists_in class_properties_alone all ++ []) (preorder q) ≡ true = rw (append-nil (free_lists_in class_properties_alone all)) (lists-empty all h (preorder q)) in record {
       nodes = rw (append-nil (preorder_of all)) (classes-stand all h k (preorder q) among);
       statements = rw (append-nil (free_in class_properties_alone all)) (classes-equal all h k (preorder q) among);
-      lists = both (within-one (free_numbers class_properties_alone all) (item_numbers low) (all_lists (preorder_of low ++ [])) (numbers-within all h k))
-          (rw (append-nil (free_lists_in class_properties_alone all)) (lists-empty all h (all_lists (preorder q))));
+      lists = both first others;
       elements = rw (append-nil (preorder_of all)) (classes-elements all h (preorder q));
     }

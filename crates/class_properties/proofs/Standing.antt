@@ -8,7 +8,7 @@ use Rattle.es_base.specs.declared.literal.LiteralValue.{LiteralValue}
 use Rattle.es_base.specs.declared.literal.LiteralValue.TheVariants as literal_value
 use Rattle.es_steps.proofs.Reflexive.{number-same, string-same}
 use Rattle.es_steps.specs.Definitions.{DefinedKey, BrandKey, PrivateKey, PublicKey, FieldDefinition, key_temporary, key_temporaries, with_class, class_temporaries, all_temporaries}
-use Rattle.es_steps.specs.KeptNodes.{NodeSort, a_class, a_function, a_call, a_construction, another, sort_of, is_kept_sort, same_sort, stands_as, all_stand, stands_equal, all_equal, is_within, within_one, all_within}
+use Rattle.es_steps.specs.KeptNodes.{NodeSort, a_class, a_function, a_call, a_construction, another, sort_of, is_kept_sort, same_sort, stands_as, all_stand, stands_equal, all_equal, list_of, is_within, all_within}
 use Rattle.es_steps.specs.PrivateNames.{PrivateMember, is_class}
 use Rattle.es_steps.specs.SameTrees.{same_tree, same_part, same_parts, same_literal, same_kind, kind_number}
 use Rattle.es_steps.specs.SameValues.{same_boolean, same_nullable_string}
@@ -173,47 +173,11 @@ pub within-same : (xs : List ℕ) → is_within xs xs ≡ true
 within-same [] = refl
 within-same (x ∷ xs) = within-both x xs xs (within-same xs)
 
-pub within-one : (xs ys : List ℕ) (yss : List (List ℕ)) → is_within xs ys ≡ true → within_one xs (ys ∷ yss) ≡ true
-within-one [] ys yss h = refl
-within-one (x ∷ xs) ys yss h = or_left (is_within (x ∷ xs) ys) (within_one (x ∷ xs) yss) h
-
-one-more : (xs ys : List ℕ) (yss : List (List ℕ)) → within_one xs yss ≡ true → within_one xs (ys ∷ yss) ≡ true
-one-more [] ys yss h = refl
-one-more (x ∷ xs) ys yss h = or_right (is_within (x ∷ xs) ys) (within_one (x ∷ xs) yss) h
-
-pub all_within-more : (xss : List (List ℕ)) (ys : List ℕ) (yss : List (List ℕ)) → all_within xss yss ≡ true → all_within xss (ys ∷ yss) ≡ true
-all_within-more [] ys yss h = refl
-all_within-more (xs ∷ xss) ys yss h =
-    let parts = and_parts (within_one xs yss) (all_within xss yss) h in
-    both (one-more xs ys yss parts.0) (all_within-more xss ys yss parts.1)
-
-all_within-behind : (xss yss zss : List (List ℕ)) → all_within xss zss ≡ true → all_within xss (yss ++ zss) ≡ true
-all_within-behind xss [] zss h = h
-all_within-behind xss (ys ∷ yss) zss h = all_within-more xss ys (yss ++ zss) (all_within-behind xss yss zss h)
-
-or_with : (a b c : Bool) → (b ≡ true → c ≡ true) → (a || b) ≡ true → (a || c) ≡ true
-or_with true b c f h = refl
-or_with false b c f h = f h
-
-one-before : (xs : List ℕ) (yss zss : List (List ℕ)) → within_one xs yss ≡ true → within_one xs (yss ++ zss) ≡ true
-one-before [] yss zss h = refl
-one-before (x ∷ xs) [] zss h = no_false h
-one-before (x ∷ xs) (ys ∷ yss) zss h = or_with (is_within (x ∷ xs) ys) (within_one (x ∷ xs) yss) (within_one (x ∷ xs) (yss ++ zss)) (one-before (x ∷ xs) yss zss) h
-
-all_within-before : (xss yss zss : List (List ℕ)) → all_within xss yss ≡ true → all_within xss (yss ++ zss) ≡ true
-all_within-before [] yss zss h = refl
-all_within-before (xs ∷ xss) yss zss h =
-    let parts = and_parts (within_one xs yss) (all_within xss yss) h in
-    both (one-before xs yss zss parts.0) (all_within-before xss yss zss parts.1)
-
-all_within-join : (xss wss yss : List (List ℕ)) → all_within xss yss ≡ true → all_within wss yss ≡ true → all_within (xss ++ wss) yss ≡ true
-all_within-join [] wss yss h i = i
-all_within-join (xs ∷ xss) wss yss h i =
-    let parts = and_parts (within_one xs yss) (all_within xss yss) h in
-    both parts.0 (all_within-join xss wss yss parts.1 i)
-
-pub all_within-append : (xss wss yss zss : List (List ℕ)) → all_within xss yss ≡ true → all_within wss zss ≡ true → all_within (xss ++ wss) (yss ++ zss) ≡ true
-all_within-append xss wss yss zss h i = all_within-join xss wss (yss ++ zss) (all_within-before xss yss zss h) (all_within-behind wss yss zss i)
+pub all_within-append : (ls ks : List (ℕ × List ℕ)) (qs : List Tree) → all_within ls qs ≡ true → all_within ks qs ≡ true → all_within (ls ++ ks) qs ≡ true
+all_within-append [] ks qs h i = i
+all_within-append (l ∷ ls) ks qs h i =
+    let parts = and_parts (is_within l.1 (list_of l.0 qs)) (all_within ls qs) h in
+    both parts.0 (all_within-append ls ks qs parts.1 i)
 
 -- ---- without generated names no key is a temporary
 
