@@ -1,4 +1,5 @@
 pub mod Causes
 pub mod Forms
+pub mod Sources
 pub mod Trees
 pub mod Written
