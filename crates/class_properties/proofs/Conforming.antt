@@ -7,7 +7,7 @@ use Rattle.std.proofs.lemmas.List.{append-nil}
 use Rattle.es_base.specs.Carried.{stripped}
 use Rattle.es_base.specs.Conforms.{conforms, part_conforms, items_conform}
 use Rattle.es_base.specs.Preorder.{nodes, preorder_of, numbered_from}
-use Rattle.es_base.specs.Tree.{Tree, Part, Parts, Node, end, more, list, string, trees}
+use Rattle.es_base.specs.Tree.{Tree, Parts, Node, end, more, list, string, trees}
 use Rattle.es_base.specs.declared.kind.Kind.{Kind}
 use Rattle.es_base.specs.declared.table.Place.{Place}
 use Rattle.es_base.specs.declared.table.Sort.{Sort}

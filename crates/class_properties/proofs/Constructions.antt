@@ -1,13 +1,11 @@
 -- A class of plain fields and the class whose constructor defines them evaluate alike and have the same entry, whatever
 -- stands for bodies that are opened.
-use Rattle.std.specs.Prelude.{◌≡◌, ℕ, List, [], ◌∷◌, ◌++◌, Bool, true, false, cond, Option, Some, None}
+use Rattle.std.specs.Prelude.{◌≡◌, ℕ, [], ◌∷◌, ◌++◌, Bool, true, false, cond, Option, Some, None}
 use Rattle.std.proofs.Common.{refl, sym, ap, ap₂, ◌∙◌}
-use Rattle.es_base.specs.Preorder.{preorder}
-use Rattle.es_base.specs.Tree.{Tree}
 use Rattle.es_steps.proofs.PlainClasses.{IsPlain, a_value, a_name, fixed, changing, means_class}
 use Rattle.es_steps.specs.Code.{Code, Codes, Opened, defines, value, name, define, steps, new_function, class_code, field, constructor, done, and}
 use Rattle.es_steps.specs.Context.{Fixed, Changing, MeansClass}
-use Rattle.es_steps.specs.Entries.{Entry, Entries, ClassEntry, Method, Listed, Parameter, plain_form, constructor_form, constructor_parameters, methods_in, ev_construction, entries, all_entries, key_entries, static_entries, field_entries, function_entries}
+use Rattle.es_steps.specs.Entries.{Entries, ClassEntry, plain_form, constructor_form, constructor_parameters, methods_in, ev_construction, entries, all_entries, key_entries, static_entries, field_entries, function_entries}
 use Rattle.es_steps.specs.Evaluation.{Environment, Evaluation, Run, gives, has_instance_methods, ev, ev_all, ev_keys, ev_statics, ev_fields, ev_initializers}
 use Rattle.es_steps.specs.Events.{Events, none, then, ReadName, Define, throws, behind, value_behind}
 use Rattle.es_steps.specs.Values.{String, Value, ConstantOf, StringOf, Undefined, BindingOf, ClassOf, ThisOf, ResultOf}

@@ -1,23 +1,23 @@
 -- In what a program of the first form is lowered to, the constructor of each class defines its fields, in their order.
-use Rattle.std.specs.Prelude.{◌≡◌, ℕ, ◌+◌, List, [], ◌∷◌, ◌++◌, Bool, true, false, cond, not, ◌&&◌, ◌||◌, nat_eq, nat_le, None}
+use Rattle.std.specs.Prelude.{◌≡◌, ℕ, ◌+◌, List, [], ◌∷◌, ◌++◌, Bool, true, false, cond, nat_eq, nat_le}
 use Rattle.std.proofs.Common.{refl, sym, ap, ◌∙◌, subst, ◌≤◌, ◌<◌, arith, append_assoc}
 use Rattle.std.proofs.lemmas.Bool.{le-leb}
 use Rattle.std.proofs.lemmas.List.{append-nil}
-use Rattle.es_base.specs.Preorder.{preorder, preorder_of, nodes_of_part, numbered_from, numbered_part, numbered_parts}
+use Rattle.es_base.specs.Preorder.{preorder, preorder_of, nodes_of_part, numbered_from, numbered_parts}
 use Rattle.es_base.specs.Tree.{Tree, Part, Parts, Node, end, more, child, absent, list, string, no_string, boolean, literal, trees}
 use Rattle.es_base.specs.declared.kind.Kind.{Kind}
 use Rattle.es_steps.proofs.Reflexive.{number-same, string-same}
-use Rattle.es_steps.specs.Definitions.{PublicKey, FieldDefinition, definition_at, definitions_of, function_definitions, super_definitions, constructor_definitions, all_definitions, on_this, instance_definitions, is_static_of, statics_of, static_definitions, Names, all_fit, is_instance_method, any_of, chosen, defined_fields, names_of, class_fits, classes_fit, definitions_stand}
-use Rattle.es_steps.specs.Generated.{node, string_literal, define_at}
+use Rattle.es_steps.specs.Definitions.{PublicKey, FieldDefinition, definition_at, definitions_of, function_definitions, super_definitions, constructor_definitions, all_definitions, on_this, is_static_of, statics_of, static_definitions, Names, all_fit, is_instance_method, any_of, defined_fields, names_of, class_fits, classes_fit, definitions_stand}
+use Rattle.es_steps.specs.Generated.{node, string_literal}
 use Rattle.es_steps.specs.LoweredClasses.{Element, elements_in, is_private_key, constructor_in}
 use Rattle.es_steps.specs.Options.{class_properties_alone}
 use Rattle.es_steps.specs.Parts.{at, items}
-use Rattle.es_steps.specs.PrivateNames.{PrivateMember, is_class}
+use Rattle.es_steps.specs.PrivateNames.{PrivateMember}
 use Rattle.es_steps.specs.References.{Reference}
 use Rattle.class_properties.proofs.Declared.{two_ends, four_ends}
 use Rattle.class_properties.proofs.Numbered.{key_string, value_from, field_size, definitions_from, lowered_elements, statement_size, lowered_statements, lowered_from}
 use Rattle.class_properties.proofs.Shaped.{no_value, a_literal, a_reference, a_key, a_field, AreFields, a_body, a_name, a_class, AreClasses, IsProgram, a_program}
-use Rattle.class_properties.proofs.Standing.{both, or_left, tree-same, stands-equal, here, apart-sym}
+use Rattle.class_properties.proofs.Standing.{both, or_left, stands-equal, here, apart-sym}
 
 -- ---- the numbers of classes rise
 
@@ -202,13 +202,13 @@ module _ (first : ℕ) where
   classes-fit members t q (more p ps) (a_class n span semantic_id id body (a_name i ispan i_semantic_id s free) (a_body j bspan b_semantic_id es he), h) lo k r new same no_static =
       let next : ℕ = k + statement_size p in
       let there : constructors n (preorder q) ≡ made (k + 4) es =
-          same n r.0 ∙ rw (number-same n, body-made n es he k new j bspan b_semantic_id, class-rest n es ps he k next, classes-none n ps h (n + 1) next r.1 (omega arith)) (append-nil (made (k + 4) es)) in
+      same n r.0 ∙ rw (number-same n, body-made n es he k new j bspan b_semantic_id, class-rest n es ps he k next, classes-none n ps h (n + 1) next r.1 (omega arith)) (append-nil (made (k + 4) es)) in
       let later : (m : ℕ) → n + 1 ≤ m → constructors m (preorder q) ≡ constructors m (preorder_of (lowered_statements next ps)) =
-          λ m l. same m (omega (arith, l, r.0)) ∙ rw (apart-sym n m (different n m (omega (arith, l))), class-rest m es ps he k next) refl in
+      λ m l. same m (omega (arith, l, r.0)) ∙ rw (apart-sym n m (different n m (omega (arith, l))), class-rest m es ps he k next) refl in
       let fits : class_fits first class_properties_alone [] members t q n (elements_in es) ≡ true =
-          rw (no_methods es he, all-defined es he, none-static es he, no_static n, supers-none first n (preorder q), there, made-on_this es he (k + 4) (still_new k 4 new)) (both (fields-fit (names_of first [] t q n) n es he (k + 4)) refl) in
+      rw (no_methods es he, all-defined es he, none-static es he, no_static n, supers-none first n (preorder q), there, made-on_this es he (k + 4) (still_new k 4 new)) (both (fields-fit (names_of first [] t q n) n es he (k + 4)) refl) in
       let rest : classes_fit first class_properties_alone [] members t q (preorder_of es ++ [] ++ [] ++ preorder_of ps) ≡ true =
-          rw (two_ends (preorder_of es) (preorder_of ps), fields-pass members t q es he (preorder_of ps)) (classes-fit members t q ps h (n + 1) next r.1 (still_new k (statement_size p) new) later no_static) in
+      rw (two_ends (preorder_of es) (preorder_of ps), fields-pass members t q es he (preorder_of ps)) (classes-fit members t q ps h (n + 1) next r.1 (still_new k (statement_size p) new) later no_static) in
       both fits rest
 
 -- ---- programs

@@ -1,10 +1,10 @@
 -- Which nodes of a program of the first form stand in what it is lowered to: its classes, those of them that have no
 -- fields as they are, and of no class an element.
-use Rattle.std.specs.Prelude.{◌≡◌, ℕ, ◌+◌, List, [], ◌∷◌, ◌++◌, Bool, true, false, not, ◌&&◌, ◌||◌}
+use Rattle.std.specs.Prelude.{◌≡◌, ℕ, ◌+◌, List, [], ◌∷◌, ◌++◌, true, not, ◌||◌}
 use Rattle.std.proofs.Common.{refl}
 use Rattle.std.proofs.lemmas.Bool.{and_parts}
 use Rattle.std.proofs.lemmas.List.{append-nil}
-use Rattle.es_base.specs.Preorder.{preorder, preorder_of, preorder_of_part}
+use Rattle.es_base.specs.Preorder.{preorder, preorder_of}
 use Rattle.es_base.specs.Tree.{Tree, Part, Parts, Node, end, more}
 use Rattle.es_steps.proofs.Reflexive.{number-same}
 use Rattle.es_steps.specs.Definitions.{chosen, element_numbers, body_numbers, elements_kept}
@@ -13,9 +13,9 @@ use Rattle.es_steps.specs.LoweredClasses.{elements_of, elements_in, is_lowered_e
 use Rattle.es_steps.specs.Options.{class_properties_alone}
 use Rattle.es_steps.specs.PrivateNames.{is_class}
 use Rattle.class_properties.proofs.Declared.{two_ends}
-use Rattle.class_properties.proofs.Numbered.{lowered_elements, statement_size, lowered_statements, lowered_from}
+use Rattle.class_properties.proofs.Numbered.{statement_size, lowered_statements, lowered_from}
 use Rattle.class_properties.proofs.Shaped.{no_value, a_literal, a_reference, a_key, a_field, AreFields, a_body, a_name, a_class, AreClasses, IsProgram, a_program}
-use Rattle.class_properties.proofs.Standing.{both, In, here, later, in-left, in-right, Among, stands_as-in, stands-equal, within-more, within-both}
+use Rattle.class_properties.proofs.Standing.{both, here, later, in-left, in-right, Among, stands_as-in, stands-equal, within-more, within-both}
 
 -- ---- classes
 

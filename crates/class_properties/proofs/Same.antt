@@ -1,6 +1,6 @@
 -- What a program of the first form is lowered to means what the program means: its classes read as classes whose
 -- constructors define the fields that the classes of the program have.
-use Rattle.std.specs.Prelude.{◌≡◌, ℕ, ◌+◌, List, [], ◌∷◌, ◌++◌, Bool, true, false, ◌||◌, nat_le, bytes_eq, codes, None, Option, Some}
+use Rattle.std.specs.Prelude.{◌≡◌, ℕ, ◌+◌, List, [], ◌++◌, Bool, true, false, ◌||◌, nat_le, bytes_eq, codes, None, Option, Some}
 use Rattle.std.proofs.Common.{refl, sym, ap, ap₂, ◌∙◌, ◌≤◌, arith, subst}
 use Rattle.std.proofs.lemmas.Bool.{le-leb}
 use Rattle.es_base.specs.Conforms.{conforms}
@@ -11,28 +11,26 @@ use Rattle.es_base.specs.declared.kind.Kind.{Kind}
 use Rattle.es_base.specs.declared.table.Place.{Place}
 use Rattle.es_steps.proofs.FirstMeaning.{joined-done, not_generated-found, plain-name}
 use Rattle.es_steps.proofs.PlainClasses.{IsNotGenerated, fixed, changing, means_class, IsPlain, a_value}
-use Rattle.es_steps.specs.Code.{Code, Codes, Opened, value, spelled, field, define, steps, new_function, class_code, constructor, done, and}
+use Rattle.es_steps.specs.Code.{Code, Codes, value, spelled, field, define, steps, new_function, constructor, done, and}
 use Rattle.es_steps.specs.Context.{Context, NameKind, found_kind, name_kind, inside}
 use Rattle.es_steps.specs.Entries.{Entry, Listed, plain_form, entries}
-use Rattle.es_steps.specs.Evaluation.{Evaluation}
 use Rattle.es_steps.specs.Events.{none}
 use Rattle.es_steps.specs.Expressions.{constant_of, name_or_arguments, name_code}
 use Rattle.es_steps.specs.FirstForm.{is_first_form}
 use Rattle.es_steps.specs.Generated.{constructor_at, define_at}
-use Rattle.es_steps.specs.Meaning.{Terms, Meaning, start, means, means_by, means_of, source_means, source_terms, lowered_means, source_type_of, declaring, ClassDeclared, whole, with_all, in_body}
+use Rattle.es_steps.specs.Meaning.{Terms, start, means_of, source_means, source_terms, lowered_means, source_type_of, declaring, ClassDeclared, whole, with_all, in_body}
 use Rattle.es_steps.specs.Members.{codes_in}
 use Rattle.es_steps.specs.Opening.{definitions, opening}
 use Rattle.es_steps.specs.Options.{class_properties_alone}
-use Rattle.es_steps.specs.Parts.{at}
 use Rattle.es_steps.specs.PrivateNames.{PrivateMember, private_members}
 use Rattle.es_steps.specs.Reading.{read, read_part, read_items}
 use Rattle.es_steps.specs.References.{declared, written}
-use Rattle.es_steps.specs.Scopes.{Declaration, lexical_items, body_names}
+use Rattle.es_steps.specs.Scopes.{body_names}
 use Rattle.es_steps.specs.Statements.{value_or_undefined, field_form}
 use Rattle.es_steps.specs.Values.{String, ConstantOf, StringOf, Undefined, ThisOf, ArgumentsOf, Bound, Free}
 use Rattle.es_steps.specs.declared.options.Options.{Options}
 use Rattle.class_properties.proofs.Constructions.{Fields, no_fields, with_field, ArePlain, field_codes, Defines, none_defined, defined, AreLowered, no_constructor, one_constructor, pair_of_classes, ArePairs, RunAlike, pairs-run}
-use Rattle.class_properties.proofs.Declared.{HasNone, source-none, lowered-none, lexical-definitions, names-definitions, names-lowered, written-lowered, declaring-lowered}
+use Rattle.class_properties.proofs.Declared.{HasNone, source-none, lowered-none, names-definitions, names-lowered, written-lowered, declaring-lowered}
 use Rattle.class_properties.proofs.Shaped.{IsValue, no_value, a_literal, a_reference, a_key, a_field, AreFields, a_body, a_name as a_class_name, a_class, AreClasses, IsProgram, a_program, first_form-shaped}
 use Rattle.class_properties.proofs.Numbered.{key_string, value_from, definitions_from, lowered_elements, lowered_statements}
 use Rattle.class_properties.proofs.Numbered as numbered

@@ -197,8 +197,8 @@ program-shapes o t c p =
     let plain : ArePlainAt ks = program-plain o t p in
     let q : IsQuiet t = program-quiet t p in
     let moves : any_class (λ k. heritage_has_events c (heritage_at k.number (gather heritage_by c)) && moves_before_heritage o (written t) (resolve t) k) ks ≡ false =
-        no_class (λ k. heritage_has_events c (heritage_at k.number (gather heritage_by c)) && moves_before_heritage o (written t) (resolve t) k)
-        (λ k h. rw (moves-none o (written t) (resolve t) k h) (and-false (heritage_has_events c (heritage_at k.number (gather heritage_by c))))) ks plain in
+    no_class (λ k. heritage_has_events c (heritage_at k.number (gather heritage_by c)) && moves_before_heritage o (written t) (resolve t) k)
+    (λ k h. rw (moves-none o (written t) (resolve t) k h) (and-false (heritage_has_events c (heritage_at k.number (gather heritage_by c))))) ks plain in
     let named : has_shape_7 t ks ≡ false = no_class (λ k. names_stand_at (id_number k.id) (resolve t) k.heritage || named_in_keys (id_number k.id) (resolve t) k.elements) (names-none (resolve t)) ks plain in
     no_shapes (has_shape_1 o t c ks) (has_shape_2 o ks) (has_shape_3 o ks) (has_shape_4 o t) (has_shape_5 o t) (has_shape_6 t ks) (has_shape_7 t ks) (has_shape_8 o t)
     (rw moves (and-false (lowers_fields o)))

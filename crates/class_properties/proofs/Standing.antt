@@ -1,16 +1,15 @@
 -- What stands where: trees among the nodes of a program, one list within another, and that a tree is itself.
 use Rattle.std.specs.Prelude.{◌≡◌, ℕ, List, [], ◌∷◌, ◌++◌, Bool, true, false, cond, not, ◌&&◌, ◌||◌, nat_eq, Option, Some, None}
-use Rattle.std.proofs.Common.{refl, sym, ap, ◌∙◌, arith}
+use Rattle.std.proofs.Common.{refl, sym, arith}
 use Rattle.std.proofs.lemmas.Bool.{and_from, and_parts, true≢false}
-use Rattle.es_base.specs.Preorder.{preorder, preorder_of, preorder_of_part}
 use Rattle.es_base.specs.Tree.{Tree, Part, Parts, Node, end, more, child, absent, list, string, no_string, boolean, literal}
 use Rattle.es_base.specs.declared.literal.LiteralValue.{LiteralValue}
 use Rattle.es_base.specs.declared.literal.LiteralValue.TheVariants as literal_value
 use Rattle.es_steps.proofs.Reflexive.{number-same, string-same}
-use Rattle.es_steps.specs.Definitions.{DefinedKey, BrandKey, PrivateKey, PublicKey, FieldDefinition, key_temporary, key_temporaries, with_class, class_temporaries, all_temporaries}
+use Rattle.es_steps.specs.Definitions.{DefinedKey, BrandKey, PrivateKey, PublicKey, FieldDefinition, key_temporary, key_temporaries, all_temporaries}
 use Rattle.es_steps.specs.KeptNodes.{NodeSort, a_class, a_function, a_call, a_construction, another, sort_of, is_kept_sort, same_sort, stands_as, all_stand, stands_equal, all_equal, list_of, is_within, all_within}
 use Rattle.es_steps.specs.PrivateNames.{PrivateMember, is_class}
-use Rattle.es_steps.specs.SameTrees.{same_tree, same_part, same_parts, same_literal, same_kind, kind_number}
+use Rattle.es_steps.specs.SameTrees.{same_tree, same_part, same_parts, same_literal, kind_number}
 use Rattle.es_steps.specs.SameValues.{same_boolean, same_nullable_string}
 use Rattle.es_steps.specs.Values.{String}
 use Rattle.es_steps.specs.declared.options.Options.{Options}
