@@ -11,7 +11,6 @@ use Rattle.es_steps.proofs.FirstMeaning.{first_form_law}
 use Rattle.es_steps.specs.FirstForm.{is_first_form}
 use Rattle.es_steps.specs.Lowered.{IsLowered, IsUnchanged}
 use Rattle.es_steps.specs.Meaning.{Meaning, has_meaning, lowered_means, source_means}
-use Rattle.es_steps.specs.Shapes.{shapes}
 use Rattle.es_steps.specs.Told.{warnings_of}
 use Rattle.class_properties.proofs.Conforming.{lowered-conforms, lowered-unchanged}
 use Rattle.class_properties.proofs.Kept.{source-owes}
