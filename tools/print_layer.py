@@ -1,7 +1,7 @@
 """Prints the typed layer over `Node`: for each kind its tree by its members (specs), a struct of them, owned and borrowed,
 and a maker (code)."""
 import re
-from files import BASE, NODE, code_head, snake, spec_head, write
+from files import BASE, LAYER, NODE, code_head, snake, spec_head, write
 from kinds import FIXED_WORDS, ROWS, WORDS
 from print_parts import NUMBERS, SHAPES
 
@@ -9,8 +9,8 @@ WIDTH, NO_BREAK = 100, '\u00a0'
 
 # module of kinds.py: (its crate, what its file has)
 MODULES = {
-    'program': ('es_tree', 'The root.'),
-    'foreign': ('es_tree', 'What the trees here do not describe.'),
+    'program': (LAYER, 'The root.'),
+    'foreign': (LAYER, 'What the trees here do not describe.'),
     'expression': ('es_expression', 'Expressions.'),
     'identifier': ('es_expression', 'Identifiers.'),
     'literal': ('es_expression', 'Literals.'),
@@ -103,112 +103,112 @@ def clause(name, fact, indent=' ' * 8): return wrapped(f'{unbroken(name + " { ")
 def documented(text): return wrapped(text, '/// ', '/// ')
 
 
-def spec(form):
-    arguments = [('node_id', 'ℕ'), ('span', 'Option (ℕ × ℕ)')] + ([(form.id, 'Option ℕ')] if form.id else []) + [(m.name, m.spec_type) for m in form.fields]
-    parts = ''.join(unbroken(f'(more ({m.spec_part.format(m.name)})') + ' ' for m in form.members) + 'end' + ')' * len(form.members)
-    node = f'Node Kind.{form.kind} node_id span {form.id or "None"} {parts}'
+def spec(node_kind):
+    arguments = [('node_id', 'ℕ'), ('span', 'Option (ℕ × ℕ)')] + ([(node_kind.id, 'Option ℕ')] if node_kind.id else []) + [(m.name, m.spec_type) for m in node_kind.fields]
+    parts = ''.join(unbroken(f'(more ({m.spec_part.format(m.name)})') + ' ' for m in node_kind.members) + 'end' + ')' * len(node_kind.members)
+    node = f'Node Kind.{node_kind.kind} node_id span {node_kind.id or "None"} {parts}'
     return f'''
-{wrapped(form.doc, '-- ', '-- ')}
-{wrapped(f"abbrev pub {form.name} : {' → '.join(unbroken(t) for _, t in arguments)} → Tree".replace('→ ', '→' + NO_BREAK), '', '    ')}
-{form.name} {' '.join(n for n, _ in arguments)} =
+{wrapped(node_kind.doc, '-- ', '-- ')}
+{wrapped(f"abbrev pub {node_kind.name} : {' → '.join(unbroken(t) for _, t in arguments)} → Tree".replace('→ ', '→' + NO_BREAK), '', '    ')}
+{node_kind.name} {' '.join(n for n, _ in arguments)} =
 {wrapped(node, '    ', '      ')}
 '''
 
 
-def clauses(form, tree, foreign):
+def clauses(node_kind, tree, foreign):
     """the clauses of a conversion: of the tree, and for a program of its foreign nodes too"""
-    if not form.has_foreign: return clause('ensures', tree)
+    if not node_kind.has_foreign: return clause('ensures', tree)
     return clause('ensures tree', tree) + '\n' + clause('ensures foreign', foreign)
 
 
-def struct_fields(form, types, foreign):
+def struct_fields(node_kind, types, foreign):
     out = '    pub node_id: NodeId,\n    pub span: Option<Span>,\n'
-    if form.id: out += f'    pub {form.id}: Option<{form.id_type}>,\n'
-    out += ''.join(f'    pub {m.name}: {t},\n' for m, t in zip(form.fields, types))
-    if form.has_foreign: out += f'    /// The numbers of its foreign nodes.\n    pub foreign: {foreign},\n'
+    if node_kind.id: out += f'    pub {node_kind.id}: Option<{node_kind.id_type}>,\n'
+    out += ''.join(f'    pub {m.name}: {t},\n' for m, t in zip(node_kind.fields, types))
+    if node_kind.has_foreign: out += f'    /// The numbers of its foreign nodes.\n    pub foreign: {foreign},\n'
     return out
 
 
-def owned(form):
-    names = ', '.join(m.name for m in form.members)
-    pattern = names if len(form.members) == 1 else f'({names})'
-    constants = ''.join(f'        {m.name}.into_{m.method}();\n' for m in form.members if not m.is_field)
-    semantic_id = f'{form.id}: {form.id}_of(contents.semantic_id), ' if form.id else ''
-    fields = ''.join(f'{m.name}: {m.name}.into_{m.method}(), ' for m in form.fields)
-    parts = ', '.join(m.code_part.format(f'self.{m.name}') for m in form.members)
-    node = f'Node::new(Kind::{form.kind}, Contents {{ node_id: self.node_id, span: self.span, semantic_id: {f"{form.number()}(self.{form.id})" if form.id else "None"}, parts }})'
+def owned(node_kind):
+    names = ', '.join(m.name for m in node_kind.members)
+    pattern = names if len(node_kind.members) == 1 else f'({names})'
+    constants = ''.join(f'        {m.name}.into_{m.method}();\n' for m in node_kind.members if not m.is_field)
+    semantic_id = f'{node_kind.id}: {node_kind.id}_of(contents.semantic_id), ' if node_kind.id else ''
+    fields = ''.join(f'{m.name}: {m.name}.into_{m.method}(), ' for m in node_kind.fields)
+    parts = ', '.join(m.code_part.format(f'self.{m.name}') for m in node_kind.members)
+    node = f'Node::new(Kind::{node_kind.kind}, Contents {{ node_id: self.node_id, span: self.span, semantic_id: {f"{node_kind.number()}(self.{node_kind.id})" if node_kind.id else "None"}, parts }})'
     parameter, given, answer, result, also, back = '', '', 'Node', 'result', '', ''
-    if form.has_foreign:
+    if node_kind.has_foreign:
         parameter, given, answer, result = ', foreign: List<NodeId>', 'foreign, ', '(Node, List<NodeId>)', 'result.0'
         also, back = '; `foreign` has the numbers of its foreign nodes', ', with the numbers of its foreign nodes'
         node = f'({node}, self.foreign)'
     return f'''
-{documented(form.doc)}
+{documented(node_kind.doc)}
 #[derive(Drop)]
-pub struct {form.kind} {{
-{struct_fields(form, [m.owned for m in form.fields], 'List<NodeId>')}    emptied_parts: List<Part>,
-    ghost part_count: {{ length emptied_parts ≡ {len(form.members)} }},
+pub struct {node_kind.kind} {{
+{struct_fields(node_kind, [m.owned for m in node_kind.fields], 'List<NodeId>')}    emptied_parts: List<Part>,
+    ghost part_count: {{ length emptied_parts ≡ {len(node_kind.members)} }},
 }}
 
-impl {form.kind} {{
+impl {node_kind.kind} {{
     /// Takes a node of this kind apart{also}.
-    pub fn from_node(node: Node{parameter}) -> {form.kind}
-        requires {{ kind_of node ≡ Kind.{form.kind} }}
-{clauses(form, f'node ≡ {form.tree("result")}', 'result.foreign ≡ foreign')}
+    pub fn from_node(node: Node{parameter}) -> {node_kind.kind}
+        requires {{ kind_of node ≡ Kind.{node_kind.kind} }}
+{clauses(node_kind, f'node ≡ {node_kind.tree("result")}', 'result.foreign ≡ foreign')}
     {{
         let contents = node.into_contents();
         let mut emptied_parts = contents.parts;
-        let {pattern} = take_{form.count}(&mut emptied_parts);
-{constants}        {form.kind} {{ node_id: contents.node_id, span: contents.span, {semantic_id}{fields}{given}emptied_parts }}
+        let {pattern} = take_{node_kind.count}(&mut emptied_parts);
+{constants}        {node_kind.kind} {{ node_id: contents.node_id, span: contents.span, {semantic_id}{fields}{given}emptied_parts }}
     }}
 
     /// Puts the node together again{back}. Takes no memory.
     pub fn into_node(self) -> {answer}
-{clauses(form, f'{result} ≡ {form.tree("self")}', 'result.1 ≡ self.foreign')}
+{clauses(node_kind, f'{result} ≡ {node_kind.tree("self")}', 'result.1 ≡ self.foreign')}
     {{
         let mut parts = self.emptied_parts;
-        put_{form.count}(&mut parts, {parts});
+        put_{node_kind.count}(&mut parts, {parts});
         {node}
     }}
-{into_expression(form)}}}
+{into_expression(node_kind)}}}
 '''
 
 
-def into_expression(form):
+def into_expression(node_kind):
     """a declaration as an expression"""
-    if not form.kind.endswith('Declaration') or len(form.kinds) != 2: return ''
-    to = NodeKind(form.kinds[1], (None, form.kinds, (form.id, form.id_type), form.doc, []))
-    to.fields = form.fields
-    names = ['node_id', 'span'] + ([form.id] if form.id else []) + [m.name for m in form.fields] + ['emptied_parts']
+    if not node_kind.kind.endswith('Declaration') or len(node_kind.kinds) != 2: return ''
+    to = NodeKind(node_kind.kinds[1], (None, node_kind.kinds, (node_kind.id, node_kind.id_type), node_kind.doc, []))
+    to.fields = node_kind.fields
+    names = ['node_id', 'span'] + ([node_kind.id] if node_kind.id else []) + [m.name for m in node_kind.fields] + ['emptied_parts']
     return f'''
     /// The same as an expression: the kind alone changes.
     pub fn into_expression(self) -> {to.kind}
-{clause('ensures', f"{to.tree('result')} {unbroken(f'≡ of_kind Kind.{to.kind}')} ({form.tree('self')})")}
+{clause('ensures', f"{to.tree('result')} {unbroken(f'≡ of_kind Kind.{to.kind}')} ({node_kind.tree('self')})")}
     {{
         {to.kind} {{ {', '.join(f'{n}: self.{n}' for n in names)} }}
     }}
 '''
 
 
-def borrowed(form):
-    names = ', '.join(m.name for m in form.members)
-    constants = ''.join(f'                {m.name}.as_{m.method}();\n' for m in form.members if not m.is_field)
-    semantic_id = f'{form.id}: {form.id}_of(node.semantic_id()), ' if form.id else ''
-    fields = ''.join(f'{m.name}: {m.name}.as_{m.method}(), ' for m in form.fields)
-    parameter, given = (", foreign: &'a [NodeId]", 'foreign, ') if form.has_foreign else ('', '')
-    value = f'{form.ref} {{ node_id: node.node_id(), span: node.span(), {semantic_id}{fields}{given}}}'
+def borrowed(node_kind):
+    names = ', '.join(m.name for m in node_kind.members)
+    constants = ''.join(f'                {m.name}.as_{m.method}();\n' for m in node_kind.members if not m.is_field)
+    semantic_id = f'{node_kind.id}: {node_kind.id}_of(node.semantic_id()), ' if node_kind.id else ''
+    fields = ''.join(f'{m.name}: {m.name}.as_{m.method}(), ' for m in node_kind.fields)
+    parameter, given = (", foreign: &'a [NodeId]", 'foreign, ') if node_kind.has_foreign else ('', '')
+    value = f'{node_kind.ref} {{ node_id: node.node_id(), span: node.span(), {semantic_id}{fields}{given}}}'
     arm = f'{{\n{constants}                {value}\n            }}' if constants else value
     return f'''
-/// `{form.kind}`, borrowed.
+/// `{node_kind.kind}`, borrowed.
 #[derive(Clone, Copy)]
-pub struct {form.ref}<'a> {{
-{struct_fields(form, [m.borrowed for m in form.fields], "&'a [NodeId]")}}}
+pub struct {node_kind.ref}<'a> {{
+{struct_fields(node_kind, [m.borrowed for m in node_kind.fields], "&'a [NodeId]")}}}
 
-impl<'a> {form.ref}<'a> {{
+impl<'a> {node_kind.ref}<'a> {{
     /// Reads a node of this kind.
-    pub fn from_node(node: &'a Node{parameter}) -> {form.ref}<'a>
-        requires {{ kind_of node.now ≡ Kind.{form.kind} }}
-{clauses(form, f'node.now ≡ {form.seen_tree("result")}', 'result.foreign.now ≡ foreign.now')}
+    pub fn from_node(node: &'a Node{parameter}) -> {node_kind.ref}<'a>
+        requires {{ kind_of node.now ≡ Kind.{node_kind.kind} }}
+{clauses(node_kind, f'node.now ≡ {node_kind.seen_tree("result")}', 'result.foreign.now ≡ foreign.now')}
     {{
         match node.parts() {{
             [{names}] => {arm},
@@ -219,30 +219,35 @@ impl<'a> {form.ref}<'a> {{
 '''
 
 
-def maker(form):
-    tree = ' '.join([form.name, 'unnumbered', 'None'] + (['None'] if form.id else []) + [m.name for m in form.fields])
-    parts = ', '.join(m.code_part.format(m.name) for m in form.members)
+def maker(node_kind):
+    tree = ' '.join([node_kind.name, 'unnumbered', 'None'] + (['None'] if node_kind.id else []) + [m.name for m in node_kind.fields])
+    parts = ', '.join(m.code_part.format(m.name) for m in node_kind.members)
     return f'''
-{documented(f'Makes a node of this kind, which has no number yet: {form.doc[:1].lower() + form.doc[1:]} Fails on allocation failure alone.')}
-pub fn make_{form.name}(alloc: Global{''.join(f', {m.name}: {m.owned}' for m in form.fields)}) -> Result<Node, AllocError>
+{documented(f'Makes a node of this kind, which has no number yet: {node_kind.doc[:1].lower() + node_kind.doc[1:]} Fails on allocation failure alone.')}
+pub fn make_{node_kind.name}(alloc: Global{''.join(f', {m.name}: {m.owned}' for m in node_kind.fields)}) -> Result<Node, AllocError>
 {clause('ensures', f'IfOk result (λ t. t ≡ {tree})', '    ')}
 {{
     let parts = {f'vec![in alloc; {parts}]?' if parts else 'Vec::new(alloc)'};
-    Ok(Node::new(Kind::{form.kind}, Contents {{ node_id: NodeId::DUMMY, span: None, semantic_id: None, parts: List::from_vec(parts) }}))
+    Ok(Node::new(Kind::{node_kind.kind}, Contents {{ node_id: NodeId::DUMMY, span: None, semantic_id: None, parts: List::from_vec(parts) }}))
 }}
 '''
+
+
+def pattern_of(name):
+    """what a name that is imported looks like where it is used"""
+    return rf"\b{re.escape(name.split(' as ')[-1])}\b" if name[0].isalnum() else re.escape(name.strip('◌'))
 
 
 def import_lines(body, sources, line):
     """the lines of the names that the body has"""
     out = ''
     for path, names in sources:
-        used = [n for n in names if re.search(r'\b' + re.escape(n.split(' as ')[-1]) + r'\b' if n[0].isalnum() else re.escape(n.strip('◌')), body)]
+        used = [n for n in names if re.search(pattern_of(n), body)]
         if used: out += line(path, used)
     return out
 
 
-def code_imports(body, specs_of, forms):
+def code_imports(body, specs_of, node_kinds):
     numbers = ['scope_number', 'symbol_number', 'reference_number']
     ghost = import_lines('\n'.join(re.findall(r'(?:requires|ensures|ghost) [^{]*\{[^}]*\}', body)), [
         ('Rattle.std.specs.Prelude', ['◌≡◌', 'IfOk', 'None', 'length', 'option_map']),
@@ -251,7 +256,7 @@ def code_imports(body, specs_of, forms):
         (f'Rattle.{BASE}.specs.Tree', ['of_kind']),
         (f'Rattle.{BASE}.specs.declared.kind.Kind', ['Kind']),
         (f'Rattle.{NODE}.specs.View', ['kind_of']),
-        (specs_of, [form.name for form in forms]),
+        (specs_of, [node_kind.name for node_kind in node_kinds]),
     ], lambda path, names: f'ghost use {path}.{{{", ".join(names)}}};\n')
     ids = ['NodeId', 'Span', 'ScopeId', 'SymbolId', 'ReferenceId']
     code = import_lines(body, [
@@ -277,9 +282,12 @@ def spec_imports(body):
 
 def write_layer():
     for module, (crate, what) in MODULES.items():
-        forms = [NodeKind(kind, row) for row in ROWS.values() if row[0] == module for kind in row[1]]
-        specs, file = ''.join(map(spec, forms)), module.capitalize()
-        lines = '\n'.join(x for x in specs.split('\n') if not x.startswith('--'))
-        write(f'specs/{file}.antt', spec_head(what[:-1] + ': the tree of each kind by its members (ESTree; the order of members is our own).') + spec_imports(lines) + specs, crate)
-        body = ''.join((owned(f) + borrowed(f) if f.members else '') + maker(f) for f in forms)
-        write(f'src/{module}.rt', code_head(wrapped(f'{what} Each kind has a struct of its members, which keeps the emptied list of its node\'s parts, the same borrowed, and a maker.', '', '// ')) + '\n' + code_imports(body, f'Rattle.{crate}.specs.{file}', forms) + body, crate)
+        node_kinds = [NodeKind(kind, row) for row in ROWS.values() if row[0] == module for kind in row[1]]
+        file = module.capitalize()
+        specs = ''.join(map(spec, node_kinds))
+        head = spec_head(what[:-1] + ': the tree of each kind by its members (ESTree; the order of members is our own).')
+        without_comments = '\n'.join(line for line in specs.split('\n') if not line.startswith('--'))
+        write(f'specs/{file}.antt', head + spec_imports(without_comments) + specs, crate)
+        code = ''.join((owned(k) + borrowed(k) if k.members else '') + maker(k) for k in node_kinds)
+        head = wrapped(what + " Each kind has a struct of its members, which keeps the emptied list of its node's parts, the same borrowed, and a maker.", '', '// ')
+        write(f'src/{module}.rt', code_head(head) + '\n' + code_imports(code, f'Rattle.{crate}.specs.{file}', node_kinds) + code, crate)

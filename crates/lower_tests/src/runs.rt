@@ -31,19 +31,10 @@ struct Ended {
     output: String,
 }
 
-/// A run: its arguments, its input, and how it is to end.
-#[derive(Clone, Copy)]
-struct Case<'a> {
-    arguments: &'a [&'a str],
-    input: &'a str,
-    status: u8,
-    output: &'a str,
-}
-
-/// The arguments of a command line.
-fn arguments_of(alloc: Global, arguments: &[&str]) -> Result<Vec<String>, AllocError> {
+/// The arguments of a command line, which are written a line each.
+fn arguments_of(alloc: Global, arguments: &str) -> Result<Vec<String>, AllocError> {
     let mut list = Vec::new(alloc);
-    for argument in arguments {
+    for argument in arguments.lines() {
         list.push(String::from_str(alloc, argument)?)?;
     }
     Ok(list)
@@ -52,7 +43,7 @@ fn arguments_of(alloc: Global, arguments: &[&str]) -> Result<Vec<String>, AllocE
 /// A run with these arguments on this input.
 fn run_at(
     alloc: Global,
-    arguments: &[&str],
+    arguments: &str,
     input: &str,
     reads: Pace,
     writes: Pace,
@@ -76,263 +67,121 @@ const ALL_AT_ONCE: Pace = Pace {
     fails: &[],
 };
 
+/// Whether a run with these arguments on this input ends with this status and this output.
+fn ends_so(
+    alloc: Global,
+    arguments: &str,
+    input: &str,
+    status: u8,
+    output: &str,
+) -> Result<bool, AllocError> {
+    let ended = run_at(alloc, arguments, input, ALL_AT_ONCE, ALL_AT_ONCE)?;
+    Ok(ended.status == status && ended.output.as_str() == output)
+}
+
+const NONE: &str = "";
+
+const LOWER: &str = "--class-properties\n";
+
 #[test]
-fn runs_end_as_written(rt: HostRuntime) -> Result<(), Fail> {
-    let cases = [
-        Case {
-            arguments: &["--class-properties"],
-            input: one_field(),
-            status: 0,
-            output: one_field_lowered(),
-        },
-        Case {
-            arguments: &["--class-properties"],
-            input: two_fields(),
-            status: 0,
-            output: two_fields_lowered(),
-        },
-        Case {
-            arguments: &["--class-properties"],
-            input: no_field(),
-            status: 0,
-            output: no_field_written(),
-        },
-        Case {
-            arguments: &["--class-properties"],
-            input: two_classes(),
-            status: 0,
-            output: two_classes_lowered(),
-        },
-        Case {
-            arguments: &["--class-properties", "--class-properties"],
-            input: one_field(),
-            status: 0,
-            output: one_field_lowered(),
-        },
-        Case {
-            arguments: &[],
-            input: empty(),
-            status: 0,
-            output: empty_written(),
-        },
-        Case {
-            arguments: &[],
-            input: no_field(),
-            status: 0,
-            output: no_field_written(),
-        },
-        Case {
-            arguments: &[],
-            input: one_field(),
-            status: 0,
-            output: one_field_kept(),
-        },
-        Case {
-            arguments: &["--minify"],
-            input: one_field(),
-            status: 2,
-            output: "bad words\n",
-        },
-        Case {
-            arguments: &["--minify", "--class-properties"],
-            input: one_field(),
-            status: 2,
-            output: "bad words\n",
-        },
-        Case {
-            arguments: &["--class-properties", "--minify"],
-            input: one_field(),
-            status: 2,
-            output: "bad words\n",
-        },
-        Case {
-            arguments: &["--class-propertie"],
-            input: one_field(),
-            status: 2,
-            output: "bad words\n",
-        },
-        Case {
-            arguments: &["--class-propertie", "--class-properties"],
-            input: one_field(),
-            status: 2,
-            output: "bad words\n",
-        },
-        Case {
-            arguments: &["--class-properties", "--class-propertie"],
-            input: one_field(),
-            status: 2,
-            output: "bad words\n",
-        },
-        Case {
-            arguments: &["--class-propertiess"],
-            input: one_field(),
-            status: 2,
-            output: "bad words\n",
-        },
-        Case {
-            arguments: &["--class-propertiess", "--class-properties"],
-            input: one_field(),
-            status: 2,
-            output: "bad words\n",
-        },
-        Case {
-            arguments: &["--class-properties", "--class-propertiess"],
-            input: one_field(),
-            status: 2,
-            output: "bad words\n",
-        },
-        Case {
-            arguments: &[""],
-            input: one_field(),
-            status: 2,
-            output: "bad words\n",
-        },
-        Case {
-            arguments: &["", "--class-properties"],
-            input: one_field(),
-            status: 2,
-            output: "bad words\n",
-        },
-        Case {
-            arguments: &["--class-properties", ""],
-            input: one_field(),
-            status: 2,
-            output: "bad words\n",
-        },
-        Case {
-            arguments: &["--class-properties"],
-            input: r#"{"#,
-            status: 3,
-            output: "not a tree: json\n",
-        },
-        Case {
-            arguments: &[],
-            input: r#"{"#,
-            status: 3,
-            output: "not a tree: json\n",
-        },
-        Case {
-            arguments: &["--class-properties"],
-            input: r#"{"type":"Program","sourceType":"script","body":[3]}"#,
-            status: 3,
-            output: "not a tree: NotANode at 1\n",
-        },
-        Case {
-            arguments: &[],
-            input: r#"{"type":"Program","sourceType":"script","body":[3]}"#,
-            status: 3,
-            output: "not a tree: NotANode at 1\n",
-        },
-        Case {
-            arguments: &["--class-properties"],
-            input: r#"{"type":"Program","sourceType":"script","body":[{"type":"ParenthesizedExpression"}]}"#,
-            status: 3,
-            output: "not a tree: UnknownKind at 1\n",
-        },
-        Case {
-            arguments: &[],
-            input: r#"{"type":"Program","sourceType":"script","body":[{"type":"ParenthesizedExpression"}]}"#,
-            status: 3,
-            output: "not a tree: UnknownKind at 1\n",
-        },
-        Case {
-            arguments: &["--class-properties"],
-            input: r#"{"type":"Program","sourceType":"script","body":[{"type":"Identifier","name":"a"}]}"#,
-            status: 3,
-            output: "not a tree: WrongPlace at 1\n",
-        },
-        Case {
-            arguments: &[],
-            input: r#"{"type":"Program","sourceType":"script","body":[{"type":"Identifier","name":"a"}]}"#,
-            status: 3,
-            output: "not a tree: WrongPlace at 1\n",
-        },
-        Case {
-            arguments: &["--class-properties"],
-            input: r#"{"type":"Program","sourceType":"script","body":1}"#,
-            status: 3,
-            output: "not a tree: BadMember at 0\n",
-        },
-        Case {
-            arguments: &[],
-            input: r#"{"type":"Program","sourceType":"script","body":1}"#,
-            status: 3,
-            output: "not a tree: BadMember at 0\n",
-        },
-        Case {
-            arguments: &["--class-properties"],
-            input: r#"{"type":"Program","sourceType":"script","body":[{"type":"ExpressionStatement","expression":{"type":"Literal","value":1.5,"raw":"1.5"}}]}"#,
-            status: 3,
-            output: "not a tree: float at 2\n",
-        },
-        Case {
-            arguments: &[],
-            input: r#"{"type":"Program","sourceType":"script","body":[{"type":"ExpressionStatement","expression":{"type":"Literal","value":1.5,"raw":"1.5"}}]}"#,
-            status: 3,
-            output: "not a tree: float at 2\n",
-        },
-        // class D extends C {}
-        Case {
-            arguments: &["--class-properties"],
-            input: r#"{"type":"Program","body":[{"type":"ClassDeclaration","id":{"type":"Identifier","name":"D"},"superClass":{"type":"Identifier","name":"C"},"body":{"type":"ClassBody","body":[]}}],"sourceType":"script"}"#,
-            status: 1,
-            output: "refused: NotYet at 1\n",
-        },
-        Case {
-            arguments: &[],
-            input: r#"{"type":"Program","body":[{"type":"ClassDeclaration","id":{"type":"Identifier","name":"D"},"superClass":{"type":"Identifier","name":"C"},"body":{"type":"ClassBody","body":[]}}],"sourceType":"script"}"#,
-            status: 1,
-            output: "refused: NotYet at 1\n",
-        },
-        Case {
-            arguments: &["--class-properties"],
-            input: r#"{"type":"Program","sourceType":"script","body":[{"type":"ExpressionStatement","expression":{"type":"JSXElement"}}]}"#,
-            status: 1,
-            output: "refused: NotYet at 1\n",
-        },
-        Case {
-            arguments: &[],
-            input: r#"{"type":"Program","sourceType":"script","body":[{"type":"ExpressionStatement","expression":{"type":"JSXElement"}}]}"#,
-            status: 1,
-            output: "refused: NotYet at 1\n",
-        },
-        // class C { @a x }
-        Case {
-            arguments: &["--class-properties"],
-            input: r#"{"type":"Program","body":[{"type":"ClassDeclaration","id":{"type":"Identifier","name":"C"},"superClass":null,"body":{"type":"ClassBody","body":[{"type":"PropertyDefinition","static":false,"computed":false,"key":{"type":"Identifier","name":"x"},"value":null,"decorators":[{"type":"Decorator","expression":{"type":"Identifier","name":"a"}}]}]}}],"sourceType":"script"}"#,
-            status: 1,
-            output: "refused: NotYet at 4\n",
-        },
-        Case {
-            arguments: &[],
-            input: r#"{"type":"Program","body":[{"type":"ClassDeclaration","id":{"type":"Identifier","name":"C"},"superClass":null,"body":{"type":"ClassBody","body":[{"type":"PropertyDefinition","static":false,"computed":false,"key":{"type":"Identifier","name":"x"},"value":null,"decorators":[{"type":"Decorator","expression":{"type":"Identifier","name":"a"}}]}]}}],"sourceType":"script"}"#,
-            status: 1,
-            output: "refused: NotYet at 4\n",
-        },
-        // class C {}, a module
-        Case {
-            arguments: &["--class-properties"],
-            input: r#"{"type":"Program","body":[{"type":"ClassDeclaration","id":{"type":"Identifier","name":"C"},"superClass":null,"body":{"type":"ClassBody","body":[]}}],"sourceType":"module"}"#,
-            status: 1,
-            output: "refused: NotYet at 0\n",
-        },
-        Case {
-            arguments: &[],
-            input: r#"{"type":"Program","body":[{"type":"ClassDeclaration","id":{"type":"Identifier","name":"C"},"superClass":null,"body":{"type":"ClassBody","body":[]}}],"sourceType":"module"}"#,
-            status: 1,
-            output: "refused: NotYet at 0\n",
-        },
+fn programs_of_the_form_are_lowered(rt: HostRuntime) -> Result<(), Fail> {
+    let alloc = rt.alloc();
+    let lowered = [
+        (one_field(), one_field_lowered()),
+        (two_fields(), two_fields_lowered()),
+        (no_field(), no_field_written()),
+        (two_classes(), two_classes_lowered()),
     ];
-    for case in cases {
-        let ended = run_at(
-            rt.alloc(),
-            case.arguments,
-            case.input,
-            ALL_AT_ONCE,
-            ALL_AT_ONCE,
-        )?;
-        assert_eq!(rt; ended.output.as_str(), case.output, "of {}", case.input);
-        assert_eq!(rt; ended.status, case.status, "of {}", case.input);
+    for (input, output) in lowered {
+        assert!(rt; ends_so(alloc, LOWER, input, 0, output)?, "of {input}");
+    }
+    let twice = "--class-properties\n--class-properties\n";
+    assert!(rt; ends_so(alloc, twice, one_field(), 0, one_field_lowered())?);
+    let kept = [
+        (empty(), empty_written()),
+        (no_field(), no_field_written()),
+        (one_field(), one_field_kept()),
+    ];
+    for (input, output) in kept {
+        assert!(rt; ends_so(alloc, NONE, input, 0, output)?, "of {input}");
+    }
+    Ok(())
+}
+
+#[test]
+fn refusals_have_their_line(rt: HostRuntime) -> Result<(), Fail> {
+    let alloc = rt.alloc();
+    let arguments = [
+        "--minify\n",
+        "--minify\n--class-properties\n",
+        "--class-properties\n--minify\n",
+        "--class-propertie\n",
+        "--class-propertie\n--class-properties\n",
+        "--class-properties\n--class-propertie\n",
+        "--class-propertiess\n",
+        "--class-propertiess\n--class-properties\n",
+        "--class-properties\n--class-propertiess\n",
+        "\n",
+        "\n--class-properties\n",
+        "--class-properties\n\n",
+    ];
+    for arguments in arguments {
+        assert!(rt;
+            ends_so(alloc, arguments, one_field(), 2, "bad words\n")?,
+            "at {arguments}"
+        );
+    }
+    let no_programs = [
+        (r#"{"#, "not a tree: json\n"),
+        (
+            r#"{"type":"Program","sourceType":"script","body":[3]}"#,
+            "not a tree: NotANode at 1\n",
+        ),
+        (
+            r#"{"type":"Program","sourceType":"script","body":[{"type":"ParenthesizedExpression"}]}"#,
+            "not a tree: UnknownKind at 1\n",
+        ),
+        (
+            r#"{"type":"Program","sourceType":"script","body":[{"type":"Identifier","name":"a"}]}"#,
+            "not a tree: WrongPlace at 1\n",
+        ),
+        (
+            r#"{"type":"Program","sourceType":"script","body":1}"#,
+            "not a tree: BadMember at 0\n",
+        ),
+        (
+            r#"{"type":"Program","sourceType":"script","body":[{"type":"ExpressionStatement","expression":{"type":"Literal","value":1.5,"raw":"1.5"}}]}"#,
+            "not a tree: float at 2\n",
+        ),
+    ];
+    for (input, line) in no_programs {
+        assert!(rt; ends_so(alloc, LOWER, input, 3, line)?, "of {input}");
+        assert!(rt; ends_so(alloc, NONE, input, 3, line)?, "of {input}");
+    }
+    let other_forms = [
+        // class D extends C {}
+        (
+            r#"{"type":"Program","body":[{"type":"ClassDeclaration","id":{"type":"Identifier","name":"D"},"superClass":{"type":"Identifier","name":"C"},"body":{"type":"ClassBody","body":[]}}],"sourceType":"script"}"#,
+            "refused: NotYet at 1\n",
+        ),
+        (
+            r#"{"type":"Program","sourceType":"script","body":[{"type":"ExpressionStatement","expression":{"type":"JSXElement"}}]}"#,
+            "refused: NotYet at 1\n",
+        ),
+        // class C { @a x }
+        (
+            r#"{"type":"Program","body":[{"type":"ClassDeclaration","id":{"type":"Identifier","name":"C"},"superClass":null,"body":{"type":"ClassBody","body":[{"type":"PropertyDefinition","static":false,"computed":false,"key":{"type":"Identifier","name":"x"},"value":null,"decorators":[{"type":"Decorator","expression":{"type":"Identifier","name":"a"}}]}]}}],"sourceType":"script"}"#,
+            "refused: NotYet at 4\n",
+        ),
+        // class C {}, a module
+        (
+            r#"{"type":"Program","body":[{"type":"ClassDeclaration","id":{"type":"Identifier","name":"C"},"superClass":null,"body":{"type":"ClassBody","body":[]}}],"sourceType":"module"}"#,
+            "refused: NotYet at 0\n",
+        ),
+    ];
+    for (input, line) in other_forms {
+        assert!(rt; ends_so(alloc, LOWER, input, 1, line)?, "of {input}");
+        assert!(rt; ends_so(alloc, NONE, input, 1, line)?, "of {input}");
     }
     Ok(())
 }
@@ -349,7 +198,7 @@ fn small_steps_and_faults(rt: HostRuntime) -> Result<(), Fail> {
             step: write,
             fails: &[],
         };
-        let ended = run_at(alloc, &["--class-properties"], two_classes(), reads, writes)?;
+        let ended = run_at(alloc, "--class-properties\n", two_classes(), reads, writes)?;
         assert_eq!(rt;
             ended.output.as_str(),
             two_classes_lowered(),
@@ -365,7 +214,7 @@ fn small_steps_and_faults(rt: HostRuntime) -> Result<(), Fail> {
         };
         let ended = run_at(
             alloc,
-            &["--class-properties"],
+            "--class-properties\n",
             one_field(),
             reads,
             ALL_AT_ONCE,
@@ -390,7 +239,7 @@ fn small_steps_and_faults(rt: HostRuntime) -> Result<(), Fail> {
         };
         let ended = run_at(
             alloc,
-            &["--class-properties"],
+            "--class-properties\n",
             one_field(),
             ALL_AT_ONCE,
             writes,
@@ -413,7 +262,7 @@ fn small_steps_and_faults(rt: HostRuntime) -> Result<(), Fail> {
 
 /// A run on these bytes, where neither the source nor the sink can fail.
 fn run_surely(alloc: Global, bytes: Vec<u8>) -> Result<Ended, AllocError> {
-    let arguments = arguments_of(alloc, &["--class-properties"])?;
+    let arguments = arguments_of(alloc, "--class-properties\n")?;
     let mut source = SureSource::new(bytes);
     let mut sink = SureSink::new(alloc, ROOM)?;
     let status = run(alloc, arguments.as_slice(), &mut source, &mut sink);

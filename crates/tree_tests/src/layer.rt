@@ -1,7 +1,8 @@
 // The script `a;`, made by the typed layer, walked and changed.
 
 ghost use Rattle.std.specs.Prelude.{◌≡◌, IfOk};
-ghost use Rattle.es_base.specs.Preorder.{nodes};
+ghost use Rattle.es_base.specs.Numbered.{unnumbered};
+ghost use Rattle.es_base.specs.Preorder.{nodes, news};
 
 use es_base::ids::NodeId;
 use es_base::kind::Kind;
@@ -18,7 +19,8 @@ use std::test::Fail;
 
 /// `a;`
 fn statement(alloc: Global) -> Result<Node, AllocError>
-    ensures { IfOk result (λ t. nodes t ≡ 2) }
+    ensures count { IfOk result (λ t. nodes t ≡ 2) }
+    ensures news { IfOk result (λ t. news unnumbered t ≡ 2) }
 {
     let a = make_identifier_reference(alloc, Name::new(alloc, "a")?)?;
     make_expression_statement(alloc, a, None)
