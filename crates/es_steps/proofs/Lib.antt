@@ -2,3 +2,11 @@ pub mod Reflexive
 pub mod Defining
 pub mod PlainClasses
 pub mod FirstMeaning
+pub mod Mapped
+pub mod PartsMapped
+pub mod ScopesMapped
+pub mod ReferencesMapped
+pub mod MembersMapped
+pub mod PrivatesMapped
+pub mod ContextMapped
+pub mod FormsMapped
