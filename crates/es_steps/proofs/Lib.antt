@@ -10,3 +10,4 @@ pub mod MembersMapped
 pub mod PrivatesMapped
 pub mod ContextMapped
 pub mod FormsMapped
+pub mod ExpressionsMapped
