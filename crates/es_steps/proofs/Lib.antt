@@ -11,3 +11,5 @@ pub mod PrivatesMapped
 pub mod ContextMapped
 pub mod FormsMapped
 pub mod ExpressionsMapped
+pub mod StatementsMapped
+pub mod ReadingMapped
