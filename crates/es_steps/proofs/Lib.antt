@@ -13,3 +13,5 @@ pub mod FormsMapped
 pub mod ExpressionsMapped
 pub mod StatementsMapped
 pub mod ReadingMapped
+pub mod EvaluationMapped
+pub mod OpeningMapped
