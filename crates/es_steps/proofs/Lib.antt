@@ -15,3 +15,4 @@ pub mod StatementsMapped
 pub mod ReadingMapped
 pub mod EvaluationMapped
 pub mod OpeningMapped
+pub mod EntriesMapped
