@@ -29,5 +29,6 @@ pub mod SameValues
 pub mod Scopes
 pub mod Shapes
 pub mod Statements
+pub mod Standing
 pub mod Told
 pub mod Values

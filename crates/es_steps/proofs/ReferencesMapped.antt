@@ -1,0 +1,109 @@
+-- What references refer to, and which bindings are written, follow a change of numbers.
+use Rattle.std.specs.Prelude.{◌≡◌, ℕ, suc, List, [], ◌∷◌, ◌++◌, ◌||◌, map, Bool, true, false, bytes_eq, Option, Some, None}
+use Rattle.std.proofs.Common.{refl, ap, ◌∙◌}
+use Rattle.es_base.specs.Preorder.{preorder}
+use Rattle.es_base.specs.Table.{Field, members_of}
+use Rattle.es_base.specs.Tree.{Tree, Part, Parts, Node, end, more, child, list}
+use Rattle.es_steps.specs.Parts.{at, string_of}
+use Rattle.es_steps.specs.References.{declared, referent, Reference, is_target, is_reference, reference, references, references_in, part_references, item_references, resolve, has_number, numbers_of, if_bound, assigned, is_declared, repeated, is_for_each, written_by, written_by_all, written, is_free, writes_free}
+use Rattle.es_steps.specs.Scopes.{Declaration, names_at, is_body_part, scope_form, scope_names, var_part}
+use Rattle.es_steps.specs.Values.{String, Referent, Bound, Free}
+use Rattle.es_steps.proofs.Mapped.{mapped, mapped_part, mapped_parts, mapped_declaration, mapped_declarations, mapped_option, mapped_reference, mapped_referent, Renames}
+use Rattle.es_steps.proofs.PartsMapped.{cond-mapped, append-mapped, at-mapped, string_at-mapped, preorder-mapped}
+use Rattle.es_steps.proofs.ScopesMapped.{names_at-mapped, scope_names-mapped, var_part-mapped}
+
+module _ (f : ℕ → ℕ) where
+  -- ---- resolution
+
+  pub declared-mapped : (s : String) (ds : List Declaration) → declared s (mapped_declarations f ds) ≡ mapped_option (mapped_declaration f) (declared s ds)
+  declared-mapped s [] = refl
+  declared-mapped s (d ∷ ds) = cond-mapped (mapped_option (mapped_declaration f)) (bytes_eq s d.spelling) _ _ refl (declared-mapped s ds)
+
+  referent-mapped : (s : String) (d : Option Declaration) → referent s (mapped_option (mapped_declaration f) d) ≡ mapped_referent f (referent s d)
+  referent-mapped s None = refl
+  referent-mapped s (Some d) = refl
+
+  reference-mapped : (names : List Declaration) (target : Bool) (m : ℕ) (s : String) → reference (mapped_declarations f names) target (f m) s ≡ map (mapped_reference f) (reference names target m s)
+  reference-mapped names target m s = rw (declared-mapped s names, referent-mapped s (declared s names)) refl
+
+  mutual
+    pub references-mapped : (names : List Declaration) (target is_body : Bool) (t : Tree) → references (mapped_declarations f names) target is_body (mapped f t) ≡ map (mapped_reference f) (references names target is_body t)
+    references-mapped names target is_body (Node kind m span semantic_id ps) =
+        cond-mapped (map (mapped_reference f)) (is_reference kind) _ _
+        (rw (string_at-mapped f 0 ps) (reference-mapped names target m (string_of (at 0 ps))))
+        (references_in-mapped _ (λ i. names_at is_body kind m ps i ++ names) (is_body_part kind) (λ i. append-mapped (mapped_declaration f) _ names (names_at-mapped f is_body kind m ps i) refl) (members_of kind) ps)
+
+    -- names that are seen part by part
+    references_in-mapped : (seen names : ℕ → List Declaration) (bodies : ℕ → Bool) → ((i : ℕ) → seen i ≡ mapped_declarations f (names i)) → (fs : List Field) (ps : Parts) → references_in seen bodies fs (mapped_parts f ps) ≡ map (mapped_reference f) (references_in names bodies fs ps)
+    references_in-mapped seen names bodies same fs end = refl
+    references_in-mapped seen names bodies same [] (more p ps) = refl
+    references_in-mapped seen names bodies same (field ∷ fs) (more p ps) =
+        append-mapped (mapped_reference f) _ _
+        (rw (same 0) (part_references-mapped (names 0) (is_target field.sort) (bodies 0) p))
+        (references_in-mapped (λ i. seen (suc i)) (λ i. names (suc i)) (λ i. bodies (suc i)) (λ i. same (suc i)) fs ps)
+
+    part_references-mapped : (names : List Declaration) (target is_body : Bool) (p : Part) → part_references (mapped_declarations f names) target is_body (mapped_part f p) ≡ map (mapped_reference f) (part_references names target is_body p)
+    part_references-mapped names target is_body (child t) = references-mapped names target is_body t
+    part_references-mapped names target is_body (list ps) = item_references-mapped names target ps
+    part_references-mapped names target is_body p = refl
+
+    item_references-mapped : (names : List Declaration) (target : Bool) (ps : Parts) → item_references (mapped_declarations f names) target (mapped_parts f ps) ≡ map (mapped_reference f) (item_references names target ps)
+    item_references-mapped names target end = refl
+    item_references-mapped names target (more p ps) = append-mapped (mapped_reference f) _ _ (part_references-mapped names target false p) (item_references-mapped names target ps)
+
+  pub resolve-mapped : (t : Tree) → resolve (mapped f t) ≡ map (mapped_reference f) (resolve t)
+  resolve-mapped t = references-mapped [] false false t
+
+  -- ---- written names
+
+  numbers_of-mapped : (ds : List Declaration) → numbers_of (mapped_declarations f ds) ≡ map f (numbers_of ds)
+  numbers_of-mapped [] = refl
+  numbers_of-mapped (d ∷ ds) = ap (λ ns. f d.number ∷ ns) (numbers_of-mapped ds)
+
+  if_bound-mapped : (writes : Bool) (r : Referent) → if_bound writes (mapped_referent f r) ≡ map f (if_bound writes r)
+  if_bound-mapped true (Bound b) = refl
+  if_bound-mapped true (Free s) = refl
+  if_bound-mapped false r = refl
+
+  assigned-mapped : (rs : List Reference) → assigned (map (mapped_reference f) rs) ≡ map f (assigned rs)
+  assigned-mapped [] = refl
+  assigned-mapped (r ∷ rs) = append-mapped f _ _ (if_bound-mapped r.writes r.to) (assigned-mapped rs)
+
+  is_declared-mapped : (s : String) (ds : List Declaration) → is_declared s (mapped_declarations f ds) ≡ is_declared s ds
+  is_declared-mapped s [] = refl
+  is_declared-mapped s (d ∷ ds) = ap (λ b. bytes_eq s d.spelling || b) (is_declared-mapped s ds)
+
+  repeated-mapped : (ds : List Declaration) → repeated (mapped_declarations f ds) ≡ map f (repeated ds)
+  repeated-mapped [] = refl
+  repeated-mapped (d ∷ ds) = append-mapped f _ _ (rw (is_declared-mapped d.spelling ds) (cond-mapped (map f) (is_declared d.spelling ds) (d.number ∷ []) [] refl refl)) (repeated-mapped ds)
+
+  head_numbers-mapped : (ps : Parts) → numbers_of (var_part (at 0 (mapped_parts f ps))) ≡ map f (numbers_of (var_part (at 0 ps)))
+  head_numbers-mapped ps = rw (at-mapped f 0 ps, var_part-mapped f (at 0 ps)) (numbers_of-mapped (var_part (at 0 ps)))
+
+  written_by-mapped : (t : Tree) → written_by (mapped f t) ≡ map f (written_by t)
+  written_by-mapped (Node kind m span semantic_id ps) =
+      append-mapped f _ _
+      (rw (scope_names-mapped f (scope_form kind) m ps) (repeated-mapped (scope_names (scope_form kind) m ps)))
+      (cond-mapped (map f) (is_for_each kind) _ [] (head_numbers-mapped ps) refl)
+
+  written_by_all-mapped : (ts : List Tree) → written_by_all (map (mapped f) ts) ≡ map f (written_by_all ts)
+  written_by_all-mapped [] = refl
+  written_by_all-mapped (t ∷ ts) = append-mapped f _ _ (written_by-mapped t) (written_by_all-mapped ts)
+
+  pub written-mapped : (t : Tree) → written (mapped f t) ≡ map f (written t)
+  written-mapped t =
+      append-mapped f (assigned (resolve t)) (written_by_all (preorder t))
+      (ap assigned (resolve-mapped t) ∙ assigned-mapped (resolve t))
+      (ap written_by_all (preorder-mapped f t) ∙ written_by_all-mapped (preorder t))
+
+  is_free-mapped : (s : String) (to : Referent) → is_free s (mapped_referent f to) ≡ is_free s to
+  is_free-mapped s (Bound b) = refl
+  is_free-mapped s (Free t) = refl
+
+  pub writes_free-mapped : (s : String) (rs : List Reference) → writes_free s (map (mapped_reference f) rs) ≡ writes_free s rs
+  writes_free-mapped s [] = refl
+  writes_free-mapped s (r ∷ rs) = rw (is_free-mapped s r.to, writes_free-mapped s rs) refl
+
+pub has_number-mapped : {first : ℕ} {f : ℕ → ℕ} → Renames first f → (n : ℕ) (ks : List ℕ) → has_number (f n) (map f ks) ≡ has_number n ks
+has_number-mapped r n [] = refl
+has_number-mapped r n (k ∷ ks) = rw (r.apart n k, has_number-mapped r n ks) refl
