@@ -17,7 +17,7 @@ use Rattle.es_steps.specs.References.{Reference}
 use Rattle.class_properties.proofs.Declared.{two_ends, four_ends}
 use Rattle.class_properties.proofs.Numbered.{key_string, value_from, field_size, definitions_from, lowered_elements, statement_size, lowered_statements, lowered_from}
 use Rattle.class_properties.proofs.Shaped.{no_value, a_literal, a_reference, a_key, a_field, AreFields, a_body, a_name, a_class, AreClasses, IsProgram, a_program}
-use Rattle.class_properties.proofs.Standing.{both, or_left, stands-equal, here, apart-sym}
+use Rattle.class_properties.proofs.Standing.{still_new, both, or_left, stands-equal, here, apart-sym}
 
 -- ---- the numbers of classes rise
 
@@ -55,9 +55,6 @@ different m n l = grind (arith, l)
 
 -- ---- appended lists
 
-still_new : {first : ℕ} (k j : ℕ) → first ≤ k → first ≤ k + j
-still_new k j new = omega (arith, new)
-
 constructors-append : (first n : ℕ) (ts us : List Tree) → constructor_definitions first class_properties_alone [] n (ts ++ us) ≡ constructor_definitions first class_properties_alone [] n ts ++ constructor_definitions first class_properties_alone [] n us
 constructors-append first n [] us = refl
 constructors-append first n (Node kind m span semantic_id ps ∷ ts) us = rw (constructors-append first n ts us) (sym (append_assoc _ (constructor_definitions first class_properties_alone [] n ts) (constructor_definitions first class_properties_alone [] n us)))
@@ -74,44 +71,44 @@ supers-none : (first n : ℕ) (ts : List Tree) → super_definitions first class
 supers-none first n [] = refl
 supers-none first n (Node kind m span semantic_id ps ∷ ts) = supers-none first n ts
 
--- ---- the definitions that are made
+-- ---- the definitions of fields
 
-abbrev made_at : ℕ → Parts → FieldDefinition
-made_at k ps = record { object = child (node Kind.ThisExpression (k + 5) end); key = PublicKey (child (string_literal (k + 6) (key_string (at 0 ps)))) false; value = child (value_from (k + 7) (at 1 ps)) }
+abbrev field_definition : ℕ → Parts → FieldDefinition
+field_definition k ps = record { object = child (node Kind.ThisExpression (k + 5) end); key = PublicKey (child (string_literal (k + 6) (key_string (at 0 ps)))) false; value = child (value_from (k + 7) (at 1 ps)) }
 
-abbrev made : ℕ → Parts → List FieldDefinition
-made k end = []
-made k (more (child (Node kind m span semantic_id ps)) rest) = made_at k ps ∷ made (k + field_size ps) rest
-made k (more p rest) = made k rest
+abbrev field_definitions : ℕ → Parts → List FieldDefinition
+field_definitions k end = []
+field_definitions k (more (child (Node kind m span semantic_id ps)) rest) = field_definition k ps ∷ field_definitions (k + field_size ps) rest
+field_definitions k (more p rest) = field_definitions k rest
 
 module _ (first : ℕ) where
   abbrev constructors : ℕ → List Tree → List FieldDefinition
   constructors n ts = constructor_definitions first class_properties_alone [] n ts
 
-  statements-made : (n : ℕ) (es : Parts) → AreFields es → (k : ℕ) → first ≤ k → definitions_of first class_properties_alone [] n (trees (definitions_from k es)) ≡ made k es
-  statements-made n end h k new = refl
-  statements-made n (more p es) (a_field m span semantic_id key v (a_key i ispan i_semantic_id s) no_value, h) k new =
+  statements-define : (n : ℕ) (es : Parts) → AreFields es → (k : ℕ) → first ≤ k → definitions_of first class_properties_alone [] n (trees (definitions_from k es)) ≡ field_definitions k es
+  statements-define n end h k new = refl
+  statements-define n (more p es) (a_field m span semantic_id key v (a_key i ispan i_semantic_id s) no_value, h) k new =
       let later : nat_le first (k + 3) ≡ true = le-leb first (k + 3) (omega (arith, new)) in
-      rw later (ap (λ ds. made_at k (more key (more absent end)) ∷ ds) (statements-made n es h (k + 9) (still_new k 9 new)))
-  statements-made n (more p es) (a_field m span semantic_id key v (a_key i ispan i_semantic_id s) (a_literal l lspan l_semantic_id w), h) k new =
+      rw later (ap (λ ds. field_definition k (more key (more absent end)) ∷ ds) (statements-define n es h (k + 9) (still_new k 9 new)))
+  statements-define n (more p es) (a_field m span semantic_id key v (a_key i ispan i_semantic_id s) (a_literal l lspan l_semantic_id w), h) k new =
       let later : nat_le first (k + 3) ≡ true = le-leb first (k + 3) (omega (arith, new)) in
-      rw later (ap (λ ds. made_at k (more key (more v end)) ∷ ds) (statements-made n es h (k + 7) (still_new k 7 new)))
-  statements-made n (more p es) (a_field m span semantic_id key v (a_key i ispan i_semantic_id s) (a_reference r rspan r_semantic_id x), h) k new =
+      rw later (ap (λ ds. field_definition k (more key (more v end)) ∷ ds) (statements-define n es h (k + 7) (still_new k 7 new)))
+  statements-define n (more p es) (a_field m span semantic_id key v (a_key i ispan i_semantic_id s) (a_reference r rspan r_semantic_id x), h) k new =
       let later : nat_le first (k + 3) ≡ true = le-leb first (k + 3) (omega (arith, new)) in
-      rw later (ap (λ ds. made_at k (more key (more v end)) ∷ ds) (statements-made n es h (k + 7) (still_new k 7 new)))
+      rw later (ap (λ ds. field_definition k (more key (more v end)) ∷ ds) (statements-define n es h (k + 7) (still_new k 7 new)))
 
-  made-on_this : (es : Parts) → AreFields es → (k : ℕ) → first ≤ k → on_this first (made k es) ≡ made k es
-  made-on_this end h k new = refl
-  made-on_this (more p es) (a_field m span semantic_id key v hk hv, h) k new =
+  definitions-on_this : (es : Parts) → AreFields es → (k : ℕ) → first ≤ k → on_this first (field_definitions k es) ≡ field_definitions k es
+  definitions-on_this end h k new = refl
+  definitions-on_this (more p es) (a_field m span semantic_id key v hk hv, h) k new =
       let later : nat_le first (k + 5) ≡ true = le-leb first (k + 5) (omega (arith, new)) in
-      rw later (ap (λ ds. made_at k (more key (more v end)) ∷ ds) (made-on_this es h _ (still_new k _ new)))
+      rw later (ap (λ ds. field_definition k (more key (more v end)) ∷ ds) (definitions-on_this es h _ (still_new k _ new)))
 
   -- ---- of the constructor of a class
 
-  body-made : (n : ℕ) (es : Parts) → AreFields es → (k : ℕ) → first ≤ k → (j : ℕ) (span : _) (semantic_id : _) → function_definitions first class_properties_alone [] n (constructor_in (child (Node Kind.ClassBody j span semantic_id (more (list (lowered_elements k es)) end)))) ≡ made (k + 4) es
-  body-made n end h k new j span semantic_id = refl
-  body-made n (more p es) h k new j span semantic_id =
-      simp append-nil (statements-made n (more p es) h (k + 4) (still_new k 4 new))
+  body-defines : (n : ℕ) (es : Parts) → AreFields es → (k : ℕ) → first ≤ k → (j : ℕ) (span : _) (semantic_id : _) → function_definitions first class_properties_alone [] n (constructor_in (child (Node Kind.ClassBody j span semantic_id (more (list (lowered_elements k es)) end)))) ≡ field_definitions (k + 4) es
+  body-defines n end h k new j span semantic_id = refl
+  body-defines n (more p es) h k new j span semantic_id =
+      simp append-nil (statements-define n (more p es) h (k + 4) (still_new k 4 new))
 
   -- outside the classes there is none
   statements-none : (n : ℕ) (es : Parts) → AreFields es → (k : ℕ) → constructors n (preorder_of (trees (definitions_from k es))) ≡ []
@@ -137,21 +134,21 @@ module _ (first : ℕ) where
 
   -- ---- nothing is static
 
-  made-no_static : (n : ℕ) (members : List PrivateMember) (rs : List Reference) (ids : List ℕ) (es : Parts) → AreFields es → (k : ℕ) → first ≤ k → statics_of (is_static_of n [] members rs ids) (all_definitions first class_properties_alone [] (preorder_of (trees (definitions_from k es)))) ≡ []
-  made-no_static n members rs ids end h k new = refl
-  made-no_static n members rs ids (more p es) (a_field m span semantic_id key v hk no_value, h) k new =
+  definitions-no_static : (n : ℕ) (members : List PrivateMember) (rs : List Reference) (ids : List ℕ) (es : Parts) → AreFields es → (k : ℕ) → first ≤ k → statics_of (is_static_of n [] members rs ids) (all_definitions first class_properties_alone [] (preorder_of (trees (definitions_from k es)))) ≡ []
+  definitions-no_static n members rs ids end h k new = refl
+  definitions-no_static n members rs ids (more p es) (a_field m span semantic_id key v hk no_value, h) k new =
       let later : nat_le first (k + 3) ≡ true = le-leb first (k + 3) (omega (arith, new)) in
-      rw later (made-no_static n members rs ids es h (k + 9) (still_new k 9 new))
-  made-no_static n members rs ids (more p es) (a_field m span semantic_id key v hk (a_literal l lspan l_semantic_id w), h) k new =
+      rw later (definitions-no_static n members rs ids es h (k + 9) (still_new k 9 new))
+  definitions-no_static n members rs ids (more p es) (a_field m span semantic_id key v hk (a_literal l lspan l_semantic_id w), h) k new =
       let later : nat_le first (k + 3) ≡ true = le-leb first (k + 3) (omega (arith, new)) in
-      rw later (made-no_static n members rs ids es h (k + 7) (still_new k 7 new))
-  made-no_static n members rs ids (more p es) (a_field m span semantic_id key v hk (a_reference r rspan r_semantic_id x), h) k new =
+      rw later (definitions-no_static n members rs ids es h (k + 7) (still_new k 7 new))
+  definitions-no_static n members rs ids (more p es) (a_field m span semantic_id key v hk (a_reference r rspan r_semantic_id x), h) k new =
       let later : nat_le first (k + 3) ≡ true = le-leb first (k + 3) (omega (arith, new)) in
-      rw later (made-no_static n members rs ids es h (k + 7) (still_new k 7 new))
+      rw later (definitions-no_static n members rs ids es h (k + 7) (still_new k 7 new))
 
   elements-no_static : (n : ℕ) (members : List PrivateMember) (rs : List Reference) (ids : List ℕ) (es : Parts) → AreFields es → (k : ℕ) → first ≤ k → statics_of (is_static_of n [] members rs ids) (all_definitions first class_properties_alone [] (preorder_of (lowered_elements k es))) ≡ []
   elements-no_static n members rs ids end h k new = refl
-  elements-no_static n members rs ids (more p es) h k new = rw (four_ends (preorder_of (trees (definitions_from (k + 4) (more p es))))) (made-no_static n members rs ids (more p es) h (k + 4) (still_new k 4 new))
+  elements-no_static n members rs ids (more p es) h k new = rw (four_ends (preorder_of (trees (definitions_from (k + 4) (more p es))))) (definitions-no_static n members rs ids (more p es) h (k + 4) (still_new k 4 new))
 
   classes-no_static : (n : ℕ) (members : List PrivateMember) (rs : List Reference) (ids : List ℕ) (ps : Parts) → AreClasses ps → (k : ℕ) → first ≤ k → statics_of (is_static_of n [] members rs ids) (all_definitions first class_properties_alone [] (preorder_of (lowered_statements k ps))) ≡ []
   classes-no_static n members rs ids end h k new = refl
@@ -178,7 +175,7 @@ module _ (first : ℕ) where
   none-static end h = refl
   none-static (more p es) (a_field m span semantic_id key v hk hv, h) = none-static es h
 
-  fields-fit : (x : Names) (n : ℕ) (es : Parts) → AreFields es → (k : ℕ) → all_fit x n (elements_in es) (made k es) ≡ true
+  fields-fit : (x : Names) (n : ℕ) (es : Parts) → AreFields es → (k : ℕ) → all_fit x n (elements_in es) (field_definitions k es) ≡ true
   fields-fit x n end h k = refl
   fields-fit x n (more p es) (a_field m span semantic_id key v (a_key i ispan i_semantic_id s) no_value, h) k =
       both (both (string-same s) refl) (fields-fit x n es h (k + 9))
@@ -201,12 +198,12 @@ module _ (first : ℕ) where
   classes-fit members t q end h lo k r new same no_static = refl
   classes-fit members t q (more p ps) (a_class n span semantic_id id body (a_name i ispan i_semantic_id s free) (a_body j bspan b_semantic_id es he), h) lo k r new same no_static =
       let next : ℕ = k + statement_size p in
-      let there : constructors n (preorder q) ≡ made (k + 4) es =
-      same n r.0 ∙ rw (number-same n, body-made n es he k new j bspan b_semantic_id, class-rest n es ps he k next, classes-none n ps h (n + 1) next r.1 (omega arith)) (append-nil (made (k + 4) es)) in
+      let there : constructors n (preorder q) ≡ field_definitions (k + 4) es =
+      same n r.0 ∙ rw (number-same n, body-defines n es he k new j bspan b_semantic_id, class-rest n es ps he k next, classes-none n ps h (n + 1) next r.1 (omega arith)) (append-nil (field_definitions (k + 4) es)) in
       let later : (m : ℕ) → n + 1 ≤ m → constructors m (preorder q) ≡ constructors m (preorder_of (lowered_statements next ps)) =
       λ m l. same m (omega (arith, l, r.0)) ∙ rw (apart-sym n m (different n m (omega (arith, l))), class-rest m es ps he k next) refl in
       let fits : class_fits first class_properties_alone [] members t q n (elements_in es) ≡ true =
-      rw (no_methods es he, all-defined es he, none-static es he, no_static n, supers-none first n (preorder q), there, made-on_this es he (k + 4) (still_new k 4 new)) (both (fields-fit (names_of first [] t q n) n es he (k + 4)) refl) in
+      rw (no_methods es he, all-defined es he, none-static es he, no_static n, supers-none first n (preorder q), there, definitions-on_this es he (k + 4) (still_new k 4 new)) (both (fields-fit (names_of first [] t q n) n es he (k + 4)) refl) in
       let rest : classes_fit first class_properties_alone [] members t q (preorder_of es ++ [] ++ [] ++ preorder_of ps) ≡ true =
       rw (two_ends (preorder_of es) (preorder_of ps), fields-pass members t q es he (preorder_of ps)) (classes-fit members t q ps h (n + 1) next r.1 (still_new k (statement_size p) new) later no_static) in
       both fits rest

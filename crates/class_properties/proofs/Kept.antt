@@ -14,7 +14,7 @@ use Rattle.es_steps.proofs.Reflexive.{number-same}
 use Rattle.es_steps.specs.Definitions.{chosen, element_numbers, body_numbers, elements_kept}
 use Rattle.es_steps.specs.KeptNodes.{statement_list, item_numbers, free_numbers, free_lists, free_lists_at, free_lists_in, list_of, is_within, all_within, is_free_statement, free_statements, free_at, free_in}
 use Rattle.es_steps.specs.Lowered.{IsLowered, is_lowered_kind, kind_of, none_lowered, own_name_numbers, all_accounted}
-use Rattle.es_steps.specs.LoweredClasses.{Element, elements_of, is_lowered_element, is_lowered_class}
+use Rattle.es_steps.specs.LoweredClasses.{Element, elements_of, is_lowered_element, any_element, is_lowered_class, holds_lowered, has_lowered_class}
 use Rattle.es_steps.specs.Meaning.{lowered_means, source_means}
 use Rattle.es_steps.specs.Options.{no_options}
 use Rattle.es_steps.specs.Printable.{is_printable}
@@ -82,6 +82,18 @@ not_lowered kind = refl
 none_left : (ts : List Tree) → none_lowered no_options ts ≡ true
 none_left [] = refl
 none_left (t ∷ ts) = rw (not_lowered (kind_of t)) (none_left ts)
+
+no_element : (es : List Element) → any_element (is_lowered_element no_options) es ≡ false
+no_element [] = refl
+no_element (e ∷ es) = no_element es
+
+holds-none : (ts : List Tree) → holds_lowered no_options ts ≡ false
+holds-none [] = refl
+holds-none (Node kind m span semantic_id ps ∷ ts) = rw (no_element (elements_of ps), and-false (is_class kind)) (holds-none ts)
+
+-- no program has a class that is lowered, so each comes back unchanged
+pub source-unlowered : (t : Tree) → has_lowered_class no_options t ≡ false
+source-unlowered t = holds-none (preorder t)
 
 -- ---- what stands in a program stands in itself
 

@@ -35,12 +35,8 @@ use Rattle.class_properties.proofs.Shaped.{IsValue, no_value, a_literal, a_refer
 use Rattle.class_properties.proofs.Numbered.{key_string, value_from, definitions_from, lowered_elements, lowered_statements}
 use Rattle.class_properties.proofs.Numbered as numbered
 use Rattle.class_properties.proofs.Renumbered.{lowered-numbered}
+use Rattle.class_properties.proofs.Standing.{still_new}
 use Rattle.class_properties.specs.Lowering.{lowered}
-
--- ---- numbers
-
-still_new : {first : ℕ} (k more : ℕ) → first ≤ k → first ≤ k + more
-still_new k more new = omega (arith, new)
 
 -- ---- contexts: what of one the value of a field reads
 

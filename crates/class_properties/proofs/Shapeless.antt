@@ -1,7 +1,6 @@
 -- A program of the first form has no shape, under any options.
 use Rattle.std.specs.Prelude.{◌≡◌, ℕ, List, [], ◌∷◌, ◌++◌, Bool, true, false, cond, not, ◌&&◌, ◌||◌, Option}
 use Rattle.std.proofs.Common.{refl}
-use Rattle.std.proofs.lemmas.Bool.{true≢false}
 use Rattle.std.proofs.Math.Bool.{and-false}
 use Rattle.std.proofs.lemmas.List.{append-nil}
 use Rattle.es_base.specs.Conforms.{conforms}
@@ -25,6 +24,7 @@ use Rattle.es_steps.specs.Shapes.{ClassAt, class_at, lowered_classes, any_class,
 use Rattle.es_steps.specs.declared.options.Options.{Options}
 use Rattle.class_properties.proofs.Declared.{two_ends}
 use Rattle.class_properties.proofs.Shaped.{no_value, a_literal, a_reference, a_key, a_field, AreFields, a_body, a_name, a_class, AreClasses, IsProgram, a_program, first_form-shaped}
+use Rattle.class_properties.proofs.Standing.{none_of}
 
 -- ---- the classes that are lowered
 
@@ -103,10 +103,6 @@ names-none rs k (plain_at n j span semantic_id id es h) = no_keys (id_number id)
 
 or_none : (a b : Bool) → a ≡ false → b ≡ false → (a || b) ≡ false
 or_none a b h i = rw (h, i) refl
-
-none_of : (a b : Bool) → (a || b) ≡ false → (a ≡ false) × (b ≡ false)
-none_of true b h = absurd (true≢false h)
-none_of false b h = (refl, h)
 
 twice-append : (ws : List ℕ) (rs : List Reference) (ts us : List Tree) → reads_written_twice ws rs ts ≡ false → reads_written_twice ws rs us ≡ false → reads_written_twice ws rs (ts ++ us) ≡ false
 twice-append ws rs [] us h i = i

@@ -1,10 +1,11 @@
 -- What stands where: trees among the nodes of a program, one list within another, and that a tree is itself.
 use Rattle.std.specs.Prelude.{◌≡◌, ℕ, List, [], ◌∷◌, ◌++◌, Bool, true, false, cond, not, ◌&&◌, ◌||◌, nat_eq, Option, Some, None}
-use Rattle.std.proofs.Common.{refl, sym, arith}
+use Rattle.std.proofs.Common.{refl, ◌+◌, ◌≤◌, arith}
 use Rattle.std.proofs.lemmas.Bool.{and_from, and_parts, true≢false}
 use Rattle.es_base.specs.Tree.{Tree, Part, Parts, Node, end, more, child, absent, list, string, no_string, boolean, literal}
 use Rattle.es_base.specs.declared.literal.LiteralValue.{LiteralValue}
 use Rattle.es_base.specs.declared.literal.LiteralValue.TheVariants as literal_value
+use Rattle.es_steps.proofs.FirstMeaning.{no_false}
 use Rattle.es_steps.proofs.Reflexive.{number-same, string-same}
 use Rattle.es_steps.specs.Definitions.{DefinedKey, BrandKey, PrivateKey, PublicKey, FieldDefinition, key_temporary, key_temporaries, all_temporaries}
 use Rattle.es_steps.specs.KeptNodes.{NodeSort, a_class, a_function, a_call, a_construction, another, sort_of, is_kept_sort, same_sort, stands_as, all_stand, stands_equal, all_equal, list_of, is_within, all_within}
@@ -13,9 +14,6 @@ use Rattle.es_steps.specs.SameTrees.{same_tree, same_part, same_parts, same_lite
 use Rattle.es_steps.specs.SameValues.{same_boolean, same_nullable_string}
 use Rattle.es_steps.specs.Values.{String}
 use Rattle.es_steps.specs.declared.options.Options.{Options}
-
-pub no_false : {A : Type 0} → false ≡ true → A
-no_false h = absurd (true≢false (sym h))
 
 pub both : {a b : Bool} → a ≡ true → b ≡ true → a && b ≡ true
 both {a = a} {b = b} p q = and_from a b p q
@@ -26,6 +24,13 @@ or_left a b h = rw h refl
 pub or_right : (a b : Bool) → b ≡ true → a || b ≡ true
 or_right true b h = refl
 or_right false b h = h
+
+pub none_of : (a b : Bool) → (a || b) ≡ false → (a ≡ false) × (b ≡ false)
+none_of true b h = absurd (true≢false h)
+none_of false b h = (refl, h)
+
+pub still_new : {first : ℕ} (k j : ℕ) → first ≤ k → first ≤ k + j
+still_new k j new = omega (arith, new)
 
 -- ---- trees in lists
 
