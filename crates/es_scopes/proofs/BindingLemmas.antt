@@ -1,0 +1,94 @@
+-- The names of a scope, by their characters, against the map of their strings.
+use Rattle.std.proofs.Common.{◌≡◌, refl, sym, ap, ◌∙◌, ℕ, zero, suc, ◌+◌, ◌-◌, ◌<◌, List, [], ◌∷◌, ◌++◌, map, length, take, set, get_or, Bool, true, false, cond, true≢false, Option, Some, None, nat_lt, arith}
+use Rattle.std.specs.Prelude.{bytes_eq, not}
+use Rattle.std.specs.Str.{chars, IsUtf8}
+use Rattle.std.specs.String.{string_bytes, string_eq}
+use Rattle.std.specs.declared.string.String.{String}
+use Rattle.std.specs.List.{prefix_len, swap_remove, position, position_or_len}
+use Rattle.std.specs.Map as entries
+use Rattle.std.proofs.lemmas.Str.{IsUtf8-string_bytes}
+use Rattle.std.proofs.lemmas.List.{length-append, length-map}
+use Rattle.std.proofs.lemmas.Bool.Decides.{nat_tests}
+use Rattle.std.proofs.Math.Seq.{get_or-append_seam}
+use Rattle.indexmap.specs.IndexMap.{IndexMap, get, swap_remove_entry}
+use Rattle.es_base.specs.declared.ids.SymbolId.{SymbolId}
+use Rattle.es_base.proofs.Spelling.{bytes_eq_chars}
+use Rattle.es_scopes.specs.Bindings.{Names, lookup, renamed, names_of}
+
+-- a name is found by its characters where it is found by its bytes
+pub lookup-names_of : {A : Type 0} (bs : List ℕ) → IsUtf8 bs → (es : List (String A × SymbolId)) → entries.lookup (λ k. bytes_eq bs (string_bytes k)) es ≡ lookup (chars bs) (names_of es)
+lookup-names_of bs u [] = refl
+lookup-names_of bs u (e ∷ es) = rw (bytes_eq_chars bs (string_bytes e.0) u (IsUtf8-string_bytes e.0), lookup-names_of bs u es) refl
+
+-- and so it is by a string of the same bytes
+pub get-names_of : {A S : Type 0} (bs : List ℕ) → IsUtf8 bs → (m : IndexMap (String A) SymbolId S) (key : String A) (names : Names) → string_bytes key ≡ bs → names_of m.entries ≡ names → (r : Option SymbolId) → lookup (chars bs) names ≡ r → get string_eq m key ≡ r
+get-names_of bs u m key names is view r h =
+    ap (λ b. entries.lookup (λ k. bytes_eq b (string_bytes k)) m.entries) is ∙ lookup-names_of bs u m.entries ∙ ap (lookup (chars bs)) view ∙ h
+
+pub names_of-append : {A : Type 0} (es fs : List (String A × SymbolId)) → names_of (es ++ fs) ≡ names_of es ++ names_of fs
+names_of-append [] fs = refl
+names_of-append (e ∷ es) fs = ap (λ l. (chars (string_bytes e.0), e.1) ∷ l) (names_of-append es fs)
+
+module _ {K X : Type 0} (test : K → Bool) (n : K × X) where
+  -- the entries, with n in the place of the first that passes
+  abbrev pub replaced : List (K × X) → List (K × X)
+  replaced [] = []
+  replaced (e ∷ es) = cond (test e.0) (n ∷ es) (e ∷ replaced es)
+
+  take-set : (es : List (K × X)) (k : ℕ) (v : K × X) → k < length es → take (length es) (set (es ++ n ∷ []) k v) ≡ set es k v
+  take-set [] k v h = absurd (omega arith)
+  take-set (e ∷ es) zero v h = ap (λ l. v ∷ l) (take_front es)
+    where
+      take_front : (es : List (K × X)) → take (length es) (es ++ n ∷ []) ≡ es
+      take_front [] = refl
+      take_front (e ∷ es) = ap (λ l. e ∷ l) (take_front es)
+  take-set (e ∷ es) (suc k) v h = ap (λ l. e ∷ l) (take-set es k v (omega arith))
+
+  -- the last of a list takes the place of the k-th
+  swap_last : (es : List (K × X)) (k : ℕ) (d : K × X) → k < length es → swap_remove (es ++ n ∷ []) k d ≡ set es k n
+  swap_last es k d h =
+      let size : length (es ++ n ∷ []) - 1 ≡ length es = omega (arith, length-append es (n ∷ [])) in
+      (λ i. take (size i) (set (es ++ n ∷ []) k (get_or (es ++ n ∷ []) (size i) d)))
+      ∙ ap (λ v. take (length es) (set (es ++ n ∷ []) k v)) (get_or-append_seam es n [] d)
+      ∙ take-set es k n h
+
+  record Found (es : List (K × X)) (k : ℕ) : Type 0 where
+    pub at : prefix_len (λ x. not (test x)) (entries.keys_of (es ++ n ∷ [])) ≡ k
+    pub within : k < length es
+    pub is : set es k n ≡ replaced es
+
+  abbrev Found_somewhere : List (K × X) → Type 0
+  Found_somewhere es = (k : ℕ) × Found es k
+
+  found : (es : List (K × X)) (x : X) → entries.lookup test es ≡ Some x → Found_somewhere es
+  found [] x h = cc
+  found (e ∷ es) x h =
+      elim (test e.0) as (λ b. test e.0 ≡ b → Found_somewhere (e ∷ es)) [
+        | true ↦ λ t. (0, record { at = rw t refl; within = omega arith; is = rw t refl })
+        | false ↦ λ t.
+            let next = found es x (rw t at h) in
+            (suc next.0, record { at = rw t (omega (arith, next.1.at)); within = omega (arith, next.1.within); is = rw t (ap (λ l. e ∷ l) next.1.is) })
+      ] refl
+
+  -- once n is added, taking out the first that passes leaves n in its place
+  pub swap_remove_entry-push : (es : List (K × X)) (x : X) → entries.lookup test es ≡ Some x → swap_remove_entry test (es ++ n ∷ []) ≡ replaced es
+  swap_remove_entry-push [] x h = cc
+  swap_remove_entry-push (e ∷ es) x h =
+      let place = found (e ∷ es) x h in
+      let at : position_or_len test (entries.keys_of (e ∷ (es ++ n ∷ []))) ≡ place.0 = place.1.at in
+      let keys : length (entries.keys_of (e ∷ (es ++ n ∷ []))) ≡ length es + 2 = simp (length-map, length-append) (omega arith) in
+      let within : nat_lt (position_or_len test (entries.keys_of (e ∷ (es ++ n ∷ [])))) (length (entries.keys_of (e ∷ (es ++ n ∷ [])))) ≡ true =
+          rw (at, keys) (grind (arith, nat_tests, place.1.within)) in
+      let where_is : position test (entries.keys_of (e ∷ (es ++ n ∷ []))) ≡ Some place.0 = rw (within, at) refl in
+      rw where_is (swap_last (e ∷ es) place.0 e place.1.within ∙ place.1.is)
+
+pub names_of-replaced : {A : Type 0} (bs : List ℕ) → IsUtf8 bs → (n : String A × SymbolId) (es : List (String A × SymbolId)) → lookup (chars bs) (names_of es) ≡ Some n.1
+    → names_of (replaced (λ k. bytes_eq bs (string_bytes k)) n es) ≡ renamed (chars bs) (chars (string_bytes n.0)) (names_of es)
+names_of-replaced bs u n [] h = refl
+names_of-replaced {A} bs u n (e ∷ es) h =
+    let same : bytes_eq (chars bs) (chars (string_bytes e.0)) ≡ bytes_eq bs (string_bytes e.0) = sym (bytes_eq_chars bs (string_bytes e.0) u (IsUtf8-string_bytes e.0)) in
+    let Goal = λ (k : Bool). names_of {A = A} (cond k (n ∷ es) (e ∷ replaced (λ k. bytes_eq bs (string_bytes k)) n es)) ≡ cond (bytes_eq (chars bs) (chars (string_bytes e.0))) ((chars (string_bytes n.0), e.1) ∷ names_of es) ((chars (string_bytes e.0), e.1) ∷ renamed (chars bs) (chars (string_bytes n.0)) (names_of es)) in
+    elim (bytes_eq bs (string_bytes e.0)) as (λ b. bytes_eq bs (string_bytes e.0) ≡ b → Goal b) [
+      | true ↦ λ t. rw (same ∙ t) (let is : e.1 ≡ n.1 = cc (rw (same ∙ t) at h) in ap (λ y. (chars (string_bytes n.0), y) ∷ names_of es) (sym is))
+      | false ↦ λ t. rw (same ∙ t) (ap (λ l. (chars (string_bytes e.0), e.1) ∷ l) (names_of-replaced bs u n es (rw (same ∙ t) at h)))
+    ] refl
