@@ -1,3 +1,4 @@
 pub mod Bindings
+pub mod ReferenceNumbers
 pub mod References
 pub mod Row

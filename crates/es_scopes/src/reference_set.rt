@@ -19,7 +19,6 @@ pub struct ReferenceSet {
 }
 
 impl Model for ReferenceSet {
-    ghost use Rattle.std.specs.Prelude.{map};
     ghost use Rattle.std.specs.Coded.{coded_ℕ};
     ghost use Rattle.std.specs.FinSet as set;
     ghost use Rattle.std.specs.Ordering.{nat_cmp};
@@ -28,7 +27,9 @@ impl Model for ReferenceSet {
 
     ghost coded = { set.code coded_ℕ };
 
-    ghost view = { λ r. set.from_list (map (λ k. k.0) r.references.keys) };
+    ghost use Rattle.es_scopes.specs.ReferenceNumbers.{numbers_of};
+
+    ghost view = { λ r. numbers_of r.references.keys };
 }
 
 impl ReferenceSet {
