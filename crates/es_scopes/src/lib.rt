@@ -7,4 +7,6 @@
 pub mod bindings;
 pub mod flags;
 pub mod reference_set;
+pub mod scope_ancestors;
+pub mod scoping;
 pub mod table;
