@@ -4,15 +4,17 @@ use Rattle.std.specs.Prelude.{bytes_eq, not}
 use Rattle.std.specs.Str.{chars, IsUtf8}
 use Rattle.std.specs.String.{string_bytes, string_eq}
 use Rattle.std.specs.declared.string.String.{String}
-use Rattle.std.specs.List.{prefix_len, swap_remove, position, position_or_len}
+use Rattle.std.specs.List.{AllByRecursion, IsDistinct, prefix_len, swap_remove, position, position_or_len}
 use Rattle.std.specs.Map as entries
 use Rattle.std.proofs.lemmas.Str.{IsUtf8-string_bytes}
 use Rattle.std.proofs.lemmas.List.{length-append, length-map}
+use Rattle.std.proofs.lemmas.Slice.Eq.{bytes_eq-Decides}
 use Rattle.std.proofs.lemmas.Bool.Decides.{nat_tests}
 use Rattle.std.proofs.Math.Seq.{get_or-append_seam}
 use Rattle.indexmap.specs.IndexMap.{IndexMap, get, swap_remove_entry}
 use Rattle.es_base.specs.declared.ids.SymbolId.{SymbolId}
 use Rattle.es_base.proofs.Spelling.{bytes_eq_chars}
+use Rattle.es_scopes.specs.Table.{or_else}
 use Rattle.es_scopes.specs.Bindings.{Names, lookup, renamed, names_of}
 
 -- a name is found by its characters where it is found by its bytes
@@ -82,13 +84,44 @@ module _ {K X : Type 0} (test : K → Bool) (n : K × X) where
       let where_is : position test (entries.keys_of (e ∷ (es ++ n ∷ []))) ≡ Some place.0 = rw (within, at) refl in
       rw where_is (swap_last (e ∷ es) place.0 e place.1.within ∙ place.1.is)
 
-pub names_of-replaced : {A : Type 0} (bs : List ℕ) → IsUtf8 bs → (n : String A × SymbolId) (es : List (String A × SymbolId)) → lookup (chars bs) (names_of es) ≡ Some n.1
-    → names_of (replaced (λ k. bytes_eq bs (string_bytes k)) n es) ≡ renamed (chars bs) (chars (string_bytes n.0)) (names_of es)
-names_of-replaced bs u n [] h = refl
-names_of-replaced {A} bs u n (e ∷ es) h =
-    let same : bytes_eq (chars bs) (chars (string_bytes e.0)) ≡ bytes_eq bs (string_bytes e.0) = sym (bytes_eq_chars bs (string_bytes e.0) u (IsUtf8-string_bytes e.0)) in
-    let Goal = λ (k : Bool). names_of {A = A} (cond k (n ∷ es) (e ∷ replaced (λ k. bytes_eq bs (string_bytes k)) n es)) ≡ cond (bytes_eq (chars bs) (chars (string_bytes e.0))) ((chars (string_bytes n.0), e.1) ∷ names_of es) ((chars (string_bytes e.0), e.1) ∷ renamed (chars bs) (chars (string_bytes n.0)) (names_of es)) in
-    elim (bytes_eq bs (string_bytes e.0)) as (λ b. bytes_eq bs (string_bytes e.0) ≡ b → Goal b) [
-      | true ↦ λ t. rw (same ∙ t) (let is : e.1 ≡ n.1 = cc (rw (same ∙ t) at h) in ap (λ y. (chars (string_bytes n.0), y) ∷ names_of es) (sym is))
-      | false ↦ λ t. rw (same ∙ t) (ap (λ l. (chars (string_bytes e.0), e.1) ∷ l) (names_of-replaced bs u n es (rw (same ∙ t) at h)))
-    ] refl
+module _ {A : Type 0} (bs : List ℕ) (u : IsUtf8 bs) (n : String A × SymbolId) where
+  abbrev is_old : String A → Bool
+  is_old k = bytes_eq bs (string_bytes k)
+
+  same_chars : (k : String A) → bytes_eq (chars bs) (chars (string_bytes k)) ≡ is_old k
+  same_chars k = sym (bytes_eq_chars bs (string_bytes k) u (IsUtf8-string_bytes k))
+
+  -- where no key is the old one, no name is changed
+  renamed-absent : (new : List ℕ) (es : List (String A × SymbolId)) (x : String A) → is_old x ≡ true → AllByRecursion (λ k. string_eq x k ≡ false) (entries.keys_of (es ++ n ∷ []))
+      → renamed (chars bs) new (names_of es) ≡ names_of es
+  renamed-absent new [] x old apart = refl
+  renamed-absent new (e ∷ es) x old apart =
+      let other : is_old e.0 ≡ false = ap (λ b. bytes_eq b (string_bytes e.0)) ((bytes_eq-Decides bs (string_bytes x)).0 old) ∙ apart.0 in
+      (λ i. (cond ((same_chars e.0 ∙ other) i) new (chars (string_bytes e.0)), e.1) ∷ renamed-absent new es x old apart.1 i)
+
+  -- a map has the old key once, so its name is changed where n takes its place
+  pub names_of-replaced : (es : List (String A × SymbolId)) → IsDistinct string_eq (entries.keys_of (es ++ n ∷ [])) → lookup (chars bs) (names_of es) ≡ Some n.1
+      → names_of (replaced is_old n es) ≡ renamed (chars bs) (chars (string_bytes n.0)) (names_of es)
+  unfolding IsDistinct
+  names_of-replaced [] unique h = refl
+  names_of-replaced (e ∷ es) unique h =
+      let new = chars (string_bytes n.0) in
+      let Goal = λ (old : Bool). names_of (cond old (n ∷ es) (e ∷ replaced is_old n es)) ≡ (cond (bytes_eq (chars bs) (chars (string_bytes e.0))) new (chars (string_bytes e.0)), e.1) ∷ renamed (chars bs) new (names_of es) in
+      elim (is_old e.0) as (λ b. is_old e.0 ≡ b → Goal b) [
+        | true ↦ λ t. rw (same_chars e.0 ∙ t) (
+            let is : e.1 ≡ n.1 = cc (rw (same_chars e.0 ∙ t) at h) in
+            (λ i. (new, sym is i) ∷ sym (renamed-absent new es e.0 t unique.0) i))
+        | false ↦ λ t. rw (same_chars e.0 ∙ t) (ap (λ l. (chars (string_bytes e.0), e.1) ∷ l) (names_of-replaced es unique.1 (rw (same_chars e.0 ∙ t) at h)))
+      ] refl
+
+-- what a name means once another has been renamed to one that was free
+pub lookup-renamed : (old new n : List ℕ) (names : Names) → lookup new names ≡ None → lookup n (renamed old new names) ≡ cond (bytes_eq n new) (lookup old names) (cond (bytes_eq n old) None (lookup n names))
+lookup-renamed old new n [] free = ?
+lookup-renamed old new n (e ∷ names) free = ?
+
+pub lookup-push : (n name : List ℕ) (y : SymbolId) (names : Names) → lookup n (names ++ (name, y) ∷ []) ≡ or_else (lookup n names) (cond (bytes_eq n name) (Some y) None)
+lookup-push n name y [] = refl
+lookup-push n name y (e ∷ names) = elim (bytes_eq n e.0) as (λ b. cond b (Some e.1) (lookup n (names ++ (name, y) ∷ [])) ≡ or_else (cond b (Some e.1) (lookup n names)) (cond (bytes_eq n name) (Some y) None)) [
+    | true ↦ refl
+    | false ↦ lookup-push n name y names
+  ]

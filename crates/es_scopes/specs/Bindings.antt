@@ -16,8 +16,7 @@ lookup name (e ∷ es) = if bytes_eq name e.0 then Some e.1 else lookup name es
 
 -- the names, with another in the place of this one
 abbrev pub renamed : List ℕ → List ℕ → Names → Names
-renamed old new [] = []
-renamed old new (e ∷ es) = if bytes_eq old e.0 then (new, e.1) ∷ es else e ∷ renamed old new es
+renamed old new names = map (λ e. (if bytes_eq old e.0 then new else e.0, e.1)) names
 
 -- the names that these strings spell
 abbrev pub names_of : {A : Type 0} → List (String A × SymbolId) → Names

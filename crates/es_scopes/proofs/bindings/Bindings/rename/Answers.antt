@@ -1,5 +1,6 @@
-use Rattle.std.proofs.Common.{◌≡◌, ◌∙◌, ◌++◌, ◌∷◌, [], None, Some, ap, String, Global}
+use Rattle.std.proofs.Common.{◌≡◌, ◌∙◌, ◌++◌, ◌∷◌, [], None, Some, ap, subst, String, Global}
 use Rattle.std.specs.Prelude.{bytes_eq}
+use Rattle.std.specs.List.{IsDistinct}
 use Rattle.std.specs.Map as entries
 use Rattle.std.specs.Str.{chars}
 use Rattle.std.specs.String.{string_bytes, string_eq}
@@ -21,5 +22,5 @@ returns-clause-ok c =
     let held : lookup (chars old_name) (names_of map.entries) ≡ Some c.args.symbol = ap (lookup (chars old_name)) c.self.view_is ∙ c.requires.held in
     let found : entries.lookup is_old map.entries ≡ Some c.args.symbol = lookup-names_of old_name c.utf8.old_name map.entries ∙ held in
     ap names_of (c.swap_remove.ensures.entries ∙ ap (swap_remove_entry is_old) added ∙ swap_remove_entry-push is_old (key, c.args.symbol) map.entries c.args.symbol found)
-    ∙ names_of-replaced old_name c.utf8.old_name (key, c.args.symbol) map.entries held
+    ∙ names_of-replaced old_name c.utf8.old_name (key, c.args.symbol) map.entries (subst (λ l. IsDistinct string_eq (entries.keys_of l)) added c.in_ok-insert.ensures.unique) held
     ∙ (λ i. renamed (chars old_name) (chars (is i)) (c.self.view_is i))
