@@ -114,10 +114,48 @@ module _ {A : Type 0} (bs : List ℕ) (u : IsUtf8 bs) (n : String A × SymbolId)
         | false ↦ λ t. rw (same_chars e.0 ∙ t) (ap (λ l. (chars (string_bytes e.0), e.1) ∷ l) (names_of-replaced es unique.1 (rw (same_chars e.0 ∙ t) at h)))
       ] refl
 
+none_parts : (b : Bool) (y : SymbolId) (o : Option SymbolId) → cond b (Some y) o ≡ None → (b ≡ false) × (o ≡ None)
+none_parts true y o h = cc
+none_parts false y o h = (refl, h)
+
+pub bytes_eq-apart : (a b c : List ℕ) → bytes_eq a b ≡ true → bytes_eq c b ≡ false → bytes_eq a c ≡ false
+bytes_eq-apart a b c same other = elim (bytes_eq a c) as (λ r. bytes_eq a c ≡ r → r ≡ false) [
+    | true ↦ λ t. sym ((bytes_eq-Decides c b).1 (sym ((bytes_eq-Decides a c).0 t) ∙ (bytes_eq-Decides a b).0 same)) ∙ other
+    | false ↦ λ _. refl
+  ] refl
+
+bytes_eq-same : (a b c : List ℕ) → bytes_eq b c ≡ true → bytes_eq a c ≡ bytes_eq a b
+bytes_eq-same a b c same = ap (bytes_eq a) (sym ((bytes_eq-Decides b c).0 same))
+
+abbrev no_symbol : Option SymbolId
+no_symbol = None
+
+nones : (a b : Bool) → cond a no_symbol (cond b no_symbol no_symbol) ≡ no_symbol
+nones true b = refl
+nones false true = refl
+nones false false = refl
+
 -- what a name means once another has been renamed to one that was free
 pub lookup-renamed : (old new n : List ℕ) (names : Names) → lookup new names ≡ None → lookup n (renamed old new names) ≡ cond (bytes_eq n new) (lookup old names) (cond (bytes_eq n old) None (lookup n names))
-lookup-renamed old new n [] free = ?
-lookup-renamed old new n (e ∷ names) free = ?
+lookup-renamed old new n [] free = sym (nones (bytes_eq n new) (bytes_eq n old))
+lookup-renamed old new n (e ∷ names) free =
+    let parts = none_parts (bytes_eq new e.0) e.1 (lookup new names) free in
+    let rest = lookup-renamed old new n names parts.1 in
+    let Goal = λ (o : Bool). cond (bytes_eq n (cond o new e.0)) (Some e.1) (lookup n (renamed old new names)) ≡ cond (bytes_eq n new) (cond o (Some e.1) (lookup old names)) (cond (bytes_eq n old) None (cond (bytes_eq n e.0) (Some e.1) (lookup n names))) in
+    elim (bytes_eq old e.0) as (λ o. bytes_eq old e.0 ≡ o → Goal o) [
+      | true ↦ λ is_old.
+          rw (bytes_eq-same n old e.0 is_old, rest)
+          (elim (bytes_eq n new) as (λ a. cond a (Some e.1) (cond a (lookup old names) (cond (bytes_eq n old) None (lookup n names))) ≡ cond a (Some e.1) (cond (bytes_eq n old) None (cond (bytes_eq n old) (Some e.1) (lookup n names)))) [
+            | true ↦ refl
+            | false ↦ elim (bytes_eq n old) as (λ b. cond b None (lookup n names) ≡ cond b None (cond b (Some e.1) (lookup n names))) [ true ↦ refl | false ↦ refl ]
+          ])
+      | false ↦ λ not_old.
+          rw rest
+          (elim (bytes_eq n e.0) as (λ c. bytes_eq n e.0 ≡ c → cond c (Some e.1) (cond (bytes_eq n new) (lookup old names) (cond (bytes_eq n old) None (lookup n names))) ≡ cond (bytes_eq n new) (lookup old names) (cond (bytes_eq n old) None (cond c (Some e.1) (lookup n names)))) [
+            | true ↦ λ is. rw (bytes_eq-apart n e.0 new is parts.0, bytes_eq-apart n e.0 old is not_old) refl
+            | false ↦ λ _. refl
+          ] refl)
+    ] refl
 
 pub lookup-push : (n name : List ℕ) (y : SymbolId) (names : Names) → lookup n (names ++ (name, y) ∷ []) ≡ or_else (lookup n names) (cond (bytes_eq n name) (Some y) None)
 lookup-push n name y [] = refl

@@ -1,2 +1,5 @@
 pub mod BindingLemmas
 pub mod ReferenceLemmas
+pub mod RowLemmas
+pub mod TableLemmas
+pub mod TreeLemmas

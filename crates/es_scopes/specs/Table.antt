@@ -138,50 +138,92 @@ with_symbol t y f = record t { symbols = changed_at f y.0 t.symbols }
 abbrev pub with_reference : Table → ReferenceId → (Reference → Reference) → Table
 with_reference t r f = record t { references = changed_at f r.0 t.references }
 
+-- other flags of a scope
+abbrev pub scope_flagged : ScopeFlags → Scope → Scope
+scope_flagged f x = record x { flags = f }
+
 abbrev pub with_scope_flags : Table → ScopeId → ScopeFlags → Table
-with_scope_flags t s f = with_scope t s (λ x. record x { flags = f })
+with_scope_flags t s f = with_scope t s (scope_flagged f)
+
+-- another parent, or none
+abbrev pub below : Option ScopeId → Scope → Scope
+below p x = record x { parent = p }
 
 abbrev pub with_parent : Table → ScopeId → Option ScopeId → Table
-with_parent t s p = with_scope t s (λ x. record x { parent = p })
+with_parent t s p = with_scope t s (below p)
+
+-- other flags of a symbol
+abbrev pub symbol_flagged : SymbolFlags → Symbol → Symbol
+symbol_flagged f x = record x { flags = f }
 
 abbrev pub with_symbol_flags : Table → SymbolId → SymbolFlags → Table
-with_symbol_flags t y f = with_symbol t y (λ x. record x { flags = f })
+with_symbol_flags t y f = with_symbol t y (symbol_flagged f)
+
+-- other flags of a reference
+abbrev pub reference_flagged : ReferenceFlags → Reference → Reference
+reference_flagged f x = record x { flags = f }
 
 abbrev pub with_reference_flags : Table → ReferenceId → ReferenceFlags → Table
-with_reference_flags t r f = with_reference t r (λ x. record x { flags = f })
+with_reference_flags t r f = with_reference t r (reference_flagged f)
+
+-- another target
+abbrev pub targeted : SymbolId → Reference → Reference
+targeted y x = record x { symbol_id = Some y }
 
 abbrev pub with_target : Table → ReferenceId → SymbolId → Table
-with_target t r y = with_reference t r (λ x. record x { symbol_id = Some y })
+with_target t r y = with_reference t r (targeted y)
 
 -- a reference more on the list of a symbol
-abbrev pub with_listed : Table → SymbolId → ℕ → Table
-with_listed t y r = with_symbol t y (λ x. record x { references = set.insert x.references r })
+abbrev pub listing : ℕ → Symbol → Symbol
+listing r x = record x { references = set.insert x.references r }
+
+abbrev pub with_listed : Table → SymbolId → ReferenceId → Table
+with_listed t y r = with_symbol t y (listing r.0)
 
 -- and one less
-abbrev pub without_listed : Table → SymbolId → ℕ → Table
-without_listed t y r = with_symbol t y (λ x. record x { references = set.remove x.references r })
+abbrev pub unlisting : ℕ → Symbol → Symbol
+unlisting r x = record x { references = set.remove x.references r }
+
+abbrev pub without_listed : Table → SymbolId → ReferenceId → Table
+without_listed t y r = with_symbol t y (unlisting r.0)
+
+-- a new scope, without names
+abbrev pub new_scope : Option ScopeId → ScopeFlags → Scope
+new_scope p f = record { parent = p; flags = f; names = [] }
 
 abbrev pub with_new_scope : Table → Option ScopeId → ScopeFlags → Table
-with_new_scope t p f = record t { scopes = t.scopes ++ Some (record { parent = p; flags = f; names = [] }) ∷ [] }
+with_new_scope t p f = record t { scopes = t.scopes ++ Some (new_scope p f) ∷ [] }
 
-abbrev pub with_new_symbol : Table → List ℕ → ScopeId → SymbolFlags → Table
-with_new_symbol t name s f = record t { symbols = t.symbols ++ record { name = name; scope = s; flags = f; references = set.empty; is_marked = false } ∷ [] }
+-- a new symbol, without references and mark
+abbrev pub new_symbol : List ℕ → ScopeId → SymbolFlags → Symbol
+new_symbol name s f = record { name = name; scope = s; flags = f; references = set.empty; is_marked = false }
+
+-- one name more
+abbrev pub holding : List ℕ → SymbolId → Scope → Scope
+holding name y x = record x { names = x.names ++ (name, y) ∷ [] }
 
 -- a new symbol, as the last name of a scope
 abbrev pub with_binding : Table → ScopeId → List ℕ → SymbolFlags → Table
-with_binding t s name f = with_scope (with_new_symbol t name s f) s (λ x. record x { names = x.names ++ (name, record { 0 = length t.symbols }) ∷ [] })
+with_binding t s name f = with_scope (record t { symbols = t.symbols ++ new_symbol name s f ∷ [] }) s (holding name (record { 0 = length t.symbols }))
+
+-- another name in the place of one
+abbrev pub renaming : List ℕ → List ℕ → Scope → Scope
+renaming old new x = record x { names = renamed old new x.names }
+
+abbrev pub called : List ℕ → Symbol → Symbol
+called name x = record x { name = name }
 
 -- another name for a symbol that a scope holds, in its place
 abbrev pub with_name : Table → SymbolId → ScopeId → List ℕ → Table
-with_name t y s name = with_symbol (with_scope t s (λ x. record x { names = renamed (name_of t y) name x.names })) y (λ x. record x { name = name })
+with_name t y s name = with_symbol (with_scope t s (renaming (name_of t y) name)) y (called name)
 
+-- a new reference, which is on the list of its symbol
 abbrev pub with_new_reference : Table → Option SymbolId → ReferenceFlags → Table
 with_new_reference t y f = record t { references = t.references ++ record { symbol_id = y; flags = f } ∷ [] }
 
--- a new reference, which is on the list of its symbol
 abbrev pub with_created_reference : Table → Option SymbolId → ReferenceFlags → Table
 with_created_reference t None f = with_new_reference t None f
-with_created_reference t (Some y) f = with_listed (with_new_reference t (Some y) f) y (length t.references)
+with_created_reference t (Some y) f = with_listed (with_new_reference t (Some y) f) y (record { 0 = length t.references })
 
 abbrev pub is_scope : ScopeId → Option ScopeId → Bool
 is_scope s None = false

@@ -90,9 +90,10 @@ impl Scoping {
         requires { HasScope self.old scope_id }
         ensures { self.new ≡ with_scope_flags self.old scope_id flags }
     {
-        if let Some(scope) = &mut self.scopes[scope_id.0 as usize] {
-            scope.flags = flags;
-        }
+        let Some(scope) = &mut self.scopes[scope_id.0 as usize] else {
+            unreachable!();
+        };
+        scope.flags = flags;
     }
 
     /// The scope around, unless this is a root.
@@ -139,9 +140,10 @@ impl Scoping {
         requires outside { ForSome parent (λ p. ¬ IsWithin self.old scope_id p) }
         ensures { self.new ≡ with_parent self.old scope_id parent }
     {
-        if let Some(scope) = &mut self.scopes[scope_id.0 as usize] {
-            scope.parent = parent;
-        }
+        let Some(scope) = &mut self.scopes[scope_id.0 as usize] else {
+            unreachable!();
+        };
+        scope.parent = parent;
     }
 
     /// Removes a scope that holds no name and is no root. The scopes right below it get its parent.
@@ -213,9 +215,10 @@ impl Scoping {
             is_marked: false,
         };
         self.symbols.push(symbol)?;
-        if let Some(scope) = &mut self.scopes[scope_id.0 as usize] {
-            scope.names.insert(name, id)?;
-        }
+        let Some(scope) = &mut self.scopes[scope_id.0 as usize] else {
+            unreachable!();
+        };
+        scope.names.insert(name, id)?;
         Ok(id)
     }
 
@@ -227,9 +230,12 @@ impl Scoping {
     {
         let new_name = Name::new(self.alloc, name)?;
         let symbol = &mut self.symbols[symbol_id.0 as usize];
-        if let Some(scope) = &mut self.scopes[scope_id.0 as usize] {
-            scope.names.rename(symbol.name.as_str(), name, symbol_id)?;
-        }
+        let Some(scope) = &mut self.scopes[scope_id.0 as usize] else {
+            unreachable!();
+        };
+        scope
+            .names
+            .rename(symbol.name.as_str(), name, symbol_id)?;
         symbol.name = new_name;
         Ok(())
     }
@@ -322,7 +328,7 @@ impl Scoping {
     pub fn add_resolved_reference(&mut self, symbol_id: SymbolId, reference_id: ReferenceId) -> Result<(), AllocError>
         requires symbol { HasSymbol self.old symbol_id }
         requires reference { HasReference self.old reference_id }
-        ensures ok { OnOk result (self.new ≡ with_listed self.old symbol_id reference_id.0) }
+        ensures ok { OnOk result (self.new ≡ with_listed self.old symbol_id reference_id) }
         ensures err { OnErr result (self.new ≡ self.old) }
     {
         self.symbols[symbol_id.0 as usize]
@@ -334,7 +340,7 @@ impl Scoping {
     pub fn delete_resolved_reference(&mut self, symbol_id: SymbolId, reference_id: ReferenceId)
         requires symbol { HasSymbol self.old symbol_id }
         requires reference { HasReference self.old reference_id }
-        ensures { self.new ≡ without_listed self.old symbol_id reference_id.0 }
+        ensures { self.new ≡ without_listed self.old symbol_id reference_id }
     {
         self.symbols[symbol_id.0 as usize]
             .references

@@ -1,3 +1,7 @@
+use Rattle.es_scopes.proofs.TableLemmas.{IsTable-scope_flags}
+use Rattle.es_scopes.proofs.TreeLemmas.{ends-le}
+use Rattle.es_scopes.proofs.RowLemmas.{same_or_other}
+use Rattle.es_scopes.proofs.BindingLemmas.{lookup-push}
 use Rattle.std.proofs.Common.{rules, ◌≡◌, ◌↔◌, ◌⊎◌, ◌-◌, ◌^◌, ◌<◌, [], ◌∷◌, true, length, map, option_map, IsTrue, IsSome, IfOk, OnOk, OnErr, IfSome, All, Some, None, ℕ, ◌+◌, ◌*◌, ◌≤◌, ◌/◌, ◌%◌, Bool, false, nat_eq, nat_lt, List, ◌++◌, slice_index_or, slice_set, bit_and, bit_or, Fits, w8, w32, w64, Bor, MutBor}
 use Rattle.std.specs.Option.{ForSome}
 use Rattle.std.specs.Str.{chars}
