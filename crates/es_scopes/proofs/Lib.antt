@@ -1,4 +1,5 @@
 pub mod BindingLemmas
+pub mod NameLemmas
 pub mod ReferenceLemmas
 pub mod RowLemmas
 pub mod TableLemmas

@@ -8,13 +8,13 @@ use Rattle.std.proofs.lemmas.Bool.Decides.{Decides-eqb}
 use Rattle.std.proofs.lemmas.Bool.{and_parts}
 use Rattle.std.specs.Option.{option_and_then, ForSome}
 use Rattle.std.specs.FinSet as set
-use Rattle.std.proofs.lemmas.List.{length-append}
+use Rattle.std.proofs.lemmas.List.{length-append, length-map}
 use Rattle.std.proofs.lemmas.Slice.Eq.{bytes_eq-Decides}
 use Rattle.es_base.specs.declared.ids.ScopeId.{ScopeId}
 use Rattle.es_base.specs.declared.ids.SymbolId.{SymbolId}
 use Rattle.es_base.specs.declared.ids.ReferenceId.{ReferenceId}
 use Rattle.es_scopes.specs.Bindings.{Names, lookup, renamed}
-use Rattle.es_scopes.specs.Table.{Table, changed_at, row_at, parents, names_of_row, AreTrees, AreNamed, IsNamed, HaveTargets, AreListed, IsTable, listed, ends, ends_from, chain, or_else, scope_flagged, below, symbol_flagged, reference_flagged, targeted, listing, unlisting, new_scope, new_symbol, holding, renaming, called, with_new_reference}
+use Rattle.es_scopes.specs.Table.{Table, changed_at, row_at, parents, names_of_row, AreTrees, AreNamed, IsNamed, HaveTargets, AreListed, IsTable, listed, ends, ends_from, chain, or_else, scope_flagged, below, symbol_flagged, reference_flagged, targeted, listing, unlisting, new_scope, new_symbol, holding, renaming, called, with_new_reference, lifted, is_scope, parent_of, without_scope}
 use Rattle.es_scopes.specs.declared.flags.ScopeFlags.{ScopeFlags}
 use Rattle.es_scopes.specs.declared.flags.SymbolFlags.{SymbolFlags}
 use Rattle.es_scopes.specs.declared.flags.ReferenceFlags.{ReferenceFlags}
@@ -22,14 +22,14 @@ use Rattle.es_scopes.specs.declared.table.Scope.{Scope}
 use Rattle.es_scopes.specs.declared.table.Symbol.{Symbol}
 use Rattle.es_scopes.specs.declared.table.Reference.{Reference}
 use Rattle.es_scopes.proofs.RowLemmas.{same_or_other, length-changed_at, slice_get-changed_at_same, slice_get-changed_at_other, slice_get-push_within, slice_get-push_last, slice_get-push_cases, within_from_some, within_from_row, option_map-and_then, is_some-option_map}
-use Rattle.es_scopes.proofs.TreeLemmas.{ends-le, ends-same, ends-there, ends-moved, ends-beside, ends-lifted, is_among, Contains-among}
+use Rattle.es_scopes.proofs.TreeLemmas.{ends-le, ends-same, ends-there, ends-moved, ends-beside, ends-lifted, is_among, Contains-among, lifted_parent}
 
 and_right : (a b : Bool) → (a && b) ≡ true → b ≡ true
 and_right a b h = (and_parts a b h).1
 
 -- ---- rows of scopes
 
-row_of : Option (Option Scope) → Option Scope
+abbrev row_of : Option (Option Scope) → Option Scope
 row_of o = option_and_then (λ r. r) o
 
 pub row_at-changed_same : (f : Scope → Scope) (i : ℕ) (scopes : List (Option Scope)) → row_at (changed_at (option_map f) i scopes) i ≡ option_map f (row_at scopes i)
@@ -265,7 +265,75 @@ IsTable-moved t s p h there around outside = record {
   }
   where
     not_among : (q : ScopeId) → (Contains (chain (parents t.scopes) (length t.scopes) q) s → ⊥) → is_among s (chain (parents t.scopes) (length t.scopes) q) ≡ false
-    not_among q no = elim (is_among s (chain (parents t.scopes) (length t.scopes) q)) as (λ b. is_among s (chain (parents t.scopes) (length t.scopes) q) ≡ b → b ≡ false) [
-        | true ↦ λ m. absurd (no (Contains-among s (chain (parents t.scopes) (length t.scopes) q) m))
+    not_among q away = elim (is_among s (chain (parents t.scopes) (length t.scopes) q)) as (λ b. is_among s (chain (parents t.scopes) (length t.scopes) q) ≡ b → b ≡ false) [
+        | true ↦ λ m. absurd (away (Contains-among s (chain (parents t.scopes) (length t.scopes) q) m))
         | false ↦ λ _. refl
       ] refl
+
+-- ---- a scope removed
+
+module _ (scopes : List (Option Scope)) (s : ScopeId) (up : Option ScopeId) where
+  abbrev without : List (Option Scope)
+  without = changed_at (λ row. None) s.0 (map (option_map (lifted s up)) scopes)
+
+  row_at-map : (f : Scope → Scope) (rows : List (Option Scope)) (i : ℕ) → row_at (map (option_map f) rows) i ≡ option_map f (row_at rows i)
+  row_at-map f [] i = refl
+  row_at-map f (x ∷ rows) zero = refl
+  row_at-map f (x ∷ rows) (suc i) = row_at-map f rows i
+
+  gone : (o : Option (Option Scope)) → row_of (option_map (λ row. None) o) ≡ None
+  gone None = refl
+  gone (Some x) = refl
+
+  without-at : row_at without s.0 ≡ None
+  without-at = ap row_of (slice_get-changed_at_same (λ row. None) s.0 (map (option_map (lifted s up)) scopes)) ∙ gone (slice_get (map (option_map (lifted s up)) scopes) s.0)
+
+  without-elsewhere : (i : ℕ) → i ≢ s.0 → row_at without i ≡ option_map (lifted s up) (row_at scopes i)
+  without-elsewhere i apart = row_at-changed_other (λ row. None) s.0 i (map (option_map (lifted s up)) scopes) apart ∙ row_at-map (lifted s up) scopes i
+
+  lifted_of : (o : Option Scope) → option_map (λ x. x.parent) (option_map (lifted s up) o) ≡ lifted_parent s up (option_map (λ x. x.parent) o)
+  lifted_of None = refl
+  lifted_of (Some x) = by x.parent
+    where
+      by : (p : Option ScopeId) → Some (cond (is_scope s p) up p) ≡ lifted_parent s up (Some p)
+      by None = refl
+      by (Some p) = elim (nat_eq s.0 p.0) as (λ b. Some (cond b up (Some p)) ≡ cond b (Some up) (Some (Some p))) [ true ↦ refl | false ↦ refl ]
+
+  live_from : (q : ScopeId) → is_some (row_at without q.0) ≡ true → (q.0 ≢ s.0) × (is_some (row_at scopes q.0) ≡ true)
+  live_from q live = elim (same_or_other q.0 s.0) [
+      | inl same ↦ absurd (true≢false (sym live ∙ ap (λ i. is_some (row_at without i)) same ∙ ap is_some without-at))
+      | inr apart ↦ (apart, sym (ap is_some (without-elsewhere q.0 apart) ∙ is_some-option_map (lifted s up) (row_at scopes q.0)) ∙ live)
+    ]
+
+  len-without : length without ≡ length scopes
+  len-without = length-changed_at (λ row. None) s.0 (map (option_map (lifted s up)) scopes) ∙ simp length-map
+
+  pub AreTrees-without : parents scopes s ≡ Some up → AreTrees scopes → AreTrees without
+  AreTrees-without was trees q live =
+      let from = live_from q live in
+      subst (λ n. ends (parents without) n q ≡ true) (sym len-without)
+      (ends-lifted (parents scopes) (parents without) s up was
+        (λ x apart. ap (λ o. option_map (λ x. x.parent) o) (without-elsewhere x.0 apart) ∙ lifted_of (row_at scopes x.0))
+        (length scopes) q (trees q from.1) from.0)
+
+  names_of-lifted : (o : Option Scope) → names_of_row (option_map (lifted s up) o) ≡ names_of_row o
+  names_of-lifted None = refl
+  names_of-lifted (Some x) = refl
+
+  pub AreNamed-without : (symbols : List Symbol) → names_of_row (row_at scopes s.0) ≡ [] → AreNamed scopes symbols → AreNamed without symbols
+  AreNamed-without symbols empty = AreNamed-same scopes without symbols (λ q. elim (same_or_other q.0 s.0) [
+      | inl same ↦ ap (λ i. names_of_row (row_at without i)) same ∙ ap names_of_row without-at ∙ sym empty ∙ ap (λ i. names_of_row (row_at scopes i)) (sym same)
+      | inr apart ↦ ap names_of_row (without-elsewhere q.0 apart) ∙ names_of-lifted (row_at scopes q.0)
+    ])
+
+some_parent : (o : Option (Option ScopeId)) → is_some (option_and_then (λ p. p) o) ≡ true → o ≡ Some (option_and_then (λ p. p) o)
+some_parent None h = absurd (true≢false (sym h))
+some_parent (Some p) h = refl
+
+pub IsTable-without : (t : Table) (s : ScopeId) → IsTable t → is_some (parent_of t s) ≡ true → names_of_row (row_at t.scopes s.0) ≡ [] → IsTable (without_scope t s)
+IsTable-without t s h below empty = record {
+    trees = AreTrees-without t.scopes s (parent_of t s) (some_parent (parents t.scopes s) below) h.trees;
+    named = AreNamed-without t.scopes s (parent_of t s) t.symbols empty h.named;
+    targets = h.targets;
+    listed = h.listed
+  }

@@ -1,3 +1,4 @@
+use Rattle.es_scopes.proofs.NameLemmas.{parent-there, ancestors-parent}
 use Rattle.es_scopes.proofs.TableLemmas.{IsTable-scope_flags}
 use Rattle.es_scopes.proofs.TreeLemmas.{ends-le}
 use Rattle.es_scopes.proofs.RowLemmas.{same_or_other}
