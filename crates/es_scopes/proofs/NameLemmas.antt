@@ -1,6 +1,6 @@
 -- What holds of every table, after a name is added or changed; and what a row of a table shows.
 use Rattle.std.proofs.Common.{◌≡◌, ◌≢◌, refl, sym, ap, subst, ◌∙◌, ℕ, zero, suc, ◌+◌, ◌<◌, ◌≤◌, List, [], ◌∷◌, ◌++◌, map, length, Option, Some, None, Bool, true, false, true≢false, cond, nat_eq, ◌⊎◌, inl, inr, arith, get_or}
-use Rattle.std.specs.Prelude.{slice_get, option_map, is_some, IsSome, IfSome, bytes_eq, All}
+use Rattle.std.specs.Prelude.{slice_get, option_map, is_some, IsSome, IfSome, bytes_eq, unwrap_or, All}
 use Rattle.std.specs.Option.{option_and_then, ForSome}
 use Rattle.std.specs.List.{AllByRecursion}
 use Rattle.std.specs.Ordering.{nat_cmp}
@@ -18,6 +18,9 @@ use Rattle.es_scopes.proofs.RowLemmas.{same_or_other, length-changed_at, slice_g
 use Rattle.es_scopes.proofs.TreeLemmas.{chain-parent, parent-ends, chain-there, ends-there, same_scope}
 use Rattle.es_scopes.proofs.TableLemmas.{row_at-changed_same, row_at-changed_other, AreTrees-changed, AreListed-symbol, Named, is_some-parents}
 use Rattle.es_scopes.proofs.BindingLemmas.{lookup-push, lookup-renamed}
+
+none_is_some : (z : SymbolId) → None ≡ Some z → ⊥
+none_is_some z e = cc
 
 -- ---- what a row shows
 
@@ -77,11 +80,8 @@ module _ (t : Table) (h : IsTable t) (s : ScopeId) (name : List ℕ) (f : Symbol
       by (Some w) e is = push_named t.symbols (new_symbol name s f) z n s (was n z (e ∙ is))
       by None e is = elim (bytes_eq n name) as (λ b. bytes_eq n name ≡ b → cond b (Some id) None ≡ Some z → IsNamed symbols z n s) [
           | true ↦ λ same is_id. subst (λ m. IsNamed symbols z m s) (sym ((bytes_eq-Decides n name).0 same)) (subst (λ y. IsNamed symbols y name s) (let e : id ≡ z = cc in e) new_is_named)
-          | false ↦ λ _ none. absurd (none_is_some none)
+          | false ↦ λ _ none. absurd (none_is_some z none)
         ] refl is
-      none_is_some : None ≡ Some z → ⊥
-      none_is_some e = cc
-
   -- the symbol alone, which no scope holds yet
   pub IsTable-new_symbol : IsTable (record t { symbols = symbols })
   IsTable-new_symbol = record {
@@ -103,3 +103,78 @@ module _ (t : Table) (h : IsTable t) (s : ScopeId) (name : List ℕ) (f : Symbol
       targets = IsTable-new_symbol.targets;
       listed = IsTable-new_symbol.listed
     }
+
+-- ---- another name
+
+module _ (t : Table) (h : IsTable t) (y : SymbolId) (s : ScopeId) (name : List ℕ) (x : Scope) (at : scope_at t s ≡ Some x) where
+  abbrev old : List ℕ
+  old = name_of t y
+
+  abbrev called_symbols : List Symbol
+  called_symbols = changed_at (called name) y.0 t.symbols
+
+  called_named : (o : Option Symbol) (n : List ℕ) (q : ScopeId) → Named o n q → Named (option_map (called name) o) name q
+  called_named None n q e = cc
+  called_named (Some w) n q e = let parts : (w.name, w.scope) ≡ (n, q) = cc in ap (λ (p : List ℕ × ScopeId). Some (name, p.1)) parts
+
+  name_from : (o : Option Symbol) (n : List ℕ) (q : ScopeId) → Named o n q → unwrap_or (option_map (λ x. x.name) o) [] ≡ n
+  name_from None n q e = cc
+  name_from (Some w) n q e = let parts : (w.name, w.scope) ≡ (n, q) = cc in ap (λ (p : List ℕ × ScopeId). p.0) parts
+
+  scope_from : (o : Option Symbol) (n m : List ℕ) (q r : ScopeId) → Named o n q → Named o m r → q ≡ r
+  scope_from o n m q r e f = let parts : Some (n, q) ≡ Some (m, r) = sym e ∙ f in let pair : (n, q) ≡ (m, r) = cc in ap (λ (p : List ℕ × ScopeId). p.1) pair
+
+  others_named : (z : SymbolId) (n : List ℕ) (q : ScopeId) → z.0 ≢ y.0 → IsNamed t.symbols z n q → IsNamed called_symbols z n q
+  others_named z n q apart named = subst (λ o. Named o n q) (sym (slice_get-changed_at_other (called name) y.0 z.0 t.symbols apart)) named
+
+  own_named : (n : List ℕ) (q : ScopeId) → IsNamed t.symbols y n q → IsNamed called_symbols y name q
+  own_named n q named = subst (λ o. Named o name q) (sym (slice_get-changed_at_same (called name) y.0 t.symbols)) (called_named (slice_get t.symbols y.0) n q named)
+
+  in_scope : lookup old x.names ≡ Some y → lookup name x.names ≡ None → (n : List ℕ) (z : SymbolId) → lookup n (renamed old name x.names) ≡ Some z → IsNamed called_symbols z n s
+  in_scope held free n z found = by (bytes_eq n name) refl (sym (lookup-renamed old name n x.names free) ∙ found)
+    where
+      was : (m : List ℕ) (w : SymbolId) → lookup m x.names ≡ Some w → IsNamed t.symbols w m s
+      was m w e = h.named s m w (ap (λ o. lookup m (names_of_row o)) at ∙ e)
+      by : (b : Bool) → bytes_eq n name ≡ b → cond b (lookup old x.names) (cond (bytes_eq n old) None (lookup n x.names)) ≡ Some z → IsNamed called_symbols z n s
+      by true same is =
+          let own : y ≡ z = let e : Some y ≡ Some z = sym held ∙ is in cc in
+          subst (λ m. IsNamed called_symbols z m s) (sym ((bytes_eq-Decides n name).0 same)) (subst (λ w. IsNamed called_symbols w name s) own (own_named old s (h.named s old y (ap (λ o. lookup old (names_of_row o)) at ∙ held))))
+      by false other is = elim (bytes_eq n old) as (λ b. bytes_eq n old ≡ b → cond b None (lookup n x.names) ≡ Some z → IsNamed called_symbols z n s) [
+          | true ↦ λ _ none. absurd (none_is_some z none)
+          | false ↦ λ not_old found. others_named z n s
+              (λ same. true≢false (sym ((bytes_eq-Decides n old).1 (sym (name_from (slice_get t.symbols z.0) n s (h.named s n z (ap (λ o. lookup n (names_of_row o)) at ∙ found))) ∙ ap (λ i. unwrap_or (option_map (λ x. x.name) (slice_get t.symbols i)) []) same)) ∙ not_old))
+              (h.named s n z (ap (λ o. lookup n (names_of_row o)) at ∙ found))
+        ] refl is
+
+  pub IsTable-name : lookup old x.names ≡ Some y → lookup name x.names ≡ None → IsTable (with_name t y s name)
+  IsTable-name held free = record {
+      trees = AreTrees-changed (renaming old name) s.0 t.scopes (λ x. refl) h.trees;
+      named = λ q n z found. elim (same_or_other q.0 s.0) [
+        | inl same ↦ subst (λ (p : ScopeId). IsNamed called_symbols z n p) (sym (same_scope q s same))
+            (in_scope held free n z
+              (ap (λ o. lookup n (names_of_row o)) (ap (option_map (renaming old name)) (sym at) ∙ sym (row_at-changed_same (renaming old name) s.0 t.scopes) ∙ ap (row_at (changed_at (option_map (renaming old name)) s.0 t.scopes)) (sym same)) ∙ found))
+        | inr apart ↦
+            let named = h.named q n z (ap (λ o. lookup n (names_of_row o)) (sym (row_at-changed_other (option_map (renaming old name)) s.0 q.0 t.scopes apart)) ∙ found) in
+            others_named z n q
+            (λ same. apart (ap (λ (p : ScopeId). p.0) (scope_from (slice_get t.symbols y.0) n old q s (subst (λ i. Named (slice_get t.symbols i) n q) same named) (h.named s old y (ap (λ o. lookup old (names_of_row o)) at ∙ held)))))
+            named
+      ];
+      targets = subst (HaveTargets t.references) (sym (length-changed_at (called name) y.0 t.symbols)) h.targets;
+      listed = AreListed-symbol (called name) y.0 t.symbols (length t.references) (λ x r held. inl held) h.listed
+    }
+
+-- ---- names in a chain of scopes
+
+pub first-binding : (t : Table) (name : List ℕ) (s : ScopeId) (rest : List ScopeId) (y : SymbolId) → get_binding t s name ≡ Some y → first_binding t name (s ∷ rest) ≡ Some y
+first-binding t name s rest y e = ap (λ o. or_else o (first_binding t name rest)) e
+
+pub first-none : (t : Table) (name : List ℕ) (s : ScopeId) (rest : List ScopeId) → get_binding t s name ≡ None → first_binding t name (s ∷ rest) ≡ first_binding t name rest
+first-none t name s rest e = ap (λ o. or_else o (first_binding t name rest)) e
+
+pub symbol-there : (t : Table) (y : SymbolId) (name : List ℕ) (s : ScopeId) → IsNamed t.symbols y name s → HasSymbol t y
+symbol-there t y name s named = sym (is_some-option_map {Y = List ℕ × ScopeId} (λ x. (x.name, x.scope)) (slice_get t.symbols y.0)) ∙ ap is_some named
+
+pub All-from : {X : Type 0} (P : X → Type 0) (xs : List X) → AllByRecursion P xs → All P xs
+All-from P [] h k d within = absurd (omega arith)
+All-from P (x ∷ xs) h zero d within = h.0
+All-from P (x ∷ xs) h (suc k) d within = All-from P xs h.1 k d (omega arith)

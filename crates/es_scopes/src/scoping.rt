@@ -3,7 +3,7 @@
 ghost use Rattle.std.specs.Prelude.{◌≡◌, ◌↔◌, ◌⊎◌, ◌-◌, ◌^◌, ◌<◌, [], ◌∷◌, true, length, map, option_map, IsTrue, IsSome, IfOk, OnOk, OnErr, IfSome, All, Some, None};
 ghost use Rattle.std.specs.Option.{ForSome};
 ghost use Rattle.std.specs.Str.{chars};
-ghost use Rattle.es_scopes.specs.Table.{Table, HasScope, HasSymbol, HasReference, HasScopeIfAny, HasRoom, scope_at, symbol_at, reference_at, names_at, parent_of, IsNamed, Holds, IsMutated, scope_ancestors, ancestors_from, IsWithin, get_binding, find_binding, with_scope_flags, with_parent, with_new_scope, without_scope, with_binding, with_name, with_symbol_flags, with_created_reference, with_reference_flags, with_target, with_listed, without_listed};
+ghost use Rattle.es_scopes.specs.Table.{Table, IsTable, HasScope, HasSymbol, HasReference, HasScopeIfAny, HasRoom, scope_at, symbol_at, reference_at, names_at, parent_of, IsNamed, Holds, IsMutated, scope_ancestors, ancestors_from, IsWithin, get_binding, find_binding, with_scope_flags, with_parent, with_new_scope, without_scope, with_binding, with_name, with_symbol_flags, with_created_reference, with_reference_flags, with_target, with_listed, without_listed};
 
 use crate::bindings::Bindings;
 use crate::flags::{ReferenceFlags, ScopeFlags, SymbolFlags};
@@ -69,7 +69,8 @@ impl Scoping {
     /// The row of a scope.
     fn scope(&self, scope_id: ScopeId) -> &Scope
         requires { HasScope self.now scope_id }
-        ensures { scope_at self.now scope_id ≡ Some result.now }
+        ensures row { scope_at self.now scope_id ≡ Some result.now }
+        ensures table { IsTable self.now }
     {
         match &self.scopes[scope_id.0 as usize] {
             Some(scope) => scope,

@@ -1,18 +1,8 @@
 use Rattle.es_scopes.proofs.NameLemmas.{parent-there, ancestors-parent}
-use Rattle.es_scopes.proofs.TableLemmas.{IsTable-scope_flags}
-use Rattle.es_scopes.proofs.TreeLemmas.{ends-le}
-use Rattle.es_scopes.proofs.RowLemmas.{same_or_other}
-use Rattle.es_scopes.proofs.BindingLemmas.{lookup-push}
-use Rattle.std.proofs.Common.{rules, ◌≡◌, ◌↔◌, ◌⊎◌, ◌-◌, ◌^◌, ◌<◌, [], ◌∷◌, true, length, map, option_map, IsTrue, IsSome, IfOk, OnOk, OnErr, IfSome, All, Some, None, ℕ, ◌+◌, ◌*◌, ◌≤◌, ◌/◌, ◌%◌, Bool, false, nat_eq, nat_lt, List, ◌++◌, slice_index_or, slice_set, bit_and, bit_or, Fits, w8, w32, w64, Bor, MutBor}
-use Rattle.std.specs.Option.{ForSome}
-use Rattle.std.specs.Str.{chars}
-use Rattle.es_scopes.specs.Table.{Table, HasScope, HasSymbol, HasReference, HasScopeIfAny, HasRoom, scope_at, symbol_at, reference_at, names_at, parent_of, IsNamed, Holds, IsMutated, scope_ancestors, ancestors_from, IsWithin, get_binding, find_binding, with_scope_flags, with_parent, with_new_scope, without_scope, with_binding, with_name, with_symbol_flags, with_created_reference, with_reference_flags, with_target, with_listed, without_listed}
 use Rattle.es_scopes.proofs.scoping.Scoping.scope_parent_id.Goals as goal
 
--- src/scoping.rt:99:5
 pub returns-clause-around : goal.returns-clause-around
-returns-clause-around c = ?
+returns-clause-around c = parent-there c.args.self.now c.scope.ensures.table c.args.scope_id c.scope.result.now c.scope.ensures.row
 
--- src/scoping.rt:99:5
 pub returns-clause-ancestors : goal.returns-clause-ancestors
-returns-clause-ancestors c = ?
+returns-clause-ancestors c = ancestors-parent c.args.self.now c.scope.ensures.table c.args.scope_id c.scope.result.now c.scope.ensures.row
