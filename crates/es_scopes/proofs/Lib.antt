@@ -4,3 +4,4 @@ pub mod ReferenceLemmas
 pub mod RowLemmas
 pub mod TableLemmas
 pub mod TreeLemmas
+pub mod WrittenLemmas

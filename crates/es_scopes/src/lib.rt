@@ -7,6 +7,7 @@
 pub mod bindings;
 pub mod flags;
 pub mod reference_set;
+pub mod rows;
 pub mod scope_ancestors;
 pub mod scoping;
 pub mod table;

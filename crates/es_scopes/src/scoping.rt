@@ -8,6 +8,7 @@ ghost use Rattle.es_scopes.specs.Table.{Table, IsTable, HasScope, HasSymbol, Has
 use crate::bindings::Bindings;
 use crate::flags::{ReferenceFlags, ScopeFlags, SymbolFlags};
 use crate::reference_set::ReferenceSet;
+use crate::rows::{hold_name, lift_all, rename_in};
 use crate::scope_ancestors::ScopeAncestors;
 use crate::table::{Reference, Scope, Symbol};
 use es_base::ids::{ReferenceId, ScopeId, SymbolId};
@@ -154,13 +155,7 @@ impl Scoping {
         ensures { self.new ≡ without_scope self.old scope_id }
     {
         let parent = self.scope(scope_id).parent;
-        for row in self.scopes.iter_mut() {
-            if let Some(scope) = row {
-                if scope.parent == Some(scope_id) {
-                    scope.parent = parent;
-                }
-            }
-        }
+        lift_all(&mut self.scopes, scope_id, parent);
         self.scopes[scope_id.0 as usize] = None;
     }
 
@@ -216,10 +211,7 @@ impl Scoping {
             is_marked: false,
         };
         self.symbols.push(symbol)?;
-        let Some(scope) = &mut self.scopes[scope_id.0 as usize] else {
-            unreachable!();
-        };
-        scope.names.insert(name, id)?;
+        hold_name(&mut self.scopes, scope_id, name, id)?;
         Ok(id)
     }
 
@@ -231,12 +223,13 @@ impl Scoping {
     {
         let new_name = Name::new(self.alloc, name)?;
         let symbol = &mut self.symbols[symbol_id.0 as usize];
-        let Some(scope) = &mut self.scopes[scope_id.0 as usize] else {
-            unreachable!();
-        };
-        scope
-            .names
-            .rename(symbol.name.as_str(), name, symbol_id)?;
+        rename_in(
+            &mut self.scopes,
+            scope_id,
+            symbol.name.as_str(),
+            name,
+            symbol_id,
+        )?;
         symbol.name = new_name;
         Ok(())
     }

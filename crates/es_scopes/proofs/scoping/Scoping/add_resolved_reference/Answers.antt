@@ -1,13 +1,13 @@
-use Rattle.std.proofs.Common.{rules, ◌≡◌, ◌↔◌, ◌⊎◌, ◌-◌, ◌^◌, ◌<◌, [], ◌∷◌, true, length, map, option_map, IsTrue, IsSome, IfOk, OnOk, OnErr, IfSome, All, Some, None, ℕ, ◌+◌, ◌*◌, ◌≤◌, ◌/◌, ◌%◌, Bool, false, nat_eq, nat_lt, List, ◌++◌, slice_index_or, slice_set, bit_and, bit_or, Fits, w8, w32, w64, Bor, MutBor}
-use Rattle.std.specs.Option.{ForSome}
-use Rattle.std.specs.Str.{chars}
-use Rattle.es_scopes.specs.Table.{Table, HasScope, HasSymbol, HasReference, HasScopeIfAny, HasRoom, scope_at, symbol_at, reference_at, names_at, parent_of, IsNamed, Holds, IsMutated, scope_ancestors, ancestors_from, IsWithin, get_binding, find_binding, with_scope_flags, with_parent, with_new_scope, without_scope, with_binding, with_name, with_symbol_flags, with_created_reference, with_reference_flags, with_target, with_listed, without_listed}
+use Rattle.std.proofs.Common.{◌≡◌, ap, Ok, Err}
+use Rattle.std.specs.Prelude.{OnOk, OnErr}
+use Rattle.es_scopes.specs.Table.{Table, IsTable, listing, with_listed}
+use Rattle.es_scopes.specs.contracts.scoping.Scoping.{the_view}
+use Rattle.es_scopes.proofs.TableLemmas.{IsTable-listing}
+use Rattle.es_scopes.proofs.WrittenLemmas.{symbol-holds, symbol-written, reference-within}
 use Rattle.es_scopes.proofs.scoping.Scoping.add_resolved_reference.Goals as goal
 
--- src/scoping.rt:322:5
 pub invariant_of-self : goal.invariant_of-self
 invariant_of-self c = ?
 
--- src/scoping.rt:322:5
 pub returns-clause-ok : goal.returns-clause-ok
 returns-clause-ok c = ?

@@ -1,9 +1,15 @@
-use Rattle.std.proofs.Common.{rules, ◌≡◌, ◌↔◌, ◌⊎◌, ◌-◌, ◌^◌, ◌<◌, [], ◌∷◌, true, length, map, option_map, IsTrue, IsSome, IfOk, OnOk, OnErr, IfSome, All, Some, None, ℕ, ◌+◌, ◌*◌, ◌≤◌, ◌/◌, ◌%◌, Bool, false, nat_eq, nat_lt, List, ◌++◌, slice_index_or, slice_set, bit_and, bit_or, Fits, w8, w32, w64, Bor, MutBor}
-use Rattle.std.specs.Option.{ForSome}
-use Rattle.std.specs.Str.{chars}
-use Rattle.es_scopes.specs.Table.{Table, HasScope, HasSymbol, HasReference, HasScopeIfAny, HasRoom, scope_at, symbol_at, reference_at, names_at, parent_of, IsNamed, Holds, IsMutated, scope_ancestors, ancestors_from, IsWithin, get_binding, find_binding, with_scope_flags, with_parent, with_new_scope, without_scope, with_binding, with_name, with_symbol_flags, with_created_reference, with_reference_flags, with_target, with_listed, without_listed}
+use Rattle.std.proofs.Common.{refl}
+use Rattle.es_scopes.specs.Table.{targeted}
+use Rattle.es_scopes.specs.contracts.scoping.Scoping.{the_view}
+use Rattle.es_scopes.proofs.TableLemmas.{IsTable-target}
+use Rattle.es_scopes.proofs.WrittenLemmas.{reference-holds, reference-written, symbol-within}
 use Rattle.es_scopes.proofs.scoping.Scoping.set_symbol_id.Goals as goal
 
--- src/scoping.rt:313:5
+pub invariant_of-self : goal.invariant_of-self
+invariant_of-self c =
+    reference-holds (the_view c.self.inside) c.args.self.now c.self.view_is c.args.reference_id c.requires.reference c.index_mut.result.now _ (targeted c.args.symbol_id) c.index_mut.ensures.value refl
+    (IsTable-target (the_view c.self.inside) c.self.invariant c.args.reference_id.0 c.args.symbol_id (symbol-within (the_view c.self.inside) c.args.self.now c.self.view_is c.args.symbol_id c.requires.symbol))
+
 pub returns : goal.returns
-returns c = ?
+returns c =
+    reference-written (the_view c.self.inside) c.args.self.now c.self.view_is c.args.reference_id c.requires.reference c.index_mut.result.now _ (targeted c.args.symbol_id) c.index_mut.ensures.value refl
