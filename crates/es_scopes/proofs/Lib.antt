@@ -1,5 +1,6 @@
 pub mod BindingLemmas
 pub mod NameLemmas
+pub mod Outcomes
 pub mod ReferenceLemmas
 pub mod RowLemmas
 pub mod TableLemmas

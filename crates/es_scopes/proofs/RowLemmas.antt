@@ -1,7 +1,8 @@
 -- Rows by their numbers: one changed, and one added.
-use Rattle.std.proofs.Common.{◌≡◌, ◌≢◌, refl, sym, ap, ◌∙◌, ℕ, zero, suc, ◌+◌, ◌<◌, List, [], ◌∷◌, ◌++◌, map, length, set, get_or, Option, Some, None, Bool, true, false, true≢false, nat_eq, ◌⊎◌, inl, inr, arith}
+use Rattle.std.proofs.Common.{◌≡◌, ◌≢◌, refl, sym, ap, ◌∙◌, ℕ, zero, suc, ◌+◌, ◌<◌, List, [], ◌∷◌, ◌++◌, map, length, take, drop, set, get_or, Option, Some, None, Bool, true, false, true≢false, nat_eq, ◌⊎◌, inl, inr, arith}
 use Rattle.std.specs.Prelude.{slice_get, option_map, is_some}
 use Rattle.std.specs.Option.{option_and_then}
+use Rattle.std.proofs.Math.Seq.{take-append_seam}
 use Rattle.std.proofs.lemmas.Bool.Decides.{Decides-eqb}
 use Rattle.std.proofs.lemmas.Option.{slice_get_within, slice_get-get_or}
 use Rattle.es_scopes.specs.Table.{changed_at, row_at}
@@ -75,3 +76,14 @@ module _ {X Y : Type 0} where
   pub is_some-option_map : (f : X → Y) (o : Option X) → is_some (option_map f o) ≡ is_some o
   is_some-option_map f None = refl
   is_some-option_map f (Some x) = refl
+
+-- the rows before the i-th are changed; then it is too
+pub mapped-step : {X : Type 0} (f : X → X) (xs : List X) (i : ℕ) (x v : X) → i < length xs → x ≡ get_or (map f (take i xs) ++ drop i xs) i x → v ≡ f x
+    → set (map f (take i xs) ++ drop i xs) i v ≡ map f (take (suc i) xs) ++ drop (suc i) xs
+mapped-step f [] i x v within at is = absurd (omega arith)
+mapped-step f (y ∷ xs) zero x v within at is = ap (λ z. z ∷ xs) (is ∙ ap f at)
+mapped-step f (y ∷ xs) (suc i) x v within at is = ap (λ l. f y ∷ l) (mapped-step f xs i x v (omega arith) at is)
+
+-- a slice of a whole Vec, written back
+pub written_back : {X : Type 0} (n : ℕ) (new old : List X) → length new ≡ n → take n (new ++ drop (length new) old) ≡ new
+written_back n new old e = ap (λ m. take m (new ++ drop (length new) old)) (sym e) ∙ take-append_seam new (drop (length new) old)

@@ -126,6 +126,10 @@ module _ (t : Table) (h : IsTable t) where
       listed = AreListed-symbol f i t.symbols (length t.references) kept h.listed
     }
 
+  -- a row written as it was
+  pub IsTable-symbol_same : (i : ℕ) → IsTable (record t { symbols = changed_at (λ x. x) i t.symbols })
+  IsTable-symbol_same i = IsTable-symbol (λ x. x) i (λ x. refl) (λ x. refl) (λ x r held. inl held)
+
   pub IsTable-symbol_flags : (i : ℕ) (f : SymbolFlags) → IsTable (record t { symbols = changed_at (symbol_flagged f) i t.symbols })
   IsTable-symbol_flags i f = IsTable-symbol (symbol_flagged f) i (λ x. refl) (λ x. refl) (λ x r held. inl held)
 

@@ -1,12 +1,13 @@
 -- What the writes of the calls make of a table.
-use Rattle.std.proofs.Common.{◌≡◌, refl, sym, ap, subst, ◌∙◌, ℕ, ◌<◌, List, length, set, get_or, Option, Some, None, true, false, true≢false}
-use Rattle.std.specs.Prelude.{slice_get, option_map, is_some}
+use Rattle.std.proofs.Common.{◌≡◌, refl, sym, ap, subst, ◌∙◌, ℕ, ◌<◌, List, length, set, get_or, Option, Some, None, true, false, true≢false, ◌⊎◌, inl, inr}
+use Rattle.std.specs.Prelude.{slice_get, option_map, is_some, MatchOption}
 use Rattle.std.specs.Option.{option_and_then}
 use Rattle.std.proofs.lemmas.Option.{slice_get-get_or}
 use Rattle.es_base.specs.declared.ids.ScopeId.{ScopeId}
 use Rattle.es_base.specs.declared.ids.SymbolId.{SymbolId}
 use Rattle.es_base.specs.declared.ids.ReferenceId.{ReferenceId}
-use Rattle.es_scopes.specs.Table.{Table, changed_at, row_at, scope_at, symbol_at, HasScope, HasSymbol, HasReference, IsTable, with_scope, with_symbol, with_reference}
+use Rattle.es_scopes.specs.Table.{Table, changed_at, row_at, scope_at, symbol_at, HasScope, HasSymbol, HasReference, IsTable, IsMutated, with_scope, with_symbol, with_reference}
+use Rattle.es_scopes.specs.References.{HoldsWrite}
 use Rattle.es_scopes.specs.declared.table.Scope.{Scope}
 use Rattle.es_scopes.specs.declared.table.Symbol.{Symbol}
 use Rattle.es_scopes.specs.declared.table.Reference.{Reference}
@@ -22,6 +23,9 @@ module _ (t now : Table) (view : t ≡ now) where
 
   pub scope-within : (s : ScopeId) → HasScope now s → s.0 < length t.scopes
   scope-within s there = within_from_row t.scopes s.0 (subst (λ t. HasScope t s) (sym view) there)
+
+  pub symbol-found : (y : SymbolId) → HasSymbol now y → (x : Symbol) → x ≡ get_or t.symbols y.0 x → symbol_at now y ≡ Some x
+  symbol-found y there x at = ap (λ t. symbol_at t y) (sym view) ∙ slice_get-get_or t.symbols y.0 x (symbol-within y there) ∙ ap (λ w. Some w) (sym at)
 
   module _ (y : SymbolId) (there : HasSymbol now y) (x v : Symbol) (f : Symbol → Symbol) (at : x ≡ get_or t.symbols y.0 x) (is : v ≡ f x) where
     symbols-written : set t.symbols y.0 v ≡ changed_at f y.0 t.symbols
@@ -59,3 +63,10 @@ module _ (t now : Table) (view : t ≡ now) where
 
       pub scope-holds : IsTable (record t { scopes = changed_at (option_map f) s.0 t.scopes }) → IsTable (record t { scopes = set t.scopes s.0 (Some v) })
       scope-holds h = subst (λ l. IsTable (record t { scopes = l })) (sym scopes-written) h
+
+-- whether a symbol is mutated, by its row
+pub IsMutated-from : (t : Table) (y : SymbolId) (x : Symbol) → symbol_at t y ≡ Some x → (x.is_marked ≡ true) ⊎ HoldsWrite x.references t.references → IsMutated t y
+IsMutated-from t y x at h = subst (λ o. MatchOption o ⊥ (λ x. (x.is_marked ≡ true) ⊎ HoldsWrite x.references t.references)) (sym at) h
+
+pub IsMutated-to : (t : Table) (y : SymbolId) (x : Symbol) → symbol_at t y ≡ Some x → IsMutated t y → (x.is_marked ≡ true) ⊎ HoldsWrite x.references t.references
+IsMutated-to t y x at h = subst (λ o. MatchOption o ⊥ (λ x. (x.is_marked ≡ true) ⊎ HoldsWrite x.references t.references)) at h

@@ -114,6 +114,8 @@ impl Scoping {
         ensures ancestors { result ≡ scope_ancestors self.now scope_id }
         ensures held { All (HasScope self.now) result }
     {
+        // Parents form trees.
+        let _ = &self.scopes;
         ScopeAncestors::new(self, scope_id)
     }
 

@@ -1,9 +1,17 @@
-use Rattle.std.proofs.Common.{rules, ◌≡◌, None, Some, IsSome, OnOk, OnErr, map, option_map, ℕ, ◌+◌, ◌-◌, ◌*◌, ◌<◌, ◌≤◌, length, ◌/◌, ◌%◌, Bool, true, false, nat_eq, nat_lt, List, [], ◌∷◌, ◌++◌, slice_index_or, slice_set, bit_and, bit_or, Fits, w8, w32, w64, Bor, MutBor}
+use Rattle.std.proofs.Common.{◌∙◌, ap, sym, Some}
+use Rattle.std.specs.Prelude.{option_map}
 use Rattle.std.specs.Str.{chars}
-use Rattle.es_scopes.specs.Bindings.{lookup}
-use Rattle.es_scopes.specs.Table.{changed_at, row_at, names_of_row, holding, renaming, lifted}
+use Rattle.es_scopes.specs.Table.{holding}
+use Rattle.es_scopes.proofs.Outcomes.{OnOk-map}
+use Rattle.es_scopes.proofs.RowLemmas.{set-changed_at, within_from_row}
 use Rattle.es_scopes.proofs.rows.hold_name.Goals as goal
 
--- src/rows.rt:13:1
 pub returns-clause-ok : goal.returns-clause-ok
-returns-clause-ok c = ?
+returns-clause-ok c =
+    let f = holding (chars c.args.name.now) c.args.symbol in
+    let scopes = c.args.scopes.now in
+    let row = c.index-scopes-scope_id.is ∙ c.in-Some.is in
+    OnOk-map c.insert.result _ _
+    (λ e. set-changed_at (option_map f) c.args.scope_id.0 scopes c.index-scopes-scope_id.result _ (within_from_row scopes c.args.scope_id.0 c.requires.there) c.index-scopes-scope_id.is
+      (ap (λ names. Some (record c.in-Some.scope { names = names })) e ∙ sym (ap (option_map f) row)))
+    c.insert.ensures.ok

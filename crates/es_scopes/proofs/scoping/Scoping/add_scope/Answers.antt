@@ -1,9 +1,13 @@
-use Rattle.std.proofs.Common.{rules, ◌≡◌, ◌↔◌, ◌⊎◌, ◌-◌, ◌^◌, ◌<◌, [], ◌∷◌, true, length, map, option_map, IsTrue, IsSome, IfOk, OnOk, OnErr, IfSome, All, Some, None, ℕ, ◌+◌, ◌*◌, ◌≤◌, ◌/◌, ◌%◌, Bool, false, nat_eq, nat_lt, List, ◌++◌, slice_index_or, slice_set, bit_and, bit_or, Fits, w8, w32, w64, Bor, MutBor}
-use Rattle.std.specs.Option.{ForSome}
-use Rattle.std.specs.Str.{chars}
-use Rattle.es_scopes.specs.Table.{Table, IsTable, HasScope, HasSymbol, HasReference, HasScopeIfAny, HasRoom, scope_at, symbol_at, reference_at, names_at, parent_of, IsNamed, Holds, IsMutated, scope_ancestors, ancestors_from, IsWithin, get_binding, find_binding, with_scope_flags, with_parent, with_new_scope, without_scope, with_binding, with_name, with_symbol_flags, with_created_reference, with_reference_flags, with_target, with_listed, without_listed}
+use Rattle.std.proofs.Common.{◌≡◌, ◌∙◌, ◌++◌, ◌∷◌, [], ap, sym, subst, List, Option, Some}
+use Rattle.es_scopes.specs.Table.{Table, IsTable, HasScope}
+use Rattle.es_scopes.specs.contracts.scoping.Scoping.{the_view}
+use Rattle.es_scopes.specs.declared.table.Scope.{Scope}
+use Rattle.es_scopes.proofs.TableLemmas.{IsTable-new_scope}
 use Rattle.es_scopes.proofs.scoping.Scoping.add_scope.Goals as goal
 
--- src/scoping.rt:120:5
 pub invariant_of-self-2 : goal.invariant_of-self-2
-invariant_of-self-2 c = ?
+invariant_of-self-2 c =
+    let t : Table = the_view c.self.inside in
+    let pushed = c.in_ok-push.ensures.items ∙ ap (λ n. t.scopes ++ Some (record { parent = c.args.parent; flags = c.args.flags; names = n }) ∷ []) c.new-names.ensures in
+    subst (λ (l : List (Option Scope)). IsTable (record t { scopes = l })) (sym pushed)
+    (IsTable-new_scope t c.args.parent c.args.flags c.self.invariant (λ q e. subst (λ t. HasScope t q) (sym c.self.view_is) (c.requires.around q e)))

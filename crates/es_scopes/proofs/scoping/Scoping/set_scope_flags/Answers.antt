@@ -1,13 +1,15 @@
-use Rattle.std.proofs.Common.{rules, ◌≡◌, ◌↔◌, ◌⊎◌, ◌-◌, ◌^◌, ◌<◌, [], ◌∷◌, true, length, map, option_map, IsTrue, IsSome, IfOk, OnOk, OnErr, IfSome, All, Some, None, ℕ, ◌+◌, ◌*◌, ◌≤◌, ◌/◌, ◌%◌, Bool, false, nat_eq, nat_lt, List, ◌++◌, slice_index_or, slice_set, bit_and, bit_or, Fits, w8, w32, w64, Bor, MutBor}
-use Rattle.std.specs.Option.{ForSome}
-use Rattle.std.specs.Str.{chars}
-use Rattle.es_scopes.specs.Table.{Table, IsTable, HasScope, HasSymbol, HasReference, HasScopeIfAny, HasRoom, scope_at, symbol_at, reference_at, names_at, parent_of, IsNamed, Holds, IsMutated, scope_ancestors, ancestors_from, IsWithin, get_binding, find_binding, with_scope_flags, with_parent, with_new_scope, without_scope, with_binding, with_name, with_symbol_flags, with_created_reference, with_reference_flags, with_target, with_listed, without_listed}
+use Rattle.std.proofs.Common.{refl}
+use Rattle.es_scopes.specs.Table.{scope_flagged}
+use Rattle.es_scopes.specs.contracts.scoping.Scoping.{the_view}
+use Rattle.es_scopes.proofs.TableLemmas.{IsTable-scope_flags}
+use Rattle.es_scopes.proofs.WrittenLemmas.{scope-holds, scope-written}
 use Rattle.es_scopes.proofs.scoping.Scoping.set_scope_flags.Goals as goal
 
--- src/scoping.rt:90:5
 pub invariant_of-self : goal.invariant_of-self
-invariant_of-self c = ?
+invariant_of-self c =
+    scope-holds (the_view c.self.inside) c.args.self.now c.self.view_is c.args.scope_id c.requires c.index_mut.result.now c.index_mut.ensures.value c.in-Some.scope _ (scope_flagged c.args.flags) c.in-Some.is refl
+    (IsTable-scope_flags (the_view c.self.inside) c.self.invariant c.args.scope_id.0 c.args.flags)
 
--- src/scoping.rt:90:5
 pub returns : goal.returns
-returns c = ?
+returns c =
+    scope-written (the_view c.self.inside) c.args.self.now c.self.view_is c.args.scope_id c.requires c.index_mut.result.now c.index_mut.ensures.value c.in-Some.scope _ (scope_flagged c.args.flags) c.in-Some.is refl

@@ -1,17 +1,18 @@
-use Rattle.std.proofs.Common.{rules, ◌≡◌, ◌↔◌, ◌⊎◌, ◌-◌, ◌^◌, ◌<◌, [], ◌∷◌, true, length, map, option_map, IsTrue, IsSome, IfOk, OnOk, OnErr, IfSome, All, Some, None, ℕ, ◌+◌, ◌*◌, ◌≤◌, ◌/◌, ◌%◌, Bool, false, nat_eq, nat_lt, List, ◌++◌, slice_index_or, slice_set, bit_and, bit_or, Fits, w8, w32, w64, Bor, MutBor}
-use Rattle.std.specs.Option.{ForSome}
-use Rattle.std.specs.Str.{chars}
-use Rattle.es_scopes.specs.Table.{Table, IsTable, HasScope, HasSymbol, HasReference, HasScopeIfAny, HasRoom, scope_at, symbol_at, reference_at, names_at, parent_of, IsNamed, Holds, IsMutated, scope_ancestors, ancestors_from, IsWithin, get_binding, find_binding, with_scope_flags, with_parent, with_new_scope, without_scope, with_binding, with_name, with_symbol_flags, with_created_reference, with_reference_flags, with_target, with_listed, without_listed}
+use Rattle.std.proofs.Common.{◌∙◌, ◌⊎◌, inl, inr, ap, sym, subst, true≢false}
+use Rattle.std.specs.Prelude.{length, slice_get}
+use Rattle.es_scopes.specs.References.{HoldsWrite}
+use Rattle.es_scopes.specs.Table.{listed}
+use Rattle.es_scopes.specs.contracts.scoping.Scoping.{the_view}
+use Rattle.es_scopes.proofs.WrittenLemmas.{symbol-found, IsMutated-from, IsMutated-to}
 use Rattle.es_scopes.proofs.scoping.Scoping.symbol_is_mutated.Goals as goal
 
--- src/scoping.rt:282:29
 pub has_write-requires : goal.has_write-requires
 has_write-requires c = ?
 
--- src/scoping.rt:277:5
 pub returns-then-symbol : goal.returns-then-symbol
-returns-then-symbol c = ?
+returns-then-symbol c =
+    let at = symbol-found (the_view c.self.inside) c.args.self.now c.self.view_is c.args.symbol_id c.requires c.index-symbol.result.now c.index-symbol.ensures in
+    (λ marked. IsMutated-from c.args.self.now c.args.symbol_id c.index-symbol.result.now at (inl marked), λ _. c.if-symbol.true)
 
--- src/scoping.rt:277:5
 pub returns-else-symbol : goal.returns-else-symbol
 returns-else-symbol c = ?
