@@ -227,7 +227,7 @@ IsTable-new_scope t p f h around = record {
 
 -- ---- another parent
 
-some_row : (o : Option Scope) → is_some o ≡ true → (x : Scope) × (o ≡ Some x)
+pub some_row : (o : Option Scope) → is_some o ≡ true → (x : Scope) × (o ≡ Some x)
 some_row None h = absurd (true≢false (sym h))
 some_row (Some x) h = (x, refl)
 

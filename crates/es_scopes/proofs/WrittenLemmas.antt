@@ -24,6 +24,9 @@ module _ (t now : Table) (view : t ≡ now) where
   pub scope-within : (s : ScopeId) → HasScope now s → s.0 < length t.scopes
   scope-within s there = within_from_row t.scopes s.0 (subst (λ t. HasScope t s) (sym view) there)
 
+  pub symbol-row : (y : SymbolId) → HasSymbol now y → (x : Symbol) → x ≡ get_or t.symbols y.0 x → symbol_at t y ≡ Some x
+  symbol-row y there x at = slice_get-get_or t.symbols y.0 x (symbol-within y there) ∙ ap (λ w. Some w) (sym at)
+
   pub symbol-found : (y : SymbolId) → HasSymbol now y → (x : Symbol) → x ≡ get_or t.symbols y.0 x → symbol_at now y ≡ Some x
   symbol-found y there x at = ap (λ t. symbol_at t y) (sym view) ∙ slice_get-get_or t.symbols y.0 x (symbol-within y there) ∙ ap (λ w. Some w) (sym at)
 

@@ -10,5 +10,5 @@ loop-row-preserved c =
     let rows = c.args.scopes.now in
     let i = c.loop-row.row-index in
     ap (λ l. set l i c.lift.new.row) c.loop-row.invariant
-    ∙ mapped-step f rows i c.row-item.result c.lift.new.row c.loop-row-test.true (c.row-item.is ∙ ap (λ l. get_or l i c.row-item.result) c.loop-row.invariant) c.lift.ensures
+    ∙ mapped-step f rows i c.row-item.result c.lift.new.row c.loop-row-test.true (c.row-item.is ∙ ap (λ l. get_or l i c.row-item.result) c.loop-row.invariant) (c.lift.ensures ∙ ap f (sym c.row-item.is))
     ∙ ap (λ n. map f (take n rows) ++ drop n rows) (sym (add-one i))

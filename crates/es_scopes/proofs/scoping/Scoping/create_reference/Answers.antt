@@ -1,17 +1,27 @@
-use Rattle.std.proofs.Common.{rules, ◌≡◌, ◌↔◌, ◌⊎◌, ◌-◌, ◌^◌, ◌<◌, [], ◌∷◌, true, length, map, option_map, IsTrue, IsSome, IfOk, OnOk, OnErr, IfSome, All, Some, None, ℕ, ◌+◌, ◌*◌, ◌≤◌, ◌/◌, ◌%◌, Bool, false, nat_eq, nat_lt, List, ◌++◌, slice_index_or, slice_set, bit_and, bit_or, Fits, w8, w32, w64, Bor, MutBor}
-use Rattle.std.specs.Option.{ForSome}
-use Rattle.std.specs.Str.{chars}
-use Rattle.es_scopes.specs.Table.{Table, IsTable, HasScope, HasSymbol, HasReference, HasScopeIfAny, HasRoom, scope_at, symbol_at, reference_at, names_at, parent_of, IsNamed, Holds, IsMutated, scope_ancestors, ancestors_from, IsWithin, get_binding, find_binding, with_scope_flags, with_parent, with_new_scope, without_scope, with_binding, with_name, with_symbol_flags, with_created_reference, with_reference_flags, with_target, with_listed, without_listed}
+use Rattle.std.proofs.Common.{◌≡◌, ◌∙◌, ap, sym, subst, length, rules, arith, List, true}
+use Rattle.std.specs.Prelude.{slice_get, is_some}
+use Rattle.es_scopes.specs.Table.{Table, IsTable}
+use Rattle.es_scopes.specs.declared.table.Reference.{Reference}
+use Rattle.es_scopes.specs.contracts.scoping.Scoping.{the_view}
+use Rattle.es_scopes.proofs.RowLemmas.{slice_get-push_last}
+use Rattle.es_scopes.proofs.TableLemmas.{IsTable-new_reference}
+use Rattle.es_scopes.proofs.WrittenLemmas.{symbol-within}
 use Rattle.es_scopes.proofs.scoping.Scoping.create_reference.Goals as goal
 
--- src/scoping.rt:298:13
 pub invariant_of-self-in-Some : goal.invariant_of-self-in-Some
-invariant_of-self-in-Some c = ?
+invariant_of-self-in-Some c =
+    let t : Table = the_view c.self.inside in
+    subst (λ (l : List Reference). IsTable (record t { references = l })) (sym c.in_ok-push.ensures.items)
+    (IsTable-new_reference t c.self.invariant c.args.symbol_id c.args.flags (λ z e. symbol-within t c.args.self.now c.self.view_is z (c.requires.there z e)))
 
--- src/scoping.rt:298:13
 pub add_resolved_reference-requires-clause-reference :
     goal.add_resolved_reference-requires-clause-reference
-add_resolved_reference-requires-clause-reference c = ?
+add_resolved_reference-requires-clause-reference c =
+    let last : c.len.result ≡ length c.self.inside.references.items = search rules in
+    ap is_some ((λ i. slice_get (c.in_ok-push.ensures.items i) (last i)) ∙ slice_get-push_last c.self.inside.references.items _)
 
 pub invariant_of-self-in_default : goal.invariant_of-self-in_default
-invariant_of-self-in_default c = ?
+invariant_of-self-in_default c =
+    let t : Table = the_view c.self.inside in
+    subst (λ (l : List Reference). IsTable (record t { references = l })) (sym c.in_ok-push.ensures.items)
+    (IsTable-new_reference t c.self.invariant c.args.symbol_id c.args.flags (λ z e. symbol-within t c.args.self.now c.self.view_is z (c.requires.there z e)))
