@@ -178,3 +178,18 @@ pub All-from : {X : Type 0} (P : X → Type 0) (xs : List X) → AllByRecursion 
 All-from P [] h k d within = absurd (omega arith)
 All-from P (x ∷ xs) h zero d within = h.0
 All-from P (x ∷ xs) h (suc k) d within = All-from P xs h.1 k d (omega arith)
+
+held_row : (o : Option Scope) (name : List ℕ) (y : SymbolId) → lookup name (names_of_row o) ≡ Some y → is_some o ≡ true
+held_row None name y e = absurd (none_is_some y e)
+held_row (Some x) name y e = refl
+
+-- what is held is there
+module _ (t : Table) (h : IsTable t) (s : ScopeId) (y : SymbolId) (held : Holds t s y) where
+  pub holder-there : HasScope t s
+  holder-there = held_row (scope_at t s) (name_of t y) y held
+
+  pub symbol-held : HasSymbol t y
+  symbol-held = symbol-there t y (name_of t y) s (h.named s (name_of t y) y held)
+
+pub own-name : (t : Table) (y : SymbolId) (x : Symbol) (n : List ℕ) → symbol_at t y ≡ Some x → n ≡ x.name → n ≡ name_of t y
+own-name t y x n at is = is ∙ sym (ap (λ o. unwrap_or (option_map (λ x. x.name) o) []) at)

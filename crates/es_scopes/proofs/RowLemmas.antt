@@ -87,3 +87,8 @@ mapped-step f (y ∷ xs) (suc i) x v within at is = ap (λ l. f y ∷ l) (mapped
 -- a slice of a whole Vec, written back
 pub written_back : {X : Type 0} (n : ℕ) (new old : List X) → length new ≡ n → take n (new ++ drop (length new) old) ≡ new
 written_back n new old e = ap (λ m. take m (new ++ drop (length new) old)) (sym e) ∙ take-append_seam new (drop (length new) old)
+
+pub set-constant : {X : Type 0} (v : X) (i : ℕ) (xs : List X) → i < length xs → set xs i v ≡ changed_at (λ x. v) i xs
+set-constant v i [] within = absurd (omega arith)
+set-constant v zero (x ∷ xs) within = refl
+set-constant v (suc i) (x ∷ xs) within = ap (λ l. x ∷ l) (set-constant v i xs (omega arith))
