@@ -5,4 +5,5 @@ pub mod ReferenceLemmas
 pub mod RowLemmas
 pub mod TableLemmas
 pub mod TreeLemmas
+pub mod Worked
 pub mod WrittenLemmas

@@ -1,0 +1,40 @@
+-- `let a; function f(b) { a = b; }`: the scopes, the declarations and the references of a program that is written out.
+use Rattle.std.proofs.Common.{◌≡◌, refl, ℕ, List, [], ◌∷◌, Option, Some, None, false}
+use Rattle.std.specs.Prelude.{codes}
+use Rattle.es_base.specs.Tree.{Tree, Parts, Node, end, more, child, absent, list, string, boolean, no_string}
+use Rattle.es_base.specs.declared.kind.Kind.{Kind}
+use Rattle.es_scopes.specs.NodeScopes.{NodeScope, scopes_of}
+use Rattle.es_scopes.specs.NodeBindings.{NodeBinding, bindings_of}
+use Rattle.es_scopes.specs.NodeReferences.{NodeReference, references_of}
+
+abbrev node : Kind → ℕ → Parts → Tree
+node kind m ps = Node kind m None None ps
+
+abbrev name : Kind → ℕ → List ℕ → Tree
+name kind m s = node kind m (more (string s) end)
+
+-- `let a;`
+abbrev declaration : Tree
+declaration = node Kind.VariableDeclaration 1 (more (string (codes "let")) (more (list (more (child (node Kind.VariableDeclarator 2 (more (child (name Kind.BindingIdentifier 3 (codes "a"))) (more absent end)))) end)) end))
+
+-- `a = b;`
+abbrev assignment : Tree
+assignment = node Kind.ExpressionStatement 8 (more (child (node Kind.AssignmentExpression 9 (more (string (codes "=")) (more (child (name Kind.IdentifierReference 10 (codes "a"))) (more (child (name Kind.IdentifierReference 11 (codes "b"))) end))))) (more no_string end))
+
+abbrev function : Tree
+function = node Kind.FunctionDeclaration 4 (more (child (name Kind.BindingIdentifier 5 (codes "f"))) (more (list (more (child (name Kind.BindingIdentifier 6 (codes "b"))) end)) (more (child (node Kind.BlockStatement 7 (more (list (more (child assignment) end)) end))) (more (boolean false) (more (boolean false) end)))))
+
+abbrev program : Tree
+program = node Kind.Program 0 (more (string (codes "script")) (more (list (more (child declaration) (more (child function) end))) end))
+
+-- the program is TOP, and the function, whose body has no scope of its own, is FUNCTION
+pub worked_scopes : scopes_of program ≡ record { node = 0; around = None; flags = record { 0 = 1 } } ∷ record { node = 4; around = Some 0; flags = record { 0 = 2 } } ∷ []
+worked_scopes = refl
+
+-- `a` is LET, `f` is FUNCTION, `b` is PARAM
+pub worked_bindings : bindings_of program ≡ record { node = 3; name = codes "a"; flags = 2; head_var = false } ∷ record { node = 5; name = codes "f"; flags = 16; head_var = false } ∷ record { node = 6; name = codes "b"; flags = 32; head_var = false } ∷ []
+worked_bindings = refl
+
+-- `a` is written, and `b` is read
+pub worked_references : references_of program ≡ record { node = 10; name = codes "a"; flags = record { 0 = 2 } } ∷ record { node = 11; name = codes "b"; flags = record { 0 = 1 } } ∷ []
+worked_references = refl
