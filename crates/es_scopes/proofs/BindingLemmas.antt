@@ -1,5 +1,5 @@
 -- The names of a scope, by their characters, against the map of their strings.
-use Rattle.std.proofs.Common.{◌≡◌, refl, sym, ap, ◌∙◌, ℕ, zero, suc, ◌+◌, ◌-◌, ◌<◌, List, [], ◌∷◌, ◌++◌, map, length, take, set, get_or, Bool, true, false, cond, true≢false, Option, Some, None, nat_lt, arith}
+use Rattle.std.proofs.Common.{◌≡◌, refl, sym, ap, ◌∙◌, ℕ, zero, suc, ◌+◌, ◌-◌, ◌<◌, List, [], ◌∷◌, ◌++◌, length, take, set, get_or, Bool, true, false, cond, Option, Some, None, nat_lt, arith}
 use Rattle.std.specs.Prelude.{bytes_eq, not}
 use Rattle.std.specs.Str.{chars, IsUtf8}
 use Rattle.std.specs.String.{string_bytes, string_eq}
@@ -80,7 +80,7 @@ module _ {K X : Type 0} (test : K → Bool) (n : K × X) where
       let at : position_or_len test (entries.keys_of (e ∷ (es ++ n ∷ []))) ≡ place.0 = place.1.at in
       let keys : length (entries.keys_of (e ∷ (es ++ n ∷ []))) ≡ length es + 2 = simp (length-map, length-append) (omega arith) in
       let within : nat_lt (position_or_len test (entries.keys_of (e ∷ (es ++ n ∷ [])))) (length (entries.keys_of (e ∷ (es ++ n ∷ [])))) ≡ true =
-          rw (at, keys) (grind (arith, nat_tests, place.1.within)) in
+      rw (at, keys) (grind (arith, nat_tests, place.1.within)) in
       let where_is : position test (entries.keys_of (e ∷ (es ++ n ∷ []))) ≡ Some place.0 = rw (within, at) refl in
       rw where_is (swap_last (e ∷ es) place.0 e place.1.within ∙ place.1.is)
 
@@ -120,9 +120,9 @@ none_parts false y o h = (refl, h)
 
 pub bytes_eq-apart : (a b c : List ℕ) → bytes_eq a b ≡ true → bytes_eq c b ≡ false → bytes_eq a c ≡ false
 bytes_eq-apart a b c same other = elim (bytes_eq a c) as (λ r. bytes_eq a c ≡ r → r ≡ false) [
-    | true ↦ λ t. sym ((bytes_eq-Decides c b).1 (sym ((bytes_eq-Decides a c).0 t) ∙ (bytes_eq-Decides a b).0 same)) ∙ other
-    | false ↦ λ _. refl
-  ] refl
+  | true ↦ λ t. sym ((bytes_eq-Decides c b).1 (sym ((bytes_eq-Decides a c).0 t) ∙ (bytes_eq-Decides a b).0 same)) ∙ other
+  | false ↦ λ _. refl
+] refl
 
 bytes_eq-same : (a b c : List ℕ) → bytes_eq b c ≡ true → bytes_eq a c ≡ bytes_eq a b
 bytes_eq-same a b c same = ap (bytes_eq a) (sym ((bytes_eq-Decides b c).0 same))
@@ -160,6 +160,6 @@ lookup-renamed old new n (e ∷ names) free =
 pub lookup-push : (n name : List ℕ) (y : SymbolId) (names : Names) → lookup n (names ++ (name, y) ∷ []) ≡ or_else (lookup n names) (cond (bytes_eq n name) (Some y) None)
 lookup-push n name y [] = refl
 lookup-push n name y (e ∷ names) = elim (bytes_eq n e.0) as (λ b. cond b (Some e.1) (lookup n (names ++ (name, y) ∷ [])) ≡ or_else (cond b (Some e.1) (lookup n names)) (cond (bytes_eq n name) (Some y) None)) [
-    | true ↦ refl
-    | false ↦ lookup-push n name y names
-  ]
+  | true ↦ refl
+  | false ↦ lookup-push n name y names
+]

@@ -1,7 +1,6 @@
 -- What holds of every table, after a name is added or changed; and what a row of a table shows.
-use Rattle.std.proofs.Common.{◌≡◌, ◌≢◌, refl, sym, ap, subst, ◌∙◌, ℕ, zero, suc, ◌+◌, ◌<◌, ◌≤◌, List, [], ◌∷◌, ◌++◌, map, length, Option, Some, None, Bool, true, false, true≢false, cond, nat_eq, ◌⊎◌, inl, inr, arith, get_or}
-use Rattle.std.specs.Prelude.{slice_get, option_map, is_some, IsSome, IfSome, bytes_eq, unwrap_or, All}
-use Rattle.std.specs.Option.{option_and_then, ForSome}
+use Rattle.std.proofs.Common.{◌≡◌, ◌≢◌, refl, sym, ap, subst, ◌∙◌, ℕ, zero, suc, List, [], ◌∷◌, ◌++◌, length, Option, Some, None, Bool, true, false, true≢false, cond, inl, inr, arith}
+use Rattle.std.specs.Prelude.{slice_get, option_map, is_some, IfSome, bytes_eq, unwrap_or, All}
 use Rattle.std.specs.List.{AllByRecursion}
 use Rattle.std.specs.Ordering.{nat_cmp}
 use Rattle.std.specs.FinSet as set
@@ -10,7 +9,7 @@ use Rattle.std.proofs.lemmas.Slice.Eq.{bytes_eq-Decides}
 use Rattle.es_base.specs.declared.ids.ScopeId.{ScopeId}
 use Rattle.es_base.specs.declared.ids.SymbolId.{SymbolId}
 use Rattle.es_scopes.specs.Bindings.{Names, lookup, renamed}
-use Rattle.es_scopes.specs.Table.{Table, changed_at, row_at, parents, names_of_row, scope_at, symbol_at, names_at, get_binding, find_binding, first_binding, scope_ancestors, ancestors_from, name_of, Holds, HasScope, HasSymbol, HasScopeIfAny, AreTrees, AreNamed, IsNamed, HaveTargets, AreListed, IsTable, listed, ends, chain, or_none, or_else, new_symbol, holding, renaming, called, with_binding, with_name}
+use Rattle.es_scopes.specs.Table.{Table, changed_at, row_at, parents, names_of_row, scope_at, symbol_at, get_binding, first_binding, scope_ancestors, ancestors_from, name_of, Holds, HasScope, HasSymbol, HasScopeIfAny, IsNamed, HaveTargets, IsTable, listed, ends, chain, or_none, or_else, new_symbol, holding, renaming, called, with_binding, with_name}
 use Rattle.es_scopes.specs.declared.flags.SymbolFlags.{SymbolFlags}
 use Rattle.es_scopes.specs.declared.table.Scope.{Scope}
 use Rattle.es_scopes.specs.declared.table.Symbol.{Symbol}
@@ -79,30 +78,31 @@ module _ (t : Table) (h : IsTable t) (s : ScopeId) (name : List ℕ) (f : Symbol
       by : (o : Option SymbolId) → lookup n names ≡ o → or_else o (cond (bytes_eq n name) (Some id) None) ≡ Some z → IsNamed symbols z n s
       by (Some w) e is = push_named t.symbols (new_symbol name s f) z n s (was n z (e ∙ is))
       by None e is = elim (bytes_eq n name) as (λ b. bytes_eq n name ≡ b → cond b (Some id) None ≡ Some z → IsNamed symbols z n s) [
-          | true ↦ λ same is_id. subst (λ m. IsNamed symbols z m s) (sym ((bytes_eq-Decides n name).0 same)) (subst (λ y. IsNamed symbols y name s) (let e : id ≡ z = cc in e) new_is_named)
-          | false ↦ λ _ none. absurd (none_is_some z none)
-        ] refl is
+        | true ↦ λ same is_id. subst (λ m. IsNamed symbols z m s) (sym ((bytes_eq-Decides n name).0 same)) (subst (λ y. IsNamed symbols y name s) (let e : id ≡ z = cc in e) new_is_named)
+        | false ↦ λ _ none. absurd (none_is_some z none)
+      ] refl is
+
   -- the symbol alone, which no scope holds yet
   pub IsTable-new_symbol : IsTable (record t { symbols = symbols })
   IsTable-new_symbol = record {
-      trees = h.trees;
-      named = λ q n z found. push_named t.symbols (new_symbol name s f) z n q (h.named q n z found);
-      targets = λ r z e. let was = h.targets r z e in omega (arith, len-symbols);
-      listed = λ y r held. h.listed y r (listed-push t.symbols y r held)
-    }
+    trees = h.trees;
+    named = λ q n z found. push_named t.symbols (new_symbol name s f) z n q (h.named q n z found);
+    targets = λ r z e. let was = h.targets r z e in omega (arith, len-symbols);
+    listed = λ y r held. h.listed y r (listed-push t.symbols y r held);
+  }
 
   pub IsTable-binding : IsTable (with_binding t s name f)
   IsTable-binding = record {
-      trees = AreTrees-changed (holding name id) s.0 t.scopes (λ x. refl) h.trees;
-      named = λ q n z found. elim (same_or_other q.0 s.0) [
-        | inl same ↦ subst (λ (p : ScopeId). IsNamed symbols z n p) (sym (same_scope q s same))
-            (named_from x.names (λ m w e. h.named s m w (ap (λ o. lookup m (names_of_row o)) at ∙ e)) n z
-              (ap (λ o. lookup n (names_of_row o)) (ap (option_map (holding name id)) (sym at) ∙ sym (row_at-changed_same (holding name id) s.0 t.scopes) ∙ ap (row_at (changed_at (option_map (holding name id)) s.0 t.scopes)) (sym same)) ∙ found))
-        | inr apart ↦ push_named t.symbols (new_symbol name s f) z n q (h.named q n z (ap (λ o. lookup n (names_of_row o)) (sym (row_at-changed_other (option_map (holding name id)) s.0 q.0 t.scopes apart)) ∙ found))
-      ];
-      targets = IsTable-new_symbol.targets;
-      listed = IsTable-new_symbol.listed
-    }
+    trees = AreTrees-changed (holding name id) s.0 t.scopes (λ x. refl) h.trees;
+    named = λ q n z found. elim (same_or_other q.0 s.0) [
+      | inl same ↦ subst (λ (p : ScopeId). IsNamed symbols z n p) (sym (same_scope q s same))
+          (named_from x.names (λ m w e. h.named s m w (ap (λ o. lookup m (names_of_row o)) at ∙ e)) n z
+          (ap (λ o. lookup n (names_of_row o)) (ap (option_map (holding name id)) (sym at) ∙ sym (row_at-changed_same (holding name id) s.0 t.scopes) ∙ ap (row_at (changed_at (option_map (holding name id)) s.0 t.scopes)) (sym same)) ∙ found))
+      | inr apart ↦ push_named t.symbols (new_symbol name s f) z n q (h.named q n z (ap (λ o. lookup n (names_of_row o)) (sym (row_at-changed_other (option_map (holding name id)) s.0 q.0 t.scopes apart)) ∙ found))
+    ];
+    targets = IsTable-new_symbol.targets;
+    listed = IsTable-new_symbol.listed;
+  }
 
 -- ---- another name
 
@@ -135,33 +135,34 @@ module _ (t : Table) (h : IsTable t) (y : SymbolId) (s : ScopeId) (name : List �
     where
       was : (m : List ℕ) (w : SymbolId) → lookup m x.names ≡ Some w → IsNamed t.symbols w m s
       was m w e = h.named s m w (ap (λ o. lookup m (names_of_row o)) at ∙ e)
+
       by : (b : Bool) → bytes_eq n name ≡ b → cond b (lookup old x.names) (cond (bytes_eq n old) None (lookup n x.names)) ≡ Some z → IsNamed called_symbols z n s
       by true same is =
           let own : y ≡ z = let e : Some y ≡ Some z = sym held ∙ is in cc in
           subst (λ m. IsNamed called_symbols z m s) (sym ((bytes_eq-Decides n name).0 same)) (subst (λ w. IsNamed called_symbols w name s) own (own_named old s (h.named s old y (ap (λ o. lookup old (names_of_row o)) at ∙ held))))
       by false other is = elim (bytes_eq n old) as (λ b. bytes_eq n old ≡ b → cond b None (lookup n x.names) ≡ Some z → IsNamed called_symbols z n s) [
-          | true ↦ λ _ none. absurd (none_is_some z none)
-          | false ↦ λ not_old found. others_named z n s
-              (λ same. true≢false (sym ((bytes_eq-Decides n old).1 (sym (name_from (slice_get t.symbols z.0) n s (h.named s n z (ap (λ o. lookup n (names_of_row o)) at ∙ found))) ∙ ap (λ i. unwrap_or (option_map (λ x. x.name) (slice_get t.symbols i)) []) same)) ∙ not_old))
-              (h.named s n z (ap (λ o. lookup n (names_of_row o)) at ∙ found))
-        ] refl is
+        | true ↦ λ _ none. absurd (none_is_some z none)
+        | false ↦ λ not_old found. others_named z n s
+            (λ same. true≢false (sym ((bytes_eq-Decides n old).1 (sym (name_from (slice_get t.symbols z.0) n s (h.named s n z (ap (λ o. lookup n (names_of_row o)) at ∙ found))) ∙ ap (λ i. unwrap_or (option_map (λ x. x.name) (slice_get t.symbols i)) []) same)) ∙ not_old))
+            (h.named s n z (ap (λ o. lookup n (names_of_row o)) at ∙ found))
+      ] refl is
 
   pub IsTable-name : lookup old x.names ≡ Some y → lookup name x.names ≡ None → IsTable (with_name t y s name)
   IsTable-name held free = record {
-      trees = AreTrees-changed (renaming old name) s.0 t.scopes (λ x. refl) h.trees;
-      named = λ q n z found. elim (same_or_other q.0 s.0) [
-        | inl same ↦ subst (λ (p : ScopeId). IsNamed called_symbols z n p) (sym (same_scope q s same))
-            (in_scope held free n z
-              (ap (λ o. lookup n (names_of_row o)) (ap (option_map (renaming old name)) (sym at) ∙ sym (row_at-changed_same (renaming old name) s.0 t.scopes) ∙ ap (row_at (changed_at (option_map (renaming old name)) s.0 t.scopes)) (sym same)) ∙ found))
-        | inr apart ↦
-            let named = h.named q n z (ap (λ o. lookup n (names_of_row o)) (sym (row_at-changed_other (option_map (renaming old name)) s.0 q.0 t.scopes apart)) ∙ found) in
-            others_named z n q
-            (λ same. apart (ap (λ (p : ScopeId). p.0) (scope_from (slice_get t.symbols y.0) n old q s (subst (λ i. Named (slice_get t.symbols i) n q) same named) (h.named s old y (ap (λ o. lookup old (names_of_row o)) at ∙ held)))))
-            named
-      ];
-      targets = subst (HaveTargets t.references) (sym (length-changed_at (called name) y.0 t.symbols)) h.targets;
-      listed = AreListed-symbol (called name) y.0 t.symbols (length t.references) (λ x r held. inl held) h.listed
-    }
+    trees = AreTrees-changed (renaming old name) s.0 t.scopes (λ x. refl) h.trees;
+    named = λ q n z found. elim (same_or_other q.0 s.0) [
+      | inl same ↦ subst (λ (p : ScopeId). IsNamed called_symbols z n p) (sym (same_scope q s same))
+          (in_scope held free n z
+          (ap (λ o. lookup n (names_of_row o)) (ap (option_map (renaming old name)) (sym at) ∙ sym (row_at-changed_same (renaming old name) s.0 t.scopes) ∙ ap (row_at (changed_at (option_map (renaming old name)) s.0 t.scopes)) (sym same)) ∙ found))
+      | inr apart ↦
+          let named = h.named q n z (ap (λ o. lookup n (names_of_row o)) (sym (row_at-changed_other (option_map (renaming old name)) s.0 q.0 t.scopes apart)) ∙ found) in
+          others_named z n q
+          (λ same. apart (ap (λ (p : ScopeId). p.0) (scope_from (slice_get t.symbols y.0) n old q s (subst (λ i. Named (slice_get t.symbols i) n q) same named) (h.named s old y (ap (λ o. lookup old (names_of_row o)) at ∙ held)))))
+          named
+    ];
+    targets = subst (HaveTargets t.references) (sym (length-changed_at (called name) y.0 t.symbols)) h.targets;
+    listed = AreListed-symbol (called name) y.0 t.symbols (length t.references) (λ x r held. inl held) h.listed;
+  }
 
 -- ---- names in a chain of scopes
 

@@ -40,17 +40,17 @@ neither false x = refl
 module _ (old new : List ReferenceId) (r : ReferenceId) where
   pub numbers_of-insert : ((q : ReferenceId) → list_any (λ k. nat_eq q.0 k.0) new ≡ cond (nat_eq r.0 q.0) true (list_any (λ k. nat_eq q.0 k.0) old)) → numbers_of new ≡ set.insert (numbers_of old) r.0
   numbers_of-insert is = set.same_set nat_cmp_total nat_cmp-IsAntisymmetric _ _ (λ n.
-    let q : ReferenceId = record { 0 = n } in
-    contains-numbers_of new q ∙ is q ∙ either (nat_eq r.0 n) (list_any (λ k. nat_eq n k.0) old)
-    ∙ (λ i. (nat_eq_equiv.symm r.0 n ∙ sym (unsigned_tied n r.0)) i || sym (contains-numbers_of old q) i)
-    ∙ sym (set.contains-insert nat_cmp_total (numbers_of old) r.0 n))
+      let q : ReferenceId = record { 0 = n } in
+      contains-numbers_of new q ∙ is q ∙ either (nat_eq r.0 n) (list_any (λ k. nat_eq n k.0) old)
+      ∙ (λ i. (nat_eq_equiv.symm r.0 n ∙ sym (unsigned_tied n r.0)) i || sym (contains-numbers_of old q) i)
+      ∙ sym (set.contains-insert nat_cmp_total (numbers_of old) r.0 n))
 
   pub numbers_of-remove : ((q : ReferenceId) → list_any (λ k. nat_eq q.0 k.0) new ≡ cond (nat_eq r.0 q.0) false (list_any (λ k. nat_eq q.0 k.0) old)) → numbers_of new ≡ set.remove (numbers_of old) r.0
   numbers_of-remove is = set.same_set nat_cmp_total nat_cmp-IsAntisymmetric _ _ (λ n.
-    let q : ReferenceId = record { 0 = n } in
-    contains-numbers_of new q ∙ is q ∙ neither (nat_eq r.0 n) (list_any (λ k. nat_eq n k.0) old)
-    ∙ (λ i. not ((nat_eq_equiv.symm r.0 n ∙ sym (unsigned_tied n r.0)) i) && sym (contains-numbers_of old q) i)
-    ∙ sym (set.contains-remove nat_cmp_total (numbers_of old) r.0 n))
+      let q : ReferenceId = record { 0 = n } in
+      contains-numbers_of new q ∙ is q ∙ neither (nat_eq r.0 n) (list_any (λ k. nat_eq n k.0) old)
+      ∙ (λ i. not ((nat_eq_equiv.symm r.0 n ∙ sym (unsigned_tied n r.0)) i) && sym (contains-numbers_of old q) i)
+      ∙ sym (set.contains-remove nat_cmp_total (numbers_of old) r.0 n))
 
 -- the references that a search for a write has still to see: they are of the set, and each that writes is among them
 pub record AreAhead (s : ReferenceNumbers) (references : List Reference) (ahead : List ReferenceId) : Type 0 where
@@ -61,7 +61,7 @@ module _ (s : ReferenceNumbers) (references : List Reference) where
   pub AreAhead-all : (keys ahead : List ReferenceId) → ahead ≡ keys → numbers_of keys ≡ s → AreAhead s references ahead
   AreAhead-all keys ahead is view =
       let same : (r : ℕ) → set.contains s r ≡ list_any (λ k. nat_eq r k.0) ahead =
-          λ r. ap (λ t. set.contains t r) (sym view) ∙ contains-numbers_of keys (record { 0 = r }) ∙ ap (list_any (λ k. nat_eq r k.0)) (sym is) in
+      λ r. ap (λ t. set.contains t r) (sym view) ∙ contains-numbers_of keys (record { 0 = r }) ∙ ap (list_any (λ k. nat_eq r k.0)) (sym is) in
       record { held = λ r h. same r ∙ h; write = λ r h w. sym (same r) ∙ h }
 
   pub AreAhead-first : (x : ReferenceId) (rest : List ReferenceId) → AreAhead s references (x ∷ rest) → set.contains s x.0 ≡ true
@@ -73,7 +73,7 @@ module _ (s : ReferenceNumbers) (references : List Reference) where
     write = λ r held w. elim (nat_eq r x.0) as (λ b. nat_eq r x.0 ≡ b → list_any (λ k. nat_eq r k.0) rest ≡ true) [
       | true ↦ λ same. absurd (true≢false (sym w ∙ ap (λ n. writes (slice_get references n)) ((Decides-eqb r x.0).0 same) ∙ reads))
       | false ↦ λ other. sym (ap (λ b. b || list_any (λ k. nat_eq r k.0) rest) other) ∙ h.write r held w
-    ] refl
+    ] refl;
   }
 
   pub AreAhead-none : AreAhead s references [] → HoldsWrite s references → ⊥

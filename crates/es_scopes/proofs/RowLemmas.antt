@@ -1,17 +1,16 @@
 -- Rows by their numbers: one changed, and one added.
-use Rattle.std.proofs.Common.{◌≡◌, ◌≢◌, refl, sym, ap, ◌∙◌, ℕ, zero, suc, ◌+◌, ◌<◌, List, [], ◌∷◌, ◌++◌, map, length, take, drop, set, get_or, Option, Some, None, Bool, true, false, true≢false, nat_eq, ◌⊎◌, inl, inr, arith}
+use Rattle.std.proofs.Common.{◌≡◌, ◌≢◌, refl, sym, ap, ◌∙◌, ℕ, zero, suc, ◌<◌, List, [], ◌∷◌, ◌++◌, map, length, take, drop, set, get_or, Option, Some, None, true, false, true≢false, nat_eq, ◌⊎◌, inl, inr, arith}
 use Rattle.std.specs.Prelude.{slice_get, option_map, is_some}
 use Rattle.std.specs.Option.{option_and_then}
 use Rattle.std.proofs.Math.Seq.{take-append_seam}
 use Rattle.std.proofs.lemmas.Bool.Decides.{Decides-eqb}
-use Rattle.std.proofs.lemmas.Option.{slice_get_within, slice_get-get_or}
 use Rattle.es_scopes.specs.Table.{changed_at, row_at}
 
 pub same_or_other : (i j : ℕ) → (i ≡ j) ⊎ (i ≢ j)
 same_or_other i j = elim (nat_eq i j) as (λ b. nat_eq i j ≡ b → (i ≡ j) ⊎ (i ≢ j)) [
-    | true ↦ λ t. inl ((Decides-eqb i j).0 t)
-    | false ↦ λ f. inr (λ e. true≢false (sym ((Decides-eqb i j).1 e) ∙ f))
-  ] refl
+  | true ↦ λ t. inl ((Decides-eqb i j).0 t)
+  | false ↦ λ f. inr (λ e. true≢false (sym ((Decides-eqb i j).1 e) ∙ f))
+] refl
 
 module _ {X : Type 0} where
   pub length-changed_at : (f : X → X) (i : ℕ) (xs : List X) → length (changed_at f i xs) ≡ length xs

@@ -1,5 +1,5 @@
 -- Chains of parents, over any relation of scopes to parents.
-use Rattle.std.proofs.Common.{◌≡◌, ◌≢◌, refl, sym, ap, subst, ◌∙◌, ℕ, zero, suc, ◌+◌, ◌<◌, ◌≤◌, List, [], ◌∷◌, map, length, Option, Some, None, Bool, true, false, true≢false, nat_eq, eqb, cond, ◌⊎◌, inl, inr, arith}
+use Rattle.std.proofs.Common.{◌≡◌, ◌≢◌, refl, sym, ap, subst, ◌∙◌, ℕ, zero, suc, ◌+◌, ◌<◌, ◌≤◌, List, [], ◌∷◌, map, length, Option, Some, None, Bool, true, false, true≢false, nat_eq, eqb, cond, inl, inr, arith}
 use Rattle.std.specs.Prelude.{◌||◌, is_some, Contains}
 use Rattle.std.specs.List.{list_any, IsDistinct, AllByRecursion}
 use Rattle.std.proofs.lemmas.Bool.Decides.{Decides-eqb}
@@ -22,9 +22,9 @@ same_scope s q e = λ i. record { 0 = e i }
 pub Contains-among : (s : ScopeId) (scopes : List ScopeId) → is_among s scopes ≡ true → Contains scopes s
 Contains-among s [] h = absurd (true≢false (sym h))
 Contains-among s (q ∷ scopes) h = elim (nat_eq s.0 q.0) as (λ b. nat_eq s.0 q.0 ≡ b → (b || is_among s scopes) ≡ true → Contains (q ∷ scopes) s) [
-    | true ↦ λ t _. (0, omega arith, sym (same_scope s q ((Decides-eqb s.0 q.0).0 t)))
-    | false ↦ λ _ rest. let at = Contains-among s scopes rest in (suc at.0, omega (arith, at.1), at.2)
-  ] refl h
+  | true ↦ λ t _. (0, omega arith, sym (same_scope s q ((Decides-eqb s.0 q.0).0 t)))
+  | false ↦ λ _ rest. let at = Contains-among s scopes rest in (suc at.0, omega (arith, at.1), at.2)
+] refl h
 
 on_parent : (o : Option (Option ScopeId)) (f g : ScopeId → Bool) → ((p : ScopeId) → f p ≡ true → g p ≡ true) → ends_from o f ≡ true → ends_from o g ≡ true
 on_parent None f g k h = h
@@ -106,9 +106,9 @@ not_above parent n s h = by (parent s) refl
 apart_from_not_among : (s : ScopeId) (scopes : List ScopeId) → is_among s scopes ≡ false → AllByRecursion (λ y. eqb s.0 y ≡ false) (map (λ q. q.0) scopes)
 apart_from_not_among s [] h = tt
 apart_from_not_among s (q ∷ scopes) h = elim (eqb s.0 q.0) as (λ b. eqb s.0 q.0 ≡ b → (b || is_among s scopes) ≡ false → (b ≡ false) × AllByRecursion (λ y. eqb s.0 y ≡ false) (map (λ q. q.0) scopes)) [
-    | true ↦ λ _ h. absurd (true≢false h)
-    | false ↦ λ _ h. (refl, apart_from_not_among s scopes h)
-  ] refl h
+  | true ↦ λ _ h. absurd (true≢false h)
+  | false ↦ λ _ h. (refl, apart_from_not_among s scopes h)
+] refl h
 
 distinct_above : (o : Option (Option ScopeId)) (f : ScopeId → Bool) (c : ScopeId → List ScopeId) → ((p : ScopeId) → f p ≡ true → IsDistinct eqb (map (λ q. q.0) (c p))) → ends_from o f ≡ true → IsDistinct eqb (map (λ q. q.0) (or_none o c))
 unfolding IsDistinct
@@ -177,11 +177,11 @@ module _ (parent other : Parents) (s : ScopeId) (new : Option ScopeId) (at : oth
   through : (m : ℕ) → ends other (suc m) s ≡ true → (n : ℕ) (q : ScopeId) → ends parent n q ≡ true → ends other (n + suc m) q ≡ true
   through m top zero q h = absurd (true≢false (sym h))
   through m top (suc n) q h = elim (same_or_other q.0 s.0) [
-      | inl same ↦ subst (λ x. ends other (suc n + suc m) x ≡ true) (sym (same_scope q s same)) (ends-le other (suc m) (suc n + suc m) s (omega arith) top)
-      | inr apart ↦
-          ends-le other (suc (n + suc m)) (suc n + suc m) q (omega arith)
-          (ap (λ o. ends_from o (ends other (n + suc m))) (elsewhere q apart) ∙ through_from n m (parent q) (λ p. through m top n p) h)
-    ]
+    | inl same ↦ subst (λ x. ends other (suc n + suc m) x ≡ true) (sym (same_scope q s same)) (ends-le other (suc m) (suc n + suc m) s (omega arith) top)
+    | inr apart ↦
+        ends-le other (suc (n + suc m)) (suc n + suc m) q (omega arith)
+        (ap (λ o. ends_from o (ends other (n + suc m))) (elsewhere q apart) ∙ through_from n m (parent q) (λ p. through m top n p) h)
+  ]
 
   pub ends-moved : (bound n m : ℕ) → ((q : ScopeId) → is_some (other q) ≡ true → q.0 < bound) → ends_from (Some new) (ends other m) ≡ true → (q : ScopeId) → ends parent n q ≡ true → ends other bound q ≡ true
   ends-moved bound n m below top q h = ends-within other bound below (n + suc m) q (through m (ap (λ o. ends_from o (ends other m)) at ∙ top) n q h)
@@ -217,9 +217,9 @@ module _ (parent other : Parents) (s : ScopeId) (up : Option ScopeId) (was : par
   lifted_from n None k h = h
   lifted_from n (Some None) k h = h
   lifted_from n (Some (Some p)) k h = elim (nat_eq s.0 p.0) as (λ b. nat_eq s.0 p.0 ≡ b → ends_from (cond b (Some up) (Some (Some p))) (ends other n) ≡ true) [
-      | true ↦ λ t. to_up n up was (ap (ends parent n) (same_scope s p ((Decides-eqb s.0 p.0).0 t)) ∙ h) k
-      | false ↦ λ f. k p h (λ e. true≢false (sym ((Decides-eqb s.0 p.0).1 (sym e)) ∙ f))
-    ] refl
+    | true ↦ λ t. to_up n up was (ap (ends parent n) (same_scope s p ((Decides-eqb s.0 p.0).0 t)) ∙ h) k
+    | false ↦ λ f. k p h (λ e. true≢false (sym ((Decides-eqb s.0 p.0).1 (sym e)) ∙ f))
+  ] refl
 
   -- the scopes below it end where its parent does
   pub ends-lifted : (n : ℕ) (q : ScopeId) → ends parent n q ≡ true → q.0 ≢ s.0 → ends other n q ≡ true

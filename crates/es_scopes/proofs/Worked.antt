@@ -1,11 +1,11 @@
 -- `let a; function f(b) { a = b; }`: the scopes, the declarations and the references of a program that is written out.
-use Rattle.std.proofs.Common.{◌≡◌, refl, ℕ, List, [], ◌∷◌, Option, Some, None, true, false}
+use Rattle.std.proofs.Common.{◌≡◌, refl, ℕ, List, [], ◌∷◌, Some, None, true, false}
 use Rattle.std.specs.Prelude.{codes}
 use Rattle.es_base.specs.Tree.{Tree, Parts, Node, end, more, child, absent, list, string, boolean, no_string}
 use Rattle.es_base.specs.declared.kind.Kind.{Kind}
-use Rattle.es_scopes.specs.NodeScopes.{NodeScope, scopes_of}
-use Rattle.es_scopes.specs.NodeBindings.{NodeBinding, bindings_of}
-use Rattle.es_scopes.specs.NodeReferences.{NodeReference, references_of}
+use Rattle.es_scopes.specs.NodeScopes.{scopes_of}
+use Rattle.es_scopes.specs.NodeBindings.{bindings_of}
+use Rattle.es_scopes.specs.NodeReferences.{references_of}
 
 abbrev node : Kind → ℕ → Parts → Tree
 node kind m ps = Node kind m None None ps

@@ -1,12 +1,12 @@
 -- What the writes of the calls make of a table.
-use Rattle.std.proofs.Common.{◌≡◌, refl, sym, ap, subst, ◌∙◌, ℕ, ◌<◌, List, length, set, get_or, Option, Some, None, true, false, true≢false, ◌⊎◌, inl, inr}
-use Rattle.std.specs.Prelude.{slice_get, option_map, is_some, MatchOption}
+use Rattle.std.proofs.Common.{◌≡◌, sym, ap, subst, ◌∙◌, ◌<◌, length, set, get_or, Option, Some, None, true, true≢false, ◌⊎◌}
+use Rattle.std.specs.Prelude.{option_map, is_some, MatchOption}
 use Rattle.std.specs.Option.{option_and_then}
 use Rattle.std.proofs.lemmas.Option.{slice_get-get_or}
 use Rattle.es_base.specs.declared.ids.ScopeId.{ScopeId}
 use Rattle.es_base.specs.declared.ids.SymbolId.{SymbolId}
 use Rattle.es_base.specs.declared.ids.ReferenceId.{ReferenceId}
-use Rattle.es_scopes.specs.Table.{Table, changed_at, row_at, scope_at, symbol_at, HasScope, HasSymbol, HasReference, IsTable, IsMutated, with_scope, with_symbol, with_reference}
+use Rattle.es_scopes.specs.Table.{Table, changed_at, scope_at, symbol_at, HasScope, HasSymbol, HasReference, IsTable, IsMutated, with_scope, with_symbol, with_reference}
 use Rattle.es_scopes.specs.References.{HoldsWrite}
 use Rattle.es_scopes.specs.declared.table.Scope.{Scope}
 use Rattle.es_scopes.specs.declared.table.Symbol.{Symbol}

@@ -1,5 +1,5 @@
 -- The identifiers that declare a symbol: what each gives to the flags of its symbol, and which symbols are marked.
-use Rattle.std.specs.Prelude.{ℕ, zero, suc, List, [], ◌∷◌, ◌++◌, Bool, true, false, cond, ◌||◌, ◌&&◌, codes, bytes_eq, nat_eq, nat_le, bit_or, length}
+use Rattle.std.specs.Prelude.{ℕ, suc, List, [], ◌∷◌, ◌++◌, Bool, false, cond, ◌||◌, ◌&&◌, codes, bytes_eq, nat_eq, nat_le, bit_or, length}
 use Rattle.std.specs.List.{list_any}
 use Rattle.es_base.specs.Tree.{Tree, Part, Parts, Node, end, more, child, absent, list, string, no_string, boolean, literal}
 use Rattle.es_base.specs.declared.kind.Kind.{Kind}

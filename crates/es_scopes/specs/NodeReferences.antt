@@ -1,6 +1,6 @@
 -- The references of a tree, and how each uses its name. (ECMA-262, 13.15: an assignment writes its target; a compound
 -- assignment and an update read it first.)
-use Rattle.std.specs.Prelude.{ℕ, zero, suc, List, [], ◌∷◌, ◌++◌, Bool, cond, codes, bytes_eq, nat_eq, bit_or}
+use Rattle.std.specs.Prelude.{ℕ, suc, List, [], ◌∷◌, ◌++◌, cond, codes, bytes_eq, nat_eq, bit_or}
 use Rattle.es_base.specs.Tree.{Tree, Part, Parts, Node, end, more, child, absent, list, string, no_string, boolean, literal}
 use Rattle.es_base.specs.declared.kind.Kind.{Kind}
 use Rattle.es_scopes.specs.declared.flags.ReferenceFlags.{ReferenceFlags}

@@ -1,6 +1,6 @@
 -- The scopes of a tree: which nodes have one, in which scope each stands, and its flags.
 -- (ECMA-262, 8.2 and 9.1: environment records, where a function's parameters and body have one scope; 11.2.2: strict code.)
-use Rattle.std.specs.Prelude.{ℕ, zero, suc, List, [], ◌∷◌, ◌++◌, Bool, true, false, cond, ◌||◌, ◌&&◌, not, codes, bytes_eq, nat_eq, bit_or, Option, Some, None}
+use Rattle.std.specs.Prelude.{ℕ, suc, List, [], ◌∷◌, ◌++◌, Bool, true, false, cond, ◌||◌, ◌&&◌, not, codes, bytes_eq, nat_eq, bit_or, Option, Some, None}
 use Rattle.es_base.specs.Tree.{Tree, Part, Parts, Node, end, more, child, absent, list, string, no_string, boolean, literal}
 use Rattle.es_base.specs.declared.kind.Kind.{Kind}
 use Rattle.es_scopes.specs.declared.flags.ScopeFlags.{ScopeFlags}
@@ -117,11 +117,11 @@ is_strict kind ps place = place.strict || makes_strict kind ps
 -- where the i-th part stands
 abbrev pub inside : Kind → ℕ → Parts → Place → ℕ → Place
 inside kind m ps place i = record {
-    around = cond (opens kind place && not (is_outside kind i)) (Some m) place.around;
-    strict = is_strict kind ps place;
-    is_body = is_body_place kind i;
-    given = value_flags kind ps i
-  }
+  around = cond (opens kind place && not (is_outside kind i)) (Some m) place.around;
+  strict = is_strict kind ps place;
+  is_body = is_body_place kind i;
+  given = value_flags kind ps i;
+}
 
 abbrev pub own_scope : Kind → ℕ → Parts → Place → List NodeScope
 own_scope kind m ps place = cond (opens kind place) (record { node = m; around = place.around; flags = scope_flags kind place.given (is_strict kind ps place) } ∷ []) []

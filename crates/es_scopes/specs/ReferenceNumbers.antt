@@ -1,5 +1,5 @@
 -- The numbers of references, as a set.
-use Rattle.std.specs.Prelude.{ℕ, List, map}
+use Rattle.std.specs.Prelude.{List, map}
 use Rattle.std.specs.FinSet as set
 use Rattle.std.specs.Ordering.{nat_cmp}
 use Rattle.es_base.specs.declared.ids.ReferenceId.{ReferenceId}

@@ -1,6 +1,6 @@
 -- The scope table as finite maps: from a scope's number to its row, and so for symbols and references.
 -- Numbers are given from 0 in order. A scope that was removed has no row, and its number is not given again.
-use Rattle.std.specs.Prelude.{◌≡◌, ◌<◌, ◌-◌, ◌^◌, ℕ, zero, suc, List, [], ◌∷◌, ◌++◌, Bool, true, false, not, Option, Some, None, IsSome, MatchOption, ◌⊎◌, unwrap_or, if◌then◌else◌, ◌||◌, nat_eq, bytes_eq, length, map, slice_get, option_map, option_and_then, Contains, ⊤}
+use Rattle.std.specs.Prelude.{◌≡◌, ◌<◌, ◌-◌, ◌^◌, ℕ, zero, suc, List, [], ◌∷◌, ◌++◌, Bool, true, false, Option, Some, None, IsSome, MatchOption, ◌⊎◌, unwrap_or, if◌then◌else◌, nat_eq, length, map, slice_get, option_map, option_and_then, Contains}
 use Rattle.std.specs.Option.{ForSome}
 use Rattle.std.specs.FinSet as set
 use Rattle.es_base.specs.declared.ids.ScopeId.{ScopeId}
@@ -13,7 +13,7 @@ use Rattle.es_scopes.specs.declared.table.Scope.{Scope}
 use Rattle.es_scopes.specs.declared.table.Symbol.{Symbol}
 use Rattle.es_scopes.specs.declared.table.Reference.{Reference}
 use Rattle.es_scopes.specs.Bindings.{Names, lookup, renamed}
-use Rattle.es_scopes.specs.References.{HoldsWrite, AreAllBelow}
+use Rattle.es_scopes.specs.References.{HoldsWrite}
 
 pub record Table : Type 0 where
   pub scopes : List (Option Scope)

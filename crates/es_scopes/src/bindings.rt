@@ -66,7 +66,12 @@ impl Bindings {
 
     /// Gives the symbol of one name another, which takes its place. Fails on allocation failure alone,
     /// and then the names stay.
-    pub(crate) fn rename(&mut self, old_name: &str, name: &str, symbol: SymbolId) -> Result<(), AllocError>
+    pub(crate) fn rename(
+        &mut self,
+        old_name: &str,
+        name: &str,
+        symbol: SymbolId,
+    ) -> Result<(), AllocError>
         requires held { lookup (chars old_name.now) self.old ≡ Some symbol }
         requires free { lookup (chars name.now) self.old ≡ None }
         ensures ok { OnOk result (self.new ≡ renamed (chars old_name.now) (chars name.now) self.old) }

@@ -26,10 +26,8 @@ impl Flags for ScopeFlags {
 
     ghost exact = { ⊤ };
 
-    ghost table = {
-        (codes "TOP", 1) ∷ (codes "FUNCTION", 2) ∷ (codes "ARROW", 4) ∷ (codes "STATIC_BLOCK", 8)
-        ∷ (codes "CONSTRUCTOR", 16) ∷ (codes "GET", 32) ∷ (codes "SET", 64) ∷ (codes "STRICT", 128) ∷ []
-    };
+    ghost table = { (codes "TOP", 1) ∷ (codes "FUNCTION", 2) ∷ (codes "ARROW", 4) ∷ (codes "STATIC_BLOCK", 8)
+        ∷ (codes "CONSTRUCTOR", 16) ∷ (codes "GET", 32) ∷ (codes "SET", 64) ∷ (codes "STRICT", 128) ∷ [] };
 
     ghost set_of = { λ f. f.0 };
 
@@ -68,10 +66,8 @@ impl Flags for SymbolFlags {
 
     ghost exact = { ⊤ };
 
-    ghost table = {
-        (codes "VAR", 1) ∷ (codes "LET", 2) ∷ (codes "CONST", 4) ∷ (codes "CLASS", 8)
-        ∷ (codes "FUNCTION", 16) ∷ (codes "PARAM", 32) ∷ (codes "CATCH", 64) ∷ (codes "IMPORT", 128) ∷ []
-    };
+    ghost table = { (codes "VAR", 1) ∷ (codes "LET", 2) ∷ (codes "CONST", 4) ∷ (codes "CLASS", 8)
+        ∷ (codes "FUNCTION", 16) ∷ (codes "PARAM", 32) ∷ (codes "CATCH", 64) ∷ (codes "IMPORT", 128) ∷ [] };
 
     ghost set_of = { λ f. f.0 };
 

@@ -64,7 +64,10 @@ impl ReferenceSet {
         ensures { IsTrue result ↔ HoldsWrite self.now references.now }
     {
         for id in self.references.iter() {
-            if references[id.0 as usize].flags().contains(ReferenceFlags::WRITE) {
+            if references[id.0 as usize]
+                .flags()
+                .contains(ReferenceFlags::WRITE)
+            {
                 return true;
             }
         }

@@ -120,7 +120,11 @@ impl Scoping {
     }
 
     /// Adds a scope without names, and answers its number.
-    pub fn add_scope(&mut self, parent: Option<ScopeId>, flags: ScopeFlags) -> Result<ScopeId, AllocError>
+    pub fn add_scope(
+        &mut self,
+        parent: Option<ScopeId>,
+        flags: ScopeFlags,
+    ) -> Result<ScopeId, AllocError>
         requires around { HasScopeIfAny self.old parent }
         requires room { HasRoom self.old.scopes }
         ensures number { IfOk result (λ s. s.0 ≡ length self.old.scopes) }
@@ -197,7 +201,12 @@ impl Scoping {
 // Symbols.
 impl Scoping {
     /// Adds a symbol, as the last name of the scope, and answers its number. It is not marked.
-    pub fn add_binding(&mut self, scope_id: ScopeId, name: &str, flags: SymbolFlags) -> Result<SymbolId, AllocError>
+    pub fn add_binding(
+        &mut self,
+        scope_id: ScopeId,
+        name: &str,
+        flags: SymbolFlags,
+    ) -> Result<SymbolId, AllocError>
         requires there { HasScope self.old scope_id }
         requires free { get_binding self.old scope_id (chars name.now) ≡ None }
         requires room { HasRoom self.old.symbols }
@@ -218,7 +227,12 @@ impl Scoping {
     }
 
     /// Gives a symbol another name, in the scope that holds it. The order of the names stays.
-    pub fn rename_symbol(&mut self, symbol_id: SymbolId, scope_id: ScopeId, name: &str) -> Result<(), AllocError>
+    pub fn rename_symbol(
+        &mut self,
+        symbol_id: SymbolId,
+        scope_id: ScopeId,
+        name: &str,
+    ) -> Result<(), AllocError>
         requires held { Holds self.old scope_id symbol_id }
         requires free { get_binding self.old scope_id (chars name.now) ≡ None }
         ensures ok { OnOk result (self.new ≡ with_name self.old symbol_id scope_id (chars name.now)) }
@@ -281,7 +295,11 @@ impl Scoping {
 // References.
 impl Scoping {
     /// Adds a reference, which is put on the list of its symbol, and answers its number.
-    pub fn create_reference(&mut self, symbol_id: Option<SymbolId>, flags: ReferenceFlags) -> Result<ReferenceId, AllocError>
+    pub fn create_reference(
+        &mut self,
+        symbol_id: Option<SymbolId>,
+        flags: ReferenceFlags,
+    ) -> Result<ReferenceId, AllocError>
         requires there { ForSome symbol_id (HasSymbol self.old) }
         requires room { HasRoom self.old.references }
         ensures number { IfOk result (λ r. r.0 ≡ length self.old.references) }
@@ -321,7 +339,11 @@ impl Scoping {
     }
 
     /// Puts the reference on the list of the symbol, if it is not there. What it means stays.
-    pub fn add_resolved_reference(&mut self, symbol_id: SymbolId, reference_id: ReferenceId) -> Result<(), AllocError>
+    pub fn add_resolved_reference(
+        &mut self,
+        symbol_id: SymbolId,
+        reference_id: ReferenceId,
+    ) -> Result<(), AllocError>
         requires symbol { HasSymbol self.old symbol_id }
         requires reference { HasReference self.old reference_id }
         ensures ok { OnOk result (self.new ≡ with_listed self.old symbol_id reference_id) }

@@ -13,5 +13,5 @@ returns-clause-ok c =
     let row = c.index-scopes-scope_id.is ∙ c.in-Some.is in
     OnOk-map c.insert.result _ _
     (λ e. set-changed_at (option_map f) c.args.scope_id.0 scopes c.index-scopes-scope_id.result _ (within_from_row scopes c.args.scope_id.0 c.requires.there) c.index-scopes-scope_id.is
-      (ap (λ names. Some (record c.in-Some.scope { names = names })) e ∙ sym (ap (option_map f) row)))
+    (ap (λ names. Some (record c.in-Some.scope { names = names })) e ∙ sym (ap (option_map f) row)))
     c.insert.ensures.ok

@@ -1,4 +1,4 @@
-use Rattle.std.proofs.Common.{◌≡◌, ◌∙◌, ◌++◌, ap, sym, add-one, map, take, drop, set, get_or}
+use Rattle.std.proofs.Common.{◌∙◌, ◌++◌, ap, sym, add-one, map, take, drop, set, get_or}
 use Rattle.std.specs.Prelude.{option_map}
 use Rattle.es_scopes.specs.Table.{lifted}
 use Rattle.es_scopes.proofs.RowLemmas.{mapped-step}

@@ -1,4 +1,4 @@
-use Rattle.std.proofs.Common.{◌∙◌, ap, sym}
+use Rattle.std.proofs.Common.{◌∙◌, ap}
 use Rattle.std.specs.Str.{chars}
 use Rattle.es_scopes.specs.Bindings.{lookup}
 use Rattle.es_scopes.proofs.BindingLemmas.{lookup-names_of}

@@ -1,6 +1,5 @@
-use Rattle.std.proofs.Common.{◌≡◌, ◌<◌, ◌∙◌, sym, subst, length, true, false, rules}
-use Rattle.std.specs.FinSet as set
-use Rattle.es_scopes.proofs.ReferenceLemmas.{AreAhead, AreAhead-all, AreAhead-first, AreAhead-rest, AreAhead-none, writes-flags}
+use Rattle.std.proofs.Common.{◌∙◌, subst, true, false, rules}
+use Rattle.es_scopes.proofs.ReferenceLemmas.{AreAhead, AreAhead-all, AreAhead-first, AreAhead-rest, writes-flags}
 use Rattle.es_scopes.proofs.reference_set.ReferenceSet.has_write.Goals as goal
 
 pub loop-id-init : goal.loop-id-init

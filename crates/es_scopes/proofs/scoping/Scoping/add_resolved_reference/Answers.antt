@@ -13,7 +13,7 @@ invariant_of-self c =
     let holds = symbol-holds t c.args.self.now c.self.view_is c.args.symbol_id c.requires.symbol row (record row { references = c.insert.new.self }) in
     either_way c.insert.result _ _ _ c.insert.ensures.ok c.insert.ensures.err
     (λ added. holds (listing c.args.reference_id.0) c.index_mut.ensures.value (ap (λ s. record row { references = s }) added)
-      (IsTable-listing t c.self.invariant c.args.symbol_id.0 c.args.reference_id.0 (reference-within t c.args.self.now c.self.view_is c.args.reference_id c.requires.reference)))
+    (IsTable-listing t c.self.invariant c.args.symbol_id.0 c.args.reference_id.0 (reference-within t c.args.self.now c.self.view_is c.args.reference_id c.requires.reference)))
     (λ same. holds (λ x. x) c.index_mut.ensures.value (ap (λ s. record row { references = s }) same) (IsTable-symbol_same t c.self.invariant c.args.symbol_id.0))
 
 pub returns-clause-ok : goal.returns-clause-ok

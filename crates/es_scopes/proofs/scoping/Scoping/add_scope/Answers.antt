@@ -1,4 +1,4 @@
-use Rattle.std.proofs.Common.{◌≡◌, ◌∙◌, ◌++◌, ◌∷◌, [], ap, sym, subst, List, Option, Some}
+use Rattle.std.proofs.Common.{◌∙◌, ◌++◌, ◌∷◌, [], ap, sym, subst, List, Option, Some}
 use Rattle.es_scopes.specs.Table.{Table, IsTable, HasScope}
 use Rattle.es_scopes.specs.contracts.scoping.Scoping.{the_view}
 use Rattle.es_scopes.specs.declared.table.Scope.{Scope}

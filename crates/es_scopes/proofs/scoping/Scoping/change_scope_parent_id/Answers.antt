@@ -11,7 +11,7 @@ invariant_of-self c =
     let before = λ (q : ScopeId) (there : HasScope c.args.self.now q). subst (λ t. HasScope t q) (sym c.self.view_is) there in
     scope-holds (the_view c.self.inside) c.args.self.now c.self.view_is c.args.scope_id c.requires.there c.index_mut.result.now c.index_mut.ensures.value c.in-Some.scope _ (below c.args.parent) c.in-Some.is refl
     (IsTable-moved (the_view c.self.inside) c.args.scope_id c.args.parent c.self.invariant (before c.args.scope_id c.requires.there) (λ q e. before q (c.requires.around q e))
-      (λ q e w. c.requires.outside q e (subst (λ t. IsWithin t c.args.scope_id q) c.self.view_is w)))
+    (λ q e w. c.requires.outside q e (subst (λ t. IsWithin t c.args.scope_id q) c.self.view_is w)))
 
 pub returns : goal.returns
 returns c =

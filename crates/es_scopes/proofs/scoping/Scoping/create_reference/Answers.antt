@@ -1,4 +1,4 @@
-use Rattle.std.proofs.Common.{◌≡◌, ◌∙◌, ap, sym, subst, length, rules, arith, List, true}
+use Rattle.std.proofs.Common.{◌≡◌, ◌∙◌, ap, sym, subst, length, rules, List}
 use Rattle.std.specs.Prelude.{slice_get, is_some}
 use Rattle.es_scopes.specs.Table.{Table, IsTable}
 use Rattle.es_scopes.specs.declared.table.Reference.{Reference}

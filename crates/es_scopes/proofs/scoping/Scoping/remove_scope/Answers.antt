@@ -2,7 +2,7 @@ use Rattle.std.proofs.Common.{◌≡◌, ◌∙◌, ◌++◌, ◌<◌, refl, ap,
 use Rattle.std.specs.Prelude.{option_map, IsSome, is_some}
 use Rattle.std.specs.Option.{option_and_then}
 use Rattle.std.proofs.lemmas.List.{length-map}
-use Rattle.es_scopes.specs.Table.{Table, IsTable, HasScope, scope_at, lifted, names_at, parent_of, without_scope}
+use Rattle.es_scopes.specs.Table.{Table, IsTable, scope_at, lifted, names_at, parent_of, without_scope}
 use Rattle.es_scopes.specs.declared.table.Scope.{Scope}
 use Rattle.es_scopes.specs.contracts.scoping.Scoping.{the_view}
 use Rattle.es_scopes.proofs.RowLemmas.{set-constant, written_back}
@@ -20,7 +20,7 @@ scopes_are c =
     let up : c.scope.result.now.parent ≡ parent_of t s = sym (ap (λ o. option_and_then (λ p. p) (option_map (λ x. x.parent) o)) row) in
     let size : length c.lift_all.new.scopes ≡ vec_len c.self.inside.scopes = omega (arith, c.lift_all.auto.scopes, c.deref_mut.ensures.len) in
     let lift_is : c.lift_all.new.scopes ≡ map (option_map (lifted s (parent_of t s))) t.scopes =
-        c.lift_all.ensures ∙ (λ i. map (option_map (lifted s (up i))) (c.deref_mut.ensures.value i)) in
+    c.lift_all.ensures ∙ (λ i. map (option_map (lifted s (up i))) (c.deref_mut.ensures.value i)) in
     let within : s.0 < length (map (option_map (lifted s (parent_of t s))) t.scopes) = simp length-map (scope-within t t refl s (ap is_some row)) in
     ap (λ (l : List (Option Scope)). set l s.0 None) (written_back (vec_len c.self.inside.scopes) c.lift_all.new.scopes c.self.inside.scopes.items size ∙ lift_is)
     ∙ set-constant None s.0 (map (option_map (lifted s (parent_of t s))) t.scopes) within

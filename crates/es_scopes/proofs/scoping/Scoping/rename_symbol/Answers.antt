@@ -1,15 +1,13 @@
-use Rattle.std.proofs.Common.{◌≡◌, ◌∙◌, ◌++◌, ◌<◌, refl, [], ap, sym, subst, length, set, take, drop, rules, arith, vec_len, Some, None, List, Option}
-use Rattle.std.specs.Prelude.{option_map, unwrap_or, is_some}
+use Rattle.std.proofs.Common.{◌≡◌, ◌∙◌, ◌++◌, ◌<◌, refl, ap, sym, subst, length, set, take, drop, rules, arith, vec_len, None}
+use Rattle.std.specs.Prelude.{option_map}
 use Rattle.std.specs.Str.{chars}
 use Rattle.es_scopes.specs.Bindings.{lookup}
-use Rattle.es_scopes.specs.Table.{Table, IsTable, HasSymbol, Holds, changed_at, scope_at, symbol_at, name_of, names_of_row, row_at, renaming, called, get_binding, with_name}
-use Rattle.es_scopes.specs.declared.table.Scope.{Scope}
-use Rattle.es_scopes.specs.declared.table.Symbol.{Symbol}
+use Rattle.es_scopes.specs.Table.{Table, IsTable, Holds, changed_at, scope_at, name_of, names_of_row, row_at, renaming, called, get_binding, with_name}
 use Rattle.es_scopes.specs.contracts.scoping.Scoping.{the_view}
 use Rattle.es_scopes.proofs.NameLemmas.{IsTable-name, holder-there, symbol-held, own-name}
 use Rattle.es_scopes.proofs.RowLemmas.{written_back, set-changed_at, within_from_some}
 use Rattle.es_scopes.proofs.TableLemmas.{some_row}
-use Rattle.es_scopes.proofs.WrittenLemmas.{symbol-found, symbol-within, symbol-row}
+use Rattle.es_scopes.proofs.WrittenLemmas.{symbol-row}
 use Rattle.es_scopes.proofs.scoping.Scoping.rename_symbol.Goals as goal
 
 pub index_mut-symbol-requires : goal.index_mut-symbol-requires
@@ -62,12 +60,14 @@ invariant_of-self-2 c =
     let row = some_row (scope_at t s) (holder-there t c.self.invariant s y held) in
     subst IsTable (λ i. record { scopes = sym (scopes_are c) i; symbols = sym (symbols_are c) i; references = t.references })
     (IsTable-name t c.self.invariant y s (chars c.args.name.now) row.0 row.1
-      (ap (λ o. lookup (name_of t y) (names_of_row o)) (sym row.1) ∙ held)
-      (ap (λ o. lookup (chars c.args.name.now) (names_of_row o)) (sym row.1) ∙ free))
+    (ap (λ o. lookup (name_of t y) (names_of_row o)) (sym row.1) ∙ held)
+    (ap (λ o. lookup (chars c.args.name.now) (names_of_row o)) (sym row.1) ∙ free))
 
 pub returns : goal.returns
 returns c =
     let t : Table = the_view c.self.inside in
-    record { ok =
-      (λ i. record { scopes = scopes_are c i; symbols = symbols_are c i; references = t.references })
-      ∙ ap (λ t. with_name t c.args.symbol_id c.args.scope_id (chars c.args.name.now)) c.self.view_is }
+    record {
+      ok =
+          (λ i. record { scopes = scopes_are c i; symbols = symbols_are c i; references = t.references })
+          ∙ ap (λ t. with_name t c.args.symbol_id c.args.scope_id (chars c.args.name.now)) c.self.view_is;
+    }

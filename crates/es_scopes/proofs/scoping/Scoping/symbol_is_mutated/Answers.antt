@@ -1,4 +1,4 @@
-use Rattle.std.proofs.Common.{◌≡◌, ◌∙◌, ◌⊎◌, inl, inr, ap, sym, subst, true, true≢false, length, ◌<◌}
+use Rattle.std.proofs.Common.{◌∙◌, inl, inr, ap, sym, subst, true≢false, length, ◌<◌}
 use Rattle.es_scopes.specs.References.{HoldsWrite}
 use Rattle.es_scopes.specs.Table.{listed}
 use Rattle.es_scopes.specs.contracts.scoping.Scoping.{the_view}
@@ -21,8 +21,7 @@ returns-else-symbol c =
     let now = c.args.self.now in
     let row = c.index-symbol.result.now in
     let at = symbol-found (the_view c.self.inside) now c.self.view_is c.args.symbol_id c.requires row c.index-symbol.ensures in
-    let references = c.deref.ensures.value ∙ ap (λ t. t.references) c.self.view_is in
-    (
+    let references = c.deref.ensures.value ∙ ap (λ t. t.references) c.self.view_is in (
       (λ writes. IsMutated-from now c.args.symbol_id row at (inr (subst (HoldsWrite row.references) references (c.has_write.ensures.0 writes)))),
       (λ mutated. elim (IsMutated-to now c.args.symbol_id row at mutated) [
         | inl marked ↦ absurd (true≢false (sym marked ∙ c.if-symbol.false))
