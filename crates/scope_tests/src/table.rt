@@ -1,9 +1,9 @@
 // `let a; function f(b) { a = b; }`, added by hand.
 
+use bitflags::Flags;
 use es_base::ids::ScopeId;
 use es_scopes::flags::{ReferenceFlags, ScopeFlags, SymbolFlags};
 use es_scopes::scoping::Scoping;
-use bitflags::Flags;
 use std::alloc::AllocError;
 
 #[test]
@@ -38,7 +38,9 @@ fn names_and_what_they_mean(rt: HostRuntime) -> Result<(), AllocError> {
     assert!(rt; scoping.symbol_scope_id(b) == function);
     scoping.set_symbol_flags(b, SymbolFlags::VAR);
     assert!(rt; scoping.symbol_flags(b) == SymbolFlags::VAR);
-    if scoping.get_binding(function, "b") == Some(b) && scoping.get_binding(function, "d").is_none() {
+    if scoping.get_binding(function, "b") == Some(b)
+        && scoping.get_binding(function, "d").is_none()
+    {
         scoping.rename_symbol(b, function, "d")?;
     }
     assert!(rt; scoping.find_binding(block, "d") == Some(b));
