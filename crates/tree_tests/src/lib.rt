@@ -12,3 +12,5 @@ mod layer;
 mod programs;
 #[cfg(test)]
 mod readme;
+#[cfg(test)]
+mod scopes;
