@@ -18,3 +18,4 @@ pub mod OpeningMapped
 pub mod EntriesMapped
 pub mod ModulesMapped
 pub mod Still
+pub mod MeaningMapped
