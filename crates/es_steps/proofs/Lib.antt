@@ -19,3 +19,5 @@ pub mod EntriesMapped
 pub mod ModulesMapped
 pub mod Still
 pub mod MeaningMapped
+pub mod Renaming
+pub mod Renumbering
