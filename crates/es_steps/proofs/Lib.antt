@@ -21,3 +21,5 @@ pub mod Still
 pub mod MeaningMapped
 pub mod Renaming
 pub mod Renumbering
+pub mod PrintableMapped
+pub mod KeptNodesMapped
