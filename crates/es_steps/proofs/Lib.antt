@@ -18,3 +18,8 @@ pub mod OpeningMapped
 pub mod EntriesMapped
 pub mod ModulesMapped
 pub mod Still
+pub mod MeaningMapped
+pub mod Renaming
+pub mod Renumbering
+pub mod PrintableMapped
+pub mod KeptNodesMapped
