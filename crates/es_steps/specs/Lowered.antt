@@ -192,6 +192,14 @@ abbrev pub is_class_or_name : ℕ → Option ℕ → Bool → Bool
 is_class_or_name n None is_name = is_name
 is_class_or_name n (Some k) is_name = nat_eq n k
 
+abbrev pub is_class_kind : ℕ → GeneratedKind → Bool
+is_class_kind n (GeneratedKind.ClassTemp k) = nat_eq n k.0
+is_class_kind n g = false
+
+abbrev pub is_method_kind : GeneratedKind → Bool
+is_method_kind (GeneratedKind.Method d) = true
+is_method_kind g = false
+
 module _ (first : ℕ) (ledger : List LedgerEntry) (q : Tree) where
   abbrev pub is_class_value : ℕ → ℕ → Part → Bool
   is_class_value m n p = is_class_or_name n (class_in p) (names_class n ledger (resolve q) (class_identifiers first n (preorder q)) p && has_pair m n (all_behind (preorder q)))
@@ -207,14 +215,6 @@ module _ (first : ℕ) (ledger : List LedgerEntry) (q : Tree) where
   is_initial m (GeneratedKind.ClassTemp n) p = is_class_value m n.0 p
   is_initial m GeneratedKind.Closure p = is_function_part p
   is_initial m g p = true
-
-  abbrev pub is_class_kind : ℕ → GeneratedKind → Bool
-  is_class_kind n (GeneratedKind.ClassTemp k) = nat_eq n k.0
-  is_class_kind n g = false
-
-  abbrev pub is_method_kind : GeneratedKind → Bool
-  is_method_kind (GeneratedKind.Method d) = true
-  is_method_kind g = false
 
   -- the initializations of a name of this kind that a node is: its number, and whether the form is right
   abbrev pub initialization_at : String → GeneratedKind → Kind → ℕ → Parts → List (ℕ × Bool)
