@@ -25,3 +25,4 @@ pub mod PrintableMapped
 pub mod KeptNodesMapped
 pub mod DefinitionsMapped
 pub mod LoweredMapped
+pub mod Clauses

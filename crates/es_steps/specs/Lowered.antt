@@ -278,9 +278,8 @@ keys_stand first o ledger members q keys = not (lowers_fields o) || (all_differe
 
 -- ---- the clauses
 
--- what a lowered program owes; `members` are the private members of the source
-pub record IsLowered (first : ℕ) (o : Options) (ledger : List LedgerEntry) (p q : Tree) : Type 0 where
-  pub numbered : IsNumbered first q
+-- what a lowered program owes but for its numbers
+pub record MeetsClauses (first : ℕ) (o : Options) (ledger : List LedgerEntry) (p q : Tree) : Type 0 where
   pub left : nothing_left o q ≡ true
   pub declared : names_declared first ledger q ≡ true
   pub accounted : declarations_accounted first ledger p q ≡ true
@@ -292,3 +291,8 @@ pub record IsLowered (first : ℕ) (o : Options) (ledger : List LedgerEntry) (p 
   pub definitions : definitions_stand first o ledger (private_members p) p q ≡ true
   pub elements : elements_kept o (preorder p) (preorder q) ≡ true
   pub printable : (not (is_printable p) || is_printable q) ≡ true
+
+-- what a lowered program owes
+pub record IsLowered (first : ℕ) (o : Options) (ledger : List LedgerEntry) (p q : Tree) : Type 0 where
+  pub numbered : IsNumbered first q
+  pub clauses : MeetsClauses first o ledger p q
