@@ -23,3 +23,6 @@ pub mod Renaming
 pub mod Renumbering
 pub mod PrintableMapped
 pub mod KeptNodesMapped
+pub mod DefinitionsMapped
+pub mod LoweredMapped
+pub mod Clauses

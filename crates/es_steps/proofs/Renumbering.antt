@@ -20,13 +20,13 @@ use Rattle.es_steps.proofs.Still.{meaning-still, terms-still}
 
 -- ---- no change is a change
 
-same-renames : (first : ℕ) → Renames first same
+pub same-renames : (first : ℕ) → Renames first same
 same-renames first = record { apart = λ a b. refl; new = λ a. refl; old = λ a e. refl }
 
-abbrev anything : ℕ → Bool
+abbrev pub anything : ℕ → Bool
 anything n = true
 
-anything-passes : (ns : List ℕ) → all_pass anything ns ≡ true
+pub anything-passes : (ns : List ℕ) → all_pass anything ns ≡ true
 anything-passes [] = refl
 anything-passes (n ∷ ns) = anything-passes ns
 
@@ -60,7 +60,7 @@ semantic_ids_law o t = sym (bare o (stripped t)) ∙ ap (means o) (bare-stripped
 
 -- ---- the terms of a source
 
-members_of_all-mapped : (f : ℕ → ℕ) (ts : List Tree) → members_of_all (map (mapped f) ts) ≡ mapped_privates f (members_of_all ts)
+pub members_of_all-mapped : (f : ℕ → ℕ) (ts : List Tree) → members_of_all (map (mapped f) ts) ≡ mapped_privates f (members_of_all ts)
 members_of_all-mapped f [] = refl
 members_of_all-mapped f (Node kind m span semantic_id ps ∷ ts) = append-mapped (mapped_private f) _ _ (members_at-mapped f kind m ps) (members_of_all-mapped f ts)
 
