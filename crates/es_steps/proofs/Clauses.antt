@@ -1,22 +1,22 @@
 -- What a lowered program owes is kept where its new numbers are given anew.
-use Rattle.std.specs.Prelude.{◌≡◌, ℕ, List, [], ◌∷◌, ◌++◌, map, Bool, true, not, ◌||◌, None}
+use Rattle.std.specs.Prelude.{◌≡◌, ℕ, List, map, Bool, true, not, ◌||◌, None}
 use Rattle.std.proofs.Common.{refl, sym, ap, ap₂, ◌∙◌}
 use Rattle.std.proofs.lemmas.Bool.{and_parts}
 use Rattle.std.proofs.lemmas.List.{map-append}
 use Rattle.es_base.proofs.NumberedLemmas.{IsNumbered-renumbered}
 use Rattle.es_base.specs.Numbered.{EachOnce, numbers, is_old, new_numbers}
 use Rattle.es_base.specs.Preorder.{preorder, preorder_of, preorder_of_part, number_of, renumbered}
-use Rattle.es_base.specs.Tree.{Tree, Part, Parts, Node, end, more, child, absent, list, string, no_string, boolean, literal}
+use Rattle.es_base.specs.Tree.{Tree, Part, Parts, Node, end, more, child, list}
 use Rattle.es_base.specs.declared.ledger.LedgerEntry.{LedgerEntry}
 use Rattle.es_steps.specs.Definitions.{definitions_stand, all_temporaries, elements_kept}
 use Rattle.es_steps.specs.KeptNodes.{nodes_kept, statements_kept, lists_kept}
 use Rattle.es_steps.specs.Law.{ClausesLaw}
-use Rattle.es_steps.specs.Lowered.{nothing_left, names_declared, declarations_accounted, initializations_stand, keys_stand, MeetsClauses}
+use Rattle.es_steps.specs.Lowered.{nothing_left, names_declared, declarations_accounted, initializations_stand, keys_stand}
 use Rattle.es_steps.specs.Printable.{is_printable}
 use Rattle.es_steps.specs.PrivateNames.{PrivateMember, members_of_all, private_members}
 use Rattle.es_steps.specs.Standing.{all_numbers, ledger_numbers, all_pass, all_old}
 use Rattle.es_steps.specs.declared.options.Options.{Options}
-use Rattle.es_steps.proofs.DefinitionsMapped.{mapped_temporary, definitions_stand-mapped, all_temporaries-mapped, elements_kept-mapped}
+use Rattle.es_steps.proofs.DefinitionsMapped.{definitions_stand-mapped, all_temporaries-mapped, elements_kept-mapped}
 use Rattle.es_steps.proofs.KeptNodesMapped.{nodes_kept-mapped, statements_kept-mapped, lists_kept-mapped}
 use Rattle.es_steps.proofs.LoweredMapped.{nothing_left-mapped, names_declared-mapped, declarations_accounted-mapped, initializations_stand-mapped, keys_stand-mapped}
 use Rattle.es_steps.proofs.Mapped.{Renames, mapped, mapped_part, mapped_parts, mapped_ledger, mapped_privates}

@@ -1,5 +1,5 @@
 -- What a lowered program owes, under a change of numbers of both programs.
-use Rattle.std.specs.Prelude.{◌≡◌, ℕ, List, [], ◌∷◌, ◌++◌, map, Bool, true, false, cond, not, ◌&&◌, ◌||◌, bytes_eq, nat_eq, codes, Option, Some, None}
+use Rattle.std.specs.Prelude.{◌≡◌, ℕ, List, [], ◌∷◌, map, Bool, not, ◌&&◌, ◌||◌, bytes_eq, nat_eq, codes, Option, Some, None}
 use Rattle.std.proofs.Common.{refl, ap, ap₂, ◌∙◌}
 use Rattle.es_base.specs.Conforms.{is_among}
 use Rattle.es_base.specs.Numbered.{is_new}
@@ -11,11 +11,11 @@ use Rattle.es_base.specs.declared.ledger.LedgerEntry.{LedgerEntry}
 use Rattle.es_steps.specs.Context.{generated_as}
 use Rattle.es_steps.specs.Definitions.{spelling, field_part, names_class, class_identifiers, all_different, is_among_first}
 use Rattle.es_steps.specs.KeptNodes.{statement_list}
-use Rattle.es_steps.specs.Lowered.{kind_of, none_lowered, nothing_left, declaring_number, declaring_numbers, is_bound_to, all_mean, is_one_new, private_key, private_keys, keys_of_body, keys_of_class, keys_in, is_one, declared_by_kind, names_declared, class_name_at, declares_class, own_name_number, own_name_numbers, is_generated, is_accounted, all_accounted, declarations_accounted, spelled_as, is_helper_callee, is_new_of, is_key_call, is_function_part, class_number_in, assignment_number, paired, pairs_behind, all_behind, has_pair, is_class_or_name, is_class_value, is_initial, is_class_kind, is_method_kind, initialization_at, initializations, comes_before, class_of_member, class_before, all_before, needs_none, is_one_initialization, initializations_stand, any_before, keys_before, keys_stand}
+use Rattle.es_steps.specs.Lowered.{none_lowered, nothing_left, declaring_number, declaring_numbers, is_bound_to, all_mean, is_one_new, private_key, private_keys, keys_of_body, keys_of_class, keys_in, is_one, declared_by_kind, names_declared, class_name_at, declares_class, own_name_number, own_name_numbers, is_generated, is_accounted, all_accounted, declarations_accounted, spelled_as, is_helper_callee, is_new_of, is_key_call, is_function_part, class_number_in, assignment_number, paired, pairs_behind, all_behind, has_pair, is_class_or_name, is_class_value, is_initial, is_class_kind, is_method_kind, initialization_at, initializations, comes_before, class_of_member, class_before, all_before, needs_none, is_one_initialization, initializations_stand, any_before, keys_before, keys_stand}
 use Rattle.es_steps.specs.Options.{lowers_fields}
 use Rattle.es_steps.specs.Parts.{at, items, string_of, is_present}
 use Rattle.es_steps.specs.PrivateNames.{PrivateMember, member_at}
-use Rattle.es_steps.specs.References.{Reference, resolve, has_number}
+use Rattle.es_steps.specs.References.{Reference, resolve}
 use Rattle.es_steps.specs.Scopes.{is_binding_identifier, class_in}
 use Rattle.es_steps.specs.Values.{String, Referent, Bound, Free}
 use Rattle.es_steps.specs.declared.options.Options.{Options}

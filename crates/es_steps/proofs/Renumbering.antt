@@ -1,17 +1,17 @@
 -- Spans and semantic ids mean nothing, and neither does giving the new nodes their numbers anew, where none of them stands in
 -- the meaning.
-use Rattle.std.specs.Prelude.{◌≡◌, ℕ, ◌+◌, suc, List, [], ◌∷◌, ◌++◌, map, Bool, true, nat_eq, Option, Some, None}
+use Rattle.std.specs.Prelude.{◌≡◌, ℕ, ◌+◌, List, [], ◌∷◌, map, Bool, true, Option, Some, None}
 use Rattle.std.proofs.Common.{refl, sym, ap, ap₂, ◌∙◌}
 use Rattle.es_base.specs.Carried.{stripped, stripped_part, stripped_parts}
 use Rattle.es_base.specs.Numbered.{is_old, new_numbers}
 use Rattle.es_base.specs.Preorder.{preorder, nodes, nodes_of, nodes_of_part, renumbered}
-use Rattle.es_base.specs.Tree.{Tree, Part, Parts, Node, end, more, child, absent, list, string, no_string, boolean, literal}
+use Rattle.es_base.specs.Tree.{Tree, Part, Parts, Node, end, more, child, list}
 use Rattle.es_steps.specs.Law.{SemanticIdsLaw, SourceSemanticIdsLaw, RenumberingLaw}
 use Rattle.es_steps.specs.Meaning.{Meaning, Terms, source_terms, means, source_means}
 use Rattle.es_steps.specs.PrivateNames.{PrivateMember, members_of_all, private_members}
 use Rattle.es_steps.specs.Standing.{meaning_numbers, terms_numbers, all_pass}
 use Rattle.es_steps.specs.declared.options.Options.{Options}
-use Rattle.es_steps.proofs.Mapped.{Renames, mapped, mapped_part, mapped_parts, mapped_option, mapped_privates, mapped_private, mapped_meaning, mapped_terms}
+use Rattle.es_steps.proofs.Mapped.{Renames, mapped, mapped_part, mapped_parts, mapped_option, mapped_privates, mapped_private, mapped_meaning}
 use Rattle.es_steps.proofs.MeaningMapped.{means-same}
 use Rattle.es_steps.proofs.PartsMapped.{append-mapped, preorder-mapped}
 use Rattle.es_steps.proofs.PrivatesMapped.{members_at-mapped}
