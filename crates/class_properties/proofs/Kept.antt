@@ -226,17 +226,19 @@ source-owes t e =
     let turn : IsInTurn t = in-turn t e in
     record {
       numbered = record { once = turn.once; consecutive = subst (AreConsecutive (nodes t)) (sym (below-none_new (nodes t) (preorder t) turn.below)) tt };
-      left = none_left (preorder t);
-      declared = refl;
-      accounted = below-accounted (nodes t) (own_name_numbers t (preorder t)) (preorder t) turn.below;
-      initialized = refl;
-      keys = refl;
-      nodes = all-stand (preorder t) (preorder t) (λ u i. i);
-      statements = all-equal (free_statements no_options t) (preorder t) (free-among no_options t);
-      lists = lists-within no_options (preorder t) turn.once t (λ u i. i);
-      definitions = refl;
-      elements = elements-stand (preorder t) (preorder t) (λ u i. i) turn.once;
-      printable = same_or (is_printable t);
+      clauses = record {
+        left = none_left (preorder t);
+        declared = refl;
+        accounted = below-accounted (nodes t) (own_name_numbers t (preorder t)) (preorder t) turn.below;
+        initialized = refl;
+        keys = refl;
+        nodes = all-stand (preorder t) (preorder t) (λ u i. i);
+        statements = all-equal (free_statements no_options t) (preorder t) (free-among no_options t);
+        lists = lists-within no_options (preorder t) turn.once t (λ u i. i);
+        definitions = refl;
+        elements = elements-stand (preorder t) (preorder t) (λ u i. i) turn.once;
+        printable = same_or (is_printable t);
+      };
     }
 
 pub source-same : (t : Tree) → lowered_means no_options [] t t ≡ source_means no_options t

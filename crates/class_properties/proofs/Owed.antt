@@ -101,17 +101,19 @@ numbered-owes t p e =
     let laid : Laid first first whole.0 0 first (preorder q) = whole.1 in
     let rest : Remains first t = remains first t p in record {
       numbered = record { once = laid-once (omega arith) laid; consecutive = laid-consecutive (omega arith) laid };
-      left = laid-left laid;
-      declared = refl;
-      accounted = laid-accounted (own_name_numbers t (preorder q)) laid;
-      initialized = refl;
-      keys = rw (temporaries-none first class_properties_alone (private_members t) q (preorder q)) refl;
-      nodes = rest.nodes;
-      statements = rest.statements;
-      lists = rest.lists;
-      definitions = definitions-fit first (private_members t) t p e;
-      elements = rest.elements;
-      printable = printable-lowered first t p;
+      clauses = record {
+        left = laid-left laid;
+        declared = refl;
+        accounted = laid-accounted (own_name_numbers t (preorder q)) laid;
+        initialized = refl;
+        keys = rw (temporaries-none first class_properties_alone (private_members t) q (preorder q)) refl;
+        nodes = rest.nodes;
+        statements = rest.statements;
+        lists = rest.lists;
+        definitions = definitions-fit first (private_members t) t p e;
+        elements = rest.elements;
+        printable = printable-lowered first t p;
+      };
     }
 
 pub lowered-owes : (t : Tree) → conforms Place.Program t ≡ true → is_first_form t [] ≡ true → t ≡ numbered_from 0 t → IsLowered (nodes t) class_properties_alone [] t (lowered t)
