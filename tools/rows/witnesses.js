@@ -51,7 +51,8 @@ const witnesses = [
   pair('imports_exchanged', 'what a module imports', 'import { x as a, y as b } from "m"; f(a, b);', 'import { y as a, x as b } from "m"; f(a, b);', {}, { type: 'module' }),
   pair('statement_of_an_if', 'a function that is the body of an `if` is bound', 'if (c) function f() {} f();', 'if (c) function g() {} f();', {}),
 
-  alone('nested_classes', 'private names of nested classes', 'class A { #x; #y; f = class extends o.#y { static get #y() {} g = #x in o; h = o.#y; }; k = o.#z; }'),
+  alone('nested_classes', 'private names of nested classes, the last `#z`, which no class declares', 'class A { #x; #y; f = class extends o.#y { static get #y() {} g = #x in o; h = o.#y; }; k = o.#x; }',
+    { change: t => { preorder(t).filter(n => n.type === 'PrivateIdentifier').at(-1).name = 'z'; } }),
   alone('compound_assignment', 'a compound assignment of a member of a call', 'o().x += 1;'),
   alone('free_name', 'a free name in a field, and a parameter of the same name', 'class C { x = y; constructor(y) { this.z = y; } }', { options: ['--class-properties'] }),
 
@@ -91,7 +92,9 @@ function moduleOf(w) {
     const first = numbered(tree(w.first, w.type)), second = numbered(tree(w.second, w.type), w.change);
     body = [`-- ${w.says}: \`${w.first}\`\n${define('first', 'Tree', term(first))}`, `-- \`${w.second}\`, with numbers of the first\n${define('second', 'Tree', term(second))}`, define('options', 'Options', optionsTerm(optionsOf(w.options)))].join('\n');
   } else if (w.kind === 'alone') {
-    body = [`-- ${w.says}: \`${w.source}\`\n${define('source', 'Tree', term(numbered(tree(w.source, w.type))))}`, define('options', 'Options', optionsTerm(optionsOf(w.options)))].join('\n');
+    const t = numbered(tree(w.source, w.type));
+    if (w.change) w.change(t);
+    body = [`-- ${w.says}: \`${w.source}\`\n${define('source', 'Tree', term(t))}`, define('options', 'Options', optionsTerm(optionsOf(w.options)))].join('\n');
   } else {
     const told = w.row, given = { words: told.options, input: told.source, out: told.output, type: told.type, outside: told.outside };
     const r = numberRow(given, { outside: told.outside || [], ...told, name: w.name });
