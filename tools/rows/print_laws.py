@@ -84,7 +84,7 @@ for f in sorted(os.listdir(folder)):
             kept.append((n, f'source_means options_{n} second_{n} ≡ source_means options_{n} first_{n}'))
         else:
             pairs.append((n, f'TellsApart options_{n} first_{n} second_{n}'))
-    else:
+    elif f'output_{n} ' in text:
         uses.append(f'ghost use Rattle.es_rows.specs.witnesses.{f[:-5]}.{{source_{n}, output_{n}, generated_{n}, options_{n}}};')
         if n == 'class_in_a_constructor':
             kept.append((n, f'lists_kept options_{n} source_{n} output_{n} ≡ false'))

@@ -1,6 +1,6 @@
 -- Spans and semantic ids mean nothing, and neither does giving the new nodes their numbers anew, where none of them stands in
 -- the meaning.
-use Rattle.std.specs.Prelude.{◌≡◌, ℕ, ◌+◌, List, [], ◌∷◌, ◌++◌, map, Bool, true, false, cond, Option, Some, None}
+use Rattle.std.specs.Prelude.{◌≡◌, ℕ, ◌+◌, suc, List, [], ◌∷◌, ◌++◌, map, Bool, true, false, cond, Option, Some, None}
 use Rattle.std.proofs.Common.{refl, sym, ap, ap₂, ◌∙◌}
 use Rattle.es_base.specs.Carried.{stripped, stripped_part, stripped_parts}
 use Rattle.es_base.specs.Numbered.{is_old, new_numbers}
