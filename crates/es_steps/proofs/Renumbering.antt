@@ -139,10 +139,10 @@ resolve_privates-bare : (t : Tree) → resolve_privates (mapped same t) ≡ reso
 resolve_privates-bare t = private_uses-mapped same [] false t ∙ uses-unchanged (resolve_privates t)
 
 pub private_semantic_ids_law : PrivateSemanticIdsLaw
-private_semantic_ids_law t =
-    ( sym (private_members-bare (stripped t)) ∙ ap private_members (bare-stripped t) ∙ private_members-bare t
-    , sym (resolve_privates-bare (stripped t)) ∙ ap resolve_privates (bare-stripped t) ∙ resolve_privates-bare t
-    )
+private_semantic_ids_law t = (
+  sym (private_members-bare (stripped t)) ∙ ap private_members (bare-stripped t) ∙ private_members-bare t,
+  sym (resolve_privates-bare (stripped t)) ∙ ap resolve_privates (bare-stripped t) ∙ resolve_privates-bare t,
+)
 
 -- ---- numbers given anew
 

@@ -24,4 +24,3 @@ returns-clause-free_name c = refl
 
 pub returns-clause-compound : goal.returns-clause-compound
 returns-clause-compound c = refl
-
