@@ -4,7 +4,7 @@
 use Rattle.std.specs.Prelude.{ℕ, List, [], ◌∷◌, Bool, true, false, cond, not, ◌&&◌, ◌||◌, nat_eq, codes, bytes_eq, Option, Some, None}
 use Rattle.es_base.specs.declared.kind.Kind.{Kind}
 use Rattle.es_base.specs.declared.ledger.GeneratedKind.{GeneratedKind}
-use Rattle.es_steps.specs.Code.{Code, Codes, Target, FunctionForm, Opened, InitializersOf, BodyOf, no_rule, value, spelled, binding, name, super, member, private_member, super_member, private_in, assign, call, construct, super_call, super_call_with_all, sequence, logical, operation, steps, function, new_function, new_return, helper, helper_call, throw, define, private_initialize, add_brand, bound, setter, call_arrow, call_closure, give_function, give_class, to_name, to_private, to_super, on_super, with_receiver, done, and, one}
+use Rattle.es_steps.specs.Code.{Code, Codes, Target, FunctionForm, Opened, InitializersOf, BodyOf, CalledBodyOf, no_rule, value, spelled, binding, name, super, member, private_member, super_member, private_in, assign, call, construct, super_call, super_call_with_all, sequence, logical, operation, steps, function, new_function, new_return, class_code, from_call, from_member, key_of, helper, helper_call, throw, define, private_initialize, add_brand, bound, setter, call_arrow, call_closure, give_function, give_class, to_name, to_private, to_super, on_super, with_receiver, done, and, one}
 use Rattle.es_steps.specs.Context.{Context, Changing, MeansClass, Generated, StaticMethod, new_here}
 use Rattle.es_steps.specs.Events.{Detail, Operand, Spelled, Flag, Key, Opens, Closes, OfKind}
 use Rattle.es_steps.specs.Helpers.{Helper, DefineProperty, ClassPrivateFieldInitSpec, ClassPrivateMethodInitSpec, ClassPrivateFieldGet2, ClassPrivateFieldSet2, AssertClassBrand, ToSetter, CheckInRHS, ReadOnlyError, WriteOnlyError, SuperPropGet, SuperPropSet, ClassPrivateFieldLooseKey, ClassPrivateFieldLooseBase, SetFunctionName, ToPropertyKey, helper_named}
@@ -148,7 +148,7 @@ is_setter_kind kind = false
 -- `assertClassBrand(Q, o, M)` reads a method; else the call stands in another form
 abbrev pub asserted : ℕ → Option PrivateMember → Code → Code → Code → Code
 asserted m None q o whole = whole
-asserted m (Some x) q o whole = cond (is_method_kind x.kind && is_brand x q) (private_member m (reference_of x) o) no_rule
+asserted m (Some x) q o whole = cond (is_method_kind x.kind && is_brand x q) (from_call (private_member m (reference_of x) o)) no_rule
 
 abbrev pub initialized_on : ℕ → Option PrivateMember → Option Value → Code → Code
 initialized_on m (Some x) (Some o) v = private_initialize m x.number o v
@@ -163,7 +163,7 @@ define_on m None k v = no_rule
 define_on m (Some o) k v = define m o k v
 
 abbrev pub super_get : ℕ → Option Home → Code → Option Value → Code
-super_get m (Some home) k (Some this) = super_member m home k this
+super_get m (Some home) k (Some this) = from_call (super_member m home k this)
 super_get m home k this = no_rule
 
 abbrev pub super_set : ℕ → Option Home → Code → Code → Option Value → Code
@@ -185,8 +185,16 @@ is_quiet_key (name m s (Generated GeneratedKind.Temp)) = true
 is_quiet_key (name m s (Generated GeneratedKind.Param)) = true
 is_quiet_key e = false
 
+-- what `setFunctionName` may name: a function, an arrow, a class where it is made, and a class by `this` or its name
+abbrev pub is_named : Code → Bool
+is_named (function f form own_name ps body) = true
+is_named (class_code n declared h es) = true
+is_named (value (ClassOf n)) = true
+is_named (name m s (MeansClass n b)) = true
+is_named e = false
+
 abbrev pub helper_code : Context → ℕ → Helper → Codes → Code
-helper_code c m ClassPrivateFieldGet2 (and w (and o done)) = read_private m (weak_map c w) o
+helper_code c m ClassPrivateFieldGet2 (and w (and o done)) = from_call (read_private m (weak_map c w) o)
 helper_code c m ClassPrivateFieldSet2 (and w (and o (and v done))) = set_private m (weak_map c w) o v
 helper_code c m AssertClassBrand (and q (and o (and f done))) = asserted m (private_function c f) q o (helper_call m AssertClassBrand (and q (and o (and f done))))
 helper_code c m ReadOnlyError (and s done) = cond (is_constant s) throw no_rule
@@ -196,8 +204,8 @@ helper_code c m ClassPrivateMethodInitSpec (and o (and q done)) = brand_on m q (
 helper_code c m DefineProperty (and o (and k (and v done))) = define_on m (known_object o) k v
 helper_code c m SuperPropGet (and h (and k (and r done))) = super_get m (home_of h) k (known_object r)
 helper_code c m SuperPropSet (and h (and k (and v (and r (and one done))))) = cond (is_number_literal (codes "1") one) (super_set m (home_of h) k v (known_object r)) no_rule
-helper_code c m ToPropertyKey (and e done) = e
-helper_code c m SetFunctionName (and e (and k done)) = cond (is_quiet_key k) e no_rule
+helper_code c m ToPropertyKey (and e done) = key_of e
+helper_code c m SetFunctionName (and e (and k done)) = cond (is_named e && is_quiet_key k) (from_call e) no_rule
 helper_code c m h es = helper_call m h es
 
 -- ---- members
@@ -221,12 +229,12 @@ helper_member c computed o k whole = helper_or (is_helper_object c o && not comp
 -- `B.assertClassBrand(Z, o, S)._`
 abbrev pub branded_field : ℕ → Option PrivateMember → Code → Code → Code
 branded_field m None z o = no_rule
-branded_field m (Some x) z o = cond (is_class_named x.class z) (private_member m (reference_of x) o) no_rule
+branded_field m (Some x) z o = cond (is_class_named x.class z) (from_member (private_member m (reference_of x) o)) no_rule
 
 -- `S._`
 abbrev pub own_field : ℕ → Option PrivateMember → Code
 own_field m None = no_rule
-own_field m (Some x) = private_member m (reference_of x) (value (ClassOf x.class))
+own_field m (Some x) = from_member (private_member m (reference_of x) (value (ClassOf x.class)))
 
 -- what a setter is bound to: a branded object, or a name of the class of a static one
 abbrev pub setter_on : ℕ → Option PrivateMember → Code → Code
@@ -271,7 +279,7 @@ is_same_key (name m s (Generated g)) (name m2 t (Generated g2)) = bytes_eq s t
 is_same_key k l = false
 
 abbrev pub kept_name : Code → Option (Code × Code) → Code → Code
-kept_name key (Some p) whole = cond (is_same_key key p.0) p.1 whole
+kept_name key (Some p) whole = cond (is_same_key key p.0) (from_member (from_call p.1)) whole
 kept_name key None whole = whole
 
 abbrev pub generated_member : Context → ℕ → Code → Code → Code → Code
@@ -307,8 +315,11 @@ abbrev pub no_spread : Codes → Bool
 no_spread done = true
 no_spread (and c cs) = not (is_spread c) && no_spread cs
 
+abbrev pub is_plain : FunctionForm → Bool
+is_plain form = not (form.is_async || form.is_generator)
+
 abbrev pub is_plain_arrow : FunctionForm → Bool
-is_plain_arrow form = form.is_arrow && not (form.is_async || form.is_generator)
+is_plain_arrow form = form.is_arrow && is_plain form
 
 abbrev pub arrow_call : FunctionForm → Option (List String) → Code → Codes → Code
 arrow_call form None body es = no_rule
@@ -320,7 +331,7 @@ is_pick (and (binding b p (Generated GeneratedKind.Param)) (and (binding b2 q (G
 is_pick ps body = false
 
 abbrev pub picked : Code → Option (Code × Code) → Code
-picked k (Some p) = cond (is_same_key k p.0) p.1 no_rule
+picked k (Some p) = cond (is_same_key k p.0) (from_call p.1) no_rule
 picked k None = no_rule
 
 abbrev pub new_function_call : Context → FunctionForm → Codes → Code → Codes → Code
@@ -331,8 +342,8 @@ new_function_call c form ps body es = arrow_call form (parameter_names ps) body 
 
 -- `G.call(B.assertClassBrand(Q, o))`, `G.call(o)`
 abbrev pub getter_call : ℕ → PrivateMember → Codes → Code
-getter_call m x (and (helper_call k AssertClassBrand (and q (and o done))) done) = cond (is_brand x q) (private_member m (reference_of x) o) no_rule
-getter_call m x (and o done) = cond (x.is_static && is_class_named x.class o) (private_member m (reference_of x) o) no_rule
+getter_call m x (and (helper_call k AssertClassBrand (and q (and o done))) done) = cond (is_brand x q) (from_call (private_member m (reference_of x) o)) no_rule
+getter_call m x (and o done) = cond (x.is_static && is_class_named x.class o) (from_call (private_member m (reference_of x) o)) no_rule
 getter_call m x es = no_rule
 
 -- `f.call(o, a)`
@@ -346,7 +357,7 @@ getter_or_received m None f es = received_call m f es
 
 -- `F.call(super(a))`
 abbrev pub super_function_call : ℕ → ℕ → String → Codes → Code
-super_function_call m n s (and (super_call k n2 behind es) done) = cond (nat_eq n n2) (super_call m n (Some (BodyOf s)) es) no_rule
+super_function_call m n s (and (super_call k n2 behind es) done) = cond (nat_eq n n2) (super_call m n (Some (CalledBodyOf s)) es) no_rule
 super_function_call m n s es = no_rule
 
 abbrev pub called_with : Context → ℕ → Code → Codes → Code

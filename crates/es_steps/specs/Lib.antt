@@ -23,11 +23,13 @@ pub mod Printable
 pub mod PrivateNames
 pub mod Reading
 pub mod References
+pub mod Repeated
 pub mod SameMeanings
 pub mod SameTrees
 pub mod SameValues
 pub mod Scopes
 pub mod Shapes
 pub mod Statements
+pub mod Timely
 pub mod Told
 pub mod Values
