@@ -251,3 +251,253 @@ module _ (f : ℕ → ℕ) where
   given_function-mapped m s g (function h form own ps body) = refl
   given_function-mapped m s g (new_function h form ps body) = refl
   given_function-mapped m s g c = refl
+
+module _ {first : ℕ} {f : ℕ → ℕ} (r : Renames first f) where
+  pub is_number-mapped : (n : ℕ) (k : Option ℕ) → is_number (f n) (mapped_option f k) ≡ is_number n k
+  is_number-mapped n None = refl
+  is_number-mapped n (Some k) = r.apart n k
+
+  pub is_class_named-mapped : (n : ℕ) (c : Code) → is_class_named (f n) (mapped_code f c) ≡ is_class_named n c
+  is_class_named-mapped n c = rw (class_named-mapped f c) (is_number-mapped n (class_named c))
+
+  is_brand-mapped : (x : PrivateMember) (c : Code) → is_brand (mapped_private f x) (mapped_code f c) ≡ is_brand x c
+  is_brand-mapped x (name m s (Generated (GeneratedKind.Brand n))) = ap (λ b. not x.is_static && b) (r.apart n.0 x.class)
+  is_brand-mapped x (name m s (Generated g)) = of_kind g
+    where
+      of_kind : (g : GeneratedKind) → is_brand (mapped_private f x) (name (f m) s (Generated (mapped_generated f g))) ≡ is_brand x (name m s (Generated g))
+      of_kind (GeneratedKind.Brand n) = ap (λ b. not x.is_static && b) (r.apart n.0 x.class)
+      of_kind g = ap (λ b. x.is_static && b) (is_class_named-mapped x.class (name m s (Generated g)))
+  is_brand-mapped x c = ap (λ b. x.is_static && b) (is_class_named-mapped x.class c)
+
+  asserted-mapped : (m : ℕ) (x : Option PrivateMember) (q o whole : Code) → asserted (f m) (mapped_option (mapped_private f) x) (mapped_code f q) (mapped_code f o) (mapped_code f whole) ≡ mapped_code f (asserted m x q o whole)
+  asserted-mapped m None q o whole = refl
+  asserted-mapped m (Some x) q o whole = rw (is_brand-mapped x q) (code-cond f (is_method_kind x.kind && is_brand x q) (private_member m (reference_of x) o) no_rule (private_member-mapped f m x o) refl)
+
+  branded_field-mapped : (m : ℕ) (x : Option PrivateMember) (z o : Code) → branded_field (f m) (mapped_option (mapped_private f) x) (mapped_code f z) (mapped_code f o) ≡ mapped_code f (branded_field m x z o)
+  branded_field-mapped m None z o = refl
+  branded_field-mapped m (Some x) z o = rw (is_class_named-mapped x.class z) (code-cond f (is_class_named x.class z) (private_member m (reference_of x) o) no_rule (private_member-mapped f m x o) refl)
+
+  setter_on-mapped : (m : ℕ) (x : Option PrivateMember) (o : Code) → setter_on (f m) (mapped_option (mapped_private f) x) (mapped_code f o) ≡ mapped_code f (setter_on m x o)
+  setter_on-mapped m None o = refl
+  setter_on-mapped m (Some x) (helper_call k AssertClassBrand (and q (and o done))) = rw (is_brand-mapped x q) (cond-code f (is_setter_kind x.kind && is_brand x q) (setter m x.number o) no_rule)
+  setter_on-mapped m (Some x) o = rw (is_class_named-mapped x.class o) (cond-code f (is_setter_kind x.kind && (x.is_static && is_class_named x.class o)) (setter m x.number o) no_rule)
+
+  same_number-mapped : (x y : Option PrivateMember) → same_number (mapped_option (mapped_private f) x) (mapped_option (mapped_private f) y) ≡ same_number x y
+  same_number-mapped (Some x) (Some y) = r.apart x.number y.number
+  same_number-mapped x y = refl
+
+  getter_call-mapped : (m : ℕ) (x : PrivateMember) (es : Codes) → getter_call (f m) (mapped_private f x) (mapped_codes f es) ≡ mapped_code f (getter_call m x es)
+  getter_call-mapped m x (and (helper_call k AssertClassBrand (and q (and o done))) done) = rw (is_brand-mapped x q) (code-cond f (is_brand x q) (private_member m (reference_of x) o) no_rule (private_member-mapped f m x o) refl)
+  getter_call-mapped m x (and o done) = rw (is_class_named-mapped x.class o) (code-cond f (x.is_static && is_class_named x.class o) (private_member m (reference_of x) o) no_rule (private_member-mapped f m x o) refl)
+  getter_call-mapped m x es = refl
+
+  getter_or_received-mapped : (m : ℕ) (x : Option PrivateMember) (g : Code) (es : Codes) → getter_or_received (f m) (mapped_option (mapped_private f) x) (mapped_code f g) (mapped_codes f es) ≡ mapped_code f (getter_or_received m x g es)
+  getter_or_received-mapped m (Some x) g es = code-cond f (is_getter_kind x.kind) (getter_call m x es) (received_call m g es) (getter_call-mapped m x es) (received_call-mapped f m g es)
+  getter_or_received-mapped m None g es = received_call-mapped f m g es
+
+  super_function_call-mapped : (m n : ℕ) (s : String) (es : Codes) → super_function_call (f m) (f n) s (mapped_codes f es) ≡ mapped_code f (super_function_call m n s es)
+  super_function_call-mapped m n s (and (super_call k n2 behind es) done) = rw (r.apart n n2) (cond-code f (nat_eq n n2) (super_call m n (Some (BodyOf s)) es) no_rule)
+  super_function_call-mapped m n s es = refl
+
+  runs_initializers-mapped : (k : Option ℕ) (m : ℕ) → runs_initializers (mapped_option f k) (f m) ≡ runs_initializers k m
+  runs_initializers-mapped None m = refl
+  runs_initializers-mapped (Some k) m = r.apart k m
+
+  is_own_class-mapped : (x : PrivateReference) (o : Code) → is_own_class (mapped_private_reference f x) (mapped_code f o) ≡ is_own_class x o
+  is_own_class-mapped x (value (ClassOf n)) = ap (λ b. x.is_static && b) (r.apart n x.class)
+  is_own_class-mapped x o = refl
+
+  private_assignment-mapped : (m : ℕ) (x : PrivateReference) (o v : Code) → private_assignment (f m) (mapped_private_reference f x) (mapped_code f o) (mapped_code f v) ≡ mapped_code f (private_assignment m x o v)
+  private_assignment-mapped m x own (helper_call k AssertClassBrand (and z (and o (and v done)))) = rw (is_own_class-mapped x own, is_class_named-mapped x.class z) (cond-code f (is_own_class x own && is_class_named x.class z) (assign (to_private m x o) v) no_rule)
+  private_assignment-mapped m x o v = refl
+
+module _ {first : ℕ} {f : ℕ → ℕ} (r : Renames first f) (c : Context) (e : c.first_new ≡ first) where
+  abbrev there : Context
+  there = mapped_context f c
+
+  pub here : (m : ℕ) → is_new c.first_new (f m) ≡ is_new c.first_new m
+  here m = new_here-mapped r c e m
+
+  -- ---- letters
+
+  weak_map-mapped : (q : Code) → weak_map there (mapped_code f q) ≡ mapped_option (mapped_private f) (weak_map c q)
+  weak_map-mapped (name m s (Generated (GeneratedKind.WeakMap d))) = ap (if_member is_instance_field) (member_at-mapped r d.0 c.members) ∙ if_member-mapped f is_instance_field (λ x. refl) (member_at d.0 c.members)
+  weak_map-mapped q = refl
+
+  static_field-mapped : (q : Code) → static_field there (mapped_code f q) ≡ mapped_option (mapped_private f) (static_field c q)
+  static_field-mapped (name m s (Generated (GeneratedKind.StaticField d))) = ap (if_member is_static_field) (member_at-mapped r d.0 c.members) ∙ if_member-mapped f is_static_field (λ x. refl) (member_at d.0 c.members)
+  static_field-mapped q = refl
+
+  private_function-mapped : (q : Code) → private_function there (mapped_code f q) ≡ mapped_option (mapped_private f) (private_function c q)
+  private_function-mapped (name m s (Generated (GeneratedKind.Method d))) = ap (if_member is_function_member) (member_at-mapped r d.0 c.members) ∙ if_member-mapped f is_function_member (λ x. refl) (member_at d.0 c.members)
+  private_function-mapped (name m s (StaticMethod d n)) = member_at-mapped r d c.members
+  private_function-mapped q = refl
+
+  loose_key-mapped : (q : Code) → loose_key there (mapped_code f q) ≡ mapped_option (mapped_private f) (loose_key c q)
+  loose_key-mapped (name m s (Generated (GeneratedKind.LooseKey d))) = ap (if_member _) (member_at-mapped r d.0 c.members) ∙ if_member-mapped f _ (λ x. refl) (member_at d.0 c.members)
+  loose_key-mapped q = refl
+
+  -- ---- objects
+
+  single_property-mapped : (q : Code) → single_property there (mapped_code f q) ≡ mapped_option (mapped_two f) (single_property c q)
+  single_property-mapped (operation m (OfKind Kind.ObjectExpression (Opens ∷ Key k ∷ Operand ∷ Spelled kind ∷ Flag is_method ∷ Closes ∷ [])) (and v done) done) = rw (here m) (cond-mapped (mapped_option (mapped_two f)) (is_new c.first_new m && is_plain_property kind is_method) (Some (value (ConstantOf k), v)) None refl refl)
+  single_property-mapped (operation m (OfKind Kind.ObjectExpression (Opens ∷ Operand ∷ Operand ∷ Spelled kind ∷ Flag is_method ∷ Closes ∷ [])) (and k (and v done)) done) = rw (here m) (cond-mapped (mapped_option (mapped_two f)) (is_new c.first_new m && is_plain_property kind is_method) (Some (k, v)) None refl refl)
+  single_property-mapped q = refl
+
+  writable_value-mapped : (q : Code) → writable_value there (mapped_code f q) ≡ mapped_option (mapped_code f) (writable_value c q)
+  writable_value-mapped (operation m (OfKind Kind.ObjectExpression (Opens ∷ Key (StringOf k1) ∷ Operand ∷ Spelled kind1 ∷ Flag method1 ∷ Key (StringOf k2) ∷ Operand ∷ Spelled kind2 ∷ Flag method2 ∷ Closes ∷ [])) (and (value (ConstantOf (BooleanOf true))) (and v done)) done) = rw (here m) (cond-mapped (mapped_option (mapped_code f)) (is_new c.first_new m && is_writable_form k1 kind1 method1 k2 kind2 method2) (Some v) None refl refl)
+  writable_value-mapped q = refl
+
+  array_elements-mapped : (q : Code) → array_elements there (mapped_code f q) ≡ mapped_option (mapped_codes f) (array_elements c q)
+  array_elements-mapped (operation m (OfKind Kind.ArrayExpression (Opens ∷ ds)) es done) = rw (here m) (cond-mapped (mapped_option (mapped_codes f)) (is_new c.first_new m && only_operands ds) (Some es) None refl refl)
+  array_elements-mapped q = refl
+
+  -- ---- helpers
+
+  helper_code-mapped : (m : ℕ) (h : Helper) (es : Codes) → helper_code there (f m) h (mapped_codes f es) ≡ mapped_code f (helper_code c m h es)
+  helper_code-mapped m ClassPrivateFieldGet2 (and w (and o done)) = rw (weak_map-mapped w) (read_private-mapped f m (weak_map c w) o)
+  helper_code-mapped m ClassPrivateFieldSet2 (and w (and o (and v done))) = rw (weak_map-mapped w) (set_private-mapped f m (weak_map c w) o v)
+  helper_code-mapped m AssertClassBrand (and q (and o (and g done))) = rw (private_function-mapped g) (asserted-mapped r m (private_function c g) q o (helper_call m AssertClassBrand (and q (and o (and g done)))))
+  helper_code-mapped m ReadOnlyError (and s done) = rw (is_constant-mapped f s) (cond-code f (is_constant s) throw no_rule)
+  helper_code-mapped m WriteOnlyError (and s done) = rw (is_constant-mapped f s) (cond-code f (is_constant s) throw no_rule)
+  helper_code-mapped m ClassPrivateFieldInitSpec (and o (and w (and v done))) = rw (weak_map-mapped w, known_object-mapped f o) (initialized_on-mapped f m (weak_map c w) (known_object o) v)
+  helper_code-mapped m ClassPrivateMethodInitSpec (and o (and q done)) = rw (known_object-mapped f o) (brand_on-mapped f m q (known_object o))
+  helper_code-mapped m DefineProperty (and o (and k (and v done))) = rw (known_object-mapped f o) (define_on-mapped f m (known_object o) k v)
+  helper_code-mapped m SuperPropGet (and h (and k (and x done))) = rw (home_of-mapped f h, known_object-mapped f x) (super_get-mapped f m (home_of h) k (known_object x))
+  helper_code-mapped m SuperPropSet (and h (and k (and v (and x (and n done))))) = rw (is_number_literal-mapped f (codes "1") n, home_of-mapped f h, known_object-mapped f x) (code-cond f (is_number_literal (codes "1") n) (super_set m (home_of h) k v (known_object x)) no_rule (super_set-mapped f m (home_of h) k v (known_object x)) refl)
+  helper_code-mapped m ToPropertyKey (and k done) = refl
+  helper_code-mapped m SetFunctionName (and g (and k done)) = rw (is_quiet_key-mapped f k) (cond-code f (is_quiet_key k) g no_rule)
+  helper_code-mapped m h es = refl
+
+  is_helper_object-mapped : (o : Code) → is_helper_object there (mapped_code f o) ≡ is_helper_object c o
+  is_helper_object-mapped (name b s (Changing (Free spelling))) = ap (λ n. n && bytes_eq s (codes "babelHelpers")) (here b)
+  is_helper_object-mapped o = refl
+
+  pub helper_member-mapped : (computed : Bool) (o k whole : Code) → helper_member there computed (mapped_code f o) (mapped_code f k) (mapped_code f whole) ≡ mapped_code f (helper_member c computed o k whole)
+  helper_member-mapped computed o k whole = rw (is_helper_object-mapped o) (helper_or-mapped f (is_helper_object c o && not computed) k whole)
+
+  -- ---- members
+
+  setter_of_pair-mapped : (m : ℕ) (es : Option Codes) → setter_of_pair there (f m) (mapped_option (mapped_codes f) es) ≡ mapped_code f (setter_of_pair c m es)
+  setter_of_pair-mapped m (Some (and w (and o done))) = rw (weak_map-mapped w) (field_setter-mapped f m (weak_map c w) o)
+  setter_of_pair-mapped m es = refl
+
+  setter_of-mapped : (m : ℕ) (es : Codes) → setter_of there (f m) (mapped_codes f es) ≡ mapped_code f (setter_of c m es)
+  setter_of-mapped m (and (bound g o) done) = rw (private_function-mapped g) (setter_on-mapped r m (private_function c g) o)
+  setter_of-mapped m (and (helper ClassPrivateFieldSet2) (and pair done)) = rw (array_elements-mapped pair) (setter_of_pair-mapped m (array_elements c pair))
+  setter_of-mapped m es = refl
+
+  underscore_of-mapped : (m : ℕ) (o whole : Code) → underscore_of there (f m) (mapped_code f o) (mapped_code f whole) ≡ mapped_code f (underscore_of c m o whole)
+  underscore_of-mapped m (helper_call k AssertClassBrand (and z (and o (and g done)))) whole = rw (static_field-mapped g) (branded_field-mapped r m (static_field c g) z o)
+  underscore_of-mapped m (helper_call k ToSetter es) whole = setter_of-mapped m es
+  underscore_of-mapped m (name k s (Generated (GeneratedKind.StaticField d))) whole = rw (static_field-mapped (name k s (Generated (GeneratedKind.StaticField d)))) (own_field-mapped f m (static_field c (name k s (Generated (GeneratedKind.StaticField d)))))
+  underscore_of-mapped m o whole = refl
+
+  loose_member-mapped : (m : ℕ) (o key whole : Code) → loose_member there (f m) (mapped_code f o) (mapped_code f key) (mapped_code f whole) ≡ mapped_code f (loose_member c m o key whole)
+  loose_member-mapped m (helper_call k ClassPrivateFieldLooseBase (and o (and l done))) key whole =
+      rw (loose_key-mapped l, loose_key-mapped key, same_number-mapped r (loose_key c l) (loose_key c key))
+      (code-cond f (same_number (loose_key c l) (loose_key c key)) (read_private m (loose_key c key) o) no_rule (read_private-mapped f m (loose_key c key) o) refl)
+  loose_member-mapped m o key whole = refl
+
+  pub generated_member-mapped : (m : ℕ) (o k whole : Code) → generated_member there (f m) (mapped_code f o) (mapped_code f k) (mapped_code f whole) ≡ mapped_code f (generated_member c m o k whole)
+  generated_member-mapped m o k whole =
+      rw (is_string-mapped f (codes "_") k, single_property-mapped o, kept_name-mapped f k (single_property c o) whole)
+      (code-cond f (is_string (codes "_") k) (underscore_of c m o whole) (loose_member c m o k (kept_name k (single_property c o) whole)) (underscore_of-mapped m o whole) (loose_member-mapped m o k (kept_name k (single_property c o) whole)))
+
+  -- ---- calls
+
+  new_function_call-mapped : (form : FunctionForm) (ps : Codes) (body : Code) (es : Codes) → new_function_call there form (mapped_codes f ps) (mapped_code f body) (mapped_codes f es) ≡ mapped_code f (new_function_call c form ps body es)
+  new_function_call-mapped form ps body (and k (and o done)) =
+      rw (is_pick-mapped f ps body, single_property-mapped o, parameter_names-mapped f ps)
+      (code-cond f (is_pick ps body) (picked k (single_property c o)) (arrow_call form (parameter_names ps) body (and k (and o done))) (picked-mapped f k (single_property c o)) (arrow_call-mapped f form (parameter_names ps) body (and k (and o done))))
+  new_function_call-mapped form ps body es = rw (parameter_names-mapped f ps) (arrow_call-mapped f form (parameter_names ps) body es)
+
+  called_with-mapped : (m : ℕ) (g : Code) (es : Codes) → called_with there (f m) (mapped_code f g) (mapped_codes f es) ≡ mapped_code f (called_with c m g es)
+  called_with-mapped m (name k s (Generated (GeneratedKind.SuperFn n))) es = super_function_call-mapped r m n.0 s es
+  called_with-mapped m (name k s (Generated g)) es = of_kind g
+    where
+      of_kind : (g : GeneratedKind) → called_with there (f m) (name (f k) s (Generated (mapped_generated f g))) (mapped_codes f es) ≡ mapped_code f (called_with c m (name k s (Generated g)) es)
+      of_kind (GeneratedKind.SuperFn n) = super_function_call-mapped r m n.0 s es
+      of_kind g = ap (λ x. getter_or_received (f m) x (mapped_code f (name k s (Generated g))) (mapped_codes f es)) (private_function-mapped (name k s (Generated g))) ∙ getter_or_received-mapped r m (private_function c (name k s (Generated g))) (name k s (Generated g)) es
+  called_with-mapped m g es = ap (λ x. getter_or_received (f m) x (mapped_code f g) (mapped_codes f es)) (private_function-mapped g) ∙ getter_or_received-mapped r m (private_function c g) g es
+
+  object_call-mapped : (m : ℕ) (es : Codes) (whole : Code) → object_call there (f m) (mapped_codes f es) (mapped_code f whole) ≡ mapped_code f (object_call c m es whole)
+  object_call-mapped m (and o (and l (and form done))) whole = rw (loose_key-mapped l, known_object-mapped f o, writable_value-mapped form) (loose_initialized-mapped f m (loose_key c l) (known_object o) (writable_value c form) whole)
+  object_call-mapped m es whole = refl
+
+  member_call-mapped : (m : ℕ) (o key : Code) (es : Codes) (whole : Code) → member_call there (f m) (mapped_code f o) (mapped_code f key) (mapped_codes f es) (mapped_code f whole) ≡ mapped_code f (member_call c m o key es whole)
+  member_call-mapped m (name k s (Generated (GeneratedKind.WeakMap d))) key es whole =
+      let w : Code = name k s (Generated (GeneratedKind.WeakMap d)) in
+      rw (is_string-mapped f (codes "has") key, weak_map-mapped w) (code-cond f (is_string (codes "has") key) (has_field m (weak_map c w) es) no_rule (has_field-mapped f m (weak_map c w) es) refl)
+  member_call-mapped m (name k s (Generated (GeneratedKind.Brand n))) key es whole = rw (is_string-mapped f (codes "has") key) (code-cond f (is_string (codes "has") key) (has_brand m n.0 es) no_rule (has_brand-mapped f m n.0 es) refl)
+  member_call-mapped m (name k s (Changing (Free spelling))) key es whole = rw (is_string-mapped f (codes "defineProperty") key) (code-cond f (bytes_eq s (codes "Object") && is_string (codes "defineProperty") key) (object_call c m es whole) whole (object_call-mapped m es whole) refl)
+  member_call-mapped m o key es whole = refl
+
+  new_member_call-mapped : (m k : ℕ) (g key : Code) (es : Codes) (whole : Code) → new_member_call there (f m) (f k) (mapped_code f g) (mapped_code f key) (mapped_codes f es) (mapped_code f whole) ≡ mapped_code f (new_member_call c m k g key es whole)
+  new_member_call-mapped m k g key es whole =
+      rw (here k, is_string-mapped f (codes "call") key, is_string-mapped f (codes "bind") key)
+      (code-cond f (is_new c.first_new k && is_string (codes "call") key) (called_with c m g es) (cond (is_new c.first_new k && is_string (codes "bind") key) (bound_to g es) (member_call c m g key es whole))
+      (called_with-mapped m g es)
+      (code-cond f (is_new c.first_new k && is_string (codes "bind") key) (bound_to g es) (member_call c m g key es whole) (bound_to-mapped f g es) (member_call-mapped m g key es whole)))
+
+  initializers_behind-mapped : (m n : ℕ) → initializers_behind there (f m) (f n) ≡ mapped_option (mapped_opened f) (initializers_behind c m n)
+  initializers_behind-mapped m n = rw (runs_initializers-mapped r c.initializing m) (cond-mapped (mapped_option (mapped_opened f)) (runs_initializers c.initializing m) (Some (InitializersOf n)) None refl refl)
+
+  super_call_in-mapped : (m : ℕ) (n : Option ℕ) (es : Codes) → super_call_in there (f m) (mapped_option f n) (mapped_codes f es) ≡ mapped_code f (super_call_in c m n es)
+  super_call_in-mapped m None es = refl
+  super_call_in-mapped m (Some n) es = rw (passes_all-mapped f es, initializers_behind-mapped m n) (cond-code f (passes_all es) (super_call_with_all n) (super_call m n (initializers_behind c m n) es))
+
+  helper_call_call-mapped : (m k : ℕ) (h : Helper) (arguments es : Codes) → helper_call_call there (f m) (f k) h (mapped_codes f arguments) (mapped_codes f es) ≡ mapped_code f (helper_call_call c m k h arguments es)
+  helper_call_call-mapped m k SuperPropGet (and h (and key (and x (and two done)))) (and form done) =
+      rw (is_number_literal-mapped f (codes "2") two, home_of-mapped f h, known_object-mapped f x, array_elements-mapped form)
+      (code-cond f (is_number_literal (codes "2") two) (super_method_call m k (home_of h) key (known_object x) (array_elements c form)) no_rule (super_method_call-mapped f m k (home_of h) key (known_object x) (array_elements c form)) refl)
+  helper_call_call-mapped m k h arguments es = refl
+
+  pub generated_call-mapped : (m : ℕ) (g : Code) (es : Codes) (whole : Code) → generated_call there (f m) (mapped_code f g) (mapped_codes f es) (mapped_code f whole) ≡ mapped_code f (generated_call c m g es whole)
+  generated_call-mapped m (helper h) es whole = helper_code-mapped m h es
+  generated_call-mapped m (helper_call k h arguments) es whole = helper_call_call-mapped m k h arguments es
+  generated_call-mapped m super es whole = super_call_in-mapped m c.constructs es
+  generated_call-mapped m (member k o key) es whole = new_member_call-mapped m k o key es whole
+  generated_call-mapped m (name k s (Generated GeneratedKind.Closure)) es whole = refl
+  generated_call-mapped m (name k s (Generated (GeneratedKind.SuperFn n))) es whole = refl
+  generated_call-mapped m (new_function g form ps body) es whole = new_function_call-mapped form ps body es
+  generated_call-mapped m g es whole = refl
+
+  -- ---- operators
+
+  pub generated_binary-mapped : (m : ℕ) (operator : String) (l x whole : Code) → generated_binary there (f m) operator (mapped_code f l) (mapped_code f x) (mapped_code f whole) ≡ mapped_code f (generated_binary c m operator l x whole)
+  generated_binary-mapped m operator (helper_call k CheckInRHS (and o done)) x whole = rw (class_named-mapped f x) (code-cond f (bytes_eq operator (codes "===")) (is_class_test m (class_named x) o) no_rule (is_class_test-mapped f m (class_named x) o) refl)
+  generated_binary-mapped m operator (name k s (Generated GeneratedKind.Temp)) x whole = rw (here m, is_string-mapped f (codes "name") x) (cond-code f (is_new c.first_new m && (bytes_eq operator (codes "!==") && is_string (codes "name") x)) (value (ResultOf m)) whole)
+  generated_binary-mapped m operator l x whole = refl
+
+  pub is_undefined_test-mapped : (q : Code) → is_undefined_test there (mapped_code f q) ≡ is_undefined_test c q
+  is_undefined_test-mapped (logical m operator l x) = rw (here m, is_null_test-mapped f (codes "===") l, is_void_test-mapped f x) refl
+  is_undefined_test-mapped (operation m op es held) = rw (here m, is_null_test-mapped f (codes "==") (operation m op es held)) refl
+  is_undefined_test-mapped q = refl
+
+  -- ---- what generated names are assigned
+
+  is_new_collection-mapped : (s : String) (q : Code) → is_new_collection there s (mapped_code f q) ≡ is_new_collection c s q
+  is_new_collection-mapped s (construct m (name k t (Changing (Free spelling))) done) = ap (λ b. b && bytes_eq s t) (here m)
+  is_new_collection-mapped s q = refl
+
+  pub given-mapped : (m b : ℕ) (s : String) (g : GeneratedKind) (q : Code) → given there (f m) (f b) s (mapped_generated f g) (mapped_code f q) ≡ mapped_code f (given c m b s g q)
+  given-mapped m b s GeneratedKind.Temp q = refl
+  given-mapped m b s GeneratedKind.Param q = refl
+  given-mapped m b s (GeneratedKind.ClassTemp n) q = refl
+  given-mapped m b s (GeneratedKind.WeakMap d) q = rw (is_new_collection-mapped (codes "WeakMap") q) (only_if-mapped f (is_new_collection c (codes "WeakMap") q) m)
+  given-mapped m b s (GeneratedKind.StaticField d) q =
+      let x : Code = name b s (Generated (GeneratedKind.StaticField d)) in
+      rw (static_field-mapped x, single_property-mapped q) (field_object-mapped f m (static_field c x) (single_property c q))
+  given-mapped m b s (GeneratedKind.Brand n) q = rw (is_new_collection-mapped (codes "WeakSet") q) (only_if-mapped f (is_new_collection c (codes "WeakSet") q) m)
+  given-mapped m b s (GeneratedKind.LooseKey d) q = rw (is_loose_key_call-mapped f q) (only_if-mapped f (is_loose_key_call q) m)
+  given-mapped m b s (GeneratedKind.Method d) q = given_function-mapped f m s (GeneratedKind.Method d) q
+  given-mapped m b s (GeneratedKind.SuperFn n) q = given_function-mapped f m s (GeneratedKind.SuperFn n) q
+  given-mapped m b s GeneratedKind.Closure q = given_function-mapped f m s GeneratedKind.Closure q
+  given-mapped m b s g q = refl
+
+  pub generated_assignment-mapped : (m : ℕ) (to : Target) (q : Code) → generated_assignment there (f m) (mapped_target f to) (mapped_code f q) ≡ mapped_code f (generated_assignment c m to q)
+  generated_assignment-mapped m (to_name b s (Generated g)) q = given-mapped m b s g q
+  generated_assignment-mapped m (to_name b s (StaticMethod d n)) q = given_function-mapped f m s (GeneratedKind.Method (record { 0 = d })) q
+  generated_assignment-mapped m (to_private k x o) q = private_assignment-mapped r k x o q
+  generated_assignment-mapped m to q = refl

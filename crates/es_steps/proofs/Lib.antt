@@ -10,3 +10,9 @@ pub mod MembersMapped
 pub mod PrivatesMapped
 pub mod ContextMapped
 pub mod FormsMapped
+pub mod ExpressionsMapped
+pub mod StatementsMapped
+pub mod ReadingMapped
+pub mod EvaluationMapped
+pub mod OpeningMapped
+pub mod EntriesMapped

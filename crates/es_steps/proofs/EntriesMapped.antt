@@ -1,0 +1,337 @@
+-- The entries of functions and classes follow a change of numbers.
+use Rattle.std.specs.Prelude.{◌≡◌, ℕ, suc, List, [], ◌∷◌, ◌++◌, map, Bool, true, false, cond, ◌||◌, bytes_eq, Option, Some, None}
+use Rattle.std.proofs.Common.{refl, ap, ap₂, ◌∙◌}
+use Rattle.es_base.specs.declared.ledger.GeneratedKind.{GeneratedKind}
+use Rattle.es_steps.specs.Code.{Code, Codes, Target, Callee, FunctionForm, Opened, InitializersOf, nothing, binding, rest, member, private_member, super_member, private_in, assign, compound, logical, logical_assign, update, call, tag, construct, super_call, sequence, template, operation, chain, short, tested, pattern, takes, steps, gives_to, export_default, function, new_function, class_code, field, private_field, method, private_method, constructor, static_block, generated_element, define, private_initialize, call_arrow, call_closure, give_function, give_class, to_name, to_member, to_private, to_super, to_setter, to_pattern, to_default, plain, on_member, on_private, on_super, with_receiver, checked, on_chain, behind_test, done, and}
+use Rattle.es_steps.specs.Context.{NameKind, Generated}
+use Rattle.es_steps.specs.Entries.{Parameter, Identifier, RestIdentifier, Pattern, Method, Listed, Entry, is_string_among, without, parameter_of, parameters_of, constructor_form, constructor_parameters, no_constructor, if_one, in_order, ev_parameter, ev_parameters, ev_body, ev_construction, listed, value_in, after_run, function_entry, class_entry, some_value, method_with, Entries, heritage_in, methods_in, behind_code, behind_all, behind_target, behind_callee, behind_arguments, behind_parameters, behind_fields, own_function, entries, target_entries, pattern_entries, taken_entries, take_entries, callee_entries, all_entries, held_entries, parameter_entries, key_entries, key_entry, static_entries, static_entry, field_entries, field_entry, function_entries, element_function}
+use Rattle.es_steps.specs.Evaluation.{Environment, Run, Evaluation, no_meaning, gives, event, bind, write_ready, bind_parameters, ev, ev_all, ev_target, ev_take, ev_callee, ev_key, ev_keys, ev_static, ev_field, ev_initializers}
+use Rattle.es_steps.specs.Events.{Take, Index, Rest, Operate, SuperCallWithAll}
+use Rattle.es_steps.specs.GeneratedForms.{opened_body}
+use Rattle.es_steps.specs.Opening.{assigned_in, assigned_in_all}
+use Rattle.es_steps.specs.References.{has_number}
+use Rattle.es_steps.specs.Values.{String, Value, Undefined, ThisOf, ResultOf}
+use Rattle.es_steps.proofs.EvaluationMapped.{Follows, ReadyFollows, no_meaning-follows, gives-follows, event-follows, bind-follows, value_behind-mapped, bind_parameters-follows, ev-follows, ev_target-follows, ev_take-follows, ev_callee-follows, ev_all-follows, ev_keys-follows, ev_key-follows, ev_static-follows, ev_field-follows, ev_initializers-follows}
+use Rattle.es_steps.proofs.FormsMapped.{opened_body-mapped}
+use Rattle.es_steps.proofs.Mapped.{Renames, mapped_option, mapped_generated, mapped_name_kind, mapped_value, mapped_nullable, mapped_environment, mapped_runs, mapped_opened, mapped_code, mapped_target, mapped_callee, mapped_codes, mapped_listed, mapped_parameter, mapped_parameters, mapped_method, mapped_methods, mapped_entry, mapped_nullable_entry, mapped_entries}
+use Rattle.es_steps.proofs.OpeningMapped.{assigned_in-mapped, assigned_in_all-mapped}
+use Rattle.es_steps.proofs.PartsMapped.{cond-mapped, append-mapped}
+use Rattle.es_steps.proofs.ReferencesMapped.{has_number-mapped}
+
+module _ (f : ℕ → ℕ) where
+  -- ---- environments and parameters
+
+  pub without-mapped : (names : List String) (s : Environment) → without names (mapped_environment f s) ≡ mapped_environment f (without names s)
+  without-mapped names [] = refl
+  without-mapped names (p ∷ ps) = cond-mapped (mapped_environment f) (is_string_among p.0 names) (without names ps) (p ∷ without names ps) (without-mapped names ps) (ap (λ rest. (p.0, mapped_value f p.1) ∷ rest) (without-mapped names ps))
+
+  parameter_of-mapped : (c : Code) → parameter_of (mapped_code f c) ≡ mapped_parameters f (parameter_of c)
+  parameter_of-mapped (binding b s (Generated g)) = refl
+  parameter_of-mapped (binding b s kind) = refl
+  parameter_of-mapped (rest (to_name b s (Generated g))) = refl
+  parameter_of-mapped (rest (to_name b s kind)) = refl
+  parameter_of-mapped (rest to) = refl
+  parameter_of-mapped c = refl
+
+  pub parameters_of-mapped : (cs : Codes) → parameters_of (mapped_codes f cs) ≡ mapped_parameters f (parameters_of cs)
+  parameters_of-mapped done = refl
+  parameters_of-mapped (and c cs) = append-mapped (mapped_parameter f) _ _ (parameter_of-mapped c) (parameters_of-mapped cs)
+
+  constructor_form-mapped : (cs : Codes) → constructor_form (mapped_codes f cs) ≡ constructor_form cs
+  constructor_form-mapped done = refl
+  constructor_form-mapped (and (constructor (function g form own ps body)) cs) = refl
+  constructor_form-mapped (and c cs) = constructor_form-mapped cs
+
+  constructor_parameters-mapped : (cs : Codes) → constructor_parameters (mapped_codes f cs) ≡ mapped_parameters f (constructor_parameters cs)
+  constructor_parameters-mapped done = refl
+  constructor_parameters-mapped (and (constructor (function g form own ps body)) cs) = parameters_of-mapped ps
+  constructor_parameters-mapped (and (constructor (new_function g form ps body)) cs) = parameters_of-mapped ps
+  constructor_parameters-mapped (and c cs) = constructor_parameters-mapped cs
+
+  no_constructor-mapped : (cs : Codes) → no_constructor (mapped_codes f cs) ≡ no_constructor cs
+  no_constructor-mapped done = refl
+  no_constructor-mapped (and (constructor g) cs) = refl
+  no_constructor-mapped (and c cs) = no_constructor-mapped cs
+
+  if_one-follows : {a b : Evaluation} (one : Bool) → Follows f a b → Follows f (if_one one a) (if_one one b)
+  if_one-follows true all = all
+  if_one-follows false all = no_meaning-follows f
+
+  in_order-follows : {a b c d x y : Evaluation} (late : Bool) → Follows f a b → Follows f c d → Follows f x y → Follows f (in_order late a c x) (in_order late b d y)
+  in_order-follows {a = a} {b = b} {c = c} {d = d} {x = x} {y = y} true fields parameters body = bind-follows f (λ v. bind a (λ w. x)) (λ v. bind b (λ w. y)) parameters (λ v. bind-follows f (λ w. x) (λ w. y) fields (λ w. body))
+  in_order-follows {a = a} {b = b} {c = c} {d = d} {x = x} {y = y} false fields parameters body = bind-follows f (λ v. bind c (λ w. x)) (λ v. bind d (λ w. y)) fields (λ v. bind-follows f (λ w. x) (λ w. y) parameters (λ w. body))
+
+  -- ---- what is read of a run
+
+  pub listed-mapped : (x : Option Run) → listed (mapped_runs f x) ≡ mapped_option (mapped_listed f) (listed x)
+  listed-mapped None = refl
+  listed-mapped (Some x) = rw (value_behind-mapped f x.events x.value) refl
+
+  pub value_in-mapped : (x : Option Run) → value_in (mapped_runs f x) ≡ mapped_nullable f (value_in x)
+  value_in-mapped None = refl
+  value_in-mapped (Some x) = rw (value_behind-mapped f x.events x.value) refl
+
+  pub after_run-mapped : (s : Environment) (x : Option Run) → after_run (mapped_environment f s) (mapped_runs f x) ≡ mapped_environment f (after_run s x)
+  after_run-mapped s None = refl
+  after_run-mapped s (Some x) = refl
+
+  pub after-follows : {a b : Evaluation} → Follows f a b → (s : Environment) → after_run (mapped_environment f s) (b (mapped_environment f s)) ≡ mapped_environment f (after_run s (a s))
+  after-follows {a = a} all s = ap (after_run (mapped_environment f s)) (all.on s) ∙ after_run-mapped s (a s)
+
+  pub listed-follows : {a b : Evaluation} → Follows f a b → (s : Environment) → listed (b (mapped_environment f s)) ≡ mapped_option (mapped_listed f) (listed (a s))
+  listed-follows {a = a} all s = ap listed (all.on s) ∙ listed-mapped (a s)
+
+  function_entry-mapped : (form : FunctionForm) (own : Option ℕ) (ps : List Parameter) (l : Option Listed) → function_entry form (mapped_option f own) (mapped_parameters f ps) (mapped_option (mapped_listed f) l) ≡ mapped_option (mapped_entry f) (function_entry form own ps l)
+  function_entry-mapped form own ps None = refl
+  function_entry-mapped form own ps (Some l) = refl
+
+  class_entry-mapped : (declared : Option ℕ) (form : FunctionForm) (ps : List Parameter) (h : Option (Option Value)) (ms : Option (List Method)) (l : Option Listed) → class_entry (mapped_option f declared) form (mapped_parameters f ps) (mapped_option (mapped_nullable f) h) (mapped_option (mapped_methods f) ms) (mapped_option (mapped_listed f) l) ≡ mapped_option (mapped_entry f) (class_entry declared form ps h ms l)
+  class_entry-mapped declared form ps (Some h) (Some ms) (Some l) = refl
+  class_entry-mapped declared form ps h ms l = refl
+
+  some_value-mapped : (v : Option Value) → some_value (mapped_nullable f v) ≡ mapped_option (mapped_nullable f) (some_value v)
+  some_value-mapped None = refl
+  some_value-mapped (Some v) = refl
+
+  method_with-mapped : (is_static : Bool) (kind : String) (k : Option Value) (g : Code) (ms : Option (List Method)) → method_with is_static kind (mapped_nullable f k) (mapped_code f g) (mapped_option (mapped_methods f) ms) ≡ mapped_option (mapped_methods f) (method_with is_static kind k g ms)
+  method_with-mapped is_static kind (Some k) (function g form own ps body) (Some ms) = refl
+  method_with-mapped is_static kind k g ms = refl
+
+  joined-entries : (xs ys : Entries) {zs ws : Entries} → zs ≡ mapped_entries f xs → ws ≡ mapped_entries f ys → zs ++ ws ≡ mapped_entries f (xs ++ ys)
+  joined-entries xs ys p q = append-mapped (mapped_nullable_entry f) xs ys p q
+
+module _ {first : ℕ} {f : ℕ → ℕ} (r : Renames first f) (opens there : Opened → Evaluation) (follow : (o : Opened) → Follows f (opens o) (there (mapped_opened f o))) (late : List ℕ) where
+  abbrev later : List ℕ
+  later = map f late
+
+  ready_parameter-follows : (m i : ℕ) (is_rest : Bool) (to : Target) → Follows f (ev_target opens to (λ t. bind (event (Operate m (Take (cond is_rest (Index i ∷ Rest ∷ []) (Index i ∷ []))) []) (ResultOf m)) (λ v. write_ready t v))) (ev_target there (mapped_target f to) (λ t. bind (event (Operate (f m) (Take (cond is_rest (Index i ∷ Rest ∷ []) (Index i ∷ []))) []) (ResultOf (f m))) (λ v. write_ready t v)))
+  ready_parameter-follows m i is_rest to = ev_target-follows r opens there follow to _ _ (λ t u x. bind-follows f (λ v. write_ready t v) (λ v. write_ready u v) (event-follows f (Operate m (Take (cond is_rest (Index i ∷ Rest ∷ []) (Index i ∷ []))) []) (ResultOf m)) (λ v. x.writes v))
+
+  ev_parameter-follows : (i : ℕ) (c : Code) → Follows f (ev_parameter opens first late i c) (ev_parameter there first later i (mapped_code f c))
+  ev_parameter-follows i (binding b s kind) = gives-follows f _
+  ev_parameter-follows i (rest (to_name b s kind)) = gives-follows f _
+  ev_parameter-follows i (pattern m to) = ready_parameter-follows m i false to
+  ev_parameter-follows i (rest (to_pattern m kind cs)) = ready_parameter-follows m i true (to_pattern m kind cs)
+  ev_parameter-follows i (rest to) = no_meaning-follows f
+  ev_parameter-follows i c = no_meaning-follows f
+
+  ev_parameters-follows : (i : ℕ) (cs : Codes) → Follows f (ev_parameters opens first late i cs) (ev_parameters there first later i (mapped_codes f cs))
+  ev_parameters-follows i done = gives-follows f _
+  ev_parameters-follows i (and c cs) = bind-follows f _ _ (ev_parameter-follows i c) (λ v. ev_parameters-follows (suc i) cs)
+
+  ev_body-follows : (ps : Codes) (body : Code) → Follows f (ev_body opens first late ps body) (ev_body there first later (mapped_codes f ps) (mapped_code f body))
+  ev_body-follows ps body = bind-follows f _ _ (ev_parameters-follows 0 ps) (λ v. ev-follows r opens there follow body)
+
+  initializers-follow : (n : ℕ) (es : Codes) → Follows f (ev_initializers opens n es) (ev_initializers there (f n) (mapped_codes f es))
+  initializers-follow n es = ev_initializers-follows r opens there follow n es
+
+  base-follows : (n : ℕ) (all ps es : Codes) (body : Code) → Follows f (if_one (no_constructor es) (in_order (has_number n late) (ev_initializers opens n all) (ev_parameters opens first late 0 ps) (ev opens body))) (if_one (no_constructor (mapped_codes f es)) (in_order (has_number (f n) later) (ev_initializers there (f n) (mapped_codes f all)) (ev_parameters there first later 0 (mapped_codes f ps)) (ev there (mapped_code f body))))
+  base-follows n all ps es body = rw (no_constructor-mapped f es, has_number-mapped r n late) (if_one-follows f (no_constructor es) (in_order-follows f (has_number n late) (initializers-follow n all) (ev_parameters-follows 0 ps) (ev-follows r opens there follow body)))
+
+  derived-follows : (ps es : Codes) (body : Code) → Follows f (if_one (no_constructor es) (ev_body opens first late ps body)) (if_one (no_constructor (mapped_codes f es)) (ev_body there first later (mapped_codes f ps) (mapped_code f body)))
+  derived-follows ps es body = rw (no_constructor-mapped f es) (if_one-follows f (no_constructor es) (ev_body-follows ps body))
+
+  ev_construction-follows : (n : ℕ) (h all es : Codes) → Follows f (ev_construction opens first late n h all es) (ev_construction there first later (f n) (mapped_codes f h) (mapped_codes f all) (mapped_codes f es))
+  ev_construction-follows n done all (and (constructor (function g form own ps body)) es) = base-follows n all ps es body
+  ev_construction-follows n done all (and (constructor (new_function g form ps body)) es) = base-follows n all ps es body
+  ev_construction-follows n (and h hs) all (and (constructor (function g form own ps body)) es) = derived-follows ps es body
+  ev_construction-follows n (and h hs) all (and (constructor (new_function g form ps body)) es) = derived-follows ps es body
+  ev_construction-follows n h all (and (constructor e) es) = no_meaning-follows f
+  ev_construction-follows n h all (and e es) = ev_construction-follows n h all es
+  ev_construction-follows n done all done = initializers-follow n all
+  ev_construction-follows n (and h hs) all done = bind-follows f (λ v. ev_initializers opens n all) (λ v. ev_initializers there (f n) (mapped_codes f all)) (event-follows f (SuperCallWithAll n) (ThisOf n)) (λ v. initializers-follow n all)
+
+  value_of-mapped : (s : Environment) (c : Code) → value_in (ev there (mapped_code f c) (mapped_environment f s)) ≡ mapped_nullable f (value_in (ev opens c s))
+  value_of-mapped s c = ap value_in ((ev-follows r opens there follow c).on s) ∙ value_in-mapped f (ev opens c s)
+
+  heritage_in-mapped : (s : Environment) (h : Codes) → heritage_in there first later (mapped_environment f s) (mapped_codes f h) ≡ mapped_option (mapped_nullable f) (heritage_in opens first late s h)
+  heritage_in-mapped s done = refl
+  heritage_in-mapped s (and h hs) = ap some_value (value_of-mapped s h) ∙ some_value-mapped f (value_in (ev opens h s))
+
+  methods_in-mapped : (s : Environment) (es : Codes) → methods_in there first later (mapped_environment f s) (mapped_codes f es) ≡ mapped_option (mapped_methods f) (methods_in opens first late s es)
+  methods_in-mapped s done = refl
+  methods_in-mapped s (and (method is_static kind k g) es) = rw (value_of-mapped s k, methods_in-mapped s es) (method_with-mapped f is_static kind (value_in (ev opens k s)) g (methods_in opens first late s es))
+  methods_in-mapped s (and e es) = methods_in-mapped s es
+
+  -- ---- where evaluations lead
+
+  behind_code-mapped : (s : Environment) (c : Code) → behind_code there first later (mapped_environment f s) (mapped_code f c) ≡ mapped_environment f (behind_code opens first late s c)
+  behind_code-mapped s c = after-follows f (ev-follows r opens there follow c) s
+
+  behind_all-mapped : (s : Environment) (cs : Codes) → behind_all there first later (mapped_environment f s) (mapped_codes f cs) ≡ mapped_environment f (behind_all opens first late s cs)
+  behind_all-mapped s cs = after-follows f (ev_all-follows r opens there follow cs _ _ (λ vs. gives-follows f Undefined)) s
+
+  behind_target-mapped : (s : Environment) (to : Target) → behind_target there first later (mapped_environment f s) (mapped_target f to) ≡ mapped_environment f (behind_target opens first late s to)
+  behind_target-mapped s to = after-follows f (ev_target-follows r opens there follow to _ _ (λ t u x. gives-follows f Undefined)) s
+
+  behind_callee-mapped : (s : Environment) (callee : Callee) → behind_callee there first later (mapped_environment f s) (mapped_callee f callee) ≡ mapped_environment f (behind_callee opens first late s callee)
+  behind_callee-mapped s callee = after-follows f (ev_callee-follows r opens there follow callee (λ v receiver. gives v) (λ v receiver. gives v) (λ v receiver. gives-follows f v)) s
+
+  behind_arguments-mapped : (s : Environment) (ss : List String) (es : Codes) → behind_arguments there first later (mapped_environment f s) ss (mapped_codes f es) ≡ mapped_environment f (behind_arguments opens first late s ss es)
+  behind_arguments-mapped s ss es = after-follows f (ev_all-follows r opens there follow es _ _ (λ vs. bind_parameters-follows f ss vs)) s
+
+  behind_parameters-mapped : (s : Environment) (ps : Codes) → behind_parameters there first later (mapped_environment f s) (mapped_codes f ps) ≡ mapped_environment f (behind_parameters opens first late s ps)
+  behind_parameters-mapped s ps = after-follows f (ev_parameters-follows 0 ps) s
+
+  behind_fields-mapped : (s : Environment) (n : ℕ) (h es : Codes) → behind_fields there first later (mapped_environment f s) (f n) (mapped_codes f h) (mapped_codes f es) ≡ mapped_environment f (behind_fields opens first late s n h es)
+  behind_fields-mapped s n done es = after-follows f (initializers-follow n es) s
+  behind_fields-mapped s n (and h hs) es = refl
+
+  -- ---- entries
+
+  body_start-mapped : (e : Environment) (ps : Codes) (body : Code) → without (assigned_in_all (mapped_codes f ps) ++ assigned_in (mapped_code f body)) (mapped_environment f e) ≡ mapped_environment f (without (assigned_in_all ps ++ assigned_in body) e)
+  body_start-mapped e ps body = rw (assigned_in_all-mapped f ps, assigned_in-mapped f body) (without-mapped f (assigned_in_all ps ++ assigned_in body) e)
+
+  given_start-mapped : (e : Environment) (body : Code) → without (assigned_in (mapped_code f body)) (mapped_environment f e) ≡ mapped_environment f (without (assigned_in body) e)
+  given_start-mapped e body = rw (assigned_in-mapped f body) (without-mapped f (assigned_in body) e)
+
+  elements_start-mapped : (e : Environment) (es : Codes) → without (assigned_in_all (mapped_codes f es)) (mapped_environment f e) ≡ mapped_environment f (without (assigned_in_all es) e)
+  elements_start-mapped e es = rw (assigned_in_all-mapped f es) (without-mapped f (assigned_in_all es) e)
+
+  entry_of_class-mapped : (n : ℕ) (declared : Option ℕ) (h es : Codes) (s e : Environment) → class_entry (mapped_option f declared) (constructor_form (mapped_codes f es)) (constructor_parameters (mapped_codes f es)) (heritage_in there first later (mapped_environment f e) (mapped_codes f h)) (methods_in there first later (mapped_environment f e) (mapped_codes f es)) (listed (ev_construction there first later (f n) (mapped_codes f h) (mapped_codes f es) (mapped_codes f es) (mapped_environment f s))) ≡ mapped_option (mapped_entry f) (class_entry declared (constructor_form es) (constructor_parameters es) (heritage_in opens first late e h) (methods_in opens first late e es) (listed (ev_construction opens first late n h es es s)))
+  entry_of_class-mapped n declared h es s e = rw (constructor_form-mapped f es, constructor_parameters-mapped f es, heritage_in-mapped e h, methods_in-mapped e es, listed-follows f (ev_construction-follows n h es es) s) (class_entry-mapped f declared (constructor_form es) (constructor_parameters es) (heritage_in opens first late e h) (methods_in opens first late e es) (listed (ev_construction opens first late n h es es s)))
+
+  mutual
+    pub entries-mapped : (s e : Environment) (c : Code) → entries there first later (mapped_environment f s) (mapped_environment f e) (mapped_code f c) ≡ mapped_entries f (entries opens first late s e c)
+    entries-mapped s e (member m o k) = rw (behind_code-mapped s o) (joined-entries f _ _ (entries-mapped s e o) (entries-mapped (behind_code opens first late s o) e k))
+    entries-mapped s e (private_member m x o) = entries-mapped s e o
+    entries-mapped s e (super_member m home k this) = entries-mapped s e k
+    entries-mapped s e (private_in m test o) = entries-mapped s e o
+    entries-mapped s e (assign to q) =
+        let a : Environment = behind_target opens first late s to in
+        rw (behind_target-mapped s to, behind_code-mapped a q) (joined-entries f _ _ (joined-entries f _ _ (target_entries-mapped s e to) (entries-mapped a e q)) (pattern_entries-mapped (behind_code opens first late a q) e to))
+    entries-mapped s e (compound m op to q) = rw (behind_target-mapped s to) (joined-entries f _ _ (target_entries-mapped s e to) (entries-mapped (behind_target opens first late s to) e q))
+    entries-mapped s e (logical m op l q) =
+        let a : Environment = behind_code opens first late s l in
+        rw (behind_code-mapped s l, behind_code-mapped a q) (joined-entries f _ _ (entries-mapped s e l) (entries-mapped a (behind_code opens first late a q) q))
+    entries-mapped s e (logical_assign m op to q) =
+        let a : Environment = behind_target opens first late s to in
+        rw (behind_target-mapped s to, behind_code-mapped a q) (joined-entries f _ _ (target_entries-mapped s e to) (entries-mapped a (behind_code opens first late a q) q))
+    entries-mapped s e (update m op prefix to) = target_entries-mapped s e to
+    entries-mapped s e (call m g es) = rw (behind_callee-mapped s g) (joined-entries f _ _ (callee_entries-mapped s e g) (all_entries-mapped (behind_callee opens first late s g) e es))
+    entries-mapped s e (tag m g ts es) = rw (behind_callee-mapped s g) (joined-entries f _ _ (callee_entries-mapped s e g) (all_entries-mapped (behind_callee opens first late s g) e es))
+    entries-mapped s e (construct m g es) = rw (behind_code-mapped s g) (joined-entries f _ _ (entries-mapped s e g) (all_entries-mapped (behind_code opens first late s g) e es))
+    entries-mapped s e (super_call m n o es) = all_entries-mapped s e es
+    entries-mapped s e (sequence es) = all_entries-mapped s e es
+    entries-mapped s e (template m ts es) = all_entries-mapped s e es
+    entries-mapped s e (operation m op es parts) = rw (behind_all-mapped s es) (joined-entries f _ _ (all_entries-mapped s e es) (held_entries-mapped (behind_all opens first late s es) parts))
+    entries-mapped s e (chain m c) = rw (behind_code-mapped s c) (entries-mapped s (behind_code opens first late s c) c)
+    entries-mapped s e (short c) = entries-mapped s e c
+    entries-mapped s e (tested o again c) =
+        let a : Environment = behind_code opens first late s o in
+        rw (behind_code-mapped s o) (joined-entries f _ _ (joined-entries f _ _ (entries-mapped s e o) (all_entries-mapped a e again)) (entries-mapped a e c))
+    entries-mapped s e (steps es) = all_entries-mapped s e es
+    entries-mapped s e (gives_to m to) = joined-entries f _ _ (target_entries-mapped s e to) (pattern_entries-mapped s e to)
+    entries-mapped s e (export_default c) = entries-mapped s e c
+    entries-mapped s e (function g form own ps body) =
+        let start : Environment = without (assigned_in_all ps ++ assigned_in body) e in
+        let inner : Environment = after_run start (ev_body opens first late ps body start) in
+        rw (body_start-mapped e ps body, parameters_of-mapped f ps, listed-follows f (ev_body-follows ps body) start, function_entry-mapped f form own (parameters_of ps) (listed (ev_body opens first late ps body start)), after-follows f (ev_body-follows ps body) start, behind_parameters-mapped start ps)
+        (ap (λ rest. mapped_nullable_entry f (g, function_entry form own (parameters_of ps) (listed (ev_body opens first late ps body start))) ∷ rest) (joined-entries f _ _ (parameter_entries-mapped start inner ps) (entries-mapped (behind_parameters opens first late start ps) inner body)))
+    entries-mapped s e (class_code n declared h es) =
+        let start : Environment = without (assigned_in_all es) e in
+        let inner : Environment = after_run start (ev_construction opens first late n h es es start) in
+        let a : Environment = behind_all opens first late s h in
+        let b : Environment = after_run a (ev_keys opens es a) in
+        rw (elements_start-mapped e es, entry_of_class-mapped n declared h es start e, after-follows f (ev_construction-follows n h es es) start, behind_all-mapped s h, after-follows f (ev_keys-follows r opens there follow es) a, behind_fields-mapped start n h es)
+        (ap (λ rest. mapped_nullable_entry f (n, class_entry declared (constructor_form es) (constructor_parameters es) (heritage_in opens first late e h) (methods_in opens first late e es) (listed (ev_construction opens first late n h es es start))) ∷ rest) (joined-entries f _ _ (joined-entries f _ _ (joined-entries f _ _ (joined-entries f _ _ (all_entries-mapped s e h) (key_entries-mapped a e es)) (static_entries-mapped n b e es)) (field_entries-mapped n start inner es)) (function_entries-mapped (behind_fields opens first late start n h es) inner e es)))
+    entries-mapped s e (define m o k q) = rw (behind_code-mapped s k) (joined-entries f _ _ (entries-mapped s e k) (entries-mapped (behind_code opens first late s k) e q))
+    entries-mapped s e (private_initialize m d o q) = entries-mapped s e q
+    entries-mapped s e (call_arrow ss body es) = rw (behind_arguments-mapped s ss es) (joined-entries f _ _ (all_entries-mapped s e es) (entries-mapped (behind_arguments opens first late s ss es) e body))
+    entries-mapped s e (call_closure x es) = all_entries-mapped s e es
+    entries-mapped s e (give_function m x g (new_function k form ps body)) =
+        let start : Environment = without (assigned_in body) e in
+        rw (given_start-mapped e body, opened_body-mapped f body, behind_code-mapped start (opened_body body)) (entries-mapped start (behind_code opens first late start (opened_body body)) body)
+    entries-mapped s e (give_function m x g (function k form own ps body)) = entries-mapped s e (function k form own ps body)
+    entries-mapped s e (give_function m x g c) = entries-mapped s e c
+    entries-mapped s e (give_class n c) = entries-mapped s e c
+    entries-mapped s e c = refl
+
+    target_entries-mapped : (s e : Environment) (to : Target) → target_entries there first later (mapped_environment f s) (mapped_environment f e) (mapped_target f to) ≡ mapped_entries f (target_entries opens first late s e to)
+    target_entries-mapped s e (to_member m o k) = rw (behind_code-mapped s o) (joined-entries f _ _ (entries-mapped s e o) (entries-mapped (behind_code opens first late s o) e k))
+    target_entries-mapped s e (to_private m x o) = entries-mapped s e o
+    target_entries-mapped s e (to_super m home k this) = entries-mapped s e k
+    target_entries-mapped s e (to_setter m d o) = entries-mapped s e o
+    target_entries-mapped s e (to_default m to d) = target_entries-mapped s e to
+    target_entries-mapped s e to = refl
+
+    pattern_entries-mapped : (s e : Environment) (to : Target) → pattern_entries there first later (mapped_environment f s) (mapped_environment f e) (mapped_target f to) ≡ mapped_entries f (pattern_entries opens first late s e to)
+    pattern_entries-mapped s e (to_pattern m kind cs) = taken_entries-mapped s e cs
+    pattern_entries-mapped s e (to_default m to d) = rw (behind_code-mapped s d) (joined-entries f _ _ (entries-mapped s (behind_code opens first late s d) d) (pattern_entries-mapped s e to))
+    pattern_entries-mapped s e to = refl
+
+    taken_entries-mapped : (s e : Environment) (cs : Codes) → taken_entries there first later (mapped_environment f s) (mapped_environment f e) (mapped_codes f cs) ≡ mapped_entries f (taken_entries opens first late s e cs)
+    taken_entries-mapped s e done = refl
+    taken_entries-mapped s e (and c cs) = rw (after-follows f (ev_take-follows r opens there follow Undefined c) s) (joined-entries f _ _ (take_entries-mapped s e c) (taken_entries-mapped (after_run s (ev_take opens Undefined c s)) e cs))
+
+    take_entries-mapped : (s e : Environment) (c : Code) → take_entries there first later (mapped_environment f s) (mapped_environment f e) (mapped_code f c) ≡ mapped_entries f (take_entries opens first late s e c)
+    take_entries-mapped s e (takes m ds k to) =
+        let a : Environment = behind_all opens first late s k in
+        rw (behind_all-mapped s k, behind_target-mapped a to) (joined-entries f _ _ (joined-entries f _ _ (all_entries-mapped s e k) (target_entries-mapped a e to)) (pattern_entries-mapped (behind_target opens first late a to) e to))
+    take_entries-mapped s e c = refl
+
+    callee_entries-mapped : (s e : Environment) (callee : Callee) → callee_entries there first later (mapped_environment f s) (mapped_environment f e) (mapped_callee f callee) ≡ mapped_entries f (callee_entries opens first late s e callee)
+    callee_entries-mapped s e (plain c) = entries-mapped s e c
+    callee_entries-mapped s e (on_member m o k) = rw (behind_code-mapped s o) (joined-entries f _ _ (entries-mapped s e o) (entries-mapped (behind_code opens first late s o) e k))
+    callee_entries-mapped s e (on_private m x o) = entries-mapped s e o
+    callee_entries-mapped s e (on_super m home k this) = entries-mapped s e k
+    callee_entries-mapped s e (with_receiver g o) = rw (behind_code-mapped s g) (joined-entries f _ _ (entries-mapped s e g) (entries-mapped (behind_code opens first late s g) e o))
+    callee_entries-mapped s e (checked g) = callee_entries-mapped s e g
+    callee_entries-mapped s e (on_chain m g) = rw (behind_callee-mapped s g) (callee_entries-mapped s (behind_callee opens first late s g) g)
+    callee_entries-mapped s e (behind_test o again g) =
+        let a : Environment = behind_code opens first late s o in
+        rw (behind_code-mapped s o) (joined-entries f _ _ (joined-entries f _ _ (entries-mapped s e o) (all_entries-mapped a e again)) (callee_entries-mapped a e g))
+
+    all_entries-mapped : (s e : Environment) (cs : Codes) → all_entries there first later (mapped_environment f s) (mapped_environment f e) (mapped_codes f cs) ≡ mapped_entries f (all_entries opens first late s e cs)
+    all_entries-mapped s e done = refl
+    all_entries-mapped s e (and c cs) = rw (behind_code-mapped s c) (joined-entries f _ _ (entries-mapped s e c) (all_entries-mapped (behind_code opens first late s c) e cs))
+
+    held_entries-mapped : (s : Environment) (cs : Codes) → held_entries there first later (mapped_environment f s) (mapped_codes f cs) ≡ mapped_entries f (held_entries opens first late s cs)
+    held_entries-mapped s done = refl
+    held_entries-mapped s (and c cs) = rw (behind_code-mapped s c) (joined-entries f _ _ (entries-mapped s (behind_code opens first late s c) c) (held_entries-mapped s cs))
+
+    parameter_entries-mapped : (s e : Environment) (cs : Codes) → parameter_entries there first later (mapped_environment f s) (mapped_environment f e) (mapped_codes f cs) ≡ mapped_entries f (parameter_entries opens first late s e cs)
+    parameter_entries-mapped s e done = refl
+    parameter_entries-mapped s e (and (pattern m to) cs) = joined-entries f _ _ (joined-entries f _ _ (target_entries-mapped s e to) (pattern_entries-mapped s e to)) (parameter_entries-mapped s e cs)
+    parameter_entries-mapped s e (and (rest to) cs) = joined-entries f _ _ (joined-entries f _ _ (target_entries-mapped s e to) (pattern_entries-mapped s e to)) (parameter_entries-mapped s e cs)
+    parameter_entries-mapped s e (and c cs) = parameter_entries-mapped s e cs
+
+    key_entries-mapped : (s e : Environment) (cs : Codes) → key_entries there first later (mapped_environment f s) (mapped_environment f e) (mapped_codes f cs) ≡ mapped_entries f (key_entries opens first late s e cs)
+    key_entries-mapped s e done = refl
+    key_entries-mapped s e (and c cs) = rw (after-follows f (ev_key-follows r opens there follow c) s) (joined-entries f _ _ (key_entry-mapped s e c) (key_entries-mapped (after_run s (ev_key opens c s)) e cs))
+
+    key_entry-mapped : (s e : Environment) (c : Code) → key_entry there first later (mapped_environment f s) (mapped_environment f e) (mapped_code f c) ≡ mapped_entries f (key_entry opens first late s e c)
+    key_entry-mapped s e (field is_static form k q) = entries-mapped s e k
+    key_entry-mapped s e (method is_static kind k g) = entries-mapped s e k
+    key_entry-mapped s e c = refl
+
+    static_entries-mapped : (n : ℕ) (s e : Environment) (cs : Codes) → static_entries there first later (f n) (mapped_environment f s) (mapped_environment f e) (mapped_codes f cs) ≡ mapped_entries f (static_entries opens first late n s e cs)
+    static_entries-mapped n s e done = refl
+    static_entries-mapped n s e (and c cs) = rw (after-follows f (ev_static-follows r opens there follow n c) s) (joined-entries f _ _ (static_entry-mapped s e c) (static_entries-mapped n (after_run s (ev_static opens n c s)) e cs))
+
+    static_entry-mapped : (s e : Environment) (c : Code) → static_entry there first later (mapped_environment f s) (mapped_environment f e) (mapped_code f c) ≡ mapped_entries f (static_entry opens first late s e c)
+    static_entry-mapped s e (field true form k q) = entries-mapped s e q
+    static_entry-mapped s e (private_field true d q) = entries-mapped s e q
+    static_entry-mapped s e (static_block cs) = all_entries-mapped s e cs
+    static_entry-mapped s e (generated_element x q) = entries-mapped s e q
+    static_entry-mapped s e c = refl
+
+    field_entries-mapped : (n : ℕ) (s e : Environment) (cs : Codes) → field_entries there first later (f n) (mapped_environment f s) (mapped_environment f e) (mapped_codes f cs) ≡ mapped_entries f (field_entries opens first late n s e cs)
+    field_entries-mapped n s e done = refl
+    field_entries-mapped n s e (and c cs) = rw (after-follows f (ev_field-follows r opens there follow n c) s) (joined-entries f _ _ (field_entry-mapped s e c) (field_entries-mapped n (after_run s (ev_field opens n c s)) e cs))
+
+    field_entry-mapped : (s e : Environment) (c : Code) → field_entry there first later (mapped_environment f s) (mapped_environment f e) (mapped_code f c) ≡ mapped_entries f (field_entry opens first late s e c)
+    field_entry-mapped s e (field false form k q) = entries-mapped s e q
+    field_entry-mapped s e (private_field false d q) = entries-mapped s e q
+    field_entry-mapped s e c = refl
+
+    function_entries-mapped : (s i e : Environment) (cs : Codes) → function_entries there first later (mapped_environment f s) (mapped_environment f i) (mapped_environment f e) (mapped_codes f cs) ≡ mapped_entries f (function_entries opens first late s i e cs)
+    function_entries-mapped s i e done = refl
+    function_entries-mapped s i e (and c cs) = joined-entries f _ _ (element_function-mapped s i e c) (function_entries-mapped s i e cs)
+
+    element_function-mapped : (s i e : Environment) (c : Code) → element_function there first later (mapped_environment f s) (mapped_environment f i) (mapped_environment f e) (mapped_code f c) ≡ mapped_entries f (element_function opens first late s i e c)
+    element_function-mapped s i e (method is_static kind k g) = entries-mapped e e g
+    element_function-mapped s i e (private_method is_static d g) = entries-mapped e e g
+    element_function-mapped s i e (constructor (function g form own ps body)) = rw (behind_parameters-mapped s ps) (joined-entries f _ _ (parameter_entries-mapped s i ps) (entries-mapped (behind_parameters opens first late s ps) i body))
+    element_function-mapped s i e (constructor (new_function g form ps body)) = rw (behind_parameters-mapped s ps) (joined-entries f _ _ (parameter_entries-mapped s i ps) (entries-mapped (behind_parameters opens first late s ps) i body))
+    element_function-mapped s i e c = refl

@@ -1,0 +1,274 @@
+-- The codes of statements, patterns, functions and classes follow a change of numbers.
+use Rattle.std.specs.Prelude.{◌≡◌, ℕ, suc, List, [], ◌∷◌, ◌++◌, Bool, true, false, cond, not, ◌&&◌, ◌||◌, nat_eq, codes, bytes_eq, Option, Some, None}
+use Rattle.std.proofs.Common.{refl, ap, ap₂, ◌∙◌}
+use Rattle.es_base.specs.Numbered.{is_new}
+use Rattle.es_base.specs.declared.kind.Kind.{Kind}
+use Rattle.es_base.specs.declared.ledger.GeneratedKind.{GeneratedKind}
+use Rattle.es_steps.specs.Code.{Code, Codes, Target, FunctionForm, FieldForm, nothing, no_rule, value, spelled, private_name, binding, rest, assign, operation, pattern, takes, steps, gives_to, export_default, function, new_function, new_return, class_code, field, private_field, method, private_method, constructor, generated_element, give_function, give_class, to_name, to_pattern, to_default, no_target, done, and, one, joined}
+use Rattle.es_steps.specs.Context.{Context, NameKind, Generated, MeansClass, new_here, is_constructor, is_generated_private}
+use Rattle.es_steps.specs.Events.{Detail, Operand, Index, Rest, OfKind}
+use Rattle.es_steps.specs.Expressions.{the_code, key_code, key_details, target_of}
+use Rattle.es_steps.specs.GeneratedForms.{given}
+use Rattle.es_steps.specs.Members.{Member, Members, code, absent, list, string, more, end, at, from, before, operands, details, codes_in, codes_of, word_of, flag_of}
+use Rattle.es_steps.specs.Options.{sets_fields, leaves_out_fields}
+use Rattle.es_steps.specs.Statements.{held_from, case_code, given_codes, catch_code, is_initialized, initialized_first, head_initializers, declared_target, given_targets, head_targets, for_each_code, is_directive, expression_code, declarator_of, declarator_code, return_code, suspension_code, default_export_code, default_code, rest_code, pattern_property_code, target_number, taken, taken_element, elements_from, members_of_list, array_pattern_code, taken_properties, object_pattern_code, form_of, function_or_new, own_name_of, function_code, function_expression_code, declared_function, function_declaration_code, arrow_code, declared_by, declared_by_let, elements_of, class_of, value_or_undefined, is_name_string, is_name_or_length, is_absent, field_form, private_element, field_of, field_code, is_constructor_key, method_or_constructor, method_of, method_code}
+use Rattle.es_steps.specs.Values.{String, StringOf, ConstantOf, Undefined}
+use Rattle.es_steps.proofs.ContextMapped.{is_generated_private-mapped}
+use Rattle.es_steps.proofs.ExpressionsMapped.{the_code_at-mapped, key_code-mapped, key_details-mapped, target_of-mapped, target_at-mapped}
+use Rattle.es_steps.proofs.FormsMapped.{code-cond, cond-code, here, given-mapped}
+use Rattle.es_steps.proofs.Mapped.{Renames, mapped_option, mapped_generated, mapped_name_kind, mapped_pair, mapped_context, mapped_code, mapped_codes, mapped_target, mapped_member, mapped_members}
+use Rattle.es_steps.proofs.MembersMapped.{at-mapped, from-mapped, before-mapped, joined-mapped, operands-mapped, details-mapped, codes_in-mapped, word_at-mapped, flag_at-mapped, codes_at-mapped}
+use Rattle.es_steps.proofs.PartsMapped.{cond-mapped}
+
+module _ (f : ℕ → ℕ) where
+  -- ---- statements
+
+  pub held_from-mapped : (i : ℕ) (kind : Kind) (m : ℕ) (ps : Members) → held_from i kind (f m) (mapped_members f ps) ≡ mapped_code f (held_from i kind m ps)
+  held_from-mapped i kind m ps = rw (details-mapped f ps, before-mapped f i ps, operands-mapped f (before i ps), from-mapped f i ps, codes_in-mapped f (from i ps)) refl
+
+  pub case_code-mapped : (m : ℕ) (ps : Members) → case_code (f m) (mapped_members f ps) ≡ mapped_code f (case_code m ps)
+  case_code-mapped m ps = rw (details-mapped f ps, codes_at-mapped f 0 ps, codes_at-mapped f 1 ps, joined-mapped f (codes_of (at 0 ps)) (one (steps (codes_of (at 1 ps))))) refl
+
+  given_codes-mapped : (m : ℕ) (cs : Codes) → given_codes (f m) (mapped_codes f cs) ≡ mapped_codes f (given_codes m cs)
+  given_codes-mapped m done = refl
+  given_codes-mapped m (and c cs) = ap₂ (λ to rest. and (gives_to (f m) to) rest) (target_of-mapped f c) (given_codes-mapped m cs)
+
+  pub catch_code-mapped : (m : ℕ) (ps : Members) → catch_code (f m) (mapped_members f ps) ≡ mapped_code f (catch_code m ps)
+  catch_code-mapped m ps = rw (codes_at-mapped f 0 ps, given_codes-mapped m (codes_of (at 0 ps)), codes_at-mapped f 1 ps, joined-mapped f (given_codes m (codes_of (at 0 ps))) (codes_of (at 1 ps))) refl
+
+  is_initialized-mapped : (c : Code) → is_initialized (mapped_code f c) ≡ mapped_codes f (is_initialized c)
+  is_initialized-mapped (assign to e) = refl
+  is_initialized-mapped c = refl
+
+  initialized_first-mapped : (cs : Codes) → initialized_first (mapped_codes f cs) ≡ mapped_codes f (initialized_first cs)
+  initialized_first-mapped done = refl
+  initialized_first-mapped (and c cs) = ap₂ joined (is_initialized-mapped c) (initialized_first-mapped cs) ∙ joined-mapped f (is_initialized c) (initialized_first cs)
+
+  head_initializers-mapped : (c : Code) → head_initializers (mapped_code f c) ≡ mapped_codes f (head_initializers c)
+  head_initializers-mapped (steps cs) = initialized_first-mapped cs
+  head_initializers-mapped c = refl
+
+  declared_target-mapped : (c : Code) → declared_target (mapped_code f c) ≡ mapped_target f (declared_target c)
+  declared_target-mapped (assign to e) = refl
+  declared_target-mapped c = target_of-mapped f c
+
+  given_targets-mapped : (m : ℕ) (cs : Codes) → given_targets (f m) (mapped_codes f cs) ≡ mapped_codes f (given_targets m cs)
+  given_targets-mapped m done = refl
+  given_targets-mapped m (and c cs) = ap₂ (λ to rest. and (gives_to (f m) to) rest) (declared_target-mapped c) (given_targets-mapped m cs)
+
+  head_targets-mapped : (m : ℕ) (c : Code) → head_targets (f m) (mapped_code f c) ≡ mapped_codes f (head_targets m c)
+  head_targets-mapped m (steps cs) = given_targets-mapped m cs
+  head_targets-mapped m c = ap (λ to. one (gives_to (f m) to)) (target_of-mapped f c)
+
+  pub for_each_code-mapped : (kind : Kind) (m : ℕ) (ps : Members) → for_each_code kind (f m) (mapped_members f ps) ≡ mapped_code f (for_each_code kind m ps)
+  for_each_code-mapped kind m ps =
+      rw (from-mapped f 1 ps, details-mapped f (from 1 ps), the_code_at-mapped f 0 ps, head_initializers-mapped (the_code (at 0 ps)), head_targets-mapped m (the_code (at 0 ps)), codes_at-mapped f 1 ps, codes_at-mapped f 2 ps, joined-mapped f (head_initializers (the_code (at 0 ps))) (codes_of (at 1 ps)), joined-mapped f (head_targets m (the_code (at 0 ps))) (codes_of (at 2 ps)))
+      refl
+
+  is_directive-mapped : (p : Member) → is_directive (mapped_member f p) ≡ is_directive p
+  is_directive-mapped (string s) = refl
+  is_directive-mapped p = refl
+
+  pub default_export_code-mapped : (ps : Members) → default_export_code (mapped_members f ps) ≡ mapped_code f (default_export_code ps)
+  default_export_code-mapped ps = rw (the_code_at-mapped f 0 ps) refl
+
+  -- ---- patterns
+
+  pub default_code-mapped : (m : ℕ) (ps : Members) → default_code (f m) (mapped_members f ps) ≡ mapped_code f (default_code m ps)
+  default_code-mapped m ps = rw (target_at-mapped f 0 ps, the_code_at-mapped f 1 ps) refl
+
+  pub rest_code-mapped : (ps : Members) → rest_code (mapped_members f ps) ≡ mapped_code f (rest_code ps)
+  rest_code-mapped ps = rw (target_at-mapped f 0 ps) refl
+
+  key_alone-mapped : (k : Code) → key_details (mapped_code f k) end ≡ key_details k end
+  key_alone-mapped k = key_details-mapped f k end
+
+  pub pattern_property_code-mapped : (m : ℕ) (ps : Members) → pattern_property_code (f m) (mapped_members f ps) ≡ mapped_code f (pattern_property_code m ps)
+  pattern_property_code-mapped m ps =
+      rw (flag_at-mapped f 5 ps, the_code_at-mapped f 0 ps, target_at-mapped f 1 ps, key_alone-mapped (the_code (at 0 ps)))
+      (cond-code f (flag_of (at 5 ps)) (takes m (Operand ∷ []) (one (the_code (at 0 ps))) (target_of (the_code (at 1 ps)))) (takes m (key_details (the_code (at 0 ps)) end) done (target_of (the_code (at 1 ps)))))
+
+  target_number-mapped : (to : Target) (k : ℕ) → target_number (mapped_target f to) (f k) ≡ f (target_number to k)
+  target_number-mapped no_target k = refl
+  target_number-mapped to k = refl
+
+  taken-mapped : (m : ℕ) (ds : List Detail) (to : Target) → taken (f m) ds (mapped_target f to) ≡ mapped_code f (taken m ds to)
+  taken-mapped m ds to = ap (λ n. takes n ds done (mapped_target f to)) (target_number-mapped to m)
+
+  taken_element-mapped : (m i : ℕ) (c : Code) → taken_element (f m) i (mapped_code f c) ≡ mapped_code f (taken_element m i c)
+  taken_element-mapped m i (rest to) = taken-mapped m (Index i ∷ Rest ∷ []) to
+  taken_element-mapped m i c = ap (taken (f m) (Index i ∷ [])) (target_of-mapped f c) ∙ taken-mapped m (Index i ∷ []) (target_of c)
+
+  elements_from-mapped : (m i : ℕ) (ps : Members) → elements_from (f m) i (mapped_members f ps) ≡ mapped_codes f (elements_from m i ps)
+  elements_from-mapped m i end = refl
+  elements_from-mapped m i (more (code c) ps) = ap₂ and (taken_element-mapped m i c) (elements_from-mapped m (suc i) ps)
+  elements_from-mapped m i (more p ps) = elements_from-mapped m (suc i) ps
+
+  members_of_list-mapped : (p : Member) → members_of_list (mapped_member f p) ≡ mapped_members f (members_of_list p)
+  members_of_list-mapped (list ps) = refl
+  members_of_list-mapped p = refl
+
+  pub array_pattern_code-mapped : (m : ℕ) (ps : Members) → array_pattern_code (f m) (mapped_members f ps) ≡ mapped_code f (array_pattern_code m ps)
+  array_pattern_code-mapped m ps = rw (at-mapped f 0 ps, members_of_list-mapped (at 0 ps), elements_from-mapped m 0 (members_of_list (at 0 ps))) refl
+
+  taken_properties-mapped : (m : ℕ) (cs : Codes) → taken_properties (f m) (mapped_codes f cs) ≡ mapped_codes f (taken_properties m cs)
+  taken_properties-mapped m done = refl
+  taken_properties-mapped m (and (rest to) cs) = ap₂ and (taken-mapped m (Rest ∷ []) to) (taken_properties-mapped m cs)
+  taken_properties-mapped m (and c cs) = ap (and (mapped_code f c)) (taken_properties-mapped m cs)
+
+  pub object_pattern_code-mapped : (m : ℕ) (ps : Members) → object_pattern_code (f m) (mapped_members f ps) ≡ mapped_code f (object_pattern_code m ps)
+  object_pattern_code-mapped m ps = rw (codes_at-mapped f 0 ps, taken_properties-mapped m (codes_of (at 0 ps))) refl
+
+  -- ---- functions
+
+  function_or_new-mapped : (b : Bool) (g : ℕ) (form : FunctionForm) (own : Option ℕ) (ps : Codes) (body : Code) → function_or_new b (f g) form (mapped_option f own) (mapped_codes f ps) (mapped_code f body) ≡ mapped_code f (function_or_new b g form own ps body)
+  function_or_new-mapped true g form own ps body = refl
+  function_or_new-mapped false g form own ps body = refl
+
+  declared_function-mapped : (g : ℕ) (p : Member) (e : Code) → declared_function (f g) (mapped_member f p) (mapped_code f e) ≡ mapped_code f (declared_function g p e)
+  declared_function-mapped g (code (binding b s (Generated (GeneratedKind.Method d)))) e = refl
+  declared_function-mapped g (code (binding b s (Generated k))) e = of_kind k
+    where
+      of_kind : (k : GeneratedKind) → declared_function (f g) (code (binding (f b) s (Generated (mapped_generated f k)))) (mapped_code f e) ≡ mapped_code f (declared_function g (code (binding b s (Generated k))) e)
+      of_kind (GeneratedKind.Method d) = refl
+      of_kind k = refl
+  declared_function-mapped g p e = refl
+
+  -- ---- classes
+
+  declared_by-mapped : (p : Member) → declared_by (mapped_member f p) ≡ mapped_option f (declared_by p)
+  declared_by-mapped (code (binding b s (Generated g))) = refl
+  declared_by-mapped (code (binding b s kind)) = refl
+  declared_by-mapped p = refl
+
+  pub declared_at-mapped : (i : ℕ) (ps : Members) → declared_by (at i (mapped_members f ps)) ≡ mapped_option f (declared_by (at i ps))
+  declared_at-mapped i ps = ap declared_by (at-mapped f i ps) ∙ declared_by-mapped (at i ps)
+
+  elements_of-mapped : (p : Member) → elements_of (mapped_member f p) ≡ mapped_codes f (elements_of p)
+  elements_of-mapped (code (steps cs)) = refl
+  elements_of-mapped p = refl
+
+  pub class_of-mapped : (declared : Option ℕ) (n : ℕ) (ps : Members) → class_of (mapped_option f declared) (f n) (mapped_members f ps) ≡ mapped_code f (class_of declared n ps)
+  class_of-mapped declared n ps = rw (codes_at-mapped f 1 ps, at-mapped f 2 ps, elements_of-mapped (at 2 ps)) refl
+
+  value_or_undefined-mapped : (p : Member) → value_or_undefined (mapped_member f p) ≡ mapped_code f (value_or_undefined p)
+  value_or_undefined-mapped (code c) = refl
+  value_or_undefined-mapped p = refl
+
+  value_at-mapped : (i : ℕ) (ps : Members) → value_or_undefined (at i (mapped_members f ps)) ≡ mapped_code f (value_or_undefined (at i ps))
+  value_at-mapped i ps = ap value_or_undefined (at-mapped f i ps) ∙ value_or_undefined-mapped (at i ps)
+
+  is_name_or_length-mapped : (k : Code) → is_name_or_length (mapped_code f k) ≡ is_name_or_length k
+  is_name_or_length-mapped (spelled s) = refl
+  is_name_or_length-mapped (value (ConstantOf (StringOf s))) = refl
+  is_name_or_length-mapped k = refl
+
+  is_absent-mapped : (p : Member) → is_absent (mapped_member f p) ≡ is_absent p
+  is_absent-mapped absent = refl
+  is_absent-mapped p = refl
+
+  is_constructor_key-mapped : (k : Code) → is_constructor_key (mapped_code f k) ≡ is_constructor_key k
+  is_constructor_key-mapped (spelled s) = refl
+  is_constructor_key-mapped (value (ConstantOf (StringOf s))) = refl
+  is_constructor_key-mapped k = refl
+
+  method_or_constructor-mapped : (b d : Bool) (whole g : Code) → method_or_constructor b d (mapped_code f whole) (mapped_code f g) ≡ mapped_code f (method_or_constructor b d whole g)
+  method_or_constructor-mapped true true whole g = refl
+  method_or_constructor-mapped false false whole g = refl
+  method_or_constructor-mapped b d whole g = refl
+
+  abbrev ordinary : Members → Code → Code
+  ordinary ps k = method_or_constructor (is_constructor (word_of (at 2 ps))) (is_constructor_key k && not (flag_of (at 4 ps) || flag_of (at 3 ps))) (method (flag_of (at 4 ps)) (word_of (at 2 ps)) (key_code (flag_of (at 3 ps)) k) (the_code (at 1 ps))) (the_code (at 1 ps))
+
+  ordinary-mapped : (ps : Members) (k : Code) → ordinary (mapped_members f ps) (mapped_code f k) ≡ mapped_code f (ordinary ps k)
+  ordinary-mapped ps k =
+      rw (flag_at-mapped f 4 ps, flag_at-mapped f 3 ps, word_at-mapped f 2 ps, the_code_at-mapped f 1 ps, is_constructor_key-mapped k, key_code-mapped f (flag_of (at 3 ps)) k)
+      (method_or_constructor-mapped (is_constructor (word_of (at 2 ps))) (is_constructor_key k && not (flag_of (at 4 ps) || flag_of (at 3 ps))) (method (flag_of (at 4 ps)) (word_of (at 2 ps)) (key_code (flag_of (at 3 ps)) k) (the_code (at 1 ps))) (the_code (at 1 ps)))
+
+  method_of-mapped : (ps : Members) (k : Code) → method_of (mapped_members f ps) (mapped_code f k) ≡ mapped_code f (method_of ps k)
+  method_of-mapped ps (private_name d s x) = rw (flag_at-mapped f 4 ps, the_code_at-mapped f 1 ps) refl
+  method_of-mapped ps k = ordinary-mapped ps k
+
+  pub method_code-mapped : (ps : Members) → method_code (mapped_members f ps) ≡ mapped_code f (method_code ps)
+  method_code-mapped ps = ap (method_of (mapped_members f ps)) (the_code_at-mapped f 0 ps) ∙ method_of-mapped ps (the_code (at 0 ps))
+
+module _ {first : ℕ} {f : ℕ → ℕ} (r : Renames first f) (c : Context) (e : c.first_new ≡ first) where
+  abbrev there : Context
+  there = mapped_context f c
+
+  pub expression_code-mapped : (m : ℕ) (ps : Members) → expression_code there (f m) (mapped_members f ps) ≡ mapped_code f (expression_code c m ps)
+  expression_code-mapped m ps =
+      rw (at-mapped f 1 ps, is_directive-mapped f (at 1 ps), here r c e m, codes_in-mapped f ps)
+      (cond-code f (is_directive (at 1 ps) && (is_new c.first_new m && not c.in_new_function)) no_rule (steps (codes_in ps)))
+
+  -- a declarator: its binding or pattern, and its initializer
+  declarator_of-mapped : (m : ℕ) (new : Bool) (d : Code) (p : Member) → declarator_of there (f m) new (mapped_code f d) (mapped_member f p) ≡ mapped_code f (declarator_of c m new d p)
+  declarator_of-mapped m new (binding b s (Generated g)) (code q) = given-mapped r c e m b s g q
+  declarator_of-mapped m new (binding b s (Generated g)) p = refl
+  declarator_of-mapped m true (binding b s (MeansClass n k)) (code q) = refl
+  declarator_of-mapped m true d p = refl
+  declarator_of-mapped m false d (code q) = ap (λ to. assign to (mapped_code f q)) (target_of-mapped f d)
+  declarator_of-mapped m false (binding b s kind) p = refl
+  declarator_of-mapped m false (pattern k to) p = refl
+  declarator_of-mapped m false d p = refl
+
+  pub declarator_code-mapped : (m : ℕ) (ps : Members) → declarator_code there (f m) (mapped_members f ps) ≡ mapped_code f (declarator_code c m ps)
+  declarator_code-mapped m ps = rw (here r c e m, the_code_at-mapped f 0 ps, at-mapped f 1 ps) (declarator_of-mapped m (is_new c.first_new m) (the_code (at 0 ps)) (at 1 ps))
+
+  pub return_code-mapped : (m : ℕ) (ps : Members) → return_code there (f m) (mapped_members f ps) ≡ mapped_code f (return_code c m ps)
+  return_code-mapped m ps =
+      let whole : Code = operation m (OfKind Kind.ReturnStatement (details ps)) (operands ps) done in
+      rw (here r c e m, details-mapped f ps, operands-mapped f ps, codes_at-mapped f 0 ps)
+      (code-cond f (is_new c.first_new m) (new_return (codes_of (at 0 ps))) (cond c.in_new_function no_rule whole) refl (cond-code f c.in_new_function no_rule whole))
+
+  pub suspension_code-mapped : (kind : Kind) (m : ℕ) (ps : Members) → suspension_code there kind (f m) (mapped_members f ps) ≡ mapped_code f (suspension_code c kind m ps)
+  suspension_code-mapped kind m ps = rw (details-mapped f ps, operands-mapped f ps) (cond-code f c.in_new_function no_rule (operation m (OfKind kind (details ps)) (operands ps) done))
+
+  -- ---- functions
+
+  own_name_of-mapped : (p : Member) → own_name_of there (mapped_member f p) ≡ mapped_option f (own_name_of c p)
+  own_name_of-mapped (code (binding b s kind)) = rw (here r c e b) (cond-mapped (mapped_option f) (is_new c.first_new b) None (Some b) refl refl)
+  own_name_of-mapped p = refl
+
+  function_code-mapped : (g : ℕ) (own : Option ℕ) (ps : Members) → function_code there (f g) (mapped_option f own) (mapped_members f ps) ≡ mapped_code f (function_code c g own ps)
+  function_code-mapped g own ps =
+      rw (here r c e g, flag_at-mapped f 3 ps, flag_at-mapped f 4 ps, codes_at-mapped f 1 ps, the_code_at-mapped f 2 ps)
+      (function_or_new-mapped f (is_new c.first_new g) g (form_of false (flag_of (at 3 ps)) (flag_of (at 4 ps))) own (codes_of (at 1 ps)) (the_code (at 2 ps)))
+
+  pub function_expression_code-mapped : (g : ℕ) (ps : Members) → function_expression_code there (f g) (mapped_members f ps) ≡ mapped_code f (function_expression_code c g ps)
+  function_expression_code-mapped g ps = rw (at-mapped f 0 ps, own_name_of-mapped (at 0 ps)) (function_code-mapped g (own_name_of c (at 0 ps)) ps)
+
+  pub function_declaration_code-mapped : (g : ℕ) (ps : Members) → function_declaration_code there (f g) (mapped_members f ps) ≡ mapped_code f (function_declaration_code c g ps)
+  function_declaration_code-mapped g ps = ap₂ (declared_function (f g)) (at-mapped f 0 ps) (function_code-mapped g None ps) ∙ declared_function-mapped f g (at 0 ps) (function_code c g None ps)
+
+  pub arrow_code-mapped : (g : ℕ) (ps : Members) → arrow_code there (f g) (mapped_members f ps) ≡ mapped_code f (arrow_code c g ps)
+  arrow_code-mapped g ps =
+      rw (here r c e g, flag_at-mapped f 2 ps, codes_at-mapped f 0 ps, the_code_at-mapped f 1 ps)
+      (function_or_new-mapped f (is_new c.first_new g) g (form_of true (flag_of (at 2 ps)) false) None (codes_of (at 0 ps)) (the_code (at 1 ps)))
+
+  -- ---- classes
+
+  pub declared_by_let-mapped : (n : ℕ) (p : Option (ℕ × ℕ)) → declared_by_let (f n) (mapped_option (mapped_pair f) p) ≡ mapped_option f (declared_by_let n p)
+  declared_by_let-mapped n None = refl
+  declared_by_let-mapped n (Some p) = rw (r.apart n p.0) (cond-mapped (mapped_option f) (nat_eq n p.0) (Some p.1) None refl refl)
+
+  private_element-mapped : (is_static : Bool) (d : ℕ) (s : String) (q : Code) → private_element there is_static (f d) s (mapped_code f q) ≡ mapped_code f (private_element c is_static d s q)
+  private_element-mapped is_static d s q =
+      rw (here r c e d, is_generated_private-mapped r s c.class c.ledger)
+      (code-cond f (is_new c.first_new d) (cond (is_static && is_generated_private s c.class c.ledger) (generated_element s q) no_rule) (private_field is_static d q) (cond-code f (is_static && is_generated_private s c.class c.ledger) (generated_element s q) no_rule) refl)
+
+  abbrev public_field : Context → Members → Code → Code
+  public_field x ps k = field (flag_of (at 3 ps)) (field_form x.options (flag_of (at 3 ps)) k (at 1 ps)) (key_code (flag_of (at 2 ps)) k) (value_or_undefined (at 1 ps))
+
+  field_form-mapped : (is_static : Bool) (k : Code) (p : Member) → field_form c.options is_static (mapped_code f k) (mapped_member f p) ≡ field_form c.options is_static k p
+  field_form-mapped is_static k p = rw (is_absent-mapped f p, is_name_or_length-mapped f k) refl
+
+  public_field-mapped : (ps : Members) (k : Code) → public_field there (mapped_members f ps) (mapped_code f k) ≡ mapped_code f (public_field c ps k)
+  public_field-mapped ps k = rw (flag_at-mapped f 3 ps, flag_at-mapped f 2 ps, value_at-mapped f 1 ps, at-mapped f 1 ps, field_form-mapped (flag_of (at 3 ps)) k (at 1 ps), key_code-mapped f (flag_of (at 2 ps)) k) refl
+
+  field_of-mapped : (ps : Members) (k : Code) → field_of there (mapped_members f ps) (mapped_code f k) ≡ mapped_code f (field_of c ps k)
+  field_of-mapped ps (private_name d s x) = rw (flag_at-mapped f 3 ps, value_at-mapped f 1 ps) (private_element-mapped (flag_of (at 3 ps)) d s (value_or_undefined (at 1 ps)))
+  field_of-mapped ps k = public_field-mapped ps k
+
+  pub field_code-mapped : (ps : Members) → field_code there (mapped_members f ps) ≡ mapped_code f (field_code c ps)
+  field_code-mapped ps = ap (field_of there (mapped_members f ps)) (the_code_at-mapped f 0 ps) ∙ field_of-mapped ps (the_code (at 0 ps))
