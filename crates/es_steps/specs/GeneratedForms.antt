@@ -8,7 +8,9 @@ use Rattle.es_steps.specs.Code.{Code, Codes, Target, FunctionForm, Opened, Initi
 use Rattle.es_steps.specs.Context.{Context, Changing, MeansClass, Generated, StaticMethod, new_here}
 use Rattle.es_steps.specs.Events.{Detail, Operand, Spelled, Flag, Key, Opens, Closes, OfKind}
 use Rattle.es_steps.specs.Helpers.{Helper, DefineProperty, ClassPrivateFieldInitSpec, ClassPrivateMethodInitSpec, ClassPrivateFieldGet2, ClassPrivateFieldSet2, AssertClassBrand, ToSetter, CheckInRHS, ReadOnlyError, WriteOnlyError, SuperPropGet, SuperPropSet, ClassPrivateFieldLooseKey, ClassPrivateFieldLooseBase, SetFunctionName, ToPropertyKey, helper_named}
+use Rattle.es_steps.specs.Options.{keeps_privates_as_properties}
 use Rattle.es_steps.specs.PrivateNames.{PrivateMember, PrivateReference, PrivateKind, a_method, a_getter, a_setter, member_at, reference_of, is_a_field}
+use Rattle.es_steps.specs.SameValues.{same_boolean}
 use Rattle.es_steps.specs.Values.{String, StringOf, NumberOf, BooleanOf, Null, Value, ConstantOf, Undefined, ClassOf, ThisOf, ResultOf, Free, Home, OfClass, OfPrototype, HasField, HasBrand, IsClass}
 
 -- ---- the letters: a name is of a kind, and the source has such a member
@@ -26,14 +28,18 @@ is_static_field x = is_a_field x.kind && x.is_static
 abbrev pub is_function_member : PrivateMember → Bool
 is_function_member x = not (is_a_field x.kind)
 
+-- members of one sort, where the options keep private members as properties or do not
+abbrev pub if_kept : Bool → Context → (PrivateMember → Bool) → Option PrivateMember → Option PrivateMember
+if_kept as_properties c test x = cond (same_boolean as_properties (keeps_privates_as_properties c.options)) (if_member test x) None
+
 -- W, the `WeakMap` of an instance field
 abbrev pub weak_map : Context → Code → Option PrivateMember
-weak_map c (name m s (Generated (GeneratedKind.WeakMap d))) = if_member is_instance_field (member_at d.0 c.members)
+weak_map c (name m s (Generated (GeneratedKind.WeakMap d))) = if_kept false c is_instance_field (member_at d.0 c.members)
 weak_map c e = None
 
 -- S, the object of a static field
 abbrev pub static_field : Context → Code → Option PrivateMember
-static_field c (name m s (Generated (GeneratedKind.StaticField d))) = if_member is_static_field (member_at d.0 c.members)
+static_field c (name m s (Generated (GeneratedKind.StaticField d))) = if_kept false c is_static_field (member_at d.0 c.members)
 static_field c e = None
 
 -- M, G, A, the function of a method, getter or setter
@@ -44,7 +50,7 @@ private_function c e = None
 
 -- L, the key of a member that is kept as a property
 abbrev pub loose_key : Context → Code → Option PrivateMember
-loose_key c (name m s (Generated (GeneratedKind.LooseKey d))) = if_member (λ x. is_a_field x.kind) (member_at d.0 c.members)
+loose_key c (name m s (Generated (GeneratedKind.LooseKey d))) = if_kept true c (λ x. is_a_field x.kind) (member_at d.0 c.members)
 loose_key c e = None
 
 -- Z, a name that means a class
@@ -473,7 +479,7 @@ is_void_test e = false
 
 abbrev pub is_undefined_test : Context → Code → Bool
 is_undefined_test c (logical m operator l r) = new_here c m && (bytes_eq operator (codes "||") && (is_null_test (codes "===") l && is_void_test r))
-is_undefined_test c (operation m op es held) = new_here c m && is_null_test (codes "==") (operation m op es held)
+is_undefined_test c (operation m op es held) = (new_here c m && c.options.assumptions.no_document_all) && is_null_test (codes "==") (operation m op es held)
 is_undefined_test c e = false
 
 abbrev pub left_of : Code → Code
