@@ -11,6 +11,7 @@ use Rattle.es_steps.specs.Printable.{is_printable}
 use Rattle.es_steps.specs.PrivateNames.{private_members}
 use Rattle.es_steps.specs.SameMeanings.{same_meanings}
 use Rattle.es_steps.specs.Shapes.{shape_numbers, source_means_after}
+use Rattle.es_steps.specs.Timely.{names_timely}
 use Rattle.es_steps.specs.declared.options.Options.{Options}
 
 abbrev pub clauses : Options → List LedgerEntry → Tree → Tree → List Bool
@@ -19,6 +20,7 @@ clauses o ledger p q =
     ∷ names_declared (nodes p) ledger q
     ∷ declarations_accounted (nodes p) ledger p q
     ∷ initializations_stand (nodes p) ledger (private_members p) q ledger
+    ∷ names_timely (nodes p) ledger q
     ∷ keys_stand (nodes p) o ledger (private_members p) q (all_temporaries (nodes p) o ledger (private_members p) q (preorder q))
     ∷ nodes_kept p q
     ∷ statements_kept o p q
@@ -29,7 +31,7 @@ clauses o ledger p q =
     ∷ []
 
 abbrev pub all_met : List Bool
-all_met = true ∷ true ∷ true ∷ true ∷ true ∷ true ∷ true ∷ true ∷ true ∷ true ∷ true ∷ []
+all_met = true ∷ true ∷ true ∷ true ∷ true ∷ true ∷ true ∷ true ∷ true ∷ true ∷ true ∷ true ∷ []
 
 -- the output of a row means what its source means, which is there, and owes nothing; the source has these shapes
 abbrev pub Kept : Options → List LedgerEntry → Tree → Tree → List ℕ → Type 0

@@ -16,3 +16,6 @@ pub mod ReadingMapped
 pub mod EvaluationMapped
 pub mod OpeningMapped
 pub mod EntriesMapped
+pub mod ModulesMapped
+pub mod Still
+pub mod MeaningMapped

@@ -30,6 +30,7 @@ pub mod SameValues
 pub mod Scopes
 pub mod Shapes
 pub mod Statements
+pub mod Standing
 pub mod Timely
 pub mod Told
 pub mod Values

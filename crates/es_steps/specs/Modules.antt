@@ -32,14 +32,15 @@ module_name (child (Node Kind.Literal m span semantic_id (more (literal (literal
 module_name (child (Node kind m span semantic_id ps)) = string_of (at 0 ps)
 module_name p = []
 
-abbrev pub number_in : Part → ℕ
-number_in (child (Node kind m span semantic_id ps)) = m
-number_in p = 0
+-- with the number of an identifier that is imported
+abbrev pub importing : (ℕ → Specifier) → Part → List Specifier
+importing specifier (child (Node kind b span semantic_id ps)) = specifier b ∷ []
+importing specifier p = []
 
 abbrev pub specifier_of : Part → List Specifier
-specifier_of (child (Node Kind.ImportSpecifier m span semantic_id ps)) = Imported (module_name (at 0 ps)) (number_in (at 1 ps)) ∷ []
-specifier_of (child (Node Kind.ImportDefaultSpecifier m span semantic_id ps)) = ImportedDefault (number_in (at 0 ps)) ∷ []
-specifier_of (child (Node Kind.ImportNamespaceSpecifier m span semantic_id ps)) = ImportedNamespace (number_in (at 0 ps)) ∷ []
+specifier_of (child (Node Kind.ImportSpecifier m span semantic_id ps)) = importing (Imported (module_name (at 0 ps))) (at 1 ps)
+specifier_of (child (Node Kind.ImportDefaultSpecifier m span semantic_id ps)) = importing ImportedDefault (at 0 ps)
+specifier_of (child (Node Kind.ImportNamespaceSpecifier m span semantic_id ps)) = importing ImportedNamespace (at 0 ps)
 specifier_of (child (Node Kind.ExportSpecifier m span semantic_id ps)) = Reexported (module_name (at 0 ps)) (module_name (at 1 ps)) ∷ []
 specifier_of p = []
 
