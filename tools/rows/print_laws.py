@@ -86,6 +86,7 @@ NOT_MET = {
     'closure_before_its_class': TIMELY,
     'dead_temporary': TIMELY,
     'break_in_an_arrow': 'is_printable output_{n}',
+    'hidden_body': 'conforms Place.Program output_{n}',
     'constant_temporary': 'declarations_accounted (nodes source_{n}) generated_{n} source_{n} output_{n}',
     'private_name_twice': 'names_declared (nodes source_{n}) generated_{n} output_{n}',
     'name_twice': 'names_declared (nodes source_{n}) generated_{n} output_{n}',
@@ -98,7 +99,7 @@ for f in sorted(os.listdir(folder)):
     n = re.search(r'abbrev pub options_(\w+)', text).group(1)
     if f'first_{n} ' in text:
         uses.append(f'ghost use Rattle.es_rows.specs.witnesses.{f[:-5]}.{{first_{n}, second_{n}, options_{n}}};')
-        if n == 'key_of_a_method':
+        if n in ('key_of_a_method', 'class_named_otherwise'):
             kept.append((n, f'source_means options_{n} second_{n} ≡ source_means options_{n} first_{n}'))
         else:
             pairs.append((n, f'TellsApart options_{n} first_{n} second_{n}'))
@@ -118,13 +119,15 @@ def listed(function, says, clauses, proof):
 listed('programs_are_told_apart', 'Pairs of programs that share their numbers and behave differently have meanings that differ.', pairs, '(refl, refl, refl)')
 listed('wrong_outputs_are_told_apart', 'Wrong outputs of worked rows do not mean what their sources mean.', wrong, 'refl')
 listed('clauses_are_not_met', 'Wrong outputs that a clause on lowered programs finds, though their meanings may be those of their sources.', not_met, 'refl')
-listed('the_same_in_other_words', 'A template and a string are one key.', kept, 'refl')
+listed('the_same_in_other_words', 'A template and a string are one key; the own name of a class is no step.', kept, 'refl')
 
 text = '''// Worked rows and witnesses: functions that do nothing. Printed by tools/rows/print_laws.py.
 
 ghost use Rattle.std.specs.Prelude.{◌≡◌, false};
 ghost use Rattle.es_rows.specs.Owed.{Kept, KeptAfter, Owed, TellsApart, Refused};
+ghost use Rattle.es_base.specs.Conforms.{conforms};
 ghost use Rattle.es_base.specs.Preorder.{nodes};
+ghost use Rattle.es_base.specs.declared.table.Place.{Place};
 ghost use Rattle.es_steps.specs.KeptNodes.{lists_kept};
 ghost use Rattle.es_steps.specs.Lowered.{names_declared, declarations_accounted, initializations_stand};
 ghost use Rattle.es_steps.specs.Meaning.{source_means};

@@ -173,6 +173,10 @@ const witnesses = [
   clause('name_of_no_member', 'a map of a member that the source has not', row('instance_field'), q => { q.body.unshift(fresh(q, tree('var _t = new WeakMap();').body[0])); }, [{ name: '_t', kind: 'WeakMap', number: 3 }]),
   wrong('maps_in_loose_mode', 'a private field in a map, where the options keep it as a property', row('private_field_forms'), q => {}, undefined, ['--class-properties', '--loose']),
   wrong('test_of_one_null', 'a test by `==` without the option', row('private_chain_call_no_document_all'), q => {}, undefined, ['--class-properties']),
+  wrong('suspending_constructor', 'a new constructor that is an async generator, in a program that cannot be printed', { options: ['--class-properties'], source: 'var a; class C { x = 1 }', output: 'var a; class C { constructor() { B.defineProperty(this, "x", 1); } }' },
+    (q, p) => { for (const t of [q, p]) t.body[0].declarations[0].id.name = 'yield'; Object.assign(q.body[1].body.body[0].value, { async: true, generator: true }); }),
+  { ...clause('hidden_body', 'a program with an empty body and a third part', row('instance_field'), q => {}), rewrite: text => text.replace('(more (string (codes "script")) (more ', '(more (string (codes "script")) (more (list end) (more ') + ')' },
+  pair('class_named_otherwise', 'the own name of a class is no step', 'x = class D {};', 'x = class E {};', {}),
 ];
 
 function moduleOf(w) {
@@ -185,7 +189,7 @@ function moduleOf(w) {
     const told = w.row, given = { words: told.options, input: told.source, out: told.output, type: told.type, outside: told.outside };
     const r = numberRow(given, { outside: told.outside || [], ...told, name: w.name });
     w.change(r.output, r.source);
-    body = [`-- \`${told.source}\`\n${define('source', 'Tree', term(r.source))}`, `-- ${w.says}, where \`${told.output}\` is right\n${define('output', 'Tree', term(r.output))}`, define('generated', 'List LedgerEntry', [...(w.generated || []), ...r.ledger.filter(e => !w.generated || !w.generated.some(g => g.kind === e.kind))].map(entryTerm).join('') + '[]'), define('options', 'Options', optionsTerm(w.options ? optionsOf(w.options) : r.options))].join('\n');
+    body = [`-- \`${told.source}\`\n${define('source', 'Tree', term(r.source))}`, `-- ${w.says}, where \`${told.output}\` is right\n${define('output', 'Tree', (w.rewrite || (text => text))(term(r.output)))}`, define('generated', 'List LedgerEntry', [...(w.generated || []), ...r.ledger.filter(e => !w.generated || !w.generated.some(g => g.kind === e.kind))].map(entryTerm).join('') + '[]'), define('options', 'Options', optionsTerm(w.options ? optionsOf(w.options) : r.options))].join('\n');
   }
   return `-- Printed by tools/rows/witnesses.js.\n${imports(body)}\n\n${body}`;
 }

@@ -9,6 +9,7 @@ pub mod BreakInAnArrow
 pub mod CaughtNamesExchanged
 pub mod ClassBehindItsUse
 pub mod ClassInAConstructor
+pub mod ClassNamedOtherwise
 pub mod ClassRenamed
 pub mod ClassTemporaryBeforeItsClass
 pub mod ClosureBeforeItsClass
@@ -26,6 +27,7 @@ pub mod GetterMadeAMethod
 pub mod GetterOrMethod
 pub mod GlobalRenamed
 pub mod HeritageReadLate
+pub mod HiddenBody
 pub mod HoleInAPattern
 pub mod ImportsExchanged
 pub mod KeyOfAMethod
@@ -66,6 +68,7 @@ pub mod StaticGetterOrMethod
 pub mod StaticKeyReadLate
 pub mod SuperFunctionBehindItsCalls
 pub mod SuperGivesZero
+pub mod SuspendingConstructor
 pub mod TemplateKey
 pub mod TemporaryGivenLate
 pub mod TemporaryNeverGiven

@@ -2,7 +2,9 @@
 
 ghost use Rattle.std.specs.Prelude.{◌≡◌, false};
 ghost use Rattle.es_rows.specs.Owed.{Kept, KeptAfter, Owed, TellsApart, Refused};
+ghost use Rattle.es_base.specs.Conforms.{conforms};
 ghost use Rattle.es_base.specs.Preorder.{nodes};
+ghost use Rattle.es_base.specs.declared.table.Place.{Place};
 ghost use Rattle.es_steps.specs.KeptNodes.{lists_kept};
 ghost use Rattle.es_steps.specs.Lowered.{names_declared, declarations_accounted, initializations_stand};
 ghost use Rattle.es_steps.specs.Meaning.{source_means};
@@ -95,6 +97,7 @@ ghost use Rattle.es_rows.specs.witnesses.BreakInAnArrow.{source_break_in_an_arro
 ghost use Rattle.es_rows.specs.witnesses.CaughtNamesExchanged.{first_caught_names_exchanged, second_caught_names_exchanged, options_caught_names_exchanged};
 ghost use Rattle.es_rows.specs.witnesses.ClassBehindItsUse.{source_class_behind_its_use, output_class_behind_its_use, generated_class_behind_its_use, options_class_behind_its_use};
 ghost use Rattle.es_rows.specs.witnesses.ClassInAConstructor.{source_class_in_a_constructor, output_class_in_a_constructor, generated_class_in_a_constructor, options_class_in_a_constructor};
+ghost use Rattle.es_rows.specs.witnesses.ClassNamedOtherwise.{first_class_named_otherwise, second_class_named_otherwise, options_class_named_otherwise};
 ghost use Rattle.es_rows.specs.witnesses.ClassRenamed.{source_class_renamed, output_class_renamed, generated_class_renamed, options_class_renamed};
 ghost use Rattle.es_rows.specs.witnesses.ClassTemporaryBeforeItsClass.{source_class_temporary_before_its_class, output_class_temporary_before_its_class, generated_class_temporary_before_its_class, options_class_temporary_before_its_class};
 ghost use Rattle.es_rows.specs.witnesses.ClosureBeforeItsClass.{source_closure_before_its_class, output_closure_before_its_class, generated_closure_before_its_class, options_closure_before_its_class};
@@ -112,6 +115,7 @@ ghost use Rattle.es_rows.specs.witnesses.GetterMadeAMethod.{source_getter_made_a
 ghost use Rattle.es_rows.specs.witnesses.GetterOrMethod.{first_getter_or_method, second_getter_or_method, options_getter_or_method};
 ghost use Rattle.es_rows.specs.witnesses.GlobalRenamed.{first_global_renamed, second_global_renamed, options_global_renamed};
 ghost use Rattle.es_rows.specs.witnesses.HeritageReadLate.{source_heritage_read_late, output_heritage_read_late, generated_heritage_read_late, options_heritage_read_late};
+ghost use Rattle.es_rows.specs.witnesses.HiddenBody.{source_hidden_body, output_hidden_body, generated_hidden_body, options_hidden_body};
 ghost use Rattle.es_rows.specs.witnesses.HoleInAPattern.{first_hole_in_a_pattern, second_hole_in_a_pattern, options_hole_in_a_pattern};
 ghost use Rattle.es_rows.specs.witnesses.ImportsExchanged.{first_imports_exchanged, second_imports_exchanged, options_imports_exchanged};
 ghost use Rattle.es_rows.specs.witnesses.KeyOfAMethod.{first_key_of_a_method, second_key_of_a_method, options_key_of_a_method};
@@ -152,6 +156,7 @@ ghost use Rattle.es_rows.specs.witnesses.StaticGetterOrMethod.{first_static_gett
 ghost use Rattle.es_rows.specs.witnesses.StaticKeyReadLate.{source_static_key_read_late, output_static_key_read_late, generated_static_key_read_late, options_static_key_read_late};
 ghost use Rattle.es_rows.specs.witnesses.SuperFunctionBehindItsCalls.{source_super_function_behind_its_calls, output_super_function_behind_its_calls, generated_super_function_behind_its_calls, options_super_function_behind_its_calls};
 ghost use Rattle.es_rows.specs.witnesses.SuperGivesZero.{source_super_gives_zero, output_super_gives_zero, generated_super_gives_zero, options_super_gives_zero};
+ghost use Rattle.es_rows.specs.witnesses.SuspendingConstructor.{source_suspending_constructor, output_suspending_constructor, generated_suspending_constructor, options_suspending_constructor};
 ghost use Rattle.es_rows.specs.witnesses.TemplateKey.{first_template_key, second_template_key, options_template_key};
 ghost use Rattle.es_rows.specs.witnesses.TemporaryGivenLate.{source_temporary_given_late, output_temporary_given_late, generated_temporary_given_late, options_temporary_given_late};
 ghost use Rattle.es_rows.specs.witnesses.TemporaryNeverGiven.{source_temporary_never_given, output_temporary_never_given, generated_temporary_never_given, options_temporary_never_given};
@@ -326,6 +331,7 @@ pub fn wrong_outputs_are_told_apart()
     ensures spread_for_a_parameter { Refused options_spread_for_a_parameter generated_spread_for_a_parameter source_spread_for_a_parameter output_spread_for_a_parameter }
     ensures static_key_read_late { Refused options_static_key_read_late generated_static_key_read_late source_static_key_read_late output_static_key_read_late }
     ensures super_gives_zero { Refused options_super_gives_zero generated_super_gives_zero source_super_gives_zero output_super_gives_zero }
+    ensures suspending_constructor { Refused options_suspending_constructor generated_suspending_constructor source_suspending_constructor output_suspending_constructor }
     ensures temporary_given_late { Refused options_temporary_given_late generated_temporary_given_late source_temporary_given_late output_temporary_given_late }
     ensures temporary_never_given { Refused options_temporary_never_given generated_temporary_never_given source_temporary_never_given output_temporary_never_given }
     ensures test_of_another_object { Refused options_test_of_another_object generated_test_of_another_object source_test_of_another_object output_test_of_another_object }
@@ -343,6 +349,7 @@ pub fn clauses_are_not_met()
     ensures closure_before_its_class { names_timely (nodes source_closure_before_its_class) generated_closure_before_its_class output_closure_before_its_class ≡ false }
     ensures constant_temporary { declarations_accounted (nodes source_constant_temporary) generated_constant_temporary source_constant_temporary output_constant_temporary ≡ false }
     ensures dead_temporary { names_timely (nodes source_dead_temporary) generated_dead_temporary output_dead_temporary ≡ false }
+    ensures hidden_body { conforms Place.Program output_hidden_body ≡ false }
     ensures method_assigned_in_another_function { names_timely (nodes source_method_assigned_in_another_function) generated_method_assigned_in_another_function output_method_assigned_in_another_function ≡ false }
     ensures name_of_no_member { initializations_stand (nodes source_name_of_no_member) generated_name_of_no_member (private_members source_name_of_no_member) output_name_of_no_member generated_name_of_no_member ≡ false }
     ensures name_twice { names_declared (nodes source_name_twice) generated_name_twice output_name_twice ≡ false }
@@ -351,7 +358,8 @@ pub fn clauses_are_not_met()
     ensures weak_map_in_another_function { names_timely (nodes source_weak_map_in_another_function) generated_weak_map_in_another_function output_weak_map_in_another_function ≡ false }
 {}
 
-/// A template and a string are one key.
+/// A template and a string are one key; the own name of a class is no step.
 pub fn the_same_in_other_words()
+    ensures class_named_otherwise { source_means options_class_named_otherwise second_class_named_otherwise ≡ source_means options_class_named_otherwise first_class_named_otherwise }
     ensures key_of_a_method { source_means options_key_of_a_method second_key_of_a_method ≡ source_means options_key_of_a_method first_key_of_a_method }
 {}

@@ -79,7 +79,7 @@ module _ (f : ℕ → ℕ) where
   role_of_generated-mapped (Some (GeneratedKind.SuperFn n)) = refl
   role_of_generated-mapped g = refl
 
-  name_in-mapped : (p : Part) → name_in (mapped_part f p) ≡ name_in p
+  pub name_in-mapped : (p : Part) → name_in (mapped_part f p) ≡ name_in p
   name_in-mapped (child (Node kind m span semantic_id ps)) = string_at-mapped f 0 ps
   name_in-mapped p = refl
 

@@ -17,5 +17,6 @@ pub mod EvaluationMapped
 pub mod OpeningMapped
 pub mod EntriesMapped
 pub mod ModulesMapped
+pub mod RepeatedMapped
 pub mod Still
 pub mod MeaningMapped

@@ -4,7 +4,7 @@
 use Rattle.std.specs.Prelude.{ℕ, List, [], ◌∷◌, Bool, true, false, cond, not, ◌&&◌, ◌||◌, nat_eq, codes, bytes_eq, Option, Some, None}
 use Rattle.es_base.specs.declared.kind.Kind.{Kind}
 use Rattle.es_base.specs.declared.ledger.GeneratedKind.{GeneratedKind}
-use Rattle.es_steps.specs.Code.{Code, Codes, Target, FunctionForm, Opened, InitializersOf, BodyOf, CalledBodyOf, no_rule, value, spelled, binding, name, super, member, private_member, super_member, private_in, assign, call, construct, super_call, super_call_with_all, sequence, logical, operation, steps, function, new_function, new_return, class_code, from_call, from_member, key_of, helper, helper_call, throw, define, private_initialize, add_brand, bound, setter, call_arrow, call_closure, give_function, give_class, to_name, to_private, to_super, on_super, with_receiver, done, and, one}
+use Rattle.es_steps.specs.Code.{Code, Codes, Target, FunctionForm, Opened, InitializersOf, BodyOf, CalledBodyOf, no_rule, value, spelled, binding, name, super, member, private_member, super_member, private_in, assign, call, construct, super_call, super_call_with_all, sequence, logical, operation, steps, function, new_function, new_return, class_code, from_call, from_member, key_of, helper, helper_call, throw, define, private_initialize, add_brand, bound, setter, private_value, call_arrow, call_closure, give_function, give_class, to_name, to_private, to_super, on_super, with_receiver, done, and, one}
 use Rattle.es_steps.specs.Context.{Context, Changing, MeansClass, Generated, StaticMethod, new_here}
 use Rattle.es_steps.specs.Events.{Detail, Operand, Spelled, Flag, Key, Opens, Closes, OfKind}
 use Rattle.es_steps.specs.Helpers.{Helper, DefineProperty, ClassPrivateFieldInitSpec, ClassPrivateMethodInitSpec, ClassPrivateFieldGet2, ClassPrivateFieldSet2, AssertClassBrand, ToSetter, CheckInRHS, ReadOnlyError, WriteOnlyError, SuperPropGet, SuperPropSet, ClassPrivateFieldLooseKey, ClassPrivateFieldLooseBase, SetFunctionName, ToPropertyKey, helper_named}
@@ -184,11 +184,12 @@ abbrev pub is_constant : Code → Bool
 is_constant (value (ConstantOf k)) = true
 is_constant e = false
 
--- a name of a function has no event: a constant, or a temporary
+-- a name of a function has no event: a constant, a temporary, or what a generated private element holds
 abbrev pub is_quiet_key : Code → Bool
 is_quiet_key (value (ConstantOf k)) = true
 is_quiet_key (name m s (Generated GeneratedKind.Temp)) = true
 is_quiet_key (name m s (Generated GeneratedKind.Param)) = true
+is_quiet_key (private_value s) = true
 is_quiet_key e = false
 
 -- what `setFunctionName` may name: a function, an arrow, a class where it is made, and a class by `this` or its name
@@ -282,6 +283,7 @@ loose_member c m o key whole = whole
 abbrev pub is_same_key : Code → Code → Bool
 is_same_key (value (ConstantOf (StringOf s))) k = is_string s k
 is_same_key (name m s (Generated g)) (name m2 t (Generated g2)) = bytes_eq s t
+is_same_key (private_value s) (private_value t) = bytes_eq s t
 is_same_key k l = false
 
 abbrev pub kept_name : Code → Option (Code × Code) → Code → Code

@@ -2,12 +2,13 @@
 -- are. (Our own. p is the source, q what it was lowered to, `first` the number of the first new node.)
 use Rattle.std.specs.Prelude.{◌≡◌, ℕ, List, [], ◌∷◌, ◌++◌, Bool, true, false, cond, not, ◌&&◌, ◌||◌, bytes_eq, nat_eq, codes, Option, Some, None}
 use Rattle.es_base.specs.Carried.{stripped}
-use Rattle.es_base.specs.Conforms.{is_among}
+use Rattle.es_base.specs.Conforms.{conforms, is_among}
 use Rattle.es_base.specs.Numbered.{IsNumbered, is_new}
 use Rattle.es_base.specs.Preorder.{preorder, number_of}
 use Rattle.es_base.specs.Tree.{Tree, Part, Parts, Node, end, more, child, list, string}
 use Rattle.es_base.specs.declared.kind.Kind.{Kind}
 use Rattle.es_base.specs.declared.ledger.GeneratedKind.{GeneratedKind}
+use Rattle.es_base.specs.declared.table.Place.{Place}
 use Rattle.es_base.specs.declared.ledger.LedgerEntry.{LedgerEntry}
 use Rattle.es_steps.specs.Context.{generated_as}
 use Rattle.es_steps.specs.Definitions.{spelling, field_part, names_class, class_identifiers, definitions_stand, all_temporaries, all_different, elements_kept}
@@ -315,6 +316,7 @@ keys_stand first o ledger members q keys = not (lowers_fields o) || (all_differe
 
 -- what a lowered program owes; `members` are the private members of the source
 pub record IsLowered (first : ℕ) (o : Options) (ledger : List LedgerEntry) (p q : Tree) : Type 0 where
+  pub conforming : conforms Place.Program q ≡ true
   pub numbered : IsNumbered first q
   pub left : nothing_left o q ≡ true
   pub declared : names_declared first ledger q ≡ true

@@ -22,6 +22,9 @@ returns-clause-constant_temporary c = refl
 pub returns-clause-dead_temporary : goal.returns-clause-dead_temporary
 returns-clause-dead_temporary c = refl
 
+pub returns-clause-hidden_body : goal.returns-clause-hidden_body
+returns-clause-hidden_body c = refl
+
 pub returns-clause-method_assigned_in_another_function : goal.returns-clause-method_assigned_in_another_function
 returns-clause-method_assigned_in_another_function c = refl
 

@@ -121,6 +121,9 @@ returns-clause-static_key_read_late c = refl
 pub returns-clause-super_gives_zero : goal.returns-clause-super_gives_zero
 returns-clause-super_gives_zero c = refl
 
+pub returns-clause-suspending_constructor : goal.returns-clause-suspending_constructor
+returns-clause-suspending_constructor c = refl
+
 pub returns-clause-temporary_given_late : goal.returns-clause-temporary_given_late
 returns-clause-temporary_given_late c = refl
 
