@@ -92,14 +92,18 @@ NOT_MET = {
     'name_twice': 'names_declared (nodes source_{n}) generated_{n} output_{n}',
     'name_of_no_member': 'initializations_stand (nodes source_{n}) generated_{n} (private_members source_{n}) output_{n} generated_{n}',
 }
-pairs, wrong, kept, not_met = [], [], [], []
+# the shapes of the two programs
+SHAPES = {'loose_member_read_once': ('[]', '4 ∷ []'), 'super_key_that_stays': ('[]', '4 ∷ []'), 'suspended_class_written': ('6 ∷ []', '[]')}
+pairs, wrong, kept, not_met, shaped = [], [], [], [], []
 folder = f'{CRATE}/specs/witnesses'
 for f in sorted(os.listdir(folder)):
     text = open(f'{folder}/{f}').read()
     n = re.search(r'abbrev pub options_(\w+)', text).group(1)
     if f'first_{n} ' in text:
         uses.append(f'ghost use Rattle.es_rows.specs.witnesses.{f[:-5]}.{{first_{n}, second_{n}, options_{n}}};')
-        if n in ('key_of_a_method', 'class_named_otherwise'):
+        if n in SHAPES:
+            shaped.append((n, f'HaveShapes options_{n} first_{n} ({SHAPES[n][0]}) second_{n} ({SHAPES[n][1]})'))
+        elif n in ('key_of_a_method', 'class_named_otherwise'):
             kept.append((n, f'source_means options_{n} second_{n} ≡ source_means options_{n} first_{n}'))
         else:
             pairs.append((n, f'TellsApart options_{n} first_{n} second_{n}'))
@@ -119,12 +123,13 @@ def listed(function, says, clauses, proof):
 listed('programs_are_told_apart', 'Pairs of programs that share their numbers and behave differently have meanings that differ.', pairs, '(refl, refl, refl)')
 listed('wrong_outputs_are_told_apart', 'Wrong outputs of worked rows do not mean what their sources mean.', wrong, 'refl')
 listed('clauses_are_not_met', 'Wrong outputs that a clause on lowered programs finds, though their meanings may be those of their sources.', not_met, 'refl')
+listed('shapes_are_told', 'Pairs of programs that have different shapes.', shaped, '(refl, refl)')
 listed('the_same_in_other_words', 'A template and a string are one key; the own name of a class is no step.', kept, 'refl')
 
 text = '''// Worked rows and witnesses: functions that do nothing. Printed by tools/rows/print_laws.py.
 
-ghost use Rattle.std.specs.Prelude.{◌≡◌, false};
-ghost use Rattle.es_rows.specs.Owed.{Kept, KeptAfter, Owed, TellsApart, Refused};
+ghost use Rattle.std.specs.Prelude.{◌≡◌, [], ◌∷◌, false};
+ghost use Rattle.es_rows.specs.Owed.{Kept, KeptAfter, Owed, TellsApart, Refused, HaveShapes};
 ghost use Rattle.es_base.specs.Conforms.{conforms};
 ghost use Rattle.es_base.specs.Preorder.{nodes};
 ghost use Rattle.es_base.specs.declared.table.Place.{Place};

@@ -177,6 +177,9 @@ const witnesses = [
     (q, p) => { for (const t of [q, p]) t.body[0].declarations[0].id.name = 'yield'; Object.assign(q.body[1].body.body[0].value, { async: true, generator: true }); }),
   { ...clause('hidden_body', 'a program with an empty body and a third part', row('instance_field'), q => {}), rewrite: text => text.replace('(more (string (codes "script")) (more ', '(more (string (codes "script")) (more (list end) (more ') + ')' },
   pair('class_named_otherwise', 'the own name of a class is no step', 'x = class D {};', 'x = class E {};', {}),
+  pair('loose_member_read_once', 'the object of a member that is kept as a property is read once, but where a logical operator writes it', 'class A { #x = 1; m(o) { o = f(); o.#x += 2; } }', 'class A { #x = 1; m(o) { o = f(); o.#x ||= 2; } }', {}, { options: ['--class-properties', '--loose'] }),
+  pair('super_key_that_stays', 'the key of a `super` member is read twice where its code is moved', 'class A { x = 1; m(k) { k = f(); super[k] += 2; } }', 'class A { #m(k) { k = f(); super[k] += 2; } }', {}, { options: ['--class-properties'] }),
+  pair('suspended_class_written', 'a class that suspends and has a scope for names becomes a `let`', 'function* g() { class C { [k()] = class { static { h(); } }; [yield 1]() {} } C = 1; }', 'function* g() { class C { [k()] = class { static { h(); } }; [yield 1]() {} } }', {}, { options: ['--static-block'] }),
 ];
 
 function moduleOf(w) {

@@ -35,6 +35,7 @@ pub mod KeyReadLate
 pub mod KeyReadTwice
 pub mod LetOutOfALoop
 pub mod LoopHeadsExchanged
+pub mod LooseMemberReadOnce
 pub mod MapsInLooseMode
 pub mod MemberOfAnObject
 pub mod MethodAssignedInAnotherFunction
@@ -68,6 +69,8 @@ pub mod StaticGetterOrMethod
 pub mod StaticKeyReadLate
 pub mod SuperFunctionBehindItsCalls
 pub mod SuperGivesZero
+pub mod SuperKeyThatStays
+pub mod SuspendedClassWritten
 pub mod SuspendingConstructor
 pub mod TemplateKey
 pub mod TemporaryGivenLate

@@ -1,7 +1,7 @@
 // Worked rows and witnesses: functions that do nothing. Printed by tools/rows/print_laws.py.
 
-ghost use Rattle.std.specs.Prelude.{◌≡◌, false};
-ghost use Rattle.es_rows.specs.Owed.{Kept, KeptAfter, Owed, TellsApart, Refused};
+ghost use Rattle.std.specs.Prelude.{◌≡◌, [], ◌∷◌, false};
+ghost use Rattle.es_rows.specs.Owed.{Kept, KeptAfter, Owed, TellsApart, Refused, HaveShapes};
 ghost use Rattle.es_base.specs.Conforms.{conforms};
 ghost use Rattle.es_base.specs.Preorder.{nodes};
 ghost use Rattle.es_base.specs.declared.table.Place.{Place};
@@ -123,6 +123,7 @@ ghost use Rattle.es_rows.specs.witnesses.KeyReadLate.{source_key_read_late, outp
 ghost use Rattle.es_rows.specs.witnesses.KeyReadTwice.{source_key_read_twice, output_key_read_twice, generated_key_read_twice, options_key_read_twice};
 ghost use Rattle.es_rows.specs.witnesses.LetOutOfALoop.{first_let_out_of_a_loop, second_let_out_of_a_loop, options_let_out_of_a_loop};
 ghost use Rattle.es_rows.specs.witnesses.LoopHeadsExchanged.{first_loop_heads_exchanged, second_loop_heads_exchanged, options_loop_heads_exchanged};
+ghost use Rattle.es_rows.specs.witnesses.LooseMemberReadOnce.{first_loose_member_read_once, second_loose_member_read_once, options_loose_member_read_once};
 ghost use Rattle.es_rows.specs.witnesses.MapsInLooseMode.{source_maps_in_loose_mode, output_maps_in_loose_mode, generated_maps_in_loose_mode, options_maps_in_loose_mode};
 ghost use Rattle.es_rows.specs.witnesses.MemberOfAnObject.{source_member_of_an_object, output_member_of_an_object, generated_member_of_an_object, options_member_of_an_object};
 ghost use Rattle.es_rows.specs.witnesses.MethodAssignedInAnotherFunction.{source_method_assigned_in_another_function, output_method_assigned_in_another_function, generated_method_assigned_in_another_function, options_method_assigned_in_another_function};
@@ -156,6 +157,8 @@ ghost use Rattle.es_rows.specs.witnesses.StaticGetterOrMethod.{first_static_gett
 ghost use Rattle.es_rows.specs.witnesses.StaticKeyReadLate.{source_static_key_read_late, output_static_key_read_late, generated_static_key_read_late, options_static_key_read_late};
 ghost use Rattle.es_rows.specs.witnesses.SuperFunctionBehindItsCalls.{source_super_function_behind_its_calls, output_super_function_behind_its_calls, generated_super_function_behind_its_calls, options_super_function_behind_its_calls};
 ghost use Rattle.es_rows.specs.witnesses.SuperGivesZero.{source_super_gives_zero, output_super_gives_zero, generated_super_gives_zero, options_super_gives_zero};
+ghost use Rattle.es_rows.specs.witnesses.SuperKeyThatStays.{first_super_key_that_stays, second_super_key_that_stays, options_super_key_that_stays};
+ghost use Rattle.es_rows.specs.witnesses.SuspendedClassWritten.{first_suspended_class_written, second_suspended_class_written, options_suspended_class_written};
 ghost use Rattle.es_rows.specs.witnesses.SuspendingConstructor.{source_suspending_constructor, output_suspending_constructor, generated_suspending_constructor, options_suspending_constructor};
 ghost use Rattle.es_rows.specs.witnesses.TemplateKey.{first_template_key, second_template_key, options_template_key};
 ghost use Rattle.es_rows.specs.witnesses.TemporaryGivenLate.{source_temporary_given_late, output_temporary_given_late, generated_temporary_given_late, options_temporary_given_late};
@@ -356,6 +359,13 @@ pub fn clauses_are_not_met()
     ensures private_name_twice { names_declared (nodes source_private_name_twice) generated_private_name_twice output_private_name_twice ≡ false }
     ensures super_function_behind_its_calls { names_timely (nodes source_super_function_behind_its_calls) generated_super_function_behind_its_calls output_super_function_behind_its_calls ≡ false }
     ensures weak_map_in_another_function { names_timely (nodes source_weak_map_in_another_function) generated_weak_map_in_another_function output_weak_map_in_another_function ≡ false }
+{}
+
+/// Pairs of programs that have different shapes.
+pub fn shapes_are_told()
+    ensures loose_member_read_once { HaveShapes options_loose_member_read_once first_loose_member_read_once ([]) second_loose_member_read_once (4 ∷ []) }
+    ensures super_key_that_stays { HaveShapes options_super_key_that_stays first_super_key_that_stays ([]) second_super_key_that_stays (4 ∷ []) }
+    ensures suspended_class_written { HaveShapes options_suspended_class_written first_suspended_class_written (6 ∷ []) second_suspended_class_written ([]) }
 {}
 
 /// A template and a string are one key; the own name of a class is no step.

@@ -302,9 +302,11 @@ module _ {first : ℕ} {f : ℕ → ℕ} (r : Renames first f) where
 
     -- a chain that is called: its list, and its receiver, which is read by itself
     chain-follows : (m : ℕ) (callee : Callee) (g h : Value → Option Value → Evaluation) → ((v : Value) (receiver : Option Value) → Follows f (g v receiver) (h (mapped_value f v) (mapped_nullable f receiver))) → Follows f (ev_callee opens callee (λ v receiver. gives v)) (ev_callee there (mapped_callee f callee) (λ v receiver. gives v)) → Follows f (ev_callee opens callee (λ v receiver. nullable_gives receiver)) (ev_callee there (mapped_callee f callee) (λ v receiver. nullable_gives receiver)) → Follows f (ev_callee opens (on_chain m callee) g) (ev_callee there (mapped_callee f (on_chain m callee)) h)
-    chain-follows m callee g h next list received = record { on = λ s.
-        ap (λ x. go_on (held (f m) (Part 0) None (ev_callee there (mapped_callee f callee) (λ v receiver. gives v)) (mapped_environment f s)) (λ v. h v x)) (receiver-follows s)
-        ∙ (bind-follows f (λ v. g v (receiver_in (has_receiver callee) (ev_callee opens callee (λ v receiver. nullable_gives receiver) s))) (λ v. h v (mapped_nullable f (receiver_in (has_receiver callee) (ev_callee opens callee (λ v receiver. nullable_gives receiver) s)))) (held-follows f m (Part 0) None list) (λ v. next v (receiver_in (has_receiver callee) (ev_callee opens callee (λ v receiver. nullable_gives receiver) s)))).on s }
+    chain-follows m callee g h next list received = record {
+      on = λ s.
+          ap (λ x. go_on (held (f m) (Part 0) None (ev_callee there (mapped_callee f callee) (λ v receiver. gives v)) (mapped_environment f s)) (λ v. h v x)) (receiver-follows s)
+          ∙ (bind-follows f (λ v. g v (receiver_in (has_receiver callee) (ev_callee opens callee (λ v receiver. nullable_gives receiver) s))) (λ v. h v (mapped_nullable f (receiver_in (has_receiver callee) (ev_callee opens callee (λ v receiver. nullable_gives receiver) s)))) (held-follows f m (Part 0) None list) (λ v. next v (receiver_in (has_receiver callee) (ev_callee opens callee (λ v receiver. nullable_gives receiver) s)))).on s;
+    }
       where
         receiver-follows : (s : Environment) → receiver_in (has_receiver (mapped_callee f callee)) (ev_callee there (mapped_callee f callee) (λ v receiver. nullable_gives receiver) (mapped_environment f s)) ≡ mapped_nullable f (receiver_in (has_receiver callee) (ev_callee opens callee (λ v receiver. nullable_gives receiver) s))
         receiver-follows s = rw (has_receiver-mapped f callee, received.on s) (receiver_in-mapped f (has_receiver callee) (ev_callee opens callee (λ v receiver. nullable_gives receiver) s))

@@ -20,3 +20,7 @@ pub mod ModulesMapped
 pub mod RepeatedMapped
 pub mod Still
 pub mod MeaningMapped
+pub mod Renaming
+pub mod Renumbering
+pub mod PrintableMapped
+pub mod KeptNodesMapped

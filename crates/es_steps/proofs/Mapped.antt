@@ -194,11 +194,27 @@ module _ (f : ℕ → ℕ) where
 
   abbrev pub mapped_context : Context → Context
   mapped_context c = record {
-    first_new = c.first_new; ledger = mapped_ledger c.ledger; options = c.options; members = mapped_privates c.members;
-    written = map f c.written; writes_arguments = c.writes_arguments; names = mapped_declarations c.names; privates = mapped_privates c.privates;
-    this = mapped_value c.this; new_target = mapped_value c.new_target; arguments = mapped_value c.arguments; home = mapped_option mapped_home c.home;
-    constructs = mapped_option f c.constructs; initializing = mapped_option f c.initializing; in_new_function = c.in_new_function;
-    class = f c.class; has_heritage = c.has_heritage; object = f c.object; role = mapped_role c.role; let_class = mapped_option mapped_pair c.let_class; is_body = c.is_body;
+    first_new = c.first_new;
+    ledger = mapped_ledger c.ledger;
+    options = c.options;
+    members = mapped_privates c.members;
+    written = map f c.written;
+    writes_arguments = c.writes_arguments;
+    names = mapped_declarations c.names;
+    privates = mapped_privates c.privates;
+    this = mapped_value c.this;
+    new_target = mapped_value c.new_target;
+    arguments = mapped_value c.arguments;
+    home = mapped_option mapped_home c.home;
+    constructs = mapped_option f c.constructs;
+    initializing = mapped_option f c.initializing;
+    in_new_function = c.in_new_function;
+    class = f c.class;
+    has_heritage = c.has_heritage;
+    object = f c.object;
+    role = mapped_role c.role;
+    let_class = mapped_option mapped_pair c.let_class;
+    is_body = c.is_body;
   }
 
   abbrev pub mapped_opened : Opened → Opened
@@ -385,8 +401,16 @@ module _ (f : ℕ → ℕ) where
 
   abbrev pub mapped_meaning : Meaning → Meaning
   mapped_meaning m = record {
-    source_type = m.source_type; program = mapped_listed m.program; entries = map mapped_numbered_entry m.entries; members = map mapped_numbered_member m.members;
-    functions = map mapped_pair m.functions; bindings = map mapped_binding m.bindings; globals = map mapped_name m.globals; places = map mapped_pair m.places; links = map mapped_link m.links; exports = map mapped_named_export m.exports;
+    source_type = m.source_type;
+    program = mapped_listed m.program;
+    entries = map mapped_numbered_entry m.entries;
+    members = map mapped_numbered_member m.members;
+    functions = map mapped_pair m.functions;
+    bindings = map mapped_binding m.bindings;
+    globals = map mapped_name m.globals;
+    places = map mapped_pair m.places;
+    links = map mapped_link m.links;
+    exports = map mapped_named_export m.exports;
   }
 
   abbrev pub mapped_terms : Terms → Terms

@@ -27,7 +27,7 @@ module _ (f : ℕ → ℕ) where
   body_members-mapped n (child (Node Kind.ClassBody m span semantic_id ps)) = rw (items_at-mapped f 0 ps) (elements_members-mapped n (items (at 0 ps)))
   body_members-mapped n p = refl
 
-  members_at-mapped : (kind : Kind) (m : ℕ) (ps : Parts) → members_at kind (f m) (mapped_parts f ps) ≡ mapped_privates f (members_at kind m ps)
+  pub members_at-mapped : (kind : Kind) (m : ℕ) (ps : Parts) → members_at kind (f m) (mapped_parts f ps) ≡ mapped_privates f (members_at kind m ps)
   members_at-mapped kind m ps = cond-mapped (mapped_privates f) (is_class kind) _ [] (rw (at-mapped f 2 ps) (body_members-mapped m (at 2 ps))) refl
 
   pub seen_members-mapped : (kind : Kind) (m : ℕ) (ps : Parts) (i : ℕ) → seen_members kind (f m) (mapped_parts f ps) i ≡ mapped_privates f (seen_members kind m ps i)

@@ -1,6 +1,9 @@
 -- The laws of meanings, as the contracts of src/law.rt name them.
 use Rattle.std.specs.Prelude.{◌≡◌, ℕ, List, [], ◌∷◌, true, false, codes, Option, Some, None}
+use Rattle.es_base.specs.Carried.{stripped}
 use Rattle.es_base.specs.Conforms.{conforms}
+use Rattle.es_base.specs.Numbered.{EachOnce, numbers}
+use Rattle.es_base.specs.Preorder.{renumbered}
 use Rattle.es_base.specs.Tree.{Tree, Node, end, more, child, list, string, boolean, trees}
 use Rattle.es_base.specs.declared.kind.Kind.{Kind}
 use Rattle.es_base.specs.declared.table.Place.{Place}
@@ -10,16 +13,29 @@ use Rattle.es_steps.specs.Evaluation.{Evaluation, ev, bind, settle, event}
 use Rattle.es_steps.specs.Events.{Define}
 use Rattle.es_steps.specs.FirstForm.{is_first_form}
 use Rattle.es_steps.specs.GeneratedForms.{known_object}
-use Rattle.es_steps.specs.Meaning.{Meaning, source_means, has_meaning}
+use Rattle.es_steps.specs.Meaning.{Meaning, Terms, means, source_means, has_meaning}
 use Rattle.es_steps.specs.Reading.{read}
 use Rattle.es_steps.specs.References.{declared}
 use Rattle.es_steps.specs.SameMeanings.{same_meanings}
+use Rattle.es_steps.specs.Standing.{meaning_numbers, terms_numbers, all_old}
 use Rattle.es_steps.specs.Values.{Value, ResultOf, as_key}
 use Rattle.es_steps.specs.declared.options.Options.{Options}
 
 -- meanings that are found to differ are not equal
 abbrev pub DifferenceLaw : Type 0
 DifferenceLaw = (a b : Option Meaning) → same_meanings a b ≡ false → a ≡ b → ⊥
+
+-- semantic ids are no part of a meaning
+abbrev pub SemanticIdsLaw : Type 0
+SemanticIdsLaw = (o : Terms) (t : Tree) → means o (stripped t) ≡ means o t
+
+-- nor of that of a source, whose terms are read from it
+abbrev pub SourceSemanticIdsLaw : Type 0
+SourceSemanticIdsLaw = (o : Options) (t : Tree) → source_means o (stripped t) ≡ source_means o t
+
+-- giving the new nodes their numbers anew, in preorder, keeps a meaning, if none of them stands in it or in its terms
+abbrev pub RenumberingLaw : Type 0
+RenumberingLaw = (o : Terms) (t : Tree) (m : Meaning) → EachOnce (numbers t) → all_old o.first_new (terms_numbers o) ≡ true → means o t ≡ Some m → all_old o.first_new (meaning_numbers m) ≡ true → means o (renumbered o.first_new o.first_new t) ≡ Some m
 
 -- a program of the table's grammar that is of the first form has a meaning, under all options
 abbrev pub FirstFormLaw : Type 0

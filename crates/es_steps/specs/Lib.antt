@@ -16,6 +16,7 @@ pub mod LoweredClasses
 pub mod Meaning
 pub mod Members
 pub mod Modules
+pub mod NameScopes
 pub mod Opening
 pub mod Options
 pub mod Parts

@@ -1,10 +1,9 @@
 -- Trees that can be printed as JavaScript: a table of those that cannot. (ECMA-262, 12: names, literals, templates,
 -- directives; the rest is what no text is read as.)
 use Rattle.std.specs.Prelude.{ℕ, zero, suc, List, [], ◌∷◌, Bool, true, false, cond, not, ◌&&◌, ◌||◌, nat_eq, nat_le, codes, bytes_eq, Option, Some, None}
-use Rattle.es_base.specs.Conforms.{conforms, is_among}
+use Rattle.es_base.specs.Conforms.{is_among}
 use Rattle.es_base.specs.Tree.{Tree, Part, Parts, Node, end, more, child, absent, list, string, boolean, literal}
 use Rattle.es_base.specs.declared.kind.Kind.{Kind}
-use Rattle.es_base.specs.declared.table.Place.{Place}
 use Rattle.es_base.specs.declared.literal.LiteralValue.{LiteralValue}
 use Rattle.es_base.specs.declared.literal.LiteralValue.TheVariants as literal_value
 use Rattle.es_steps.specs.Context.{is_constructor, is_function}
@@ -481,6 +480,5 @@ abbrev mutual
   stray_in j end = false
   stray_in j (more p ps) = stray_at j p || stray_in j ps
 
--- a tree of the table of kinds, without a row of the table of what cannot be printed
 abbrev pub is_printable : Tree → Bool
-is_printable t = conforms Place.Program t && not (has_bad false false t || has_stray (no_jumps false) t)
+is_printable t = not (has_bad false false t || has_stray (no_jumps false) t)

@@ -11,6 +11,7 @@ use Rattle.es_steps.specs.Expressions.{is_logical}
 use Rattle.es_steps.specs.Evaluation.{Run, gives, is_none, ev_all}
 use Rattle.es_steps.specs.LoweredClasses.{is_private_key, Element, elements_of, any_element, is_lowered_class, constructor_in, referent_of, is_written_binding, is_hoisted_key}
 use Rattle.es_steps.specs.Meaning.{Meaning, start, source_terms, means}
+use Rattle.es_steps.specs.NameScopes.{is_suspended_scope}
 use Rattle.es_steps.specs.Opening.{gather, definitions, opening}
 use Rattle.es_steps.specs.Options.{lowers_fields, lowers_blocks, keeps_privates_as_properties}
 use Rattle.es_steps.specs.Parts.{at, items, string_of, is_true, is_present}
@@ -257,8 +258,13 @@ abbrev pub writes_any : List ℕ → List Reference → Bool
 writes_any names [] = false
 writes_any names (r ∷ rs) = (r.writes && refers_to names r.to) || writes_any names rs
 
-abbrev pub has_shape_6 : Tree → List ClassAt → Bool
-has_shape_6 t ks = writes_any (class_names ks) (resolve t)
+-- where static blocks alone are lowered, also classes that suspend and have a scope for names
+abbrev pub suspended_names : Options → List Tree → List ℕ
+suspended_names o [] = []
+suspended_names o (Node kind m span semantic_id ps ∷ ts) = cond (not (lowers_fields o) && (lowers_blocks o && is_suspended_scope kind ps)) (id_number (at 0 ps)) [] ++ suspended_names o ts
+
+abbrev pub has_shape_6 : Options → Tree → List ClassAt → Bool
+has_shape_6 o t ks = writes_any (class_names ks ++ suspended_names o (preorder t)) (resolve t)
 
 abbrev pub is_any_function : Kind → Bool
 is_any_function Kind.FunctionDeclaration = true
@@ -341,7 +347,7 @@ if_has false shape rest = rest
 abbrev pub shapes_of : Options → Tree → Code → List ClassAt → List Shape
 shapes_of o t c ks =
     if_has (has_shape_1 o t c ks) Shape.S1 (if_has (has_shape_2 o ks) Shape.S2 (if_has (has_shape_3 o ks) Shape.S3 (if_has (has_shape_4 o t) Shape.S4
-    (if_has (has_shape_5 o t) Shape.S5 (if_has (has_shape_6 t ks) Shape.S6 (if_has (has_shape_7 t ks) Shape.S7 (if_has (has_shape_8 o t) Shape.S8 [])))))))
+    (if_has (has_shape_5 o t) Shape.S5 (if_has (has_shape_6 o t ks) Shape.S6 (if_has (has_shape_7 t ks) Shape.S7 (if_has (has_shape_8 o t) Shape.S8 [])))))))
 
 abbrev pub shapes : Options → Tree → List Shape
 shapes o t = shapes_of o t (read (start (source_terms o t) t) t) (lowered_classes o (preorder t))

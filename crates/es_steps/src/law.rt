@@ -1,10 +1,22 @@
 // The laws of meanings: functions that do nothing.
 
-ghost use Rattle.es_steps.specs.Law.{DifferenceLaw, FirstFormLaw, DefineLaw};
+ghost use Rattle.es_steps.specs.Law.{DifferenceLaw, SemanticIdsLaw, SourceSemanticIdsLaw, RenumberingLaw, FirstFormLaw, DefineLaw};
 
 /// Meanings that are found to differ are not equal.
 pub fn different_meanings_are_not_equal()
     ensures { DifferenceLaw }
+{}
+
+/// Semantic ids are no part of a meaning, nor of that of a source.
+pub fn semantic_ids_mean_nothing()
+    ensures meaning { SemanticIdsLaw }
+    ensures source { SourceSemanticIdsLaw }
+{}
+
+/// Giving the new nodes of a program their numbers anew, in preorder, keeps its meaning, if no
+/// number stands twice and no number of a new node stands in the meaning or in its terms.
+pub fn renumbering_keeps_meaning()
+    ensures { RenumberingLaw }
 {}
 
 /// A program of the first form has a meaning, under all options.
