@@ -24,3 +24,5 @@ pub mod Renaming
 pub mod Renumbering
 pub mod PrintableMapped
 pub mod KeptNodesMapped
+pub mod DefinitionsMapped
+pub mod LoweredMapped

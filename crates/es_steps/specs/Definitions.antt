@@ -234,9 +234,14 @@ abbrev pub is_temporary : Option GeneratedKind → Bool
 is_temporary (Some GeneratedKind.Temp) = true
 is_temporary g = false
 
-abbrev pub part_number : Part → ℕ
-part_number (child t) = number_of t
-part_number p = 0
+abbrev pub is_member_key : Part → Option GeneratedKind → Bool
+is_member_key (child (Node kind d span semantic_id ps)) g = is_member_name d g
+is_member_key p g = false
+
+-- what a name refers to
+abbrev pub referent_at : Part → List Reference → Option Referent
+referent_at (child (Node kind m span semantic_id ps)) references = referent_of m references
+referent_at p references = None
 
 abbrev pub is_property_name : String → Bool → Part → Bool
 is_property_name s true (child (Node Kind.IdentifierName m span semantic_id ps)) = bytes_eq s (string_of (at 0 ps))
@@ -263,7 +268,7 @@ pub record Names : Type 0 where
 abbrev pub is_computed_key : Names → ℕ → Part → Part → Bool
 is_computed_key x n key k =
     cond (needs_temporary x.written x.source key) (is_temporary (generated_as (spelling k) x.ledger))
-    (cond (is_name_part key) (same_referent (referent_of (part_number key) x.source) (referent_of (part_number k) x.lowered) || names_class n x.ledger x.lowered x.identifiers k) (same_part key k))
+    (cond (is_name_part key) (same_referent (referent_at key x.source) (referent_at k x.lowered) || names_class n x.ledger x.lowered x.identifiers k) (same_part key k))
 
 abbrev pub is_key_of : Names → ℕ → Element → Part → Bool → Part → Bool
 is_key_of x n e (child (Node Kind.IdentifierName m span semantic_id ps)) is_name k = is_property_name (string_of (at 0 ps)) is_name k
@@ -271,7 +276,7 @@ is_key_of x n e key is_name k = not is_name && cond e.computed (is_computed_key 
 
 abbrev pub key_fits : Names → ℕ → Element → DefinedKey → Bool
 key_fits x n e (BrandKey s) = false
-key_fits x n e (PrivateKey s) = e.is_private && is_member_name (part_number e.key) (generated_as s x.ledger)
+key_fits x n e (PrivateKey s) = e.is_private && is_member_key e.key (generated_as s x.ledger)
 key_fits x n e (PublicKey k is_name) = not e.is_private && is_key_of x n e e.key is_name k
 
 -- ---- its value
