@@ -180,6 +180,10 @@ const witnesses = [
   pair('loose_member_read_once', 'the object of a member that is kept as a property is read once, but where a logical operator writes it', 'class A { #x = 1; m(o) { o = f(); o.#x += 2; } }', 'class A { #x = 1; m(o) { o = f(); o.#x ||= 2; } }', {}, { options: ['--class-properties', '--loose'] }),
   pair('super_key_that_stays', 'the key of a `super` member is read twice where its code is moved', 'class A { x = 1; m(k) { k = f(); super[k] += 2; } }', 'class A { #m(k) { k = f(); super[k] += 2; } }', {}, { options: ['--class-properties'] }),
   pair('suspended_class_written', 'a class that suspends and has a scope for names becomes a `let`', 'function* g() { class C { [k()] = class { static { h(); } }; [yield 1]() {} } C = 1; }', 'function* g() { class C { [k()] = class { static { h(); } }; [yield 1]() {} } }', {}, { options: ['--static-block'] }),
+  wrong('class_in_front_of_its_use', 'a key that names a class in front of the class', { options: ['--class-properties'], source: 'class E {} class C { [E.k()] = 1 }', output: 'class E {} let _k; _k = E.k(); class C { constructor() { B.defineProperty(this, _k, 1); } }' }, q => { q.body.push(...q.body.splice(0, 1)); swap(q.body, 2, 3); }),
+  wrong('static_field_before_its_class', 'a static field defined in front of the class declaration', { options: ['--class-properties'], source: 'class C { static name = 1 }', output: 'class C {} B.defineProperty(C, "name", 1);' }, q => { swap(q.body, 0, 1); }),
+  wrong('arguments_of_another', 'the arguments of another constructor', { options: ['--class-properties'], source: 'class A extends D { x = 1; }', output: 'class A extends D { constructor(..._args) { super(..._args); B.defineProperty(this, "x", 1); } }' },
+    q => { const f = nodes(q, n => n.type === 'MethodDefinition')[0].value, v = fresh(q, tree('var _args2;').body[0]); nodes(f.body, n => n.name === '_args')[0].name = '_args2'; f.body.body.unshift(v); }, [{ name: '_args', kind: 'Args' }, { name: '_args2', kind: 'Args' }]),
 ];
 
 function moduleOf(w) {

@@ -28,7 +28,7 @@ module _ (f : ℕ → ℕ) where
   pub cond-code : (b : Bool) (x y : Code) → cond b (mapped_code f x) (mapped_code f y) ≡ mapped_code f (cond b x y)
   cond-code b x y = cond-mapped (mapped_code f) b x y refl refl
 
-  if_member-mapped : (test : PrivateMember → Bool) → ((x : PrivateMember) → test (mapped_private f x) ≡ test x) → (x : Option PrivateMember) → if_member test (mapped_option (mapped_private f) x) ≡ mapped_option (mapped_private f) (if_member test x)
+  pub if_member-mapped : (test : PrivateMember → Bool) → ((x : PrivateMember) → test (mapped_private f x) ≡ test x) → (x : Option PrivateMember) → if_member test (mapped_option (mapped_private f) x) ≡ mapped_option (mapped_private f) (if_member test x)
   if_member-mapped test same None = refl
   if_member-mapped test same (Some x) = rw (same x) (cond-mapped (mapped_option (mapped_private f)) (test x) (Some x) None refl refl)
 
@@ -206,9 +206,9 @@ module _ (f : ℕ → ℕ) where
   loose_initialized-mapped m None o v whole = refl
   loose_initialized-mapped m x o v whole = refl
 
-  passes_all-mapped : (es : Codes) → passes_all (mapped_codes f es) ≡ passes_all es
-  passes_all-mapped (and (operation m (OfKind Kind.SpreadElement ds) (and (name k s (Generated GeneratedKind.Args)) done) done) done) = refl
-  passes_all-mapped es = refl
+  passes_all-mapped : (rest : String) (es : Codes) → passes_all rest (mapped_codes f es) ≡ passes_all rest es
+  passes_all-mapped rest (and (operation m (OfKind Kind.SpreadElement ds) (and (name k s (Generated GeneratedKind.Args)) done) done) done) = refl
+  passes_all-mapped rest es = refl
 
   super_method_call-mapped : (m k : ℕ) (home : Option Home) (key : Code) (this : Option Value) (es : Option Codes) → super_method_call (f m) (f k) (mapped_option (mapped_home f) home) (mapped_code f key) (mapped_nullable f this) (mapped_option (mapped_codes f) es) ≡ mapped_code f (super_method_call m k home key this es)
   super_method_call-mapped m k (Some home) key (Some this) (Some es) = refl
@@ -461,7 +461,7 @@ module _ {first : ℕ} {f : ℕ → ℕ} (r : Renames first f) (c : Context) (e 
 
   super_call_in-mapped : (m : ℕ) (n : Option ℕ) (es : Codes) → super_call_in there (f m) (mapped_option f n) (mapped_codes f es) ≡ mapped_code f (super_call_in c m n es)
   super_call_in-mapped m None es = refl
-  super_call_in-mapped m (Some n) es = rw (passes_all-mapped f es, initializers_behind-mapped m n) (cond-code f (passes_all es) (super_call_with_all n) (super_call m n (initializers_behind c m n) es))
+  super_call_in-mapped m (Some n) es = rw (passes_all-mapped f c.rest_name es, initializers_behind-mapped m n) (cond-code f (passes_all c.rest_name es) (super_call_with_all n) (super_call m n (initializers_behind c m n) es))
 
   helper_call_call-mapped : (m k : ℕ) (h : Helper) (arguments es : Codes) → helper_call_call there (f m) (f k) h (mapped_codes f arguments) (mapped_codes f es) ≡ mapped_code f (helper_call_call c m k h arguments es)
   helper_call_call-mapped m k SuperPropGet (and h (and key (and x (and two done)))) (and form done) =

@@ -6,7 +6,7 @@ use Rattle.std.proofs.lemmas.Bool.{true≢false}
 use Rattle.es_steps.specs.Code.{Code, Codes, FieldForm, FunctionForm, Opened, defines, sets, leaves_out, value, name, steps, class_code, field, done, and}
 use Rattle.es_steps.specs.Context.{NameKind, Fixed, Changing, MeansClass}
 use Rattle.es_steps.specs.Entries.{Entry, Entries, Listed, Method, Parameter, listed, after_run, methods_in, keys_stay, class_entry, without, constructor_form, constructor_parameters, ev_construction, entries, key_entries, key_entry, static_entries, static_entry, field_entries, field_entry, function_entries, element_function}
-use Rattle.es_steps.specs.Evaluation.{Environment, Run, Evaluation, gives, run_behind, go_on, bind, settle_run, settle, quiet, initialized, read_name, has_instance_methods, ev, ev_all, ev_keys, ev_key, ev_statics, ev_static, ev_fields, ev_field, ev_initializers}
+use Rattle.es_steps.specs.Evaluation.{Environment, Run, Evaluation, gives, run_behind, go_on, bind, settle_run, settle, quiet, initialized, read_name, has_instance_methods, declared_first, ev, ev_all, ev_keys, ev_key, ev_statics, ev_static, ev_fields, ev_field, ev_initializers}
 use Rattle.es_steps.specs.Events.{Events}
 use Rattle.es_steps.specs.Meaning.{with_entry, whole}
 use Rattle.es_steps.specs.Opening.{assigned_in, assigned_in_all}
@@ -228,10 +228,15 @@ module _ (opens : Opened → Evaluation) (first : ℕ) (late : List ℕ) where
 
   -- ---- classes
 
+  declared-stays : (d : Option ℕ) (n : ℕ) → Stays (declared_first d n)
+  declared-stays None n env = refl
+  declared-stays (Some b) n env = refl
+
   class-stays : (c : Code) → IsClass c → Stays (ev opens c)
   class-stays c (plain_class n declared cs h) =
-      let statics : List Value → Evaluation = λ ks. bind (ev_statics opens n ks cs) (λ w. gives (ClassOf n)) in
-      settle-stays (ev_keys opens cs statics) (ev_keys-stays cs statics h (λ ks. bind-stays (ev_statics opens n ks cs) (λ w. gives (ClassOf n)) (ev_statics-stays n ks cs h) (λ w env. refl)))
+      let behind : List Value → Value → Evaluation = λ ks u. bind (ev_statics opens n ks cs) (λ w. gives (ClassOf n)) in
+      let statics : List Value → Evaluation = λ ks. bind (declared_first declared n) (behind ks) in
+      settle-stays (ev_keys opens cs statics) (ev_keys-stays cs statics h (λ ks. bind-stays (declared_first declared n) (behind ks) (declared-stays declared n) (λ u. bind-stays (ev_statics opens n ks cs) (λ w. gives (ClassOf n)) (ev_statics-stays n ks cs h) (λ w env. refl))))
 
   ev_all-stays : (cs : Codes) (f : List Value → Evaluation) → AreClasses cs → ((vs : List Value) → Stays (f vs)) → Stays (ev_all opens cs f)
   ev_all-stays done f h k = k []

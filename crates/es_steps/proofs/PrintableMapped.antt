@@ -6,7 +6,7 @@ use Rattle.es_base.specs.Tree.{Tree, Part, Parts, Node, end, more, child, absent
 use Rattle.es_base.specs.declared.kind.Kind.{Kind}
 use Rattle.es_base.specs.declared.literal.LiteralValue.TheVariants as literal_value
 use Rattle.es_steps.specs.Parts.{at, items, string_of, is_true, is_present}
-use Rattle.es_steps.specs.Printable.{is_bad_name, is_bad_label_name, is_bad_label, is_bad_literal, tails_fit, is_bad_template, is_directive_of, is_bad_directive, count, is_kind_of, is_default, is_function_expression, name_of_part, shorthand_name, has_id, is_suspending, is_bad_property, is_spelled, is_bad_method, is_bad_field, is_meta_property, only_named, are_behind_default, are_specifiers, is_declaration_body, is_lexical_body, ends_open, part_ends_open, is_bad_if, is_super_part, has_optional, part_has_optional, is_spine_kind, any_optional, behind_first, has_stray_optional, is_bad_form, is_bad_node, is_default_export, is_module, is_declaration_without_name, is_bad_in, has_bad, bad_at, bad_in, Jumps, no_jumps, is_label_among, is_stray, is_looping, part_is_looping, labelled, jumps_inside, has_stray, stray_at, stray_in, is_printable}
+use Rattle.es_steps.specs.Printable.{is_bad_name, is_bad_label_name, is_bad_label, is_bad_literal, tails_fit, is_bad_template, is_directive_of, is_bad_directive, count, is_kind_of, is_default, is_function_expression, is_identifier_name, name_of_part, shorthand_name, has_id, is_suspending, is_bad_property, is_spelled, is_bad_method, is_bad_field, is_meta_property, only_named, are_behind_default, are_specifiers, is_declaration_body, is_lexical_body, ends_open, part_ends_open, is_bad_if, is_super_part, has_optional, part_has_optional, is_spine_kind, any_optional, behind_first, has_stray_optional, is_bad_form, is_bad_node, is_default_export, is_module, is_declaration_without_name, is_bad_in, has_bad, bad_at, bad_in, Jumps, no_jumps, is_label_among, is_stray, is_looping, part_is_looping, labelled, jumps_inside, has_stray, stray_at, stray_in, is_printable}
 use Rattle.es_steps.specs.Values.{String}
 use Rattle.es_steps.proofs.Mapped.{mapped, mapped_part, mapped_parts}
 use Rattle.es_steps.proofs.PartsMapped.{cond-mapped, at-mapped, items-mapped, items_at-mapped, string_at-mapped, is_true_at-mapped, is_present_at-mapped}
@@ -78,7 +78,7 @@ module _ (f : ℕ → ℕ) where
   is_suspending-mapped p = refl
 
   is_bad_property-mapped : (ps : Parts) → is_bad_property (mapped_parts f ps) ≡ is_bad_property ps
-  is_bad_property-mapped ps = rw (string_at-mapped f 2 ps, is_true_at-mapped f 3 ps, is_true_at-mapped f 4 ps, is_true_at-mapped f 5 ps, at-mapped f 0 ps, at-mapped f 1 ps, name_of_part-mapped (at 0 ps), shorthand_name-mapped (at 1 ps), is_kind_of-mapped is_function_expression (at 1 ps), has_id-mapped (at 1 ps), is_suspending-mapped (at 1 ps)) refl
+  is_bad_property-mapped ps = rw (string_at-mapped f 2 ps, is_true_at-mapped f 3 ps, is_true_at-mapped f 4 ps, is_true_at-mapped f 5 ps, at-mapped f 0 ps, at-mapped f 1 ps, name_of_part-mapped (at 0 ps), shorthand_name-mapped (at 1 ps), is_kind_of-mapped is_identifier_name (at 0 ps), is_kind_of-mapped is_function_expression (at 1 ps), has_id-mapped (at 1 ps), is_suspending-mapped (at 1 ps)) refl
 
   is_spelled-mapped : (s : String) (p : Part) → is_spelled s (mapped_part f p) ≡ is_spelled s p
   is_spelled-mapped s (child (Node Kind.IdentifierName m span semantic_id ps)) = rw (string_at-mapped f 0 ps) refl

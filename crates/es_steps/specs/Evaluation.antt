@@ -5,7 +5,7 @@ use Rattle.es_base.specs.declared.kind.Kind.{Kind}
 use Rattle.es_base.specs.declared.ledger.GeneratedKind.{GeneratedKind}
 use Rattle.es_steps.specs.Code.{Code, Codes, Target, Callee, FieldForm, defines, sets, leaves_out, TemplateString, Opened, InitializersOf, BodyOf, CalledBodyOf, nothing, no_rule, value, spelled, private_name, binding, rest, name, super, member, private_member, super_member, private_in, assign, compound, logical, logical_assign, update, call, tag, construct, super_call, super_call_with_all, sequence, template_string, template, operation, piece, chain, short, tested, pattern, takes, steps, gives_to, export_default, function, new_function, new_return, class_code, field, private_field, method, private_method, constructor, static_block, generated_element, from_call, from_member, key_of, helper, helper_call, throw, define, private_initialize, add_brand, bound, setter, private_value, call_arrow, call_closure, initializers, give_function, give_class, to_name, to_member, to_private, to_super, to_setter, to_pattern, to_default, no_target, plain, on_member, on_private, on_super, with_receiver, checked, on_chain, behind_test, done, and}
 use Rattle.es_steps.specs.Context.{NameKind, Fixed, Changing, MeansClass, Generated, StaticMethod}
-use Rattle.es_steps.specs.Events.{Detail, Operation, OfKind, Take, Operand, Empty, Spelled, Flag, Place, RightOf, Default, Part, Event, ReadName, SetName, Get, Set, Define, Call, Construct, Operate, Update, PrivateGet, PrivateSet, PrivateInitialize, PrivateIn, AddBrand, SuperGet, SuperSet, SuperCall, SuperCallWithAll, Throw, Short, Held, Events, none, then, throws, behind, value_behind}
+use Rattle.es_steps.specs.Events.{Detail, Operation, OfKind, Take, Operand, Empty, Spelled, Flag, Place, RightOf, Default, Part, Event, ReadName, SetName, Get, Set, Define, Call, Construct, Operate, Update, PrivateGet, PrivateSet, PrivateInitialize, PrivateIn, AddBrand, SuperGet, SuperSet, SuperCall, SuperCallWithAll, InitializeClass, Throw, Short, Held, Events, none, then, throws, behind, value_behind}
 use Rattle.es_steps.specs.SameValues.{same_value}
 use Rattle.es_steps.specs.Values.{String, Constant, StringOf, RawTemplate, TagString, Value, ConstantOf, Undefined, BindingOf, FunctionOf, ClassOf, ThisOf, ResultOf, FormerOf, KeyOf, Bound, Home, as_key, is_class_value}
 
@@ -263,6 +263,11 @@ abbrev pub brand_first : Bool → ℕ → Evaluation
 brand_first true n = event (AddBrand n (ThisOf n)) Undefined
 brand_first false n = gives Undefined
 
+-- a class that is declared gets its name before its static elements
+abbrev pub declared_first : Option ℕ → ℕ → Evaluation
+declared_first None n = gives Undefined
+declared_first (Some b) n = event (InitializeClass n) Undefined
+
 -- ---- the list and the value of a code; `opens` is the evaluation of what stands elsewhere
 
 module _ (opens : Opened → Evaluation) where
@@ -313,7 +318,7 @@ module _ (opens : Opened → Evaluation) where
     ev (function f form own_name ps body) = gives (FunctionOf f)
     ev (new_function f form ps body) = no_meaning
     ev (new_return es) = no_meaning
-    ev (class_code n declared h es) = settle (ev_all h (λ vs. ev_keys es (λ ks. bind (ev_statics n ks es) (λ w. gives (ClassOf n)))))
+    ev (class_code n declared h es) = settle (ev_all h (λ vs. ev_keys es (λ ks. bind (declared_first declared n) (λ u. bind (ev_statics n ks es) (λ w. gives (ClassOf n))))))
     ev (field is_static form k e) = no_meaning
     ev (private_field is_static d e) = no_meaning
     ev (method is_static kind k f) = no_meaning

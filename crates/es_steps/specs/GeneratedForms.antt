@@ -415,14 +415,14 @@ runs_initializers (Some k) m = nat_eq k m
 abbrev pub initializers_behind : Context → ℕ → ℕ → Option Opened
 initializers_behind c m n = cond (runs_initializers c.initializing m) (Some (InitializersOf n)) None
 
--- `super(..._args)` with all arguments
-abbrev pub passes_all : Codes → Bool
-passes_all (and (operation m (OfKind Kind.SpreadElement ds) (and (name k s (Generated GeneratedKind.Args)) done) done) done) = true
-passes_all es = false
+-- `super(..._args)` with all arguments: the rest of the function or arrow around
+abbrev pub passes_all : String → Codes → Bool
+passes_all rest (and (operation m (OfKind Kind.SpreadElement ds) (and (name k s (Generated GeneratedKind.Args)) done) done) done) = bytes_eq rest s
+passes_all rest es = false
 
 abbrev pub super_call_in : Context → ℕ → Option ℕ → Codes → Code
 super_call_in c m None es = no_rule
-super_call_in c m (Some n) es = cond (passes_all es) (super_call_with_all n) (super_call m n (initializers_behind c m n) es)
+super_call_in c m (Some n) es = cond (passes_all c.rest_name es) (super_call_with_all n) (super_call m n (initializers_behind c m n) es)
 
 -- ---- all calls
 

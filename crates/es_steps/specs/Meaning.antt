@@ -206,6 +206,7 @@ start o t = record {
   constructs = None;
   initializing = None;
   in_new_function = false;
+  rest_name = [];
   class = number_of t;
   has_heritage = false;
   object = number_of t;

@@ -217,6 +217,10 @@ abbrev pub is_function_expression : Kind → Bool
 is_function_expression Kind.FunctionExpression = true
 is_function_expression kind = false
 
+abbrev pub is_identifier_name : Kind → Bool
+is_identifier_name Kind.IdentifierName = true
+is_identifier_name kind = false
+
 abbrev pub name_of_part : Part → String
 name_of_part (child (Node kind m span semantic_id ps)) = string_of (at 0 ps)
 name_of_part p = []
@@ -244,7 +248,7 @@ is_bad_property ps =
     let kind : String = string_of (at 2 ps) in
     let method : Bool = is_true (at 3 ps) in
     let shorthand : Bool = is_true (at 4 ps) in
-    (shorthand && (method || (is_accessor kind || (is_true (at 5 ps) || not (bytes_eq (name_of_part (at 0 ps)) (shorthand_name (at 1 ps)))))))
+    (shorthand && (method || (is_accessor kind || (not (is_kind_of is_identifier_name (at 0 ps)) || (is_true (at 5 ps) || not (bytes_eq (name_of_part (at 0 ps)) (shorthand_name (at 1 ps))))))))
     || (((method && is_accessor kind) || ((method || is_accessor kind) && (not (is_kind_of is_function_expression (at 1 ps)) || has_id (at 1 ps)))) || (is_accessor kind && is_suspending (at 1 ps)))
 
 -- an element that is no constructor, and one that is (ECMA-262, 15.7.1)
