@@ -10,12 +10,12 @@ use Rattle.es_base.specs.declared.ledger.LedgerEntry.{LedgerEntry}
 use Rattle.es_base.specs.declared.literal.LiteralValue.TheVariants as literal_value
 use Rattle.es_steps.specs.Context.{generated_as, is_function}
 use Rattle.es_steps.specs.Definitions.{DefinedKey, BrandKey, PrivateKey, PublicKey, FieldDefinition, definition, spelling, helper_definition, property_value, writable_part, field_part, loose_by, object_definition, call_definition, static_by, static_definition, set_definition, is_assignment, is_super_of, given_to, given_part, definition_at, is_given_super, definitions_in, definitions_at, definitions_of, function_definitions, super_definitions, constructor_definitions, all_definitions, is_new_this, on_this, instance_definitions, identifier_in, is_class_number, declares_class, class_identifiers, is_class_temporary, is_bound_among, names_class, is_member_of, is_static_member, key_is_static, is_static_of, statics_of, static_definitions, is_member_name, is_temporary, is_member_key, referent_at, is_property_name, same_referent, is_name_part, Names, is_computed_key, is_key_of, key_fits, is_void_zero, nodes_in, number_stands, is_followed, value_fits, all_fit, is_brand_of, is_brand_key, branded_fit, is_instance_method, any_of, chosen, defined_fields, names_of, class_fits, classes_fit, definitions_stand, key_temporary, key_temporaries, class_temporaries, with_class, all_temporaries, element_numbers, body_numbers, elements_kept}
-use Rattle.es_steps.specs.KeptNodes.{is_within, stands_equal}
-use Rattle.es_steps.specs.LoweredClasses.{Element, elements_of, is_left_out, is_lowered_element, constructor_in, referent_of, needs_temporary}
+use Rattle.es_steps.specs.KeptNodes.{is_within}
+use Rattle.es_steps.specs.LoweredClasses.{Element, elements_of, is_left_out, is_lowered_element, constructor_in, referent_of}
 use Rattle.es_steps.specs.Options.{lowers_fields, sets_fields}
 use Rattle.es_steps.specs.Parts.{at, items, string_of, is_true, is_present}
 use Rattle.es_steps.specs.PrivateNames.{PrivateMember, member_at, is_class}
-use Rattle.es_steps.specs.References.{Reference, resolve, written, has_number}
+use Rattle.es_steps.specs.References.{Reference, resolve}
 use Rattle.es_steps.specs.SameTrees.{same_part}
 use Rattle.es_steps.specs.SameValues.{same_boolean}
 use Rattle.es_steps.specs.Scopes.{class_in}
@@ -24,7 +24,7 @@ use Rattle.es_steps.specs.declared.options.Options.{Options}
 use Rattle.es_steps.proofs.ContextMapped.{generated_as-mapped}
 use Rattle.es_steps.proofs.KeptNodesMapped.{mapped_element, elements_of-mapped, is_left_out-mapped, constructor_in-mapped, referent_of-mapped, needs_temporary-mapped, same_part-mapped, stands_equal-mapped, is_within-mapped}
 use Rattle.es_steps.proofs.Mapped.{Renames, mapped, mapped_part, mapped_parts, mapped_option, mapped_generated, mapped_ledger, mapped_privates, mapped_private, mapped_referent, mapped_reference}
-use Rattle.es_steps.proofs.PartsMapped.{cond-mapped, append-mapped, at-mapped, items-mapped, items_at-mapped, string_at-mapped, is_true_at-mapped, is_present_at-mapped, is_present-mapped, number_of-mapped, preorder-mapped}
+use Rattle.es_steps.proofs.PartsMapped.{cond-mapped, append-mapped, at-mapped, items_at-mapped, string_at-mapped, is_true_at-mapped, is_present-mapped, number_of-mapped, preorder-mapped}
 use Rattle.es_steps.proofs.PrivatesMapped.{member_at-mapped}
 use Rattle.es_steps.proofs.ReferencesMapped.{resolve-mapped, written-mapped, has_number-mapped}
 use Rattle.es_steps.proofs.ScopesMapped.{class_in-mapped}

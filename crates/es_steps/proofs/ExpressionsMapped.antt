@@ -1,5 +1,5 @@
 -- The codes of expressions follow a change of numbers.
-use Rattle.std.specs.Prelude.{◌≡◌, ℕ, List, [], ◌∷◌, ◌++◌, Bool, true, false, cond, not, ◌&&◌, codes, bytes_eq, Option, Some, None}
+use Rattle.std.specs.Prelude.{◌≡◌, ℕ, [], ◌∷◌, ◌++◌, Bool, true, false, cond, not, ◌&&◌, codes, bytes_eq, Option, Some, None}
 use Rattle.std.proofs.Common.{refl, ap, ap₂, ◌∙◌}
 use Rattle.es_base.specs.Numbered.{is_new}
 use Rattle.es_base.specs.declared.kind.Kind.{Kind}
@@ -14,7 +14,7 @@ use Rattle.es_steps.specs.PrivateNames.{PrivateMember, PrivateReference, private
 use Rattle.es_steps.specs.Values.{String, StringOf, BooleanOf, Value, ConstantOf, Undefined, ResultOf, ThisOf, ClassOf, Free, Home}
 use Rattle.es_steps.proofs.ContextMapped.{name_kind-mapped, is_generated_private-mapped}
 use Rattle.es_steps.proofs.FormsMapped.{code-cond, cond-code, here, class_named-mapped, tested_object-mapped, again_of-mapped, helper_member-mapped, generated_member-mapped, generated_call-mapped, generated_binary-mapped, is_undefined_test-mapped, generated_assignment-mapped}
-use Rattle.es_steps.proofs.Mapped.{Renames, mapped_option, mapped_name_kind, mapped_private, mapped_private_reference, mapped_value, mapped_home, mapped_test, mapped_context, mapped_code, mapped_codes, mapped_callee, mapped_target, mapped_member, mapped_members}
+use Rattle.es_steps.proofs.Mapped.{Renames, mapped_option, mapped_name_kind, mapped_private, mapped_private_reference, mapped_value, mapped_home, mapped_context, mapped_code, mapped_codes, mapped_callee, mapped_target, mapped_member, mapped_members}
 use Rattle.es_steps.proofs.MembersMapped.{at-mapped, operands-mapped, details-mapped, word_at-mapped, flag_at-mapped, codes_at-mapped}
 use Rattle.es_steps.proofs.PartsMapped.{cond-mapped}
 use Rattle.es_steps.proofs.PrivatesMapped.{member_at-mapped, private_reference-mapped, test_of-mapped}

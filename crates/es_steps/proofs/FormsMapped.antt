@@ -1,6 +1,6 @@
 -- Generated forms follow a change of numbers.
-use Rattle.std.specs.Prelude.{◌≡◌, ℕ, List, [], ◌∷◌, Bool, true, false, cond, not, ◌&&◌, ◌||◌, nat_eq, codes, bytes_eq, Option, Some, None}
-use Rattle.std.proofs.Common.{refl, ap, ap₂, ◌∙◌}
+use Rattle.std.specs.Prelude.{◌≡◌, ℕ, List, [], ◌∷◌, Bool, true, false, cond, not, ◌&&◌, nat_eq, codes, bytes_eq, Option, Some, None}
+use Rattle.std.proofs.Common.{refl, ap, ◌∙◌}
 use Rattle.es_base.specs.Numbered.{is_new}
 use Rattle.es_base.specs.declared.kind.Kind.{Kind}
 use Rattle.es_base.specs.declared.ledger.GeneratedKind.{GeneratedKind}
@@ -14,7 +14,7 @@ use Rattle.es_steps.specs.SameValues.{same_boolean}
 use Rattle.es_steps.specs.PrivateNames.{PrivateMember, PrivateReference, member_at, reference_of, is_a_field}
 use Rattle.es_steps.specs.Values.{String, Constant, StringOf, NumberOf, BooleanOf, Null, Value, ConstantOf, Undefined, ClassOf, ThisOf, ResultOf, Free, Home, OfClass, OfPrototype, HasField, HasBrand, IsClass}
 use Rattle.es_steps.proofs.ContextMapped.{new_here-mapped}
-use Rattle.es_steps.proofs.Mapped.{Renames, mapped_option, mapped_generated, mapped_name_kind, mapped_private, mapped_private_reference, mapped_value, mapped_nullable, mapped_home, mapped_test, mapped_context, mapped_opened, mapped_code, mapped_codes, mapped_target}
+use Rattle.es_steps.proofs.Mapped.{Renames, mapped_option, mapped_generated, mapped_private, mapped_private_reference, mapped_nullable, mapped_home, mapped_context, mapped_opened, mapped_code, mapped_codes, mapped_target}
 use Rattle.es_steps.proofs.PartsMapped.{cond-mapped}
 use Rattle.es_steps.proofs.PrivatesMapped.{member_at-mapped, reference_of-mapped}
 
@@ -206,9 +206,9 @@ module _ (f : ℕ → ℕ) where
   loose_initialized-mapped m None o v whole = refl
   loose_initialized-mapped m x o v whole = refl
 
-  passes_all-mapped : (rest : String) (es : Codes) → passes_all rest (mapped_codes f es) ≡ passes_all rest es
-  passes_all-mapped rest (and (operation m (OfKind Kind.SpreadElement ds) (and (name k s (Generated GeneratedKind.Args)) done) done) done) = refl
-  passes_all-mapped rest es = refl
+  passes_all-mapped : (t : String) (es : Codes) → passes_all t (mapped_codes f es) ≡ passes_all t es
+  passes_all-mapped t (and (operation m (OfKind Kind.SpreadElement ds) (and (name k s (Generated GeneratedKind.Args)) done) done) done) = refl
+  passes_all-mapped t es = refl
 
   super_method_call-mapped : (m k : ℕ) (home : Option Home) (key : Code) (this : Option Value) (es : Option Codes) → super_method_call (f m) (f k) (mapped_option (mapped_home f) home) (mapped_code f key) (mapped_nullable f this) (mapped_option (mapped_codes f) es) ≡ mapped_code f (super_method_call m k home key this es)
   super_method_call-mapped m k (Some home) key (Some this) (Some es) = refl

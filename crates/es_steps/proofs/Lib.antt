@@ -26,3 +26,5 @@ pub mod PrintableMapped
 pub mod KeptNodesMapped
 pub mod DefinitionsMapped
 pub mod LoweredMapped
+pub mod TimelyMapped
+pub mod Clauses

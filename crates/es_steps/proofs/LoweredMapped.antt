@@ -1,5 +1,5 @@
 -- What a lowered program owes, under a change of numbers of both programs.
-use Rattle.std.specs.Prelude.{◌≡◌, ℕ, List, [], ◌∷◌, ◌++◌, map, Bool, true, false, cond, not, ◌&&◌, ◌||◌, bytes_eq, nat_eq, codes, Option, Some, None}
+use Rattle.std.specs.Prelude.{◌≡◌, ℕ, List, [], ◌∷◌, map, Bool, not, ◌&&◌, ◌||◌, bytes_eq, nat_eq, codes, Option, Some, None}
 use Rattle.std.proofs.Common.{refl, ap, ap₂, ◌∙◌}
 use Rattle.es_base.specs.Conforms.{is_among}
 use Rattle.es_base.specs.Numbered.{is_new}
@@ -9,7 +9,7 @@ use Rattle.es_base.specs.declared.kind.Kind.{Kind}
 use Rattle.es_base.specs.declared.ledger.GeneratedKind.{GeneratedKind}
 use Rattle.es_base.specs.declared.ledger.LedgerEntry.{LedgerEntry}
 use Rattle.es_steps.specs.Context.{generated_as}
-use Rattle.es_steps.specs.Definitions.{field_part, names_class, class_identifiers, all_different, is_among_first}
+use Rattle.es_steps.specs.Definitions.{spelling, field_part, names_class, class_identifiers, all_different, is_among_first}
 use Rattle.es_steps.specs.KeptNodes.{statement_list}
 use Rattle.es_steps.specs.Lowered.{kind_of, none_lowered, nothing_left, declaring_number, declaring_numbers, is_bound_to, all_mean, is_one_new, private_key, private_keys, keys_of_body, keys_of_class, keys_in, is_one, declared_by_kind, same_space, is_named_again, names_declared, is_new_const, is_there, has_branded, belongs, class_name_at, declares_class, own_name_number, own_name_numbers, is_generated, is_accounted, all_accounted, declarations_accounted, spelled_as, is_helper_callee, is_new_of, is_key_call, is_function_part, class_number_in, assignment_number, paired, pairs_behind, all_behind, has_pair, is_class_or_name, is_class_value, is_initial, is_class_kind, is_method_kind, initialization_at, initializations, comes_before, class_of_member, class_before, all_before, needs_none, is_one_initialization, initializations_stand, any_before, keys_before, keys_stand}
 use Rattle.es_steps.specs.Options.{lowers_fields}
@@ -256,7 +256,7 @@ module _ {first : ℕ} {f : ℕ → ℕ} (r : Renames first f) where
     is_initial-mapped m GeneratedKind.Closure p = is_function_part-mapped f p
     is_initial-mapped m g p = refl
 
-    is_class_kind-mapped : (n : ℕ) (g : GeneratedKind) → is_class_kind first (mapped_ledger f ledger) (mapped f q) (f n) (mapped_generated f g) ≡ is_class_kind first ledger q n g
+    is_class_kind-mapped : (n : ℕ) (g : GeneratedKind) → is_class_kind (f n) (mapped_generated f g) ≡ is_class_kind n g
     is_class_kind-mapped n (GeneratedKind.ClassTemp k) = r.apart n k.0
     is_class_kind-mapped n g = refl
 
@@ -266,11 +266,11 @@ module _ {first : ℕ} {f : ℕ → ℕ} (r : Renames first f) where
     initialization_at-mapped s g Kind.VariableDeclarator m ps =
         rw (spelled_at-mapped f s 0 ps, is_present_at-mapped f 1 ps, at-mapped f 1 ps, is_initial-mapped m g (at 1 ps)) (cond-mapped (map (mapped_initialization f)) (spelled_as s (at 0 ps) && is_present (at 1 ps)) ((m, is_initial first ledger q m g (at 1 ps)) ∷ []) [] refl refl)
     initialization_at-mapped s g Kind.FunctionDeclaration m ps =
-        rw (spelled_at-mapped f s 0 ps, is_method_kind-mapped f g) (cond-mapped (map (mapped_initialization f)) (spelled_as s (at 0 ps)) ((m, is_method_kind first ledger q g) ∷ []) [] refl refl)
+        rw (spelled_at-mapped f s 0 ps, is_method_kind-mapped f g) (cond-mapped (map (mapped_initialization f)) (spelled_as s (at 0 ps)) ((m, is_method_kind g) ∷ []) [] refl refl)
     initialization_at-mapped s g Kind.ClassDeclaration m ps =
-        rw (spelled_at-mapped f s 0 ps, is_class_kind-mapped m g) (cond-mapped (map (mapped_initialization f)) (spelled_as s (at 0 ps)) ((m, is_class_kind first ledger q m g) ∷ []) [] refl refl)
+        rw (spelled_at-mapped f s 0 ps, is_class_kind-mapped m g) (cond-mapped (map (mapped_initialization f)) (spelled_as s (at 0 ps)) ((m, is_class_kind m g) ∷ []) [] refl refl)
     initialization_at-mapped s g Kind.ClassExpression m ps =
-        rw (spelled_at-mapped f s 0 ps, is_class_kind-mapped m g) (cond-mapped (map (mapped_initialization f)) (spelled_as s (at 0 ps)) ((m, is_class_kind first ledger q m g) ∷ []) [] refl refl)
+        rw (spelled_at-mapped f s 0 ps, is_class_kind-mapped m g) (cond-mapped (map (mapped_initialization f)) (spelled_as s (at 0 ps)) ((m, is_class_kind m g) ∷ []) [] refl refl)
     initialization_at-mapped s g kind m ps = refl
 
     initializations-mapped : (s : String) (g : GeneratedKind) (ts : List Tree) → initializations first (mapped_ledger f ledger) (mapped f q) s (mapped_generated f g) (map (mapped f) ts) ≡ map (mapped_initialization f) (initializations first ledger q s g ts)

@@ -1,5 +1,5 @@
 -- A meaning that a change of numbers leaves as it is stays the meaning under the change.
-use Rattle.std.specs.Prelude.{◌≡◌, ℕ, zero, suc, List, [], ◌∷◌, ◌++◌, map, Bool, true, false, not, cond, nat_le, nat_eq, Option, Some, None}
+use Rattle.std.specs.Prelude.{◌≡◌, ℕ, zero, suc, List, [], ◌∷◌, map, Bool, true, false, not, cond, nat_le, nat_eq, Option, Some, None}
 use Rattle.std.proofs.Common.{refl, sym, ap, ap₂, ◌∙◌}
 use Rattle.es_base.specs.Numbered.{is_new}
 use Rattle.es_base.specs.Preorder.{preorder}
@@ -8,13 +8,13 @@ use Rattle.es_base.specs.declared.kind.Kind.{Kind}
 use Rattle.es_base.specs.declared.ledger.GeneratedKind.{GeneratedKind}
 use Rattle.es_base.specs.declared.ledger.LedgerEntry.{LedgerEntry}
 use Rattle.es_steps.specs.Code.{Code, Opened, private_method, give_function, function}
-use Rattle.es_steps.specs.Context.{Context, generated_as, inside}
+use Rattle.es_steps.specs.Context.{Context, generated_as}
 use Rattle.es_steps.specs.Entries.{Entry, Entries, Listed, listed, after_run, entries}
 use Rattle.es_steps.specs.Evaluation.{Environment, Evaluation, Run, ev}
 use Rattle.es_steps.specs.Meaning.{Meaning, Terms, DeclarationKind, ClassDeclared, MemberEntry, IsField, FunctionIs, declarator_kind, declares_at, declaring, declaring_parts, declaring_part, declaring_items, old_names, globals, second_numbers, old_bindings, names_class, unless_generated, declared_function, declared_functions, function_of, private_function_by, private_functions, function_at, member_entry, with_member, member_entries, inserted, by_number, with_entry, whole, with_export, all_exports, source_type_of, body_of, in_body, start, with_all, means_by, means_of, means}
 use Rattle.es_steps.specs.Modules.{Export, Exported, links_in, exports_in}
 use Rattle.es_steps.specs.Opening.{Definition, definitions, opening}
-use Rattle.es_steps.specs.Parts.{at, items, string_of}
+use Rattle.es_steps.specs.Parts.{at}
 use Rattle.es_steps.specs.PrivateNames.{PrivateMember, PrivateKind, a_field}
 use Rattle.es_steps.specs.Reading.{read}
 use Rattle.es_steps.specs.Repeated.{all_places}

@@ -1,6 +1,6 @@
 -- Imports and exports follow a change of numbers.
 use Rattle.std.specs.Prelude.{◌≡◌, ℕ, List, [], ◌∷◌, ◌++◌, map, Bool, true, false, cond, Option, Some, None}
-use Rattle.std.proofs.Common.{refl, ap, ap₂, ◌∙◌}
+use Rattle.std.proofs.Common.{refl, ap, ◌∙◌}
 use Rattle.es_base.specs.Numbered.{is_new}
 use Rattle.es_base.specs.Tree.{Part, Parts, Node, end, more, child, absent, literal}
 use Rattle.es_base.specs.declared.kind.Kind.{Kind}
@@ -8,13 +8,13 @@ use Rattle.es_base.specs.declared.ledger.GeneratedKind.{GeneratedKind}
 use Rattle.es_base.specs.declared.literal.LiteralValue.TheVariants as literal_value
 use Rattle.es_steps.specs.Context.{Context, NameKind, Fixed, Changing, MeansClass, Generated, StaticMethod, name_kind}
 use Rattle.es_steps.specs.Evaluation.{Environment, found, default_key}
-use Rattle.es_steps.specs.Modules.{Specifier, Imported, ImportedDefault, ImportedNamespace, ReexportedAll, ModuleLink, Export, Exported, module_name, importing, specifier_of, specifiers_of, nullable_name, link, export_link, link_of, links_in, exported_referent, exported_as, exported_value, declared_exports, specifier_export, specifier_exports, local_exports, default_export, is_named_declaration, default_exports, exports_of, exports_in}
+use Rattle.es_steps.specs.Modules.{Specifier, Imported, ImportedDefault, ImportedNamespace, ReexportedAll, ModuleLink, Export, Exported, module_name, importing, specifier_of, specifiers_of, nullable_name, link, export_link, link_of, links_in, exported_referent, exported_as, exported_value, declared_exports, specifier_export, specifier_exports, local_exports, default_export, is_named_declaration, default_exports, exports_of, exports_in, old_links}
 use Rattle.es_steps.specs.Parts.{at, items, string_of}
 use Rattle.es_steps.specs.Scopes.{Declaration, lexical_part, var_part}
 use Rattle.es_steps.specs.Values.{String, Value, ClassOf, Referent, Bound, Free}
 use Rattle.es_steps.proofs.ContextMapped.{name_kind-mapped}
 use Rattle.es_steps.proofs.EvaluationMapped.{found-mapped}
-use Rattle.es_steps.proofs.Mapped.{Renames, mapped_part, mapped_parts, mapped_option, mapped_context, mapped_environment, mapped_declaration, mapped_declarations, mapped_referent, mapped_name_kind, mapped_value, mapped_nullable, mapped_specifier, mapped_link, mapped_exported, mapped_export}
+use Rattle.es_steps.proofs.Mapped.{Renames, mapped_part, mapped_parts, mapped_option, mapped_context, mapped_environment, mapped_declaration, mapped_declarations, mapped_referent, mapped_name_kind, mapped_nullable, mapped_specifier, mapped_link, mapped_exported, mapped_export}
 use Rattle.es_steps.proofs.PartsMapped.{append-mapped, at-mapped, items-mapped, string_at-mapped}
 use Rattle.es_steps.proofs.ScopesMapped.{lexical_part-mapped, var_part-mapped}
 

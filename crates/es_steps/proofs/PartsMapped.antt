@@ -1,5 +1,5 @@
 -- Members, items and strings of parts stand where they stood under other numbers; what is chosen or put together is mapped part by part.
-use Rattle.std.specs.Prelude.{◌≡◌, ℕ, zero, suc, List, ◌∷◌, ◌++◌, map, Bool, true, false, cond, Option, None}
+use Rattle.std.specs.Prelude.{◌≡◌, ℕ, zero, suc, List, ◌∷◌, ◌++◌, map, Bool, true, false, cond, None}
 use Rattle.std.proofs.Common.{refl, sym, ap, ◌∙◌}
 use Rattle.std.proofs.lemmas.List.{map-append}
 use Rattle.es_base.specs.Preorder.{number_of, preorder, preorder_of_part, preorder_of}

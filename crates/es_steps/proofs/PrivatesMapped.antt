@@ -1,12 +1,12 @@
 -- Private members and what private names mean follow a change of numbers.
-use Rattle.std.specs.Prelude.{◌≡◌, ℕ, suc, List, [], ◌∷◌, ◌++◌, map, Bool, true, false, cond, ◌&&◌, bytes_eq, nat_eq, Option, Some, None}
+use Rattle.std.specs.Prelude.{◌≡◌, ℕ, List, [], ◌∷◌, Bool, true, false, ◌&&◌, bytes_eq, nat_eq, Option, Some, None}
 use Rattle.std.proofs.Common.{refl, ap, ◌∙◌}
-use Rattle.es_base.specs.Tree.{Tree, Part, Parts, Node, end, more, child, list}
+use Rattle.es_base.specs.Tree.{Part, Parts, Node, end, more, child}
 use Rattle.es_base.specs.declared.kind.Kind.{Kind}
 use Rattle.es_steps.specs.Parts.{at, items, string_of, is_true}
 use Rattle.es_steps.specs.PrivateNames.{PrivateKind, a_field, PrivateMember, method_kind, keyed_member, element_members, elements_members, body_members, is_class, members_at, seen_members, member_at, PrivateReference, is_read, is_written, first_number, declared_member, reference_to, private_reference, one_side, reference_of, field_test, test_of}
-use Rattle.es_steps.specs.Values.{String, PrivateTest, HasField, HasBrand, IsClass}
-use Rattle.es_steps.proofs.Mapped.{Renames, mapped, mapped_part, mapped_parts, mapped_option, mapped_private, mapped_privates, mapped_private_reference, mapped_test}
+use Rattle.es_steps.specs.Values.{String}
+use Rattle.es_steps.proofs.Mapped.{Renames, mapped_part, mapped_parts, mapped_option, mapped_private, mapped_privates, mapped_private_reference, mapped_test}
 use Rattle.es_steps.proofs.PartsMapped.{cond-mapped, append-mapped, at-mapped, items_at-mapped, string_at-mapped, is_true_at-mapped}
 
 module _ (f : ℕ → ℕ) where

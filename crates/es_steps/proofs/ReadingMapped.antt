@@ -4,9 +4,9 @@ use Rattle.std.proofs.Common.{refl, ap, ap₂, ◌∙◌}
 use Rattle.es_base.specs.Tree as tree
 use Rattle.es_base.specs.Tree.{Tree, Part, Parts, Node}
 use Rattle.es_base.specs.declared.kind.Kind.{Kind}
-use Rattle.es_steps.specs.Code.{binding, sequence, spelled, static_block, steps}
+use Rattle.es_steps.specs.Code.{sequence, spelled, static_block, steps}
 use Rattle.es_steps.specs.Context.{Context, inside}
-use Rattle.es_steps.specs.Members.{Members, code, list, more, at, word_of, codes_of}
+use Rattle.es_steps.specs.Members.{Members, code, list, more, at, word_of}
 use Rattle.es_steps.specs.Reading.{statement_code, pattern_code, class_form_code, code_of, read, read_parts, read_part, read_items}
 use Rattle.es_steps.specs.Statements.{class_of, declared_by, declared_by_let}
 use Rattle.es_steps.proofs.ContextMapped.{name_kind-mapped, inside-mapped, inside-first}

@@ -209,7 +209,7 @@ apart-filter test x (k ∷ ks) a = kept (test k) (apart-filter test x ks a.1)
     kept true rest = (a.0, rest)
     kept false rest = rest
 
-EachOnce-filter : (test : ℕ → Bool) (ks : List ℕ) → EachOnce ks → EachOnce (filter test ks)
+pub EachOnce-filter : (test : ℕ → Bool) (ks : List ℕ) → EachOnce ks → EachOnce (filter test ks)
 unfolding IsDistinct
 EachOnce-filter test [] once = tt
 EachOnce-filter test (k ∷ ks) once = kept (test k) (apart-filter test k ks once.0) (EachOnce-filter test ks once.1)

@@ -1,17 +1,17 @@
 -- Spans and semantic ids mean nothing, and neither does giving the new nodes their numbers anew, where none of them stands in
 -- the meaning.
-use Rattle.std.specs.Prelude.{◌≡◌, ℕ, ◌+◌, suc, List, [], ◌∷◌, ◌++◌, map, Bool, true, nat_eq, Option, Some, None}
+use Rattle.std.specs.Prelude.{◌≡◌, ℕ, ◌+◌, List, [], ◌∷◌, map, Bool, true, Option, Some, None}
 use Rattle.std.proofs.Common.{refl, sym, ap, ap₂, ◌∙◌}
 use Rattle.es_base.specs.Carried.{stripped, stripped_part, stripped_parts}
 use Rattle.es_base.specs.Numbered.{is_old, new_numbers}
 use Rattle.es_base.specs.Preorder.{preorder, nodes, nodes_of, nodes_of_part, renumbered}
-use Rattle.es_base.specs.Tree.{Tree, Part, Parts, Node, end, more, child, absent, list, string, no_string, boolean, literal}
+use Rattle.es_base.specs.Tree.{Tree, Part, Parts, Node, end, more, child, list}
 use Rattle.es_steps.specs.Law.{SemanticIdsLaw, SourceSemanticIdsLaw, RenumberingLaw}
 use Rattle.es_steps.specs.Meaning.{Meaning, Terms, source_terms, means, source_means}
 use Rattle.es_steps.specs.PrivateNames.{PrivateMember, members_of_all, private_members}
 use Rattle.es_steps.specs.Standing.{meaning_numbers, terms_numbers, all_pass}
 use Rattle.es_steps.specs.declared.options.Options.{Options}
-use Rattle.es_steps.proofs.Mapped.{Renames, mapped, mapped_part, mapped_parts, mapped_option, mapped_privates, mapped_private, mapped_meaning, mapped_terms}
+use Rattle.es_steps.proofs.Mapped.{Renames, mapped, mapped_part, mapped_parts, mapped_option, mapped_privates, mapped_private, mapped_meaning}
 use Rattle.es_steps.proofs.MeaningMapped.{means-same}
 use Rattle.es_steps.proofs.PartsMapped.{append-mapped, preorder-mapped}
 use Rattle.es_steps.proofs.PrivatesMapped.{members_at-mapped}
@@ -20,13 +20,13 @@ use Rattle.es_steps.proofs.Still.{meaning-still, terms-still}
 
 -- ---- no change is a change
 
-same-renames : (first : ℕ) → Renames first same
+pub same-renames : (first : ℕ) → Renames first same
 same-renames first = record { apart = λ a b. refl; new = λ a. refl; old = λ a e. refl }
 
-abbrev anything : ℕ → Bool
+abbrev pub anything : ℕ → Bool
 anything n = true
 
-anything-passes : (ns : List ℕ) → all_pass anything ns ≡ true
+pub anything-passes : (ns : List ℕ) → all_pass anything ns ≡ true
 anything-passes [] = refl
 anything-passes (n ∷ ns) = anything-passes ns
 
@@ -60,7 +60,7 @@ semantic_ids_law o t = sym (bare o (stripped t)) ∙ ap (means o) (bare-stripped
 
 -- ---- the terms of a source
 
-members_of_all-mapped : (f : ℕ → ℕ) (ts : List Tree) → members_of_all (map (mapped f) ts) ≡ mapped_privates f (members_of_all ts)
+pub members_of_all-mapped : (f : ℕ → ℕ) (ts : List Tree) → members_of_all (map (mapped f) ts) ≡ mapped_privates f (members_of_all ts)
 members_of_all-mapped f [] = refl
 members_of_all-mapped f (Node kind m span semantic_id ps ∷ ts) = append-mapped (mapped_private f) _ _ (members_at-mapped f kind m ps) (members_of_all-mapped f ts)
 

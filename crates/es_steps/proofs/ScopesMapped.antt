@@ -1,12 +1,12 @@
 -- The names that a node declares, and those that its parts see, follow a change of numbers.
-use Rattle.std.specs.Prelude.{◌≡◌, ℕ, List, [], ◌∷◌, ◌++◌, map, Bool, true, false, cond, bytes_eq, codes, nat_eq, Option, Some, None}
+use Rattle.std.specs.Prelude.{◌≡◌, ℕ, List, [], ◌∷◌, ◌++◌, map, Bool, cond, bytes_eq, codes, nat_eq, Option, Some, None}
 use Rattle.std.proofs.Common.{refl, ap, ◌∙◌}
 use Rattle.es_base.specs.Preorder.{preorder}
 use Rattle.es_base.specs.Table.{Field, members_of}
 use Rattle.es_base.specs.Tree.{Tree, Part, Parts, Node, end, more, child, list}
 use Rattle.es_base.specs.declared.kind.Kind.{Kind}
 use Rattle.es_steps.specs.Parts.{at, items, block_items}
-use Rattle.es_steps.specs.Scopes.{ClassName, no_class, declares, own_name, let_names, is_class_expression, first_class, class_in, let_name, declarator_names, declarators_names, is_let, scope_of, Declaration, binds, is_binding_identifier, declaration, bound_names, bound_members, bound_part, bound_items, StatementForm, variables, function_declaration, class_declaration, imports, passes_on, nests, statement_form, is_var, lexical_by, lexical_names, lexical_part, lexical_items, var_by, var_names, var_part, var_items, body_names, ScopeForm, program_scope, function_scope, own_function_scope, arrow_scope, own_class_scope, block_scope, static_block_scope, loop_scope, switch_scope, catch_scope, no_scope, scope_form, scope_names, seen, names_at}
+use Rattle.es_steps.specs.Scopes.{ClassName, no_class, declares, own_name, is_class_expression, first_class, class_in, let_name, declarator_names, declarators_names, is_let, scope_of, Declaration, binds, is_binding_identifier, declaration, bound_names, bound_members, bound_part, bound_items, StatementForm, variables, function_declaration, class_declaration, imports, passes_on, nests, statement_form, is_var, lexical_by, lexical_names, lexical_part, lexical_items, var_by, var_names, var_part, var_items, body_names, ScopeForm, program_scope, function_scope, own_function_scope, arrow_scope, own_class_scope, block_scope, static_block_scope, loop_scope, switch_scope, catch_scope, no_scope, scope_names, seen, names_at}
 use Rattle.es_steps.proofs.Mapped.{mapped, mapped_part, mapped_parts, mapped_option, mapped_class_name, mapped_declaration, mapped_declarations}
 use Rattle.es_steps.proofs.PartsMapped.{cond-mapped, append-mapped, at-mapped, preorder-mapped, items_at-mapped, block_items_at-mapped, string_at-mapped}
 

@@ -257,6 +257,9 @@ module _ (f : ℕ → ℕ) (test : ℕ → Bool) (still : (n : ℕ) → test n �
   ledger_entry-still : (e : LedgerEntry) → Pass (ledger_numbers e) → mapped_ledger_entry f e ≡ e
   ledger_entry-still e all = ap (λ (g : GeneratedKind). record { name = e.name; kind = g }) (generated-still e.kind all)
 
+  pub ledger-still : (es : List LedgerEntry) → Pass (all_numbers ledger_numbers es) → map (mapped_ledger_entry f) es ≡ es
+  ledger-still es all = all-still ledger_numbers (mapped_ledger_entry f) ledger_entry-still es all
+
   private-still : (x : PrivateMember) → Pass (private_numbers x) → mapped_private f x ≡ x
   private-still x all = rw (number-still x.number (x.class ∷ []) all, number-still x.class [] (rest x.number (x.class ∷ []) all)) refl
 

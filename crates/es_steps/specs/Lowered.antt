@@ -2,13 +2,12 @@
 -- are. (Our own. p is the source, q what it was lowered to, `first` the number of the first new node.)
 use Rattle.std.specs.Prelude.{◌≡◌, ℕ, List, [], ◌∷◌, ◌++◌, Bool, true, false, cond, not, ◌&&◌, ◌||◌, bytes_eq, nat_eq, codes, Option, Some, None}
 use Rattle.es_base.specs.Carried.{stripped}
-use Rattle.es_base.specs.Conforms.{conforms, is_among}
+use Rattle.es_base.specs.Conforms.{is_among}
 use Rattle.es_base.specs.Numbered.{IsNumbered, is_new}
 use Rattle.es_base.specs.Preorder.{preorder, number_of}
 use Rattle.es_base.specs.Tree.{Tree, Part, Parts, Node, end, more, child, list, string}
 use Rattle.es_base.specs.declared.kind.Kind.{Kind}
 use Rattle.es_base.specs.declared.ledger.GeneratedKind.{GeneratedKind}
-use Rattle.es_base.specs.declared.table.Place.{Place}
 use Rattle.es_base.specs.declared.ledger.LedgerEntry.{LedgerEntry}
 use Rattle.es_steps.specs.Context.{generated_as}
 use Rattle.es_steps.specs.Definitions.{spelling, field_part, names_class, class_identifiers, definitions_stand, all_temporaries, all_different, elements_kept}
@@ -211,6 +210,14 @@ abbrev pub is_class_or_name : ℕ → Option ℕ → Bool → Bool
 is_class_or_name n None is_name = is_name
 is_class_or_name n (Some k) is_name = nat_eq n k
 
+abbrev pub is_class_kind : ℕ → GeneratedKind → Bool
+is_class_kind n (GeneratedKind.ClassTemp k) = nat_eq n k.0
+is_class_kind n g = false
+
+abbrev pub is_method_kind : GeneratedKind → Bool
+is_method_kind (GeneratedKind.Method d) = true
+is_method_kind g = false
+
 module _ (first : ℕ) (ledger : List LedgerEntry) (q : Tree) where
   abbrev pub is_class_value : ℕ → ℕ → Part → Bool
   is_class_value m n p = is_class_or_name n (class_in p) (names_class n ledger (resolve q) (class_identifiers first n (preorder q)) p && has_pair m n (all_behind (preorder q)))
@@ -226,14 +233,6 @@ module _ (first : ℕ) (ledger : List LedgerEntry) (q : Tree) where
   is_initial m (GeneratedKind.ClassTemp n) p = is_class_value m n.0 p
   is_initial m GeneratedKind.Closure p = is_function_part p
   is_initial m g p = true
-
-  abbrev pub is_class_kind : ℕ → GeneratedKind → Bool
-  is_class_kind n (GeneratedKind.ClassTemp k) = nat_eq n k.0
-  is_class_kind n g = false
-
-  abbrev pub is_method_kind : GeneratedKind → Bool
-  is_method_kind (GeneratedKind.Method d) = true
-  is_method_kind g = false
 
   -- the initializations of a name of this kind that a node is: its number, and whether the form is right
   abbrev pub initialization_at : String → GeneratedKind → Kind → ℕ → Parts → List (ℕ × Bool)
@@ -314,10 +313,8 @@ keys_stand first o ledger members q keys = not (lowers_fields o) || (all_differe
 
 -- ---- the clauses
 
--- what a lowered program owes; `members` are the private members of the source
-pub record IsLowered (first : ℕ) (o : Options) (ledger : List LedgerEntry) (p q : Tree) : Type 0 where
-  pub conforming : conforms Place.Program q ≡ true
-  pub numbered : IsNumbered first q
+-- what a lowered program owes but for its numbers
+pub record MeetsClauses (first : ℕ) (o : Options) (ledger : List LedgerEntry) (p q : Tree) : Type 0 where
   pub left : nothing_left o q ≡ true
   pub declared : names_declared first ledger q ≡ true
   pub accounted : declarations_accounted first ledger p q ≡ true
@@ -330,3 +327,8 @@ pub record IsLowered (first : ℕ) (o : Options) (ledger : List LedgerEntry) (p 
   pub definitions : definitions_stand first o ledger (private_members p) p q ≡ true
   pub elements : elements_kept o (preorder p) (preorder q) ≡ true
   pub printable : (not (is_printable p) || is_printable q) ≡ true
+
+-- what a lowered program owes
+pub record IsLowered (first : ℕ) (o : Options) (ledger : List LedgerEntry) (p q : Tree) : Type 0 where
+  pub numbered : IsNumbered first q
+  pub clauses : MeetsClauses first o ledger p q
