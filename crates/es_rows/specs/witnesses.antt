@@ -1,5 +1,6 @@
 pub mod AnotherLiteral
 pub mod ArgumentsBehindAWrite
+pub mod ArgumentsOfAnother
 pub mod ArrowOutOfALoop
 pub mod BindingNotRenamed
 pub mod BlockBehindFields
@@ -9,6 +10,7 @@ pub mod BreakInAnArrow
 pub mod CaughtNamesExchanged
 pub mod ClassBehindItsUse
 pub mod ClassInAConstructor
+pub mod ClassInFrontOfItsUse
 pub mod ClassNamedOtherwise
 pub mod ClassRenamed
 pub mod ClassTemporaryBeforeItsClass
@@ -65,6 +67,7 @@ pub mod ReturnInAnArrow
 pub mod ScriptInAnArrow
 pub mod SpreadForAParameter
 pub mod StatementOfAnIf
+pub mod StaticFieldBeforeItsClass
 pub mod StaticGetterOrMethod
 pub mod StaticKeyReadLate
 pub mod SuperFunctionBehindItsCalls

@@ -88,6 +88,7 @@ ghost use Rattle.es_rows.specs.rows.PrivateNameTaken.{source_private_name_taken,
 ghost use Rattle.es_rows.specs.rows.BlockOfStatementsAlone.{source_block_of_statements_alone, output_block_of_statements_alone, generated_block_of_statements_alone, options_block_of_statements_alone, outside_block_of_statements_alone};
 ghost use Rattle.es_rows.specs.witnesses.AnotherLiteral.{source_another_literal, output_another_literal, generated_another_literal, options_another_literal};
 ghost use Rattle.es_rows.specs.witnesses.ArgumentsBehindAWrite.{first_arguments_behind_a_write, second_arguments_behind_a_write, options_arguments_behind_a_write};
+ghost use Rattle.es_rows.specs.witnesses.ArgumentsOfAnother.{source_arguments_of_another, output_arguments_of_another, generated_arguments_of_another, options_arguments_of_another};
 ghost use Rattle.es_rows.specs.witnesses.ArrowOutOfALoop.{source_arrow_out_of_a_loop, output_arrow_out_of_a_loop, generated_arrow_out_of_a_loop, options_arrow_out_of_a_loop};
 ghost use Rattle.es_rows.specs.witnesses.BindingNotRenamed.{source_binding_not_renamed, output_binding_not_renamed, generated_binding_not_renamed, options_binding_not_renamed};
 ghost use Rattle.es_rows.specs.witnesses.BlockBehindFields.{source_block_behind_fields, output_block_behind_fields, generated_block_behind_fields, options_block_behind_fields};
@@ -97,6 +98,7 @@ ghost use Rattle.es_rows.specs.witnesses.BreakInAnArrow.{source_break_in_an_arro
 ghost use Rattle.es_rows.specs.witnesses.CaughtNamesExchanged.{first_caught_names_exchanged, second_caught_names_exchanged, options_caught_names_exchanged};
 ghost use Rattle.es_rows.specs.witnesses.ClassBehindItsUse.{source_class_behind_its_use, output_class_behind_its_use, generated_class_behind_its_use, options_class_behind_its_use};
 ghost use Rattle.es_rows.specs.witnesses.ClassInAConstructor.{source_class_in_a_constructor, output_class_in_a_constructor, generated_class_in_a_constructor, options_class_in_a_constructor};
+ghost use Rattle.es_rows.specs.witnesses.ClassInFrontOfItsUse.{source_class_in_front_of_its_use, output_class_in_front_of_its_use, generated_class_in_front_of_its_use, options_class_in_front_of_its_use};
 ghost use Rattle.es_rows.specs.witnesses.ClassNamedOtherwise.{first_class_named_otherwise, second_class_named_otherwise, options_class_named_otherwise};
 ghost use Rattle.es_rows.specs.witnesses.ClassRenamed.{source_class_renamed, output_class_renamed, generated_class_renamed, options_class_renamed};
 ghost use Rattle.es_rows.specs.witnesses.ClassTemporaryBeforeItsClass.{source_class_temporary_before_its_class, output_class_temporary_before_its_class, generated_class_temporary_before_its_class, options_class_temporary_before_its_class};
@@ -153,6 +155,7 @@ ghost use Rattle.es_rows.specs.witnesses.ReturnInAnArrow.{source_return_in_an_ar
 ghost use Rattle.es_rows.specs.witnesses.ScriptInAnArrow.{source_script_in_an_arrow, output_script_in_an_arrow, generated_script_in_an_arrow, options_script_in_an_arrow};
 ghost use Rattle.es_rows.specs.witnesses.SpreadForAParameter.{source_spread_for_a_parameter, output_spread_for_a_parameter, generated_spread_for_a_parameter, options_spread_for_a_parameter};
 ghost use Rattle.es_rows.specs.witnesses.StatementOfAnIf.{first_statement_of_an_if, second_statement_of_an_if, options_statement_of_an_if};
+ghost use Rattle.es_rows.specs.witnesses.StaticFieldBeforeItsClass.{source_static_field_before_its_class, output_static_field_before_its_class, generated_static_field_before_its_class, options_static_field_before_its_class};
 ghost use Rattle.es_rows.specs.witnesses.StaticGetterOrMethod.{first_static_getter_or_method, second_static_getter_or_method, options_static_getter_or_method};
 ghost use Rattle.es_rows.specs.witnesses.StaticKeyReadLate.{source_static_key_read_late, output_static_key_read_late, generated_static_key_read_late, options_static_key_read_late};
 ghost use Rattle.es_rows.specs.witnesses.SuperFunctionBehindItsCalls.{source_super_function_behind_its_calls, output_super_function_behind_its_calls, generated_super_function_behind_its_calls, options_super_function_behind_its_calls};
@@ -295,11 +298,13 @@ pub fn programs_are_told_apart()
 /// Wrong outputs of worked rows do not mean what their sources mean.
 pub fn wrong_outputs_are_told_apart()
     ensures another_literal { Refused options_another_literal generated_another_literal source_another_literal output_another_literal }
+    ensures arguments_of_another { Refused options_arguments_of_another generated_arguments_of_another source_arguments_of_another output_arguments_of_another }
     ensures arrow_out_of_a_loop { Refused options_arrow_out_of_a_loop generated_arrow_out_of_a_loop source_arrow_out_of_a_loop output_arrow_out_of_a_loop }
     ensures binding_not_renamed { Refused options_binding_not_renamed generated_binding_not_renamed source_binding_not_renamed output_binding_not_renamed }
     ensures block_behind_fields { Refused options_block_behind_fields generated_block_behind_fields source_block_behind_fields output_block_behind_fields }
     ensures body_dropped { Refused options_body_dropped generated_body_dropped source_body_dropped output_body_dropped }
     ensures bound_before_its_test { Refused options_bound_before_its_test generated_bound_before_its_test source_bound_before_its_test output_bound_before_its_test }
+    ensures class_in_front_of_its_use { Refused options_class_in_front_of_its_use generated_class_in_front_of_its_use source_class_in_front_of_its_use output_class_in_front_of_its_use }
     ensures class_renamed { Refused options_class_renamed generated_class_renamed source_class_renamed output_class_renamed }
     ensures definitions_nested { Refused options_definitions_nested generated_definitions_nested source_definitions_nested output_definitions_nested }
     ensures deleted_key { Refused options_deleted_key generated_deleted_key source_deleted_key output_deleted_key }
@@ -332,6 +337,7 @@ pub fn wrong_outputs_are_told_apart()
     ensures return_in_an_arrow { Refused options_return_in_an_arrow generated_return_in_an_arrow source_return_in_an_arrow output_return_in_an_arrow }
     ensures script_in_an_arrow { Refused options_script_in_an_arrow generated_script_in_an_arrow source_script_in_an_arrow output_script_in_an_arrow }
     ensures spread_for_a_parameter { Refused options_spread_for_a_parameter generated_spread_for_a_parameter source_spread_for_a_parameter output_spread_for_a_parameter }
+    ensures static_field_before_its_class { Refused options_static_field_before_its_class generated_static_field_before_its_class source_static_field_before_its_class output_static_field_before_its_class }
     ensures static_key_read_late { Refused options_static_key_read_late generated_static_key_read_late source_static_key_read_late output_static_key_read_late }
     ensures super_gives_zero { Refused options_super_gives_zero generated_super_gives_zero source_super_gives_zero output_super_gives_zero }
     ensures suspending_constructor { Refused options_suspending_constructor generated_suspending_constructor source_suspending_constructor output_suspending_constructor }

@@ -209,7 +209,8 @@ module _ (f : ℕ → ℕ) where
     home = mapped_option mapped_home c.home;
     constructs = mapped_option f c.constructs;
     initializing = mapped_option f c.initializing;
-    in_new_function = c.in_new_function; rest_name = c.rest_name;
+    in_new_function = c.in_new_function;
+    rest_name = c.rest_name;
     class = f c.class;
     has_heritage = c.has_heritage;
     object = f c.object;

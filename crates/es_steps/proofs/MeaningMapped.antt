@@ -14,7 +14,7 @@ use Rattle.es_steps.specs.Evaluation.{Environment, Evaluation, Run, ev}
 use Rattle.es_steps.specs.Meaning.{Meaning, Terms, DeclarationKind, ClassDeclared, MemberEntry, IsField, FunctionIs, declarator_kind, declares_at, declaring, declaring_parts, declaring_part, declaring_items, old_names, globals, second_numbers, old_bindings, names_class, unless_generated, declared_function, declared_functions, function_of, private_function_by, private_functions, function_at, member_entry, with_member, member_entries, inserted, by_number, with_entry, whole, with_export, all_exports, source_type_of, body_of, in_body, start, with_all, means_by, means_of, means}
 use Rattle.es_steps.specs.Modules.{Export, Exported, links_in, exports_in}
 use Rattle.es_steps.specs.Opening.{Definition, definitions, opening}
-use Rattle.es_steps.specs.Parts.{at}
+use Rattle.es_steps.specs.Parts.{at, items}
 use Rattle.es_steps.specs.PrivateNames.{PrivateMember, PrivateKind, a_field}
 use Rattle.es_steps.specs.Reading.{read}
 use Rattle.es_steps.specs.Repeated.{all_places}

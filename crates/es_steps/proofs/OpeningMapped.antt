@@ -1,5 +1,5 @@
 -- What is evaluated elsewhere than where it stands follows a change of numbers.
-use Rattle.std.specs.Prelude.{◌≡◌, ℕ, zero, suc, List, [], ◌∷◌, map, Bool, true, false, nat_eq, length, Option, Some, None}
+use Rattle.std.specs.Prelude.{◌≡◌, ℕ, zero, suc, List, [], ◌∷◌, map, Bool, true, false, nat_eq, length, Option, Some, None, cond}
 use Rattle.std.proofs.Common.{refl, ap, ◌∙◌}
 use Rattle.std.proofs.lemmas.List.{length-map}
 use Rattle.es_base.specs.declared.ledger.GeneratedKind.{GeneratedKind}
@@ -7,7 +7,7 @@ use Rattle.es_steps.specs.Code.{Code, Codes, Target, Callee, Opened, Initializer
 use Rattle.es_steps.specs.Context.{NameKind, Generated}
 use Rattle.es_steps.specs.Evaluation.{Evaluation, no_meaning, ev, ev_initializers, private_key}
 use Rattle.es_steps.specs.GeneratedForms.{opened_body, is_plain, is_plain_arrow}
-use Rattle.es_steps.specs.Opening.{gather, gather_target, gather_callee, gather_all, target_name, assigned_by, assigned_in, assigned_in_all, Definition, of_class, of_name, of_called, behind_super, all_arguments, super_definition, closure_body, function_definition, defined_by, definitions, defines, definition_of, without_definition, ev_definition, opening_in, opening, super_body}
+use Rattle.es_steps.specs.Opening.{gather, gather_target, gather_callee, gather_all, target_name, assigned_by, assigned_in, assigned_in_all, Definition, of_class, of_name, of_called, behind_super, all_arguments, super_definition, closure_body, function_definition, defined_by, definitions, defines, definition_of, without_definition, ev_definition, opening_in, opening}
 use Rattle.es_steps.specs.Values.{String}
 use Rattle.es_steps.proofs.EvaluationMapped.{Follows, no_meaning-follows, ev-follows, ev_initializers-follows}
 use Rattle.es_steps.proofs.FormsMapped.{cond-code, opened_body-mapped}

@@ -4,6 +4,9 @@ use Rattle.es_rows.proofs.law.wrong_outputs_are_told_apart.Goals as goal
 pub returns-clause-another_literal : goal.returns-clause-another_literal
 returns-clause-another_literal c = refl
 
+pub returns-clause-arguments_of_another : goal.returns-clause-arguments_of_another
+returns-clause-arguments_of_another c = refl
+
 pub returns-clause-arrow_out_of_a_loop : goal.returns-clause-arrow_out_of_a_loop
 returns-clause-arrow_out_of_a_loop c = refl
 
@@ -18,6 +21,9 @@ returns-clause-body_dropped c = refl
 
 pub returns-clause-bound_before_its_test : goal.returns-clause-bound_before_its_test
 returns-clause-bound_before_its_test c = refl
+
+pub returns-clause-class_in_front_of_its_use : goal.returns-clause-class_in_front_of_its_use
+returns-clause-class_in_front_of_its_use c = refl
 
 pub returns-clause-class_renamed : goal.returns-clause-class_renamed
 returns-clause-class_renamed c = refl
@@ -114,6 +120,9 @@ returns-clause-script_in_an_arrow c = refl
 
 pub returns-clause-spread_for_a_parameter : goal.returns-clause-spread_for_a_parameter
 returns-clause-spread_for_a_parameter c = refl
+
+pub returns-clause-static_field_before_its_class : goal.returns-clause-static_field_before_its_class
+returns-clause-static_field_before_its_class c = refl
 
 pub returns-clause-static_key_read_late : goal.returns-clause-static_key_read_late
 returns-clause-static_key_read_late c = refl
