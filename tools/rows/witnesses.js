@@ -184,6 +184,8 @@ const witnesses = [
   wrong('static_field_before_its_class', 'a static field defined in front of the class declaration', { options: ['--class-properties'], source: 'class C { static name = 1 }', output: 'class C {} B.defineProperty(C, "name", 1);' }, q => { swap(q.body, 0, 1); }),
   wrong('arguments_of_another', 'the arguments of another constructor', { options: ['--class-properties'], source: 'class A extends D { x = 1; }', output: 'class A extends D { constructor(..._args) { super(..._args); B.defineProperty(this, "x", 1); } }' },
     q => { const f = nodes(q, n => n.type === 'MethodDefinition')[0].value, v = fresh(q, tree('var _args2;').body[0]); nodes(f.body, n => n.name === '_args')[0].name = '_args2'; f.body.body.unshift(v); }, [{ name: '_args', kind: 'Args' }, { name: '_args2', kind: 'Args' }]),
+  wrong('picked_by_an_async_arrow', 'a value picked by an async arrow', { options: ['--class-properties'], source: 'class C { x = 1; m() { f(g()); } }', output: 'class C { constructor() { B.defineProperty(this, "x", 1); } m() { f(g()); } }' },
+    q => { const c = nodes(q, n => n.type === 'CallExpression' && n.callee.name === 'f')[0], pick = fresh(q, expression('(async (_p, _q) => _q[_p])("k", { ["k"]: 1 })')); pick.arguments[1].properties[0].value = c.arguments[0]; c.arguments[0] = pick; }, [{ name: '_p', kind: 'Param' }, { name: '_q', kind: 'Param' }]),
 ];
 
 function moduleOf(w) {

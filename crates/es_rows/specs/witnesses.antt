@@ -55,6 +55,7 @@ pub mod ParametersExchanged
 pub mod ParentConstructedTwice
 pub mod ParentNeverConstructed
 pub mod PatternKeys
+pub mod PickedByAnAsyncArrow
 pub mod PrivateNameOfTheOuterClass
 pub mod PrivateNameTwice
 pub mod ReadMoved

@@ -143,6 +143,7 @@ ghost use Rattle.es_rows.specs.witnesses.ParametersExchanged.{first_parameters_e
 ghost use Rattle.es_rows.specs.witnesses.ParentConstructedTwice.{source_parent_constructed_twice, output_parent_constructed_twice, generated_parent_constructed_twice, options_parent_constructed_twice};
 ghost use Rattle.es_rows.specs.witnesses.ParentNeverConstructed.{source_parent_never_constructed, output_parent_never_constructed, generated_parent_never_constructed, options_parent_never_constructed};
 ghost use Rattle.es_rows.specs.witnesses.PatternKeys.{first_pattern_keys, second_pattern_keys, options_pattern_keys};
+ghost use Rattle.es_rows.specs.witnesses.PickedByAnAsyncArrow.{source_picked_by_an_async_arrow, output_picked_by_an_async_arrow, generated_picked_by_an_async_arrow, options_picked_by_an_async_arrow};
 ghost use Rattle.es_rows.specs.witnesses.PrivateNameOfTheOuterClass.{source_private_name_of_the_outer_class, output_private_name_of_the_outer_class, generated_private_name_of_the_outer_class, options_private_name_of_the_outer_class};
 ghost use Rattle.es_rows.specs.witnesses.PrivateNameTwice.{source_private_name_twice, output_private_name_twice, generated_private_name_twice, options_private_name_twice};
 ghost use Rattle.es_rows.specs.witnesses.ReadMoved.{source_read_moved, output_read_moved, generated_read_moved, options_read_moved};
@@ -328,6 +329,7 @@ pub fn wrong_outputs_are_told_apart()
     ensures parameter_of_a_new_constructor { Refused options_parameter_of_a_new_constructor generated_parameter_of_a_new_constructor source_parameter_of_a_new_constructor output_parameter_of_a_new_constructor }
     ensures parent_constructed_twice { Refused options_parent_constructed_twice generated_parent_constructed_twice source_parent_constructed_twice output_parent_constructed_twice }
     ensures parent_never_constructed { Refused options_parent_never_constructed generated_parent_never_constructed source_parent_never_constructed output_parent_never_constructed }
+    ensures picked_by_an_async_arrow { Refused options_picked_by_an_async_arrow generated_picked_by_an_async_arrow source_picked_by_an_async_arrow output_picked_by_an_async_arrow }
     ensures private_name_of_the_outer_class { Refused options_private_name_of_the_outer_class generated_private_name_of_the_outer_class source_private_name_of_the_outer_class output_private_name_of_the_outer_class }
     ensures read_moved { Refused options_read_moved generated_read_moved source_read_moved output_read_moved }
     ensures receiver_of_a_conditional { Refused options_receiver_of_a_conditional generated_receiver_of_a_conditional source_receiver_of_a_conditional output_receiver_of_a_conditional }

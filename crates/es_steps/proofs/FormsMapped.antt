@@ -425,7 +425,7 @@ module _ {first : ℕ} {f : ℕ → ℕ} (r : Renames first f) (c : Context) (e 
   new_function_call-mapped : (form : FunctionForm) (ps : Codes) (body : Code) (es : Codes) → new_function_call there form (mapped_codes f ps) (mapped_code f body) (mapped_codes f es) ≡ mapped_code f (new_function_call c form ps body es)
   new_function_call-mapped form ps body (and k (and o done)) =
       rw (is_pick-mapped f ps body, single_property-mapped o, parameter_names-mapped f ps)
-      (code-cond f (is_pick ps body) (picked k (single_property c o)) (arrow_call form (parameter_names ps) body (and k (and o done))) (picked-mapped f k (single_property c o)) (arrow_call-mapped f form (parameter_names ps) body (and k (and o done))))
+      (code-cond f (is_plain_arrow form && is_pick ps body) (picked k (single_property c o)) (arrow_call form (parameter_names ps) body (and k (and o done))) (picked-mapped f k (single_property c o)) (arrow_call-mapped f form (parameter_names ps) body (and k (and o done))))
   new_function_call-mapped form ps body es = rw (parameter_names-mapped f ps) (arrow_call-mapped f form (parameter_names ps) body es)
 
   called_with-mapped : (m : ℕ) (g : Code) (es : Codes) → called_with there (f m) (mapped_code f g) (mapped_codes f es) ≡ mapped_code f (called_with c m g es)

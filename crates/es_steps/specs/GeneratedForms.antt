@@ -343,7 +343,7 @@ picked k (Some p) = cond (is_same_key k p.0) (from_call p.1) no_rule
 picked k None = no_rule
 
 abbrev pub new_function_call : Context → FunctionForm → Codes → Code → Codes → Code
-new_function_call c form ps body (and k (and o done)) = cond (is_pick ps body) (picked k (single_property c o)) (arrow_call form (parameter_names ps) body (and k (and o done)))
+new_function_call c form ps body (and k (and o done)) = cond (is_plain_arrow form && is_pick ps body) (picked k (single_property c o)) (arrow_call form (parameter_names ps) body (and k (and o done)))
 new_function_call c form ps body es = arrow_call form (parameter_names ps) body es
 
 -- ---- calls of a new member `call` or `bind`, and of others on generated names

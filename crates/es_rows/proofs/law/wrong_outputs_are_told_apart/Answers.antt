@@ -94,6 +94,9 @@ returns-clause-parent_constructed_twice c = refl
 pub returns-clause-parent_never_constructed : goal.returns-clause-parent_never_constructed
 returns-clause-parent_never_constructed c = refl
 
+pub returns-clause-picked_by_an_async_arrow : goal.returns-clause-picked_by_an_async_arrow
+returns-clause-picked_by_an_async_arrow c = refl
+
 pub returns-clause-private_name_of_the_outer_class : goal.returns-clause-private_name_of_the_outer_class
 returns-clause-private_name_of_the_outer_class c = refl
 
