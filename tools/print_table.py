@@ -128,7 +128,7 @@ pub fn all_kinds() -> &'static [Kind]
 '''
     write('src/table.rt', out, BASE)
     D = f'Rattle.{BASE}.specs.declared'
-    o = spec_head("The table of kinds: names, members in preorder, places (ESTree's kinds up to ES2022; the order of members is our own).") + f'''use Rattle.std.specs.Prelude.{{ℕ, List, [], ◌∷◌, map, Bool, true, false, ◌||◌, codes}}
+    o = spec_head("The table of kinds: names, members in preorder, places (ESTree's kinds up to ES2022; the order of members is our own).") + f'''use Rattle.std.specs.Prelude.{{ℕ, List, [], ◌∷◌, map, Bool, true, false, codes}}
 use {D}.kind.Kind.{{Kind}}
 use {D}.table.Place.{{Place}}
 use {D}.table.Words.{{Words}}

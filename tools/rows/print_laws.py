@@ -107,7 +107,7 @@ for f in sorted(os.listdir(folder)):
             kept.append((n, f'source_means options_{n} second_{n} ≡ source_means options_{n} first_{n}'))
         else:
             pairs.append((n, f'TellsApart options_{n} first_{n} second_{n}'))
-    else:
+    elif f'output_{n} ' in text:
         uses.append(f'ghost use Rattle.es_rows.specs.witnesses.{f[:-5]}.{{source_{n}, output_{n}, generated_{n}, options_{n}}};')
         if n in NOT_MET:
             not_met.append((n, NOT_MET[n].format(n=n) + ' ≡ false'))

@@ -27,6 +27,8 @@ const constructorOf = (t, i = 0) => t.body.find(s => s.type === 'ClassDeclaratio
 
 // two programs, the second with some numbers exchanged
 const pair = (name, says, first, second, change, more = {}) => ({ name, says, kind: 'pair', first, second, change, options: [], ...more });
+// a program whose list or names are computed as they are
+const alone = (name, says, source, more = {}) => ({ name, says, kind: 'alone', source, options: [], ...more });
 // a row and what is made of its output
 // (`generated` and `options` in place of those of the row)
 const wrong = (name, says, row, change, generated, options) => ({ name, says, kind: 'wrong', row, change, generated, options });
@@ -80,6 +82,11 @@ const witnesses = [
   pair('default_exports', 'what a module exports', 'export { a as x, b as y }; let a = 1, b = 2;', 'export { a as y, b as x }; let a = 1, b = 2;', {}, { type: 'module' }),
   pair('imports_exchanged', 'what a module imports', 'import { x as a, y as b } from "m"; f(a, b);', 'import { y as a, x as b } from "m"; f(a, b);', {}, { type: 'module' }),
   pair('statement_of_an_if', 'a function that is the body of an `if` is bound', 'if (c) function f() {} f();', 'if (c) function g() {} f();', {}),
+
+  alone('nested_classes', 'private names of nested classes, the last `#z`, which no class declares', 'class A { #x; #y; f = class extends o.#y { static get #y() {} g = #x in o; h = o.#y; }; k = o.#x; }',
+    { change: t => { preorder(t).filter(n => n.type === 'PrivateIdentifier').at(-1).name = 'z'; } }),
+  alone('compound_assignment', 'a compound assignment of a member of a call', 'o().x += 1;'),
+  alone('free_name', 'a free name in a field, and a parameter of the same name', 'class C { x = y; constructor(y) { this.z = y; } }', { options: ['--class-properties'] }),
 
   wrong('definitions_nested', 'a definition as the value of another one', { options: ['--class-properties'], source: 'class C { x = 1; y; }', output: 'class C { constructor() { B.defineProperty(this, "x", 1); B.defineProperty(this, "y", void 0); } }' },
     q => { const body = constructorOf(q); body[1].expression.arguments[2] = body[0].expression; body.shift(); }),
@@ -194,6 +201,10 @@ function moduleOf(w) {
   if (w.kind === 'pair') {
     const first = numbered(tree(w.first, w.type)), second = numbered(tree(w.second, w.type), w.change);
     body = [`-- ${w.says}: \`${w.first}\`\n${define('first', 'Tree', term(first))}`, `-- \`${w.second}\`, with numbers of the first\n${define('second', 'Tree', term(second))}`, define('options', 'Options', optionsTerm(optionsOf(w.options)))].join('\n');
+  } else if (w.kind === 'alone') {
+    const t = numbered(tree(w.source, w.type));
+    if (w.change) w.change(t);
+    body = [`-- ${w.says}: \`${w.source}\`\n${define('source', 'Tree', term(t))}`, define('options', 'Options', optionsTerm(optionsOf(w.options)))].join('\n');
   } else {
     const told = w.row, given = { words: told.options, input: told.source, out: told.output, type: told.type, outside: told.outside };
     const r = numberRow(given, { outside: told.outside || [], ...told, name: w.name });

@@ -1,4 +1,6 @@
+pub mod Ascii
 pub mod Conformity
+pub mod FreshNumbers
 pub mod NumberedLemmas
 pub mod PreorderLemmas
 pub mod Spelled

@@ -1,4 +1,4 @@
--- Tests of texts by their bytes.
+-- Tests of strings by their bytes.
 use Rattle.std.proofs.Common.{◌≡◌, refl, sym, ap, ◌∙◌, ℕ, ◌<◌, List, [], ◌∷◌, ◌++◌, append_assoc, map, length, drop, Bool, true, false, nat_eq, eqb, encode_utf8, Bor, arith}
 use Rattle.std.specs.Prelude.{codes, bytes_eq}
 use Rattle.std.specs.Str.{chars, encode_utf8_all, IsUtf8}
@@ -14,7 +14,7 @@ use Rattle.es_base.specs.declared.operator.Word.{Word}
 use Rattle.es_base.proofs.WordLemmas.{chars-word_string}
 use Rattle.es_base.specs.declared.table.Words.{Words}
 
--- two texts are the same bytes where they are the same characters
+-- two strings are the same bytes where they are the same characters
 pub bytes_eq_chars : (xs ys : List ℕ) → IsUtf8 xs → IsUtf8 ys → bytes_eq xs ys ≡ bytes_eq (chars xs) (chars ys)
 bytes_eq_chars xs ys u v =
     let same = bytes_eq-Decides (chars xs) (chars ys) in
@@ -31,7 +31,7 @@ assign_word s =
     let other = bytes_eq-Decides s (codes "=") in
     same_from_decides _ _ one (λ t. sym (other.0 t), λ e. other.1 (sym e))
 
--- a text begins with another, by characters and by bytes
+-- a string begins with another, by characters and by bytes
 begins_with-more : (ws cs : List ℕ) → begins_with ws cs ≡ true → (rest : List ℕ) × (cs ≡ ws ++ rest)
 begins_with-more [] cs t = (cs, refl)
 begins_with-more (w ∷ ws) [] t = cc
@@ -69,7 +69,7 @@ words_of_chars _ = refl
 no_zero : (n : ℕ) → 0 < n → nat_eq n 0 ≡ false
 no_zero n some = grind (arith, nat_tests)
 
--- a text is empty where its bytes are
+-- a string is empty where its bytes are
 pub empty_name : (bs s : List ℕ) (e : Bool) → IsUtf8 bs → chars bs ≡ s → e ≡ nat_eq (length bs) 0 → e ≡ bytes_eq s []
 empty_name [] s e u is empty = empty ∙ ap (λ t. bytes_eq t []) (sym chars-nil ∙ is)
 empty_name (b ∷ bs) [] e u is empty = let none : b ∷ bs ≡ [] = sym (encodes-chars (b ∷ bs) u) ∙ ap encode_utf8_all is in cc

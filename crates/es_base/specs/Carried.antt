@@ -1,4 +1,4 @@
--- What nodes carry beside their parts, as the plain tree has it: spans as pairs, semantic ids as numbers.
+-- What nodes carry beside their parts, as the tree has it: spans as pairs, semantic ids as numbers.
 use Rattle.std.specs.Prelude.{ℕ, Option, Some, None}
 use Rattle.es_base.specs.Tree.{Tree, Part, Parts, Node, end, more, child, absent, list, string, no_string, boolean, literal}
 use Rattle.es_base.specs.declared.ids.Span.{Span}
@@ -22,7 +22,7 @@ abbrev pub reference_number : Option ReferenceId → Option ℕ
 reference_number None = None
 reference_number (Some r) = Some r.0
 
--- the tree without its marks
+-- the tree without its semantic ids
 abbrev mutual
   pub stripped : Tree → Tree
   stripped (Node kind id span semantic_id ps) = Node kind id span None (stripped_parts ps)

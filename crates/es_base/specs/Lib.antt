@@ -1,5 +1,6 @@
-pub mod Conforms
+pub mod Ascii
 pub mod Carried
+pub mod Conforms
 pub mod Numbered
 pub mod Preorder
 pub mod Refilled

@@ -4,6 +4,10 @@ use Rattle.std.specs.List.{IsDistinct}
 use Rattle.es_base.specs.Tree.{Tree}
 use Rattle.es_base.specs.Preorder.{preorder, number_of}
 
+-- the number of a node that has none
+abbrev pub unnumbered : ℕ
+unnumbered = 4294967295
+
 -- the numbers of the nodes in preorder
 abbrev pub numbers : Tree → List ℕ
 numbers t = map number_of (preorder t)

@@ -1,6 +1,6 @@
 -- Printed by tools/tree.py from tools/kinds.py.
 -- The table of kinds: names, members in preorder, places (ESTree's kinds up to ES2022; the order of members is our own).
-use Rattle.std.specs.Prelude.{ℕ, List, [], ◌∷◌, map, Bool, true, false, ◌||◌, codes}
+use Rattle.std.specs.Prelude.{ℕ, List, [], ◌∷◌, map, Bool, true, false, codes}
 use Rattle.es_base.specs.declared.kind.Kind.{Kind}
 use Rattle.es_base.specs.declared.table.Place.{Place}
 use Rattle.es_base.specs.declared.table.Words.{Words}

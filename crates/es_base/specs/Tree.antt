@@ -1,11 +1,11 @@
--- The syntax tree as plain data (ESTree; the plain form is our own): what each node is, its number, its
+-- The syntax tree as data (ESTree; this form is our own): what each node is, its number, its
 -- span, its semantic id, and its parts in the order of the table of kinds.
 use Rattle.std.specs.Prelude.{ℕ, List, [], ◌∷◌, Bool, Option, Some, None}
 use Rattle.es_base.specs.declared.kind.Kind.{Kind}
 use Rattle.es_base.specs.declared.literal.LiteralValue.{LiteralValue}
 
 mutual
-  -- The mark is the number of the node's scope, symbol or reference. Only the agreement of a scope table
+  -- The semantic id is the number of the scope, symbol or reference. Only the agreement of a scope table
   -- with a tree reads it.
   pub data Tree : Type 0 where
     Node : (kind : Kind) (id : ℕ) (span : Option (ℕ × ℕ)) (semantic_id : Option ℕ) (parts : Parts) → Tree

@@ -1,5 +1,5 @@
 // What every crate of trees speaks of: strings, lists, numbers, the kinds of nodes and their table, and
-// in specs/ the plain tree.
+// in specs/ the tree.
 #![tactic(auto)]
 
 pub mod diagnostic;

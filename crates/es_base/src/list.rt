@@ -43,11 +43,25 @@ impl<T> List<T> {
         List { items }
     }
 
+    /// The items, as a `Vec`. Takes no memory.
+    pub fn into_vec(self) -> Vec<T>
+        ensures { result.items ≡ self }
+    {
+        self.items
+    }
+
     /// The items.
     pub fn as_slice(&self) -> &[T]
         ensures { result.now ≡ self.now }
     {
         self.items.as_slice()
+    }
+
+    /// The empty list, with this list's allocator. Allocates nothing.
+    pub fn empty_list(&self) -> List<T>
+        ensures { result ≡ [] }
+    {
+        List::new(*self.items.allocator())
     }
 
     /// The items, to be changed: when the borrow ends, the list has what the slice shows last.

@@ -1,6 +1,6 @@
 // Names and other strings.
 
-ghost use Rattle.std.specs.Prelude.{◌≡◌, IfOk, Some, refl, bytes_eq};
+ghost use Rattle.std.specs.Prelude.{◌≡◌, IfOk, Some, refl, bytes_eq, true};
 ghost use Rattle.std.proofs.Common.{rules};
 ghost use Rattle.std.specs.Str.{chars, encode_utf8_all};
 ghost use Rattle.std.specs.Ordering.{nat_cmp};
@@ -34,6 +34,8 @@ impl Model for Name {
 }
 
 impl Name {
+    ghost use Rattle.es_base.specs.Ascii.{is_ascii};
+
     /// The name of these characters. Fails on allocation failure alone.
     pub fn new(alloc: Global, string: &str) -> Result<Name, AllocError>
         ensures { IfOk result (λ n. n ≡ chars string.now) }
@@ -41,6 +43,15 @@ impl Name {
         Ok(Name {
             string: String::from_str(alloc, string)?,
         })
+    }
+
+    /// The name of an ASCII string, whose bytes are its characters. Fails on allocation failure alone.
+    #[tactic(auto, using(crate::proofs::Ascii::chars_ascii))]
+    pub fn from_ascii(alloc: Global, string: &str) -> Result<Name, AllocError>
+        requires { is_ascii string.now ≡ true }
+        ensures { IfOk result (λ n. n ≡ string.now) }
+    {
+        Name::new(alloc, string)
     }
 
     /// The characters, as string.

@@ -242,88 +242,800 @@ pub fn members(kind: Kind) -> &'static [Member]
     ensures { map field_of result.now ≡ members_of kind }
 {
     match kind {
-        Kind::Program => &[Member { name: "sourceType", sort: Sort::Word(Words::SourceType) }, Member { name: "body", sort: Sort::List(Place::Statement) }],
-        Kind::ExpressionStatement => &[Member { name: "expression", sort: Sort::Child(Place::Expression) }, Member { name: "directive", sort: Sort::NullableString }],
-        Kind::BlockStatement => &[Member { name: "body", sort: Sort::List(Place::Statement) }],
+        Kind::Program => &[
+            Member {
+                name: "sourceType",
+                sort: Sort::Word(Words::SourceType),
+            },
+            Member {
+                name: "body",
+                sort: Sort::List(Place::Statement),
+            },
+        ],
+        Kind::ExpressionStatement => &[
+            Member {
+                name: "expression",
+                sort: Sort::Child(Place::Expression),
+            },
+            Member {
+                name: "directive",
+                sort: Sort::NullableString,
+            },
+        ],
+        Kind::BlockStatement => &[Member {
+            name: "body",
+            sort: Sort::List(Place::Statement),
+        }],
         Kind::EmptyStatement => &[],
         Kind::DebuggerStatement => &[],
-        Kind::WithStatement => &[Member { name: "object", sort: Sort::Child(Place::Expression) }, Member { name: "body", sort: Sort::Child(Place::Statement) }],
-        Kind::ReturnStatement => &[Member { name: "argument", sort: Sort::Nullable(Place::Expression) }],
-        Kind::ThrowStatement => &[Member { name: "argument", sort: Sort::Child(Place::Expression) }],
-        Kind::LabeledStatement => &[Member { name: "label", sort: Sort::Child(Place::IdentifierName) }, Member { name: "body", sort: Sort::Child(Place::Statement) }],
-        Kind::BreakStatement => &[Member { name: "label", sort: Sort::Nullable(Place::IdentifierName) }],
-        Kind::ContinueStatement => &[Member { name: "label", sort: Sort::Nullable(Place::IdentifierName) }],
-        Kind::IfStatement => &[Member { name: "test", sort: Sort::Child(Place::Expression) }, Member { name: "consequent", sort: Sort::Child(Place::Statement) }, Member { name: "alternate", sort: Sort::Nullable(Place::Statement) }],
-        Kind::SwitchStatement => &[Member { name: "discriminant", sort: Sort::Child(Place::Expression) }, Member { name: "cases", sort: Sort::List(Place::SwitchCase) }],
-        Kind::SwitchCase => &[Member { name: "test", sort: Sort::Nullable(Place::Expression) }, Member { name: "consequent", sort: Sort::List(Place::Statement) }],
-        Kind::TryStatement => &[Member { name: "block", sort: Sort::Child(Place::Block) }, Member { name: "handler", sort: Sort::Nullable(Place::CatchClause) }, Member { name: "finalizer", sort: Sort::Nullable(Place::Block) }],
-        Kind::CatchClause => &[Member { name: "param", sort: Sort::Nullable(Place::Pattern) }, Member { name: "body", sort: Sort::Child(Place::Block) }],
-        Kind::WhileStatement => &[Member { name: "test", sort: Sort::Child(Place::Expression) }, Member { name: "body", sort: Sort::Child(Place::Statement) }],
-        Kind::DoWhileStatement => &[Member { name: "body", sort: Sort::Child(Place::Statement) }, Member { name: "test", sort: Sort::Child(Place::Expression) }],
-        Kind::ForStatement => &[Member { name: "init", sort: Sort::Nullable(Place::ForInit) }, Member { name: "test", sort: Sort::Nullable(Place::Expression) }, Member { name: "update", sort: Sort::Nullable(Place::Expression) }, Member { name: "body", sort: Sort::Child(Place::Statement) }],
-        Kind::ForInStatement => &[Member { name: "left", sort: Sort::Child(Place::ForLeft) }, Member { name: "right", sort: Sort::Child(Place::Expression) }, Member { name: "body", sort: Sort::Child(Place::Statement) }],
-        Kind::ForOfStatement => &[Member { name: "left", sort: Sort::Child(Place::ForLeft) }, Member { name: "right", sort: Sort::Child(Place::Expression) }, Member { name: "body", sort: Sort::Child(Place::Statement) }, Member { name: "await", sort: Sort::Boolean }],
-        Kind::FunctionDeclaration => &[Member { name: "id", sort: Sort::Nullable(Place::BindingIdentifier) }, Member { name: "params", sort: Sort::List(Place::PatternOrRest) }, Member { name: "body", sort: Sort::Child(Place::Block) }, Member { name: "async", sort: Sort::Boolean }, Member { name: "generator", sort: Sort::Boolean }],
-        Kind::FunctionExpression => &[Member { name: "id", sort: Sort::Nullable(Place::BindingIdentifier) }, Member { name: "params", sort: Sort::List(Place::PatternOrRest) }, Member { name: "body", sort: Sort::Child(Place::Block) }, Member { name: "async", sort: Sort::Boolean }, Member { name: "generator", sort: Sort::Boolean }],
-        Kind::ArrowFunctionExpression => &[Member { name: "params", sort: Sort::List(Place::PatternOrRest) }, Member { name: "body", sort: Sort::Child(Place::ArrowBody) }, Member { name: "async", sort: Sort::Boolean }],
-        Kind::VariableDeclaration => &[Member { name: "kind", sort: Sort::Word(Words::VariableDeclarationKind) }, Member { name: "declarations", sort: Sort::List(Place::VariableDeclarator) }],
-        Kind::VariableDeclarator => &[Member { name: "id", sort: Sort::Child(Place::Pattern) }, Member { name: "init", sort: Sort::Nullable(Place::Expression) }],
-        Kind::ClassDeclaration => &[Member { name: "id", sort: Sort::Nullable(Place::BindingIdentifier) }, Member { name: "superClass", sort: Sort::Nullable(Place::Expression) }, Member { name: "body", sort: Sort::Child(Place::ClassBody) }],
-        Kind::ClassExpression => &[Member { name: "id", sort: Sort::Nullable(Place::BindingIdentifier) }, Member { name: "superClass", sort: Sort::Nullable(Place::Expression) }, Member { name: "body", sort: Sort::Child(Place::ClassBody) }],
-        Kind::ClassBody => &[Member { name: "body", sort: Sort::List(Place::ClassElement) }],
-        Kind::MethodDefinition => &[Member { name: "key", sort: Sort::Key(Place::ClassKey) }, Member { name: "value", sort: Sort::Child(Place::FunctionValue) }, Member { name: "kind", sort: Sort::Word(Words::MethodDefinitionKind) }, Member { name: "computed", sort: Sort::Boolean }, Member { name: "static", sort: Sort::Boolean }],
-        Kind::PropertyDefinition => &[Member { name: "key", sort: Sort::Key(Place::ClassKey) }, Member { name: "value", sort: Sort::Nullable(Place::Expression) }, Member { name: "computed", sort: Sort::Boolean }, Member { name: "static", sort: Sort::Boolean }],
-        Kind::StaticBlock => &[Member { name: "body", sort: Sort::List(Place::Statement) }],
-        Kind::PrivateIdentifier => &[Member { name: "name", sort: Sort::Name }],
-        Kind::IdentifierReference => &[Member { name: "name", sort: Sort::Name }],
-        Kind::BindingIdentifier => &[Member { name: "name", sort: Sort::Name }],
-        Kind::IdentifierName => &[Member { name: "name", sort: Sort::Name }],
-        Kind::Literal => &[Member { name: "value", sort: Sort::Literal }],
+        Kind::WithStatement => &[
+            Member {
+                name: "object",
+                sort: Sort::Child(Place::Expression),
+            },
+            Member {
+                name: "body",
+                sort: Sort::Child(Place::Statement),
+            },
+        ],
+        Kind::ReturnStatement => &[Member {
+            name: "argument",
+            sort: Sort::Nullable(Place::Expression),
+        }],
+        Kind::ThrowStatement => &[Member {
+            name: "argument",
+            sort: Sort::Child(Place::Expression),
+        }],
+        Kind::LabeledStatement => &[
+            Member {
+                name: "label",
+                sort: Sort::Child(Place::IdentifierName),
+            },
+            Member {
+                name: "body",
+                sort: Sort::Child(Place::Statement),
+            },
+        ],
+        Kind::BreakStatement => &[Member {
+            name: "label",
+            sort: Sort::Nullable(Place::IdentifierName),
+        }],
+        Kind::ContinueStatement => &[Member {
+            name: "label",
+            sort: Sort::Nullable(Place::IdentifierName),
+        }],
+        Kind::IfStatement => &[
+            Member {
+                name: "test",
+                sort: Sort::Child(Place::Expression),
+            },
+            Member {
+                name: "consequent",
+                sort: Sort::Child(Place::Statement),
+            },
+            Member {
+                name: "alternate",
+                sort: Sort::Nullable(Place::Statement),
+            },
+        ],
+        Kind::SwitchStatement => &[
+            Member {
+                name: "discriminant",
+                sort: Sort::Child(Place::Expression),
+            },
+            Member {
+                name: "cases",
+                sort: Sort::List(Place::SwitchCase),
+            },
+        ],
+        Kind::SwitchCase => &[
+            Member {
+                name: "test",
+                sort: Sort::Nullable(Place::Expression),
+            },
+            Member {
+                name: "consequent",
+                sort: Sort::List(Place::Statement),
+            },
+        ],
+        Kind::TryStatement => &[
+            Member {
+                name: "block",
+                sort: Sort::Child(Place::Block),
+            },
+            Member {
+                name: "handler",
+                sort: Sort::Nullable(Place::CatchClause),
+            },
+            Member {
+                name: "finalizer",
+                sort: Sort::Nullable(Place::Block),
+            },
+        ],
+        Kind::CatchClause => &[
+            Member {
+                name: "param",
+                sort: Sort::Nullable(Place::Pattern),
+            },
+            Member {
+                name: "body",
+                sort: Sort::Child(Place::Block),
+            },
+        ],
+        Kind::WhileStatement => &[
+            Member {
+                name: "test",
+                sort: Sort::Child(Place::Expression),
+            },
+            Member {
+                name: "body",
+                sort: Sort::Child(Place::Statement),
+            },
+        ],
+        Kind::DoWhileStatement => &[
+            Member {
+                name: "body",
+                sort: Sort::Child(Place::Statement),
+            },
+            Member {
+                name: "test",
+                sort: Sort::Child(Place::Expression),
+            },
+        ],
+        Kind::ForStatement => &[
+            Member {
+                name: "init",
+                sort: Sort::Nullable(Place::ForInit),
+            },
+            Member {
+                name: "test",
+                sort: Sort::Nullable(Place::Expression),
+            },
+            Member {
+                name: "update",
+                sort: Sort::Nullable(Place::Expression),
+            },
+            Member {
+                name: "body",
+                sort: Sort::Child(Place::Statement),
+            },
+        ],
+        Kind::ForInStatement => &[
+            Member {
+                name: "left",
+                sort: Sort::Child(Place::ForLeft),
+            },
+            Member {
+                name: "right",
+                sort: Sort::Child(Place::Expression),
+            },
+            Member {
+                name: "body",
+                sort: Sort::Child(Place::Statement),
+            },
+        ],
+        Kind::ForOfStatement => &[
+            Member {
+                name: "left",
+                sort: Sort::Child(Place::ForLeft),
+            },
+            Member {
+                name: "right",
+                sort: Sort::Child(Place::Expression),
+            },
+            Member {
+                name: "body",
+                sort: Sort::Child(Place::Statement),
+            },
+            Member {
+                name: "await",
+                sort: Sort::Boolean,
+            },
+        ],
+        Kind::FunctionDeclaration => &[
+            Member {
+                name: "id",
+                sort: Sort::Nullable(Place::BindingIdentifier),
+            },
+            Member {
+                name: "params",
+                sort: Sort::List(Place::PatternOrRest),
+            },
+            Member {
+                name: "body",
+                sort: Sort::Child(Place::Block),
+            },
+            Member {
+                name: "async",
+                sort: Sort::Boolean,
+            },
+            Member {
+                name: "generator",
+                sort: Sort::Boolean,
+            },
+        ],
+        Kind::FunctionExpression => &[
+            Member {
+                name: "id",
+                sort: Sort::Nullable(Place::BindingIdentifier),
+            },
+            Member {
+                name: "params",
+                sort: Sort::List(Place::PatternOrRest),
+            },
+            Member {
+                name: "body",
+                sort: Sort::Child(Place::Block),
+            },
+            Member {
+                name: "async",
+                sort: Sort::Boolean,
+            },
+            Member {
+                name: "generator",
+                sort: Sort::Boolean,
+            },
+        ],
+        Kind::ArrowFunctionExpression => &[
+            Member {
+                name: "params",
+                sort: Sort::List(Place::PatternOrRest),
+            },
+            Member {
+                name: "body",
+                sort: Sort::Child(Place::ArrowBody),
+            },
+            Member {
+                name: "async",
+                sort: Sort::Boolean,
+            },
+        ],
+        Kind::VariableDeclaration => &[
+            Member {
+                name: "kind",
+                sort: Sort::Word(Words::VariableDeclarationKind),
+            },
+            Member {
+                name: "declarations",
+                sort: Sort::List(Place::VariableDeclarator),
+            },
+        ],
+        Kind::VariableDeclarator => &[
+            Member {
+                name: "id",
+                sort: Sort::Child(Place::Pattern),
+            },
+            Member {
+                name: "init",
+                sort: Sort::Nullable(Place::Expression),
+            },
+        ],
+        Kind::ClassDeclaration => &[
+            Member {
+                name: "id",
+                sort: Sort::Nullable(Place::BindingIdentifier),
+            },
+            Member {
+                name: "superClass",
+                sort: Sort::Nullable(Place::Expression),
+            },
+            Member {
+                name: "body",
+                sort: Sort::Child(Place::ClassBody),
+            },
+        ],
+        Kind::ClassExpression => &[
+            Member {
+                name: "id",
+                sort: Sort::Nullable(Place::BindingIdentifier),
+            },
+            Member {
+                name: "superClass",
+                sort: Sort::Nullable(Place::Expression),
+            },
+            Member {
+                name: "body",
+                sort: Sort::Child(Place::ClassBody),
+            },
+        ],
+        Kind::ClassBody => &[Member {
+            name: "body",
+            sort: Sort::List(Place::ClassElement),
+        }],
+        Kind::MethodDefinition => &[
+            Member {
+                name: "key",
+                sort: Sort::Key(Place::ClassKey),
+            },
+            Member {
+                name: "value",
+                sort: Sort::Child(Place::FunctionValue),
+            },
+            Member {
+                name: "kind",
+                sort: Sort::Word(Words::MethodDefinitionKind),
+            },
+            Member {
+                name: "computed",
+                sort: Sort::Boolean,
+            },
+            Member {
+                name: "static",
+                sort: Sort::Boolean,
+            },
+        ],
+        Kind::PropertyDefinition => &[
+            Member {
+                name: "key",
+                sort: Sort::Key(Place::ClassKey),
+            },
+            Member {
+                name: "value",
+                sort: Sort::Nullable(Place::Expression),
+            },
+            Member {
+                name: "computed",
+                sort: Sort::Boolean,
+            },
+            Member {
+                name: "static",
+                sort: Sort::Boolean,
+            },
+        ],
+        Kind::StaticBlock => &[Member {
+            name: "body",
+            sort: Sort::List(Place::Statement),
+        }],
+        Kind::PrivateIdentifier => &[Member {
+            name: "name",
+            sort: Sort::Name,
+        }],
+        Kind::IdentifierReference => &[Member {
+            name: "name",
+            sort: Sort::Name,
+        }],
+        Kind::BindingIdentifier => &[Member {
+            name: "name",
+            sort: Sort::Name,
+        }],
+        Kind::IdentifierName => &[Member {
+            name: "name",
+            sort: Sort::Name,
+        }],
+        Kind::Literal => &[Member {
+            name: "value",
+            sort: Sort::Literal,
+        }],
         Kind::ThisExpression => &[],
         Kind::Super => &[],
-        Kind::ArrayExpression => &[Member { name: "elements", sort: Sort::ListWithHoles(Place::ExpressionOrSpread) }],
-        Kind::ObjectExpression => &[Member { name: "properties", sort: Sort::List(Place::ObjectMember) }],
-        Kind::Property => &[Member { name: "key", sort: Sort::Key(Place::PropertyKey) }, Member { name: "value", sort: Sort::Child(Place::Expression) }, Member { name: "kind", sort: Sort::Word(Words::PropertyKind) }, Member { name: "method", sort: Sort::Boolean }, Member { name: "shorthand", sort: Sort::Boolean }, Member { name: "computed", sort: Sort::Boolean }],
-        Kind::SpreadElement => &[Member { name: "argument", sort: Sort::Child(Place::Expression) }],
-        Kind::TemplateLiteral => &[Member { name: "quasis", sort: Sort::List(Place::TemplateElement) }, Member { name: "expressions", sort: Sort::List(Place::Expression) }],
-        Kind::TemplateElement => &[Member { name: "raw", sort: Sort::Raw }, Member { name: "cooked", sort: Sort::Cooked }, Member { name: "tail", sort: Sort::Boolean }],
-        Kind::TaggedTemplateExpression => &[Member { name: "tag", sort: Sort::Child(Place::Expression) }, Member { name: "quasi", sort: Sort::Child(Place::TemplateLiteral) }],
-        Kind::MemberExpression => &[Member { name: "object", sort: Sort::Child(Place::ExpressionOrSuper) }, Member { name: "property", sort: Sort::Key(Place::MemberProperty) }, Member { name: "computed", sort: Sort::Boolean }, Member { name: "optional", sort: Sort::Boolean }],
-        Kind::PrivateField => &[Member { name: "object", sort: Sort::Child(Place::ExpressionOrSuper) }, Member { name: "property", sort: Sort::Child(Place::PrivateIdentifier) }, Member { name: "computed", sort: Sort::False }, Member { name: "optional", sort: Sort::Boolean }],
-        Kind::UnaryExpression => &[Member { name: "operator", sort: Sort::Word(Words::UnaryOperator) }, Member { name: "argument", sort: Sort::Child(Place::Expression) }],
-        Kind::UpdateExpression => &[Member { name: "operator", sort: Sort::Word(Words::UpdateOperator) }, Member { name: "argument", sort: Sort::Child(Place::SimpleAssignmentTarget) }, Member { name: "prefix", sort: Sort::Boolean }],
-        Kind::BinaryExpression => &[Member { name: "operator", sort: Sort::Word(Words::BinaryOperator) }, Member { name: "left", sort: Sort::Child(Place::Expression) }, Member { name: "right", sort: Sort::Child(Place::Expression) }],
-        Kind::PrivateIn => &[Member { name: "operator", sort: Sort::Word(Words::In) }, Member { name: "left", sort: Sort::Child(Place::PrivateIdentifier) }, Member { name: "right", sort: Sort::Child(Place::Expression) }],
-        Kind::LogicalExpression => &[Member { name: "operator", sort: Sort::Word(Words::LogicalOperator) }, Member { name: "left", sort: Sort::Child(Place::Expression) }, Member { name: "right", sort: Sort::Child(Place::Expression) }],
-        Kind::AssignmentExpression => &[Member { name: "operator", sort: Sort::Word(Words::AssignmentOperator) }, Member { name: "left", sort: Sort::Child(Place::AssignmentTarget) }, Member { name: "right", sort: Sort::Child(Place::Expression) }],
-        Kind::ConditionalExpression => &[Member { name: "test", sort: Sort::Child(Place::Expression) }, Member { name: "consequent", sort: Sort::Child(Place::Expression) }, Member { name: "alternate", sort: Sort::Child(Place::Expression) }],
-        Kind::CallExpression => &[Member { name: "callee", sort: Sort::Child(Place::ExpressionOrSuper) }, Member { name: "arguments", sort: Sort::List(Place::ExpressionOrSpread) }, Member { name: "optional", sort: Sort::Boolean }],
-        Kind::NewExpression => &[Member { name: "callee", sort: Sort::Child(Place::Expression) }, Member { name: "arguments", sort: Sort::List(Place::ExpressionOrSpread) }],
-        Kind::SequenceExpression => &[Member { name: "expressions", sort: Sort::NonEmptyList(Place::Expression) }],
-        Kind::YieldExpression => &[Member { name: "argument", sort: Sort::Nullable(Place::Expression) }, Member { name: "delegate", sort: Sort::Boolean }],
-        Kind::AwaitExpression => &[Member { name: "argument", sort: Sort::Child(Place::Expression) }],
-        Kind::ImportExpression => &[Member { name: "source", sort: Sort::Child(Place::Expression) }],
-        Kind::MetaProperty => &[Member { name: "meta", sort: Sort::Child(Place::IdentifierName) }, Member { name: "property", sort: Sort::Child(Place::IdentifierName) }],
-        Kind::ChainExpression => &[Member { name: "expression", sort: Sort::Child(Place::ChainElement) }],
-        Kind::ObjectPattern => &[Member { name: "properties", sort: Sort::List(Place::PatternMember) }],
-        Kind::BindingProperty => &[Member { name: "key", sort: Sort::Key(Place::PropertyKey) }, Member { name: "value", sort: Sort::Child(Place::Pattern) }, Member { name: "kind", sort: Sort::Word(Words::Init) }, Member { name: "method", sort: Sort::False }, Member { name: "shorthand", sort: Sort::Boolean }, Member { name: "computed", sort: Sort::Boolean }],
-        Kind::ArrayPattern => &[Member { name: "elements", sort: Sort::ListWithHoles(Place::PatternOrRest) }],
-        Kind::AssignmentPattern => &[Member { name: "left", sort: Sort::Child(Place::Pattern) }, Member { name: "right", sort: Sort::Child(Place::Expression) }],
-        Kind::RestElement => &[Member { name: "argument", sort: Sort::Child(Place::Pattern) }],
-        Kind::ObjectAssignmentTarget => &[Member { name: "properties", sort: Sort::List(Place::TargetMember) }],
-        Kind::AssignmentTargetProperty => &[Member { name: "key", sort: Sort::Key(Place::PropertyKey) }, Member { name: "value", sort: Sort::Child(Place::AssignmentTargetMaybeDefault) }, Member { name: "kind", sort: Sort::Word(Words::Init) }, Member { name: "method", sort: Sort::False }, Member { name: "shorthand", sort: Sort::Boolean }, Member { name: "computed", sort: Sort::Boolean }],
-        Kind::ArrayAssignmentTarget => &[Member { name: "elements", sort: Sort::ListWithHoles(Place::TargetOrRest) }],
-        Kind::AssignmentTargetWithDefault => &[Member { name: "left", sort: Sort::Child(Place::AssignmentTargetMaybeDefault) }, Member { name: "right", sort: Sort::Child(Place::Expression) }],
-        Kind::AssignmentTargetRest => &[Member { name: "argument", sort: Sort::Child(Place::AssignmentTargetMaybeDefault) }],
-        Kind::ImportDeclaration => &[Member { name: "specifiers", sort: Sort::List(Place::ImportMember) }, Member { name: "source", sort: Sort::Child(Place::Literal) }],
-        Kind::ImportSpecifier => &[Member { name: "imported", sort: Sort::Child(Place::ModuleName) }, Member { name: "local", sort: Sort::Child(Place::BindingIdentifier) }],
-        Kind::ImportDefaultSpecifier => &[Member { name: "local", sort: Sort::Child(Place::BindingIdentifier) }],
-        Kind::ImportNamespaceSpecifier => &[Member { name: "local", sort: Sort::Child(Place::BindingIdentifier) }],
-        Kind::ExportNamedDeclaration => &[Member { name: "declaration", sort: Sort::Nullable(Place::Statement) }, Member { name: "specifiers", sort: Sort::List(Place::ExportSpecifier) }, Member { name: "source", sort: Sort::Nullable(Place::Literal) }],
-        Kind::ExportSpecifier => &[Member { name: "local", sort: Sort::Child(Place::ExportLocal) }, Member { name: "exported", sort: Sort::Child(Place::ModuleName) }],
-        Kind::ExportDefaultDeclaration => &[Member { name: "declaration", sort: Sort::Child(Place::ExportDefault) }],
-        Kind::ExportAllDeclaration => &[Member { name: "exported", sort: Sort::Nullable(Place::ModuleName) }, Member { name: "source", sort: Sort::Child(Place::Literal) }],
-        Kind::Foreign => &[Member { name: "type", sort: Sort::Type }],
+        Kind::ArrayExpression => &[Member {
+            name: "elements",
+            sort: Sort::ListWithHoles(Place::ExpressionOrSpread),
+        }],
+        Kind::ObjectExpression => &[Member {
+            name: "properties",
+            sort: Sort::List(Place::ObjectMember),
+        }],
+        Kind::Property => &[
+            Member {
+                name: "key",
+                sort: Sort::Key(Place::PropertyKey),
+            },
+            Member {
+                name: "value",
+                sort: Sort::Child(Place::Expression),
+            },
+            Member {
+                name: "kind",
+                sort: Sort::Word(Words::PropertyKind),
+            },
+            Member {
+                name: "method",
+                sort: Sort::Boolean,
+            },
+            Member {
+                name: "shorthand",
+                sort: Sort::Boolean,
+            },
+            Member {
+                name: "computed",
+                sort: Sort::Boolean,
+            },
+        ],
+        Kind::SpreadElement => &[Member {
+            name: "argument",
+            sort: Sort::Child(Place::Expression),
+        }],
+        Kind::TemplateLiteral => &[
+            Member {
+                name: "quasis",
+                sort: Sort::List(Place::TemplateElement),
+            },
+            Member {
+                name: "expressions",
+                sort: Sort::List(Place::Expression),
+            },
+        ],
+        Kind::TemplateElement => &[
+            Member {
+                name: "raw",
+                sort: Sort::Raw,
+            },
+            Member {
+                name: "cooked",
+                sort: Sort::Cooked,
+            },
+            Member {
+                name: "tail",
+                sort: Sort::Boolean,
+            },
+        ],
+        Kind::TaggedTemplateExpression => &[
+            Member {
+                name: "tag",
+                sort: Sort::Child(Place::Expression),
+            },
+            Member {
+                name: "quasi",
+                sort: Sort::Child(Place::TemplateLiteral),
+            },
+        ],
+        Kind::MemberExpression => &[
+            Member {
+                name: "object",
+                sort: Sort::Child(Place::ExpressionOrSuper),
+            },
+            Member {
+                name: "property",
+                sort: Sort::Key(Place::MemberProperty),
+            },
+            Member {
+                name: "computed",
+                sort: Sort::Boolean,
+            },
+            Member {
+                name: "optional",
+                sort: Sort::Boolean,
+            },
+        ],
+        Kind::PrivateField => &[
+            Member {
+                name: "object",
+                sort: Sort::Child(Place::ExpressionOrSuper),
+            },
+            Member {
+                name: "property",
+                sort: Sort::Child(Place::PrivateIdentifier),
+            },
+            Member {
+                name: "computed",
+                sort: Sort::False,
+            },
+            Member {
+                name: "optional",
+                sort: Sort::Boolean,
+            },
+        ],
+        Kind::UnaryExpression => &[
+            Member {
+                name: "operator",
+                sort: Sort::Word(Words::UnaryOperator),
+            },
+            Member {
+                name: "argument",
+                sort: Sort::Child(Place::Expression),
+            },
+        ],
+        Kind::UpdateExpression => &[
+            Member {
+                name: "operator",
+                sort: Sort::Word(Words::UpdateOperator),
+            },
+            Member {
+                name: "argument",
+                sort: Sort::Child(Place::SimpleAssignmentTarget),
+            },
+            Member {
+                name: "prefix",
+                sort: Sort::Boolean,
+            },
+        ],
+        Kind::BinaryExpression => &[
+            Member {
+                name: "operator",
+                sort: Sort::Word(Words::BinaryOperator),
+            },
+            Member {
+                name: "left",
+                sort: Sort::Child(Place::Expression),
+            },
+            Member {
+                name: "right",
+                sort: Sort::Child(Place::Expression),
+            },
+        ],
+        Kind::PrivateIn => &[
+            Member {
+                name: "operator",
+                sort: Sort::Word(Words::In),
+            },
+            Member {
+                name: "left",
+                sort: Sort::Child(Place::PrivateIdentifier),
+            },
+            Member {
+                name: "right",
+                sort: Sort::Child(Place::Expression),
+            },
+        ],
+        Kind::LogicalExpression => &[
+            Member {
+                name: "operator",
+                sort: Sort::Word(Words::LogicalOperator),
+            },
+            Member {
+                name: "left",
+                sort: Sort::Child(Place::Expression),
+            },
+            Member {
+                name: "right",
+                sort: Sort::Child(Place::Expression),
+            },
+        ],
+        Kind::AssignmentExpression => &[
+            Member {
+                name: "operator",
+                sort: Sort::Word(Words::AssignmentOperator),
+            },
+            Member {
+                name: "left",
+                sort: Sort::Child(Place::AssignmentTarget),
+            },
+            Member {
+                name: "right",
+                sort: Sort::Child(Place::Expression),
+            },
+        ],
+        Kind::ConditionalExpression => &[
+            Member {
+                name: "test",
+                sort: Sort::Child(Place::Expression),
+            },
+            Member {
+                name: "consequent",
+                sort: Sort::Child(Place::Expression),
+            },
+            Member {
+                name: "alternate",
+                sort: Sort::Child(Place::Expression),
+            },
+        ],
+        Kind::CallExpression => &[
+            Member {
+                name: "callee",
+                sort: Sort::Child(Place::ExpressionOrSuper),
+            },
+            Member {
+                name: "arguments",
+                sort: Sort::List(Place::ExpressionOrSpread),
+            },
+            Member {
+                name: "optional",
+                sort: Sort::Boolean,
+            },
+        ],
+        Kind::NewExpression => &[
+            Member {
+                name: "callee",
+                sort: Sort::Child(Place::Expression),
+            },
+            Member {
+                name: "arguments",
+                sort: Sort::List(Place::ExpressionOrSpread),
+            },
+        ],
+        Kind::SequenceExpression => &[Member {
+            name: "expressions",
+            sort: Sort::NonEmptyList(Place::Expression),
+        }],
+        Kind::YieldExpression => &[
+            Member {
+                name: "argument",
+                sort: Sort::Nullable(Place::Expression),
+            },
+            Member {
+                name: "delegate",
+                sort: Sort::Boolean,
+            },
+        ],
+        Kind::AwaitExpression => &[Member {
+            name: "argument",
+            sort: Sort::Child(Place::Expression),
+        }],
+        Kind::ImportExpression => &[Member {
+            name: "source",
+            sort: Sort::Child(Place::Expression),
+        }],
+        Kind::MetaProperty => &[
+            Member {
+                name: "meta",
+                sort: Sort::Child(Place::IdentifierName),
+            },
+            Member {
+                name: "property",
+                sort: Sort::Child(Place::IdentifierName),
+            },
+        ],
+        Kind::ChainExpression => &[Member {
+            name: "expression",
+            sort: Sort::Child(Place::ChainElement),
+        }],
+        Kind::ObjectPattern => &[Member {
+            name: "properties",
+            sort: Sort::List(Place::PatternMember),
+        }],
+        Kind::BindingProperty => &[
+            Member {
+                name: "key",
+                sort: Sort::Key(Place::PropertyKey),
+            },
+            Member {
+                name: "value",
+                sort: Sort::Child(Place::Pattern),
+            },
+            Member {
+                name: "kind",
+                sort: Sort::Word(Words::Init),
+            },
+            Member {
+                name: "method",
+                sort: Sort::False,
+            },
+            Member {
+                name: "shorthand",
+                sort: Sort::Boolean,
+            },
+            Member {
+                name: "computed",
+                sort: Sort::Boolean,
+            },
+        ],
+        Kind::ArrayPattern => &[Member {
+            name: "elements",
+            sort: Sort::ListWithHoles(Place::PatternOrRest),
+        }],
+        Kind::AssignmentPattern => &[
+            Member {
+                name: "left",
+                sort: Sort::Child(Place::Pattern),
+            },
+            Member {
+                name: "right",
+                sort: Sort::Child(Place::Expression),
+            },
+        ],
+        Kind::RestElement => &[Member {
+            name: "argument",
+            sort: Sort::Child(Place::Pattern),
+        }],
+        Kind::ObjectAssignmentTarget => &[Member {
+            name: "properties",
+            sort: Sort::List(Place::TargetMember),
+        }],
+        Kind::AssignmentTargetProperty => &[
+            Member {
+                name: "key",
+                sort: Sort::Key(Place::PropertyKey),
+            },
+            Member {
+                name: "value",
+                sort: Sort::Child(Place::AssignmentTargetMaybeDefault),
+            },
+            Member {
+                name: "kind",
+                sort: Sort::Word(Words::Init),
+            },
+            Member {
+                name: "method",
+                sort: Sort::False,
+            },
+            Member {
+                name: "shorthand",
+                sort: Sort::Boolean,
+            },
+            Member {
+                name: "computed",
+                sort: Sort::Boolean,
+            },
+        ],
+        Kind::ArrayAssignmentTarget => &[Member {
+            name: "elements",
+            sort: Sort::ListWithHoles(Place::TargetOrRest),
+        }],
+        Kind::AssignmentTargetWithDefault => &[
+            Member {
+                name: "left",
+                sort: Sort::Child(Place::AssignmentTargetMaybeDefault),
+            },
+            Member {
+                name: "right",
+                sort: Sort::Child(Place::Expression),
+            },
+        ],
+        Kind::AssignmentTargetRest => &[Member {
+            name: "argument",
+            sort: Sort::Child(Place::AssignmentTargetMaybeDefault),
+        }],
+        Kind::ImportDeclaration => &[
+            Member {
+                name: "specifiers",
+                sort: Sort::List(Place::ImportMember),
+            },
+            Member {
+                name: "source",
+                sort: Sort::Child(Place::Literal),
+            },
+        ],
+        Kind::ImportSpecifier => &[
+            Member {
+                name: "imported",
+                sort: Sort::Child(Place::ModuleName),
+            },
+            Member {
+                name: "local",
+                sort: Sort::Child(Place::BindingIdentifier),
+            },
+        ],
+        Kind::ImportDefaultSpecifier => &[Member {
+            name: "local",
+            sort: Sort::Child(Place::BindingIdentifier),
+        }],
+        Kind::ImportNamespaceSpecifier => &[Member {
+            name: "local",
+            sort: Sort::Child(Place::BindingIdentifier),
+        }],
+        Kind::ExportNamedDeclaration => &[
+            Member {
+                name: "declaration",
+                sort: Sort::Nullable(Place::Statement),
+            },
+            Member {
+                name: "specifiers",
+                sort: Sort::List(Place::ExportSpecifier),
+            },
+            Member {
+                name: "source",
+                sort: Sort::Nullable(Place::Literal),
+            },
+        ],
+        Kind::ExportSpecifier => &[
+            Member {
+                name: "local",
+                sort: Sort::Child(Place::ExportLocal),
+            },
+            Member {
+                name: "exported",
+                sort: Sort::Child(Place::ModuleName),
+            },
+        ],
+        Kind::ExportDefaultDeclaration => &[Member {
+            name: "declaration",
+            sort: Sort::Child(Place::ExportDefault),
+        }],
+        Kind::ExportAllDeclaration => &[
+            Member {
+                name: "exported",
+                sort: Sort::Nullable(Place::ModuleName),
+            },
+            Member {
+                name: "source",
+                sort: Sort::Child(Place::Literal),
+            },
+        ],
+        Kind::Foreign => &[Member {
+            name: "type",
+            sort: Sort::Type,
+        }],
     }
 }
 
@@ -336,17 +1048,29 @@ pub fn fits(place: Place, kind: Kind) -> bool
         Place::Statement => fits_statement(kind),
         Place::Expression => fits_expression(kind),
         Place::Pattern => fits_pattern(kind),
-        Place::SimpleAssignmentTarget => matches!(kind, Kind::IdentifierReference | Kind::MemberExpression | Kind::PrivateField),
+        Place::SimpleAssignmentTarget => matches!(
+            kind,
+            Kind::IdentifierReference | Kind::MemberExpression | Kind::PrivateField
+        ),
         Place::AssignmentTarget => fits_target(kind),
-        Place::AssignmentTargetMaybeDefault => fits_target(kind) || matches!(kind, Kind::AssignmentTargetWithDefault),
-        Place::TargetOrRest => fits_target(kind) || matches!(kind, Kind::AssignmentTargetWithDefault) || matches!(kind, Kind::AssignmentTargetRest),
-        Place::TargetMember => matches!(kind, Kind::AssignmentTargetProperty | Kind::AssignmentTargetRest),
+        Place::AssignmentTargetMaybeDefault => fits_target(kind)
+            || matches!(kind, Kind::AssignmentTargetWithDefault),
+        Place::TargetOrRest => fits_target(kind)
+            || matches!(kind, Kind::AssignmentTargetWithDefault)
+            || matches!(kind, Kind::AssignmentTargetRest),
+        Place::TargetMember => matches!(
+            kind,
+            Kind::AssignmentTargetProperty | Kind::AssignmentTargetRest
+        ),
         Place::PatternOrRest => fits_pattern(kind) || matches!(kind, Kind::RestElement),
         Place::PatternMember => matches!(kind, Kind::BindingProperty | Kind::RestElement),
         Place::ExpressionOrSuper => fits_expression(kind) || matches!(kind, Kind::Super),
         Place::ExpressionOrSpread => fits_expression(kind) || matches!(kind, Kind::SpreadElement),
         Place::ObjectMember => matches!(kind, Kind::Property | Kind::SpreadElement),
-        Place::ChainElement => matches!(kind, Kind::MemberExpression | Kind::PrivateField | Kind::CallExpression),
+        Place::ChainElement => matches!(
+            kind,
+            Kind::MemberExpression | Kind::PrivateField | Kind::CallExpression
+        ),
         Place::ArrowBody => fits_expression(kind) || matches!(kind, Kind::BlockStatement),
         Place::ForInit => fits_expression(kind) || matches!(kind, Kind::VariableDeclaration),
         Place::ForLeft => fits_target(kind) || matches!(kind, Kind::VariableDeclaration),
@@ -355,10 +1079,14 @@ pub fn fits(place: Place, kind: Kind) -> bool
         Place::CatchClause => matches!(kind, Kind::CatchClause),
         Place::VariableDeclarator => matches!(kind, Kind::VariableDeclarator),
         Place::ClassBody => matches!(kind, Kind::ClassBody),
-        Place::ClassElement => matches!(kind, Kind::MethodDefinition | Kind::PropertyDefinition | Kind::StaticBlock | Kind::Foreign),
+        Place::ClassElement => matches!(
+            kind,
+            Kind::MethodDefinition | Kind::PropertyDefinition | Kind::StaticBlock | Kind::Foreign
+        ),
         Place::FunctionValue => matches!(kind, Kind::FunctionExpression),
         Place::PropertyKey => matches!(kind, Kind::IdentifierName | Kind::Literal),
-        Place::ClassKey => matches!(kind, Kind::IdentifierName | Kind::Literal) || matches!(kind, Kind::PrivateIdentifier),
+        Place::ClassKey => matches!(kind, Kind::IdentifierName | Kind::Literal)
+            || matches!(kind, Kind::PrivateIdentifier),
         Place::MemberProperty => matches!(kind, Kind::IdentifierName),
         Place::IdentifierName => matches!(kind, Kind::IdentifierName),
         Place::BindingIdentifier => matches!(kind, Kind::BindingIdentifier),
@@ -366,11 +1094,18 @@ pub fn fits(place: Place, kind: Kind) -> bool
         Place::Literal => matches!(kind, Kind::Literal),
         Place::TemplateLiteral => matches!(kind, Kind::TemplateLiteral),
         Place::TemplateElement => matches!(kind, Kind::TemplateElement),
-        Place::ImportMember => matches!(kind, Kind::ImportSpecifier | Kind::ImportDefaultSpecifier | Kind::ImportNamespaceSpecifier),
+        Place::ImportMember => matches!(
+            kind,
+            Kind::ImportSpecifier | Kind::ImportDefaultSpecifier | Kind::ImportNamespaceSpecifier
+        ),
         Place::ModuleName => matches!(kind, Kind::IdentifierName | Kind::Literal),
         Place::ExportSpecifier => matches!(kind, Kind::ExportSpecifier),
-        Place::ExportLocal => matches!(kind, Kind::IdentifierReference | Kind::IdentifierName | Kind::Literal),
-        Place::ExportDefault => fits_expression(kind) || matches!(kind, Kind::FunctionDeclaration | Kind::ClassDeclaration),
+        Place::ExportLocal => matches!(
+            kind,
+            Kind::IdentifierReference | Kind::IdentifierName | Kind::Literal
+        ),
+        Place::ExportDefault => fits_expression(kind)
+            || matches!(kind, Kind::FunctionDeclaration | Kind::ClassDeclaration),
     }
 }
 
@@ -378,8 +1113,32 @@ fn fits_statement(kind: Kind) -> bool
     ensures { result ≡ is_statement kind }
 {
     match kind {
-        Kind::ExpressionStatement | Kind::BlockStatement | Kind::EmptyStatement | Kind::DebuggerStatement | Kind::WithStatement | Kind::ReturnStatement | Kind::ThrowStatement | Kind::LabeledStatement | Kind::BreakStatement | Kind::ContinueStatement | Kind::IfStatement | Kind::SwitchStatement | Kind::TryStatement | Kind::WhileStatement => true,
-        Kind::DoWhileStatement | Kind::ForStatement | Kind::ForInStatement | Kind::ForOfStatement | Kind::FunctionDeclaration | Kind::VariableDeclaration | Kind::ClassDeclaration | Kind::ImportDeclaration | Kind::ExportNamedDeclaration | Kind::ExportDefaultDeclaration | Kind::ExportAllDeclaration | Kind::Foreign => true,
+        Kind::ExpressionStatement
+        | Kind::BlockStatement
+        | Kind::EmptyStatement
+        | Kind::DebuggerStatement
+        | Kind::WithStatement
+        | Kind::ReturnStatement
+        | Kind::ThrowStatement
+        | Kind::LabeledStatement
+        | Kind::BreakStatement
+        | Kind::ContinueStatement
+        | Kind::IfStatement
+        | Kind::SwitchStatement
+        | Kind::TryStatement
+        | Kind::WhileStatement => true,
+        Kind::DoWhileStatement
+        | Kind::ForStatement
+        | Kind::ForInStatement
+        | Kind::ForOfStatement
+        | Kind::FunctionDeclaration
+        | Kind::VariableDeclaration
+        | Kind::ClassDeclaration
+        | Kind::ImportDeclaration
+        | Kind::ExportNamedDeclaration
+        | Kind::ExportDefaultDeclaration
+        | Kind::ExportAllDeclaration
+        | Kind::Foreign => true,
         _ => false,
     }
 }
@@ -388,8 +1147,34 @@ fn fits_expression(kind: Kind) -> bool
     ensures { result ≡ is_expression kind }
 {
     match kind {
-        Kind::ThisExpression | Kind::IdentifierReference | Kind::Literal | Kind::ArrayExpression | Kind::ObjectExpression | Kind::FunctionExpression | Kind::ArrowFunctionExpression | Kind::ClassExpression | Kind::TemplateLiteral | Kind::TaggedTemplateExpression | Kind::MemberExpression | Kind::PrivateField | Kind::UnaryExpression | Kind::UpdateExpression => true,
-        Kind::BinaryExpression | Kind::PrivateIn | Kind::LogicalExpression | Kind::AssignmentExpression | Kind::ConditionalExpression | Kind::CallExpression | Kind::NewExpression | Kind::SequenceExpression | Kind::YieldExpression | Kind::AwaitExpression | Kind::ImportExpression | Kind::MetaProperty | Kind::ChainExpression | Kind::Foreign => true,
+        Kind::ThisExpression
+        | Kind::IdentifierReference
+        | Kind::Literal
+        | Kind::ArrayExpression
+        | Kind::ObjectExpression
+        | Kind::FunctionExpression
+        | Kind::ArrowFunctionExpression
+        | Kind::ClassExpression
+        | Kind::TemplateLiteral
+        | Kind::TaggedTemplateExpression
+        | Kind::MemberExpression
+        | Kind::PrivateField
+        | Kind::UnaryExpression
+        | Kind::UpdateExpression => true,
+        Kind::BinaryExpression
+        | Kind::PrivateIn
+        | Kind::LogicalExpression
+        | Kind::AssignmentExpression
+        | Kind::ConditionalExpression
+        | Kind::CallExpression
+        | Kind::NewExpression
+        | Kind::SequenceExpression
+        | Kind::YieldExpression
+        | Kind::AwaitExpression
+        | Kind::ImportExpression
+        | Kind::MetaProperty
+        | Kind::ChainExpression
+        | Kind::Foreign => true,
         _ => false,
     }
 }
@@ -398,7 +1183,11 @@ fn fits_pattern(kind: Kind) -> bool
     ensures { result ≡ is_pattern kind }
 {
     match kind {
-        Kind::BindingIdentifier | Kind::ObjectPattern | Kind::ArrayPattern | Kind::AssignmentPattern | Kind::Foreign => true,
+        Kind::BindingIdentifier
+        | Kind::ObjectPattern
+        | Kind::ArrayPattern
+        | Kind::AssignmentPattern
+        | Kind::Foreign => true,
         _ => false,
     }
 }
@@ -407,7 +1196,11 @@ fn fits_target(kind: Kind) -> bool
     ensures { result ≡ is_target kind }
 {
     match kind {
-        Kind::IdentifierReference | Kind::MemberExpression | Kind::PrivateField | Kind::ObjectAssignmentTarget | Kind::ArrayAssignmentTarget => true,
+        Kind::IdentifierReference
+        | Kind::MemberExpression
+        | Kind::PrivateField
+        | Kind::ObjectAssignmentTarget
+        | Kind::ArrayAssignmentTarget => true,
         _ => false,
     }
 }
@@ -416,5 +1209,88 @@ fn fits_target(kind: Kind) -> bool
 pub fn all_kinds() -> &'static [Kind]
     ensures { result.now ≡ kinds }
 {
-    &[Kind::Program, Kind::ExpressionStatement, Kind::BlockStatement, Kind::EmptyStatement, Kind::DebuggerStatement, Kind::WithStatement, Kind::ReturnStatement, Kind::ThrowStatement, Kind::LabeledStatement, Kind::BreakStatement, Kind::ContinueStatement, Kind::IfStatement, Kind::SwitchStatement, Kind::SwitchCase, Kind::TryStatement, Kind::CatchClause, Kind::WhileStatement, Kind::DoWhileStatement, Kind::ForStatement, Kind::ForInStatement, Kind::ForOfStatement, Kind::FunctionDeclaration, Kind::FunctionExpression, Kind::ArrowFunctionExpression, Kind::VariableDeclaration, Kind::VariableDeclarator, Kind::ClassDeclaration, Kind::ClassExpression, Kind::ClassBody, Kind::MethodDefinition, Kind::PropertyDefinition, Kind::StaticBlock, Kind::PrivateIdentifier, Kind::IdentifierReference, Kind::BindingIdentifier, Kind::IdentifierName, Kind::Literal, Kind::ThisExpression, Kind::Super, Kind::ArrayExpression, Kind::ObjectExpression, Kind::Property, Kind::SpreadElement, Kind::TemplateLiteral, Kind::TemplateElement, Kind::TaggedTemplateExpression, Kind::MemberExpression, Kind::PrivateField, Kind::UnaryExpression, Kind::UpdateExpression, Kind::BinaryExpression, Kind::PrivateIn, Kind::LogicalExpression, Kind::AssignmentExpression, Kind::ConditionalExpression, Kind::CallExpression, Kind::NewExpression, Kind::SequenceExpression, Kind::YieldExpression, Kind::AwaitExpression, Kind::ImportExpression, Kind::MetaProperty, Kind::ChainExpression, Kind::ObjectPattern, Kind::BindingProperty, Kind::ArrayPattern, Kind::AssignmentPattern, Kind::RestElement, Kind::ObjectAssignmentTarget, Kind::AssignmentTargetProperty, Kind::ArrayAssignmentTarget, Kind::AssignmentTargetWithDefault, Kind::AssignmentTargetRest, Kind::ImportDeclaration, Kind::ImportSpecifier, Kind::ImportDefaultSpecifier, Kind::ImportNamespaceSpecifier, Kind::ExportNamedDeclaration, Kind::ExportSpecifier, Kind::ExportDefaultDeclaration, Kind::ExportAllDeclaration, Kind::Foreign]
+    &[
+        Kind::Program,
+        Kind::ExpressionStatement,
+        Kind::BlockStatement,
+        Kind::EmptyStatement,
+        Kind::DebuggerStatement,
+        Kind::WithStatement,
+        Kind::ReturnStatement,
+        Kind::ThrowStatement,
+        Kind::LabeledStatement,
+        Kind::BreakStatement,
+        Kind::ContinueStatement,
+        Kind::IfStatement,
+        Kind::SwitchStatement,
+        Kind::SwitchCase,
+        Kind::TryStatement,
+        Kind::CatchClause,
+        Kind::WhileStatement,
+        Kind::DoWhileStatement,
+        Kind::ForStatement,
+        Kind::ForInStatement,
+        Kind::ForOfStatement,
+        Kind::FunctionDeclaration,
+        Kind::FunctionExpression,
+        Kind::ArrowFunctionExpression,
+        Kind::VariableDeclaration,
+        Kind::VariableDeclarator,
+        Kind::ClassDeclaration,
+        Kind::ClassExpression,
+        Kind::ClassBody,
+        Kind::MethodDefinition,
+        Kind::PropertyDefinition,
+        Kind::StaticBlock,
+        Kind::PrivateIdentifier,
+        Kind::IdentifierReference,
+        Kind::BindingIdentifier,
+        Kind::IdentifierName,
+        Kind::Literal,
+        Kind::ThisExpression,
+        Kind::Super,
+        Kind::ArrayExpression,
+        Kind::ObjectExpression,
+        Kind::Property,
+        Kind::SpreadElement,
+        Kind::TemplateLiteral,
+        Kind::TemplateElement,
+        Kind::TaggedTemplateExpression,
+        Kind::MemberExpression,
+        Kind::PrivateField,
+        Kind::UnaryExpression,
+        Kind::UpdateExpression,
+        Kind::BinaryExpression,
+        Kind::PrivateIn,
+        Kind::LogicalExpression,
+        Kind::AssignmentExpression,
+        Kind::ConditionalExpression,
+        Kind::CallExpression,
+        Kind::NewExpression,
+        Kind::SequenceExpression,
+        Kind::YieldExpression,
+        Kind::AwaitExpression,
+        Kind::ImportExpression,
+        Kind::MetaProperty,
+        Kind::ChainExpression,
+        Kind::ObjectPattern,
+        Kind::BindingProperty,
+        Kind::ArrayPattern,
+        Kind::AssignmentPattern,
+        Kind::RestElement,
+        Kind::ObjectAssignmentTarget,
+        Kind::AssignmentTargetProperty,
+        Kind::ArrayAssignmentTarget,
+        Kind::AssignmentTargetWithDefault,
+        Kind::AssignmentTargetRest,
+        Kind::ImportDeclaration,
+        Kind::ImportSpecifier,
+        Kind::ImportDefaultSpecifier,
+        Kind::ImportNamespaceSpecifier,
+        Kind::ExportNamedDeclaration,
+        Kind::ExportSpecifier,
+        Kind::ExportDefaultDeclaration,
+        Kind::ExportAllDeclaration,
+        Kind::Foreign,
+    ]
 }

@@ -4,7 +4,10 @@
 ghost use Rattle.std.specs.Prelude.{◌≡◌, map};
 ghost use Rattle.es_base.specs.Words.{word_string, all_of_set, is_of_set, source_type_string, variable_declaration_kind_string, method_definition_kind_string, property_kind_string, unary_operator_string, update_operator_string, binary_operator_string, logical_operator_string, assignment_operator_string};
 
-use crate::operator::{AssignmentOperator, BinaryOperator, LogicalOperator, MethodDefinitionKind, PropertyKind, SourceType, UnaryOperator, UpdateOperator, VariableDeclarationKind, Word};
+use crate::operator::{
+    AssignmentOperator, BinaryOperator, LogicalOperator, MethodDefinitionKind, PropertyKind,
+    SourceType, UnaryOperator, UpdateOperator, VariableDeclarationKind, Word,
+};
 use crate::table::Words;
 
 fn source_type_str(word: SourceType) -> &'static str
@@ -156,15 +159,86 @@ pub fn all_of_set(set: Words) -> &'static [Word]
     ensures { result.now ≡ all_of_set set }
 {
     match set {
-        Words::SourceType => &[Word::SourceType(SourceType::Script), Word::SourceType(SourceType::Module)],
-        Words::VariableDeclarationKind => &[Word::VariableDeclarationKind(VariableDeclarationKind::Var), Word::VariableDeclarationKind(VariableDeclarationKind::Let), Word::VariableDeclarationKind(VariableDeclarationKind::Const)],
-        Words::MethodDefinitionKind => &[Word::MethodDefinitionKind(MethodDefinitionKind::Constructor), Word::MethodDefinitionKind(MethodDefinitionKind::Method), Word::MethodDefinitionKind(MethodDefinitionKind::Get), Word::MethodDefinitionKind(MethodDefinitionKind::Set)],
-        Words::PropertyKind => &[Word::PropertyKind(PropertyKind::Init), Word::PropertyKind(PropertyKind::Get), Word::PropertyKind(PropertyKind::Set)],
-        Words::UnaryOperator => &[Word::UnaryOperator(UnaryOperator::Minus), Word::UnaryOperator(UnaryOperator::Plus), Word::UnaryOperator(UnaryOperator::Not), Word::UnaryOperator(UnaryOperator::BitNot), Word::UnaryOperator(UnaryOperator::Typeof), Word::UnaryOperator(UnaryOperator::Void), Word::UnaryOperator(UnaryOperator::Delete)],
-        Words::UpdateOperator => &[Word::UpdateOperator(UpdateOperator::Increment), Word::UpdateOperator(UpdateOperator::Decrement)],
-        Words::BinaryOperator => &[Word::BinaryOperator(BinaryOperator::Equality), Word::BinaryOperator(BinaryOperator::Inequality), Word::BinaryOperator(BinaryOperator::StrictEquality), Word::BinaryOperator(BinaryOperator::StrictInequality), Word::BinaryOperator(BinaryOperator::LessThan), Word::BinaryOperator(BinaryOperator::LessEqualThan), Word::BinaryOperator(BinaryOperator::GreaterThan), Word::BinaryOperator(BinaryOperator::GreaterEqualThan), Word::BinaryOperator(BinaryOperator::ShiftLeft), Word::BinaryOperator(BinaryOperator::ShiftRight), Word::BinaryOperator(BinaryOperator::ShiftRightZeroFill), Word::BinaryOperator(BinaryOperator::Addition), Word::BinaryOperator(BinaryOperator::Subtraction), Word::BinaryOperator(BinaryOperator::Multiplication), Word::BinaryOperator(BinaryOperator::Division), Word::BinaryOperator(BinaryOperator::Remainder), Word::BinaryOperator(BinaryOperator::Exponential), Word::BinaryOperator(BinaryOperator::BitwiseOr), Word::BinaryOperator(BinaryOperator::BitwiseXor), Word::BinaryOperator(BinaryOperator::BitwiseAnd), Word::BinaryOperator(BinaryOperator::In), Word::BinaryOperator(BinaryOperator::Instanceof)],
-        Words::LogicalOperator => &[Word::LogicalOperator(LogicalOperator::Or), Word::LogicalOperator(LogicalOperator::And), Word::LogicalOperator(LogicalOperator::Coalesce)],
-        Words::AssignmentOperator => &[Word::AssignmentOperator(AssignmentOperator::Assign), Word::AssignmentOperator(AssignmentOperator::Addition), Word::AssignmentOperator(AssignmentOperator::Subtraction), Word::AssignmentOperator(AssignmentOperator::Multiplication), Word::AssignmentOperator(AssignmentOperator::Division), Word::AssignmentOperator(AssignmentOperator::Remainder), Word::AssignmentOperator(AssignmentOperator::Exponential), Word::AssignmentOperator(AssignmentOperator::ShiftLeft), Word::AssignmentOperator(AssignmentOperator::ShiftRight), Word::AssignmentOperator(AssignmentOperator::ShiftRightZeroFill), Word::AssignmentOperator(AssignmentOperator::BitwiseOr), Word::AssignmentOperator(AssignmentOperator::BitwiseXor), Word::AssignmentOperator(AssignmentOperator::BitwiseAnd), Word::AssignmentOperator(AssignmentOperator::LogicalOr), Word::AssignmentOperator(AssignmentOperator::LogicalAnd), Word::AssignmentOperator(AssignmentOperator::LogicalNullish)],
+        Words::SourceType => &[
+            Word::SourceType(SourceType::Script),
+            Word::SourceType(SourceType::Module),
+        ],
+        Words::VariableDeclarationKind => &[
+            Word::VariableDeclarationKind(VariableDeclarationKind::Var),
+            Word::VariableDeclarationKind(VariableDeclarationKind::Let),
+            Word::VariableDeclarationKind(VariableDeclarationKind::Const),
+        ],
+        Words::MethodDefinitionKind => &[
+            Word::MethodDefinitionKind(MethodDefinitionKind::Constructor),
+            Word::MethodDefinitionKind(MethodDefinitionKind::Method),
+            Word::MethodDefinitionKind(MethodDefinitionKind::Get),
+            Word::MethodDefinitionKind(MethodDefinitionKind::Set),
+        ],
+        Words::PropertyKind => &[
+            Word::PropertyKind(PropertyKind::Init),
+            Word::PropertyKind(PropertyKind::Get),
+            Word::PropertyKind(PropertyKind::Set),
+        ],
+        Words::UnaryOperator => &[
+            Word::UnaryOperator(UnaryOperator::Minus),
+            Word::UnaryOperator(UnaryOperator::Plus),
+            Word::UnaryOperator(UnaryOperator::Not),
+            Word::UnaryOperator(UnaryOperator::BitNot),
+            Word::UnaryOperator(UnaryOperator::Typeof),
+            Word::UnaryOperator(UnaryOperator::Void),
+            Word::UnaryOperator(UnaryOperator::Delete),
+        ],
+        Words::UpdateOperator => &[
+            Word::UpdateOperator(UpdateOperator::Increment),
+            Word::UpdateOperator(UpdateOperator::Decrement),
+        ],
+        Words::BinaryOperator => &[
+            Word::BinaryOperator(BinaryOperator::Equality),
+            Word::BinaryOperator(BinaryOperator::Inequality),
+            Word::BinaryOperator(BinaryOperator::StrictEquality),
+            Word::BinaryOperator(BinaryOperator::StrictInequality),
+            Word::BinaryOperator(BinaryOperator::LessThan),
+            Word::BinaryOperator(BinaryOperator::LessEqualThan),
+            Word::BinaryOperator(BinaryOperator::GreaterThan),
+            Word::BinaryOperator(BinaryOperator::GreaterEqualThan),
+            Word::BinaryOperator(BinaryOperator::ShiftLeft),
+            Word::BinaryOperator(BinaryOperator::ShiftRight),
+            Word::BinaryOperator(BinaryOperator::ShiftRightZeroFill),
+            Word::BinaryOperator(BinaryOperator::Addition),
+            Word::BinaryOperator(BinaryOperator::Subtraction),
+            Word::BinaryOperator(BinaryOperator::Multiplication),
+            Word::BinaryOperator(BinaryOperator::Division),
+            Word::BinaryOperator(BinaryOperator::Remainder),
+            Word::BinaryOperator(BinaryOperator::Exponential),
+            Word::BinaryOperator(BinaryOperator::BitwiseOr),
+            Word::BinaryOperator(BinaryOperator::BitwiseXor),
+            Word::BinaryOperator(BinaryOperator::BitwiseAnd),
+            Word::BinaryOperator(BinaryOperator::In),
+            Word::BinaryOperator(BinaryOperator::Instanceof),
+        ],
+        Words::LogicalOperator => &[
+            Word::LogicalOperator(LogicalOperator::Or),
+            Word::LogicalOperator(LogicalOperator::And),
+            Word::LogicalOperator(LogicalOperator::Coalesce),
+        ],
+        Words::AssignmentOperator => &[
+            Word::AssignmentOperator(AssignmentOperator::Assign),
+            Word::AssignmentOperator(AssignmentOperator::Addition),
+            Word::AssignmentOperator(AssignmentOperator::Subtraction),
+            Word::AssignmentOperator(AssignmentOperator::Multiplication),
+            Word::AssignmentOperator(AssignmentOperator::Division),
+            Word::AssignmentOperator(AssignmentOperator::Remainder),
+            Word::AssignmentOperator(AssignmentOperator::Exponential),
+            Word::AssignmentOperator(AssignmentOperator::ShiftLeft),
+            Word::AssignmentOperator(AssignmentOperator::ShiftRight),
+            Word::AssignmentOperator(AssignmentOperator::ShiftRightZeroFill),
+            Word::AssignmentOperator(AssignmentOperator::BitwiseOr),
+            Word::AssignmentOperator(AssignmentOperator::BitwiseXor),
+            Word::AssignmentOperator(AssignmentOperator::BitwiseAnd),
+            Word::AssignmentOperator(AssignmentOperator::LogicalOr),
+            Word::AssignmentOperator(AssignmentOperator::LogicalAnd),
+            Word::AssignmentOperator(AssignmentOperator::LogicalNullish),
+        ],
         Words::In => &[Word::In],
         Words::Init => &[Word::Init],
     }

@@ -8,6 +8,3 @@ use Rattle.es_base.specs.Tree.{Tree}
 
 pub turned : (t : Tree) → t ≡ numbered_from 0 t → IsNumbered 0 t
 turned t is = subst (IsNumbered 0) (renumbered-zero 0 t ∙ sym is) (IsNumbered-renumbered 0 t (EachOnce-old_zero t))
-
-pub turned_by : (s t : Tree) → s ≡ t → t ≡ numbered_from 0 t → IsNumbered 0 s
-turned_by s t same is = subst (IsNumbered 0) (sym same) (turned t is)

@@ -1,1 +1,5 @@
+pub mod Below
 pub mod Shapes
+pub mod Renumbered
+pub mod KindRules
+pub mod Rows

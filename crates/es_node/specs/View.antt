@@ -1,5 +1,5 @@
 -- The tree that a node stands for, and the shape of its parts.
-use Rattle.std.specs.Prelude.{ℕ, List, [], ◌∷◌, Bool, true, false, ◌&&◌, Option}
+use Rattle.std.specs.Prelude.{◌≡◌, ℕ, zero, suc, List, [], ◌∷◌, Bool, true, false, ◌&&◌, Option}
 use Rattle.es_base.specs.Tree.{Tree, Part, Parts, Node, end, more, child, absent, list, string, no_string, boolean, literal, trees, nullable_trees}
 use Rattle.es_base.specs.Table.{Field, members_of}
 use Rattle.es_base.specs.Words.{is_of_set, word_string}
@@ -93,6 +93,21 @@ abbrev pub have_shapes : List Field → List code.Part → Bool
 have_shapes [] [] = true
 have_shapes (f ∷ fs) (p ∷ ps) = has_shape f.sort p && have_shapes fs ps
 have_shapes fs ps = false
+
+-- the part at a place has the shape of the member there, if there is one
+abbrev pub has_shape_at : ℕ → List Field → List code.Part → Bool
+has_shape_at zero (f ∷ fs) (p ∷ ps) = has_shape f.sort p
+has_shape_at (suc place) (f ∷ fs) (p ∷ ps) = has_shape_at place fs ps
+has_shape_at place fs ps = true
+
+-- each part has its shape; no kind has more than six members
+pub record EachHasShape (fields : List Field) (parts : List code.Part) : Type 0 where
+  pub first : has_shape_at 0 fields parts ≡ true
+  pub second : has_shape_at 1 fields parts ≡ true
+  pub third : has_shape_at 2 fields parts ≡ true
+  pub fourth : has_shape_at 3 fields parts ≡ true
+  pub fifth : has_shape_at 4 fields parts ≡ true
+  pub sixth : has_shape_at 5 fields parts ≡ true
 
 -- what holds of each node in code
 abbrev pub is_shaped : Kind → Option ℕ → List code.Part → Bool

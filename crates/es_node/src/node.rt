@@ -7,6 +7,13 @@ use es_base::literal::LiteralValue;
 use es_base::name::Name;
 use es_base::operator::Word;
 use std::marker::Model;
+use std::mem;
+
+mod clone;
+mod conforms;
+mod count;
+mod number;
+mod rules;
 
 /// A node of a syntax tree (ESTree up to ES2022), which contracts see as a tree of the definitions. What
 /// stands at its members has the shapes that the table of kinds says, and it has a semantic id only where
@@ -84,11 +91,13 @@ pub struct Contents {
 }
 
 impl Node {
-    ghost use Rattle.std.specs.Prelude.{◌≡◌, length, IsTrue, true};
+    ghost use Rattle.std.specs.Prelude.{◌≡◌, length, IsTrue, true, None, []};
+    ghost use Rattle.es_base.specs.Numbered.{unnumbered};
+    ghost use Rattle.es_base.specs.declared.kind.Kind.{Kind};
     ghost use Rattle.es_base.specs.Table.{members_of};
     ghost use Rattle.es_base.specs.Carried.{span_of};
     ghost use Rattle.es_node.specs.Bearing.{semantic_id_fits};
-    ghost use Rattle.es_node.specs.View.{kind_of, number_in, span_in, semantic_id_in, parts_of, parts_in, node_of, have_shapes, is_shaped};
+    ghost use Rattle.es_node.specs.View.{kind_of, number_in, span_in, semantic_id_in, parts_of, parts_in, node_of, have_shapes, EachHasShape, is_shaped};
 
     /// The node of this kind with these contents, whose parts have the shapes of the kind's members.
     pub fn new(kind: Kind, contents: Contents) -> Node
@@ -111,11 +120,12 @@ impl Node {
     }
 
     /// Takes the node apart; its parts have the shapes of its kind's members.
-    #[tactic(auto, using(crate::proofs::Shapes::borne, crate::proofs::Shapes::shaped, crate::proofs::Shapes::counted))]
+    #[tactic(auto, using(crate::proofs::Shapes::borne, crate::proofs::Shapes::shaped, crate::proofs::Shapes::each_shaped, crate::proofs::Shapes::counted))]
     pub fn into_contents(self) -> Contents
         ensures view { self ≡ node_of (kind_of self) result.node_id.0 (span_of result.span) result.semantic_id result.parts }
         ensures semantic_id { semantic_id_fits (kind_of self) result.semantic_id ≡ true }
         ensures shapes { have_shapes (members_of (kind_of self)) result.parts ≡ true }
+        ensures each { EachHasShape (members_of (kind_of self)) result.parts }
         ensures count { length result.parts ≡ length (members_of (kind_of self)) }
     {
         Contents {
@@ -124,6 +134,22 @@ impl Node {
             semantic_id: self.semantic_id,
             parts: self.parts,
         }
+    }
+
+    /// Takes the tree out of its place, and leaves a placeholder there: an empty statement with no
+    /// number and no span. Allocates nothing.
+    pub fn take(&mut self) -> Node
+        ensures taken { result ≡ self.old }
+        ensures placeholder { self.new ≡ node_of Kind.EmptyStatement unnumbered None None [] }
+    {
+        let placeholder = Node {
+            kind: Kind::EmptyStatement,
+            node_id: NodeId::DUMMY,
+            span: None,
+            semantic_id: None,
+            parts: self.parts.empty_list(),
+        };
+        mem::replace(self, placeholder)
     }
 
     /// What it is.
@@ -155,9 +181,10 @@ impl Node {
     }
 
     /// What stands at its members, in the order of the table of kinds.
-    #[tactic(auto, using(crate::proofs::Shapes::borne, crate::proofs::Shapes::shaped))]
+    #[tactic(auto, using(crate::proofs::Shapes::borne, crate::proofs::Shapes::shaped, crate::proofs::Shapes::each_shaped))]
     pub fn parts(&self) -> &[Part]
         ensures shapes { have_shapes (members_of (kind_of self.now)) result.now ≡ true }
+        ensures each { EachHasShape (members_of (kind_of self.now)) result.now }
         ensures semantic_id { semantic_id_fits (kind_of self.now) (semantic_id_in self.now) ≡ true }
         ensures list { parts_in self.now ≡ parts_of result.now }
     {

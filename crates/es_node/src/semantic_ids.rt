@@ -1,9 +1,36 @@
-// Semantic ids by their types: the number of a scope, a symbol or a reference.
+// Semantic ids: the number of a scope, a symbol or a reference.
 
 ghost use Rattle.std.specs.Prelude.{◌≡◌};
 ghost use Rattle.es_base.specs.Carried.{scope_number, symbol_number, reference_number};
+ghost use Rattle.es_node.specs.Bearing.{bears_semantic_id};
 
 use es_base::ids::{ReferenceId, ScopeId, SymbolId};
+use es_base::kind::Kind;
+
+/// Whether nodes of this kind may have a semantic id: those that open a scope, bind a symbol or are a
+/// reference.
+pub fn bears_semantic_id(kind: Kind) -> bool
+    ensures { result ≡ bears_semantic_id kind }
+{
+    matches!(
+        kind,
+        Kind::Program
+            | Kind::BlockStatement
+            | Kind::CatchClause
+            | Kind::ClassDeclaration
+            | Kind::ClassExpression
+            | Kind::FunctionDeclaration
+            | Kind::FunctionExpression
+            | Kind::ArrowFunctionExpression
+            | Kind::ForStatement
+            | Kind::ForInStatement
+            | Kind::ForOfStatement
+            | Kind::SwitchStatement
+            | Kind::StaticBlock
+            | Kind::IdentifierReference
+            | Kind::BindingIdentifier
+    )
+}
 
 /// The scope of this number.
 pub fn scope_id_of(number: Option<u32>) -> Option<ScopeId>

@@ -1,4 +1,4 @@
--- A tree that is read conforms at its place, and its marks fit.
+-- A tree that is read conforms at its place.
 use Rattle.std.proofs.Common.{◌≡◌, refl, sym, ap, ◌∙◌, subst, ℕ, ◌+◌, List, [], ◌∷◌, Bool, true, false, not, ◌&&◌, Option, Some, None, option_map, option_and_then, Result, Ok, if◌then◌else◌, arith}
 use Rattle.std.specs.Prelude.{codes, is_some, ◌||◌}
 use Rattle.serde_json.specs.Data.{Data, null, boolean as json_boolean, number, string as json_string, array, object, Items, no_items, item}
@@ -10,9 +10,7 @@ use Rattle.es_base.specs.Preorder.{nodes_of_part}
 use Rattle.es_base.specs.declared.kind.Kind.{Kind}
 use Rattle.es_base.specs.declared.table.Place.{Place}
 use Rattle.es_base.specs.declared.table.Sort.{Sort}
-use Rattle.es_members.proofs.And.{left_of, right_of, both}
-use Rattle.es_members.proofs.Sorts.{wrong}
-use Rattle.es_members.specs.Marked.{semantic_ids_fit, semantic_ids_fit_in}
+use Rattle.es_reading.proofs.And.{left_of, right_of, both, wrong}
 use Rattle.es_reading.specs.Fault.{Fault, Read}
 use Rattle.es_reading.specs.Look.{is_true_at, array_at, is_null, is_there, span_at}
 use Rattle.es_reading.specs.Members.{is_of_sort, are_of_sorts, are_good, is_empty, item_count as data_count}
@@ -42,7 +40,6 @@ same_value x y e = ap (λ r. r.value) (same_read x y e)
 
 record ItemStands (holes : Bool) (spot : Spot) (p : Part) : Type 0 where
   conforming : item_conforms holes spot.place p ≡ true
-  marked : semantic_ids_fit_in p ≡ true
   rest_last : is_rest p ≡ true → spot.last ≡ true
   specifier : specifier_in spot.sourced p ≡ true
 
@@ -50,11 +47,11 @@ child_item : (numbers : Numbers) (d : Data) (holes : Bool) (spot : Spot) (n : �
 child_item numbers d holes spot n x stand e =
     let b = bound (read numbers d spot n) _ x e in
     let node = stand spot n b.0 b.1 in
-    subst (λ (p : Part). ItemStands holes spot p) (same_value _ _ b.2) (record { conforming = node.conforming; marked = node.marked; rest_last = node.rest_last; specifier = node.specifier })
+    subst (λ (p : Part). ItemStands holes spot p) (same_value _ _ b.2) (record { conforming = node.conforming; rest_last = node.rest_last; specifier = node.specifier })
 
 item_by : (b : Bool) (numbers : Numbers) (d : Data) (holes : Bool) (spot : Spot) (n : ℕ) (x : Read Part) → Stand numbers d → (holes && is_null d) ≡ b
     → (if b then alone absent else as_child (read numbers d spot n)) ≡ Ok x → ItemStands holes spot x.value
-item_by true numbers d holes spot n x stand is e = subst (λ (p : Part). ItemStands holes spot p) (same_value _ _ e) (record { conforming = left_of _ _ is; marked = refl; rest_last = λ h. wrong h; specifier = refl })
+item_by true numbers d holes spot n x stand is e = subst (λ (p : Part). ItemStands holes spot p) (same_value _ _ e) (record { conforming = left_of _ _ is; rest_last = λ h. wrong h; specifier = refl })
 item_by false numbers d holes spot n x stand is e = child_item numbers d holes spot n x stand e
 
 item_stands : (numbers : Numbers) (d : Data) (holes : Bool) (spot : Spot) (n : ℕ) (x : Read Part) → Stand numbers d → (reader_of numbers d).item holes spot n ≡ Ok x → ItemStands holes spot x.value
@@ -80,7 +77,7 @@ record ItemsStand (slots : Slots) (ds : Items) (ps : Parts) : Type 0 where
 
 items_stand : (numbers : Numbers) (ds : Items) (slots : Slots) (n : ℕ) (x : Read Parts) → AllIn (Stand numbers) ds → each (consecutive slots) (readers numbers ds) n ≡ Ok x → ItemsStand slots ds x.value
 unfolding readers
-items_stand numbers no_items slots n x stand e = subst (λ (ps : Parts). ItemsStand slots no_items ps) (same_value _ _ e) (record { stands = record { conforming = refl; marked = refl; specifiers = refl }; count = refl })
+items_stand numbers no_items slots n x stand e = subst (λ (ps : Parts). ItemsStand slots no_items ps) (same_value _ _ e) (record { stands = record { conforming = refl; specifiers = refl }; count = refl })
 items_stand numbers (item d ds) slots n x stand e =
     let b = bound ((reader_of numbers d).item slots.holes (slot slots (is_last (readers numbers ds))) n) _ x e in
     let p : Read Part = b.0 in
@@ -91,7 +88,6 @@ items_stand numbers (item d ds) slots n x stand e =
     subst (λ (qs : Parts). ItemsStand slots (item d ds) qs) (same_value _ _ c.2) (record {
       stands = record {
         conforming = both _ _ first.conforming (both _ _ (rest_rule (is_rest p.value) (is_end ps.value) (is_last (readers numbers ds)) first.rest_last (λ h. ended numbers ds slots (n + nodes_of_part p.value) ps c.1 h)) others.stands.conforming);
-        marked = both _ _ first.marked others.stands.marked;
         specifiers = both _ _ first.specifier others.stands.specifiers;
       };
       count = ap (λ k. k + 1) others.count;
@@ -226,5 +222,5 @@ stands numbers d at spot n x e =
 pub read_stands : (numbers : Numbers) (d : Data) → Stand numbers d
 read_stands numbers d = (holds (Stand numbers) (stands numbers) d).0
 
-pub read_fits : (numbers : Numbers) (d : Data) (spot : Spot) (n : ℕ) (x : Read Tree) → read numbers d spot n ≡ Ok x → (conforms spot.place x.value && semantic_ids_fit x.value) ≡ true
-read_fits numbers d spot n x e = let node = read_stands numbers d spot n x e in both _ _ node.conforming node.marked
+pub read_conforms : (numbers : Numbers) (d : Data) (spot : Spot) (n : ℕ) (x : Read Tree) → read numbers d spot n ≡ Ok x → conforms spot.place x.value ≡ true
+read_conforms numbers d spot n x e = (read_stands numbers d spot n x e).conforming

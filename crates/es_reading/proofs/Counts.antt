@@ -1,8 +1,8 @@
 -- How many items a list has.
-use Rattle.std.proofs.Common.{◌≡◌, refl, sym, ap, ◌∙◌, ℕ, ◌+◌, ◌-◌, ◌^◌, ◌<◌, min, nat_eq, List, [], ◌∷◌, length, Bool, true, false, not, Option, Some, None, option_map, option_and_then, Bor, arith}
+use Rattle.std.proofs.Common.{◌≡◌, refl, sym, ap, ◌∙◌, ℕ, ◌+◌, ◌-◌, ◌^◌, ◌<◌, min, nat_eq, List, [], ◌∷◌, length, Bool, not, Option, Some, option_and_then, arith}
 use Rattle.std.specs.Prelude.{◌&&◌, is_some}
-use Rattle.serde_json.specs.Data.{Data, Items}
-use Rattle.serde_json.specs.View.{view, items_view}
+use Rattle.serde_json.specs.Data.{Items}
+use Rattle.serde_json.specs.View.{items_view}
 use Rattle.serde_json.specs.declared.value.Value.{Value}
 use Rattle.es_reading.specs.Members.{item_count, is_empty}
 

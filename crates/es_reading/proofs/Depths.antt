@@ -1,5 +1,5 @@
 -- What stands in a value is less deep than the value.
-use Rattle.std.proofs.Common.{◌≡◌, refl, sym, ap, ◌∙◌, ℕ, zero, suc, ◌+◌, ◌*◌, ◌<◌, ◌≤◌, max, List, [], ◌∷◌, length, get_or, Option, Some, None, Ordering, Less, Equal, Greater, arith}
+use Rattle.std.proofs.Common.{◌≡◌, refl, sym, ap, ℕ, zero, suc, ◌+◌, ◌*◌, ◌<◌, ◌≤◌, max, List, [], ◌∷◌, length, get_or, Option, Some, None, option_and_then, Ordering, Less, Equal, Greater, arith}
 use Rattle.std.specs.Ordering.{nat_cmp, match_ordering}
 use Rattle.std.specs.Cmp.Lexicographic.{slice_cmp}
 use Rattle.serde_json.specs.Data.{Data, null, boolean as json_boolean, number, string as json_string, array, object, Items, Members, no_members, member, depth, items_depth, members_depth}
@@ -7,6 +7,7 @@ use Rattle.serde_json.specs.Find.{get, get_member, as_array}
 use Rattle.serde_json.specs.View.{view, items_view, members_view}
 use Rattle.serde_json.specs.declared.value.Value.{Value}
 use Rattle.serde_json.proofs.Views.{Entry}
+use Rattle.es_reading.specs.Look.{array_at}
 
 pub item_depth : (vs : List Value) (i : ℕ) (v : Value) → i < length vs → v ≡ get_or vs i v → depth (view v) ≤ items_depth (items_view vs)
 item_depth [] i v l is = absurd (omega arith)
@@ -48,6 +49,9 @@ falls_by rank d k (Some e) small is = omega (arith, small, get_depth d k e is)
 pub falls : (rank : ℕ) (d : Data) (k : List ℕ) (o : Option Data) → rank ≤ 8 → o ≡ get k d → falls_to rank o < 8 * depth d + 1
 falls rank d k o small is = falls_by rank d k o small (sym is)
 
+pub child_falls : (d e : Data) (k : List ℕ) → get k d ≡ Some e → depth e < depth d
+child_falls d e k is = get_depth d k e is
+
 pub array_depth : (d : Data) (ds : Items) → Some ds ≡ as_array d → items_depth ds < depth d
 array_depth null ds e = cc
 array_depth (json_boolean b) ds e = cc
@@ -55,3 +59,9 @@ array_depth (number b) ds e = cc
 array_depth (json_string b) ds e = cc
 array_depth (array es) ds e = let same : es ≡ ds = cc in omega (arith, ap items_depth same)
 array_depth (object ms) ds e = cc
+
+pub items_fall : (d : Data) (k : List ℕ) (ds : Items) → array_at k d ≡ Some ds → items_depth ds + 1 < depth d
+items_fall d k ds is = by_found (get k d) refl is where
+  by_found : (o : Option Data) → get k d ≡ o → option_and_then as_array o ≡ Some ds → items_depth ds + 1 < depth d
+  by_found None here e = cc
+  by_found (Some f) here e = omega (arith, get_depth d k f here, array_depth f ds (sym e))

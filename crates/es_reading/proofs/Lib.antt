@@ -1,3 +1,4 @@
+pub mod And
 pub mod Below
 pub mod Chosen
 pub mod Conforming

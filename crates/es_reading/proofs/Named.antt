@@ -1,4 +1,4 @@
--- A kind whose name has another length than a text has another name.
+-- A kind whose name has another length than a string has another name.
 use Rattle.std.proofs.Common.{◌≡◌, refl, sym, ap, ◌∙◌, ℕ, List, [], ◌∷◌, length, Bool, true, false, nat_eq, ◌⊎◌, inl, inr, Ok, true≢false}
 use Rattle.std.specs.Prelude.{bytes_eq, filter, if◌then◌else◌}
 use Rattle.std.proofs.lemmas.Bool.Decides.{Decides-eqb}

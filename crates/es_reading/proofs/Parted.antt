@@ -13,9 +13,7 @@ use Rattle.es_base.specs.declared.literal.LiteralValue.{LiteralValue}
 use Rattle.es_base.specs.declared.table.Place.{Place}
 use Rattle.es_base.specs.declared.table.Sort.{Sort}
 use Rattle.es_base.specs.declared.table.Words.{Words}
-use Rattle.es_members.proofs.And.{left_of, right_of, both}
-use Rattle.es_members.proofs.Sorts.{wrong}
-use Rattle.es_members.specs.Marked.{semantic_ids_fit_in, semantic_ids_fit_all}
+use Rattle.es_reading.proofs.And.{left_of, right_of, both, wrong}
 use Rattle.es_reading.specs.Literals.{Form, form_in, value_of}
 use Rattle.es_reading.specs.Look.{string_at, chars_at, array_at, is_true_at, is_string_at, is_there}
 use Rattle.es_reading.specs.Members.{is_of_sort, is_name, is_word, item_count as data_count}
@@ -56,49 +54,6 @@ PartsRead d parent [] end = Unit
 PartsRead d parent [] (more p ps) = ⊥
 PartsRead d parent (f ∷ fs) end = ⊥
 PartsRead d parent (f ∷ fs) (more p ps) = PartRead d parent f.name f.sort p × PartsRead d parent fs ps
-
--- ---- marks
-
-marked_string : (o : Option (List ℕ)) → semantic_ids_fit_in (nullable_string o) ≡ true
-marked_string None = refl
-marked_string (Some s) = refl
-
-marked_literal : (o : Option LiteralValue) → semantic_ids_fit_in (literal_part o) ≡ true
-marked_literal None = refl
-marked_literal (Some v) = refl
-
-leaf_marked : (d : Data) (name : List ℕ) (sort : Sort) → semantic_ids_fit_in (leaf_of d name sort) ≡ true
-leaf_marked d name Sort.Boolean = refl
-leaf_marked d name Sort.False = refl
-leaf_marked d name Sort.Literal = marked_literal _
-leaf_marked d name Sort.Raw = marked_string _
-leaf_marked d name Sort.Cooked = marked_string _
-leaf_marked d name _ = marked_string _
-
-marked_leaf : (d : Data) (name : List ℕ) (sort : Sort) (p : Part) → LeafRead d name sort p → semantic_ids_fit_in p ≡ true
-marked_leaf d name sort p h = subst (λ (z : Part). semantic_ids_fit_in z ≡ true) h.is (leaf_marked d name sort)
-
-marked_part : (d : Data) (parent : Parent) (name : List ℕ) (sort : Sort) (p : Part) → PartRead d parent name sort p → semantic_ids_fit_in p ≡ true
-marked_part d parent name (Sort.Child place) (child t) h = h.marked
-marked_part d parent name (Sort.Child place) _ h = absurd h
-marked_part d parent name (Sort.Key place) (child t) h = h.marked
-marked_part d parent name (Sort.Key place) _ h = absurd h
-marked_part d parent name (Sort.Nullable place) (child t) h = h.0.marked
-marked_part d parent name (Sort.Nullable place) absent h = refl
-marked_part d parent name (Sort.Nullable place) _ h = absurd h
-marked_part d parent name (Sort.List place) (list ps) h = h.0.marked
-marked_part d parent name (Sort.List place) _ h = absurd h
-marked_part d parent name (Sort.NonEmptyList place) (list ps) h = h.0.marked
-marked_part d parent name (Sort.NonEmptyList place) _ h = absurd h
-marked_part d parent name (Sort.ListWithHoles place) (list ps) h = h.0.marked
-marked_part d parent name (Sort.ListWithHoles place) _ h = absurd h
-marked_part d parent name _ p h = marked_leaf d name _ p h
-
-pub marked_parts : (d : Data) (parent : Parent) (fs : List Field) (ps : Parts) → PartsRead d parent fs ps → semantic_ids_fit_all ps ≡ true
-marked_parts d parent [] end h = refl
-marked_parts d parent [] (more p ps) h = absurd h
-marked_parts d parent (f ∷ fs) end h = absurd h
-marked_parts d parent (f ∷ fs) (more p ps) h = both _ _ (marked_part d parent f.name f.sort p h.0) (marked_parts d parent fs ps h.1)
 
 -- ---- booleans
 

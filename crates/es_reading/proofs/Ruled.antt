@@ -11,8 +11,7 @@ use Rattle.es_base.specs.Conforms.{conforms, place_rule, kind_rule, local_rule, 
 use Rattle.es_base.specs.declared.kind.Kind.{Kind}
 use Rattle.es_base.specs.declared.table.Place.{Place}
 use Rattle.es_base.specs.declared.table.Sort.{Sort}
-use Rattle.es_members.proofs.And.{left_of, right_of, both}
-use Rattle.es_members.proofs.Sorts.{wrong}
+use Rattle.es_reading.proofs.And.{left_of, right_of, both, wrong}
 use Rattle.es_reading.specs.Kinds.{is_named, may_stand, may_be_literal, has_private_property}
 use Rattle.es_reading.specs.Literals.{Form, form_in, value_of, may_be_key}
 use Rattle.es_reading.specs.Look.{string_at, is_true_at, is_this, is_string_at, is_there}
@@ -21,7 +20,7 @@ use Rattle.es_reading.specs.Reading.{parent_of, literal_part}
 use Rattle.es_reading.specs.declared.spot.Parent.{Parent}
 use Rattle.es_reading.specs.declared.spot.Spot.{Spot}
 use Rattle.es_reading.proofs.Chosen.{IsChosen}
-use Rattle.es_reading.proofs.Parted.{PartRead, PartsRead, ListRead, reads_true, boolean_read, has_key, types_good, good_parts, marked_parts, target_place, by_target, is_foreign_string}
+use Rattle.es_reading.proofs.Parted.{PartRead, PartsRead, ListRead, reads_true, boolean_read, has_key, types_good, good_parts, target_place, by_target, is_foreign_string}
 use Rattle.es_reading.proofs.Standing.{NodeStands, local_fits, kind_in_tree, specifier_fits, specifier_in, specifiers_fit}
 use Rattle.es_reading.proofs.Wording.{assigned, key_good}
 
@@ -197,7 +196,6 @@ node_stands spot d k id span ps is good read =
           (both _ _ (place_ruled spot d (parent_of k spot d) k ps is.stands read)
           (both _ _ (kind_ruled spot d k ps read (right_of (are_of_sorts d (members_of k)) _ good))
           (good_parts (boolean_at (codes "computed") (members_of k) ps) d (parent_of k spot d) (members_of k) ps read computed (types_named d is.name k is.typed is.named))));
-      marked = marked_parts d (parent_of k spot d) (members_of k) ps read;
       rest_last = rest_asks spot d k id span ps is.stands;
       local_name = local_asks spot d k is.stands;
       specifier = specifier_asks spot d k id span ps read;

@@ -4,7 +4,6 @@ use Rattle.es_base.specs.Tree.{Tree, Part, Parts, Node, end, more, child}
 use Rattle.es_base.specs.Conforms.{conforms, items_conform, is_rest}
 use Rattle.es_base.specs.declared.kind.Kind.{Kind}
 use Rattle.es_base.specs.declared.table.Place.{Place}
-use Rattle.es_members.specs.Marked.{semantic_ids_fit, semantic_ids_fit_all}
 use Rattle.es_reading.specs.Kinds.{may_be_reference, may_be_name}
 use Rattle.es_reading.specs.declared.spot.Slots.{Slots}
 use Rattle.es_reading.specs.declared.spot.Spot.{Spot}
@@ -32,12 +31,10 @@ specifiers_fit sourced (more p ps) = specifier_in sourced p && specifiers_fit so
 
 pub record NodeStands (spot : Spot) (t : Tree) : Type 0 where
   pub conforming : conforms spot.place t ≡ true
-  pub marked : semantic_ids_fit t ≡ true
   pub rest_last : is_rest (child t) ≡ true → spot.last ≡ true
   pub local_name : local_fits (kind_in_tree t) spot.place spot.sourced ≡ true
   pub specifier : specifier_fits spot.sourced t ≡ true
 
 pub record ListStands (slots : Slots) (ps : Parts) : Type 0 where
   pub conforming : items_conform slots.holes slots.place ps ≡ true
-  pub marked : semantic_ids_fit_all ps ≡ true
   pub specifiers : specifiers_fit slots.sourced ps ≡ true

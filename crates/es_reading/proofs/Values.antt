@@ -1,5 +1,5 @@
 -- A value holds at least as many values as nodes are read of it.
-use Rattle.std.proofs.Common.{◌≡◌, refl, sym, ap, ap₂, ◌∙◌, ℕ, ◌+◌, ◌<◌, ◌≤◌, List, [], ◌∷◌, map, drop, length, get_or, Bool, true, false, not, ◌&&◌, Option, Some, None, Ordering, Less, Equal, Greater, Bor, arith}
+use Rattle.std.proofs.Common.{◌≡◌, refl, sym, ap, ap₂, ◌∙◌, ℕ, ◌+◌, ◌<◌, ◌≤◌, List, [], ◌∷◌, Bool, true, false, not, ◌&&◌, Option, Some, None, option_and_then, Ordering, Less, Equal, Greater, arith}
 use Rattle.std.specs.Prelude.{bytes_eq}
 use Rattle.std.specs.Ordering.{nat_cmp, match_ordering, is_eq}
 use Rattle.std.specs.Cmp.Lexicographic.{slice_cmp}
@@ -8,10 +8,9 @@ use Rattle.std.proofs.lemmas.Map.Text.{is_eq-slice_cmp}
 use Rattle.std.proofs.lemmas.Slice.Eq.{bytes_eq-Decides}
 use Rattle.serde_json.specs.Data.{Data, null, boolean as json_boolean, number, string as json_string, array, object, Items, Members, no_members, member}
 use Rattle.serde_json.specs.Find.{get, get_member, as_array}
-use Rattle.serde_json.specs.View.{view, items_view}
-use Rattle.serde_json.specs.declared.value.Value.{Value}
 use Rattle.es_base.specs.Table.{Field, members_of}
 use Rattle.es_base.specs.declared.kind.Kind.{Kind}
+use Rattle.es_reading.specs.Look.{array_at}
 use Rattle.es_reading.specs.Told.{values, values_of_items, values_of_members, values_there, values_at}
 
 pub some_value : (d : Data) → 1 ≤ values d
@@ -100,3 +99,9 @@ items_within (number n) ds e = cc
 items_within (json_string s) ds e = cc
 items_within (array es) ds e = let same : es ≡ ds = cc in omega (arith, ap values_of_items same)
 items_within (object ms) ds e = cc
+
+pub items_there : (d : Data) (key : List ℕ) (ds : Items) → array_at key d ≡ Some ds → values_of_items ds < values_there (get key d)
+items_there d key ds is = by_found (get key d) is where
+  by_found : (o : Option Data) → option_and_then as_array o ≡ Some ds → values_of_items ds < values_there o
+  by_found None e = cc
+  by_found (Some f) e = items_within f ds (sym e)

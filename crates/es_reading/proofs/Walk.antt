@@ -1,14 +1,14 @@
 -- How the reading of a value goes on.
-use Rattle.std.proofs.Common.{◌≡◌, refl, sym, ap, ap₂, ◌∙◌, subst, ℕ, zero, suc, ◌+◌, ◌<◌, ◌≤◌, nat_eq, length, drop, get_or, List, [], ◌∷◌, ◌++◌, append_assoc, append-nil, map, Bool, true, false, ◌&&◌, Option, Some, None, option_map, Result, Ok, Err, Ordering, Less, Equal, Greater, arith}
+use Rattle.std.proofs.Common.{◌≡◌, refl, sym, ap, ap₂, ◌∙◌, subst, ℕ, zero, suc, ◌+◌, ◌<◌, ◌≤◌, nat_eq, length, drop, get_or, List, [], ◌∷◌, ◌++◌, append_assoc, append-nil, map, Bool, true, false, Option, Some, None, option_map, option_and_then, Result, Ok, Err, Ordering, Less, Equal, Greater, arith}
 use Rattle.std.proofs.lemmas.Bool.Decides.{same_from_decides, Decides-eqb, nat_tests}
 use Rattle.std.proofs.lemmas.List.{drop_more}
 use Rattle.std.specs.Ordering.{nat_cmp, match_ordering}
 use Rattle.std.specs.Cmp.Lexicographic.{slice_cmp}
-use Rattle.serde_json.specs.Data.{Data, null, boolean as json_boolean, number, string as json_string, array, object, Items, Members, no_members, member}
+use Rattle.serde_json.specs.Data.{Data, null, boolean as json_boolean, number, string as json_string, array, object, Members, no_members, member}
 use Rattle.serde_json.specs.Find.{get, get_member, as_array}
 use Rattle.serde_json.specs.View.{view, items_view}
 use Rattle.serde_json.specs.declared.value.Value.{Value}
-use Rattle.es_base.specs.Tree.{Tree, Part, Parts, Node, end, more, child, list, nullable_string}
+use Rattle.es_base.specs.Tree.{Tree, Part, Parts, Node, end, more, child, list, trees, nullable_trees, nullable, nullable_string}
 use Rattle.es_base.specs.Preorder.{nodes_of, nodes_of_part}
 use Rattle.es_base.specs.Table.{Field, field_of, members_of}
 use Rattle.es_base.specs.declared.kind.Kind.{Kind}
@@ -16,13 +16,15 @@ use Rattle.es_base.specs.declared.literal.LiteralValue.{LiteralValue}
 use Rattle.es_base.specs.declared.table.Member.{Member}
 use Rattle.es_base.specs.declared.table.Place.{Place}
 use Rattle.es_base.specs.declared.table.Sort.{Sort}
-use Rattle.es_plain.specs.View.{plain_part, plain_parts}
-use Rattle.es_plain.specs.declared.plain.Part as code
+use Rattle.es_node.specs.View.{part_of, parts_of, has_shape, have_shapes}
+use Rattle.es_node.specs.declared.node.Part as code
+use Rattle.es_reading.proofs.And.{left_of, right_of, both}
 use Rattle.es_reading.specs.Fault.{Fault, Read, bind}
-use Rattle.es_reading.specs.Look.{span_at, is_null}
-use Rattle.es_reading.specs.Reading.{Reader, reader_of, readers_in, readers, find, finds, read, value_node, kind_of, number_of, members_in, parent_of, node_of, own_number, each, before as put_before, as_child, as_list, alone, leaf_of, literal_part, member_of, item_of, items_of, slot, is_last}
+use Rattle.es_reading.specs.Look.{span_at, array_at}
+use Rattle.es_reading.specs.Members.{is_of_sort, are_of_sorts}
+use Rattle.es_reading.specs.Reading.{Reader, reader_of, readers_in, readers, find, finds, read, value_node, kind_of, number_of, members_in, parent_of, node_of, own_number, each, before as put_before, as_child, as_list, alone, leaf_of, literal_part, member_of, items_of, slot, is_last, read_by}
 use Rattle.es_reading.specs.Told.{Tells, Gives, item_in, values_there, values_at}
-use Rattle.es_reading.specs.Unlisted.{is_foreign_node}
+use Rattle.es_reading.specs.Unlisted.{is_foreign_node, holds_nodes}
 use Rattle.es_reading.specs.declared.fault.ReadError.{ReadError}
 use Rattle.es_reading.specs.declared.numbers.Numbers.{Numbers}
 use Rattle.es_reading.specs.declared.spot.Parent.{Parent}
@@ -90,8 +92,17 @@ pub items_are : (numbers : Numbers) (d : Data) (vs : List Value) (slots : Slots)
     → (reader_of numbers d).items slots n ≡ as_list (each (item_in numbers slots) vs n)
 items_are numbers d vs slots n e = ap (λ rs. items_of slots rs n) (in_array numbers d vs e) ∙ ap as_list (each_of numbers slots vs n)
 
-pub no_items : (numbers : Numbers) (d : Data) (slots : Slots) (n : ℕ) → None ≡ as_array d → (reader_of numbers d).items slots n ≡ alone (list end)
-no_items numbers d slots n e = ap (λ rs. items_of slots rs n) (in_none numbers d e)
+-- the list at a member
+pub member_items : (numbers : Numbers) (d : Data) (name : List ℕ) (vs : List Value) (slots : Slots) (n : ℕ) → array_at name d ≡ Some (items_view vs)
+    → read_by (finds numbers d name) (λ r. r.items slots n) ≡ as_list (each (item_in numbers slots) vs n)
+member_items numbers d name vs slots n is = by_found (get name d) is where
+  by_found : (o : Option Data) → option_and_then as_array o ≡ Some (items_view vs) → read_by (option_map (reader_of numbers) o) (λ r. r.items slots n) ≡ as_list (each (item_in numbers slots) vs n)
+  by_found None e = cc
+  by_found (Some d) e = items_are numbers d vs slots n (sym e)
+
+-- the child at a member
+pub member_child : (numbers : Numbers) (d e : Data) (name : List ℕ) (spot : Spot) (n : ℕ) → get name d ≡ Some e → read_by (finds numbers d name) (λ r. r.item false spot n) ≡ (reader_of numbers e).item false spot n
+member_child numbers d e name spot n is = ap (λ o. read_by (option_map (reader_of numbers) o) (λ r. r.item false spot n)) is
 
 -- ---- errors
 
@@ -159,11 +170,24 @@ joined_more : (ps : Parts) (p : Part) (qs : Parts) → joined ps (more p qs) ≡
 joined_more end p qs = refl
 joined_more (more q ps) p qs = ap (more q) (joined_more ps p qs)
 
-pub pushed : (xs ys : List code.Part) (x : code.Part) → ys ≡ xs ++ x ∷ [] → plain_parts ys ≡ joined (plain_parts xs) (more (plain_part x) end)
-pushed xs ys x is = ap plain_parts is ∙ pushed_on xs x where
-  pushed_on : (xs : List code.Part) (x : code.Part) → plain_parts (xs ++ x ∷ []) ≡ joined (plain_parts xs) (more (plain_part x) end)
+-- parts, children, and children that may be absent, with one more at the end
+pub pushed : (xs ys : List code.Part) (x : code.Part) → ys ≡ xs ++ x ∷ [] → parts_of ys ≡ joined (parts_of xs) (more (part_of x) end)
+pushed xs ys x is = ap parts_of is ∙ pushed_on xs x where
+  pushed_on : (xs : List code.Part) (x : code.Part) → parts_of (xs ++ x ∷ []) ≡ joined (parts_of xs) (more (part_of x) end)
   pushed_on [] x = refl
-  pushed_on (y ∷ xs) x = ap (more (plain_part y)) (pushed_on xs x)
+  pushed_on (y ∷ xs) x = ap (more (part_of y)) (pushed_on xs x)
+
+pub node_pushed : (xs ys : List Tree) (x : Tree) → ys ≡ xs ++ x ∷ [] → trees ys ≡ joined (trees xs) (more (child x) end)
+node_pushed xs ys x is = ap trees is ∙ pushed_on xs x where
+  pushed_on : (xs : List Tree) (x : Tree) → trees (xs ++ x ∷ []) ≡ joined (trees xs) (more (child x) end)
+  pushed_on [] x = refl
+  pushed_on (y ∷ xs) x = ap (more (child y)) (pushed_on xs x)
+
+pub nullable_pushed : (xs ys : List (Option Tree)) (x : Option Tree) → ys ≡ xs ++ x ∷ [] → nullable_trees ys ≡ joined (nullable_trees xs) (more (nullable x) end)
+nullable_pushed xs ys x is = ap nullable_trees is ∙ pushed_on xs x where
+  pushed_on : (xs : List (Option Tree)) (x : Option Tree) → nullable_trees (xs ++ x ∷ []) ≡ joined (nullable_trees xs) (more (nullable x) end)
+  pushed_on [] x = refl
+  pushed_on (y ∷ xs) x = ap (more (nullable y)) (pushed_on xs x)
 
 pub nodes_joined : (ps : Parts) (p : Part) → nodes_of (joined ps (more p end)) ≡ nodes_of ps + nodes_of_part p
 nodes_joined end p = omega arith
@@ -185,8 +209,8 @@ nothing_yet (Err f) = refl
 pub begun : (r : Result (Read Parts) Fault) (first : List ℕ) → Begun r r end first first
 begun r first = record { added = []; reads = nothing_yet r; adds = sym (append-nil first) }
 
-pub begun_at : (r : Result (Read Parts) Fault) (xs : List code.Part) (first : List ℕ) → xs ≡ [] → Begun r r (plain_parts xs) first first
-begun_at r xs first none = subst (λ (ys : List code.Part). Begun r r (plain_parts ys) first first) (sym none) (begun r first)
+pub begun_at : (r : Result (Read Parts) Fault) (ps : Parts) (first : List ℕ) → ps ≡ end → Begun r r ps first first
+begun_at r ps first none = subst (λ (qs : Parts). Begun r r qs first first) (sym none) (begun r first)
 
 one_behind : (ps : Parts) (fs : List ℕ) (p : Part) (gs : List ℕ) (r : Result (Read Parts) Fault)
     → behind ps fs (bind r (λ qs. Ok (put_before (record { value = p; foreign = gs }) qs))) ≡ behind (joined ps (more p end)) (fs ++ gs) r
@@ -273,16 +297,26 @@ pub gives_by : {T : Type 0} {r s : Result (Read T) Fault} {x : T} {first last : 
 gives_by is g = record { added = g.added; reads = is ∙ g.reads; adds = g.adds }
 
 -- a member that holds no nodes
-pub leaf_member : (find : List ℕ → Option Reader) (d : Data) (parent : Parent) (name : List ℕ) (sort : Sort) (n : ℕ) → ((p : Place) → sort ≡ Sort.Child p → ⊥) → ((p : Place) → sort ≡ Sort.Nullable p → ⊥) → ((p : Place) → sort ≡ Sort.Key p → ⊥)
-    → ((p : Place) → sort ≡ Sort.List p → ⊥) → ((p : Place) → sort ≡ Sort.NonEmptyList p → ⊥) → ((p : Place) → sort ≡ Sort.ListWithHoles p → ⊥) → member_of find d parent name sort n ≡ alone (leaf_of d name sort)
-leaf_member find d parent name (Sort.Child p) n a b c e f g = absurd (a p refl)
-leaf_member find d parent name (Sort.Nullable p) n a b c e f g = absurd (b p refl)
-leaf_member find d parent name (Sort.Key p) n a b c e f g = absurd (c p refl)
-leaf_member find d parent name (Sort.List p) n a b c e f g = absurd (e p refl)
-leaf_member find d parent name (Sort.NonEmptyList p) n a b c e f g = absurd (f p refl)
-leaf_member find d parent name (Sort.ListWithHoles p) n a b c e f g = absurd (g p refl)
-leaf_member find d parent name Sort.Name n a b c e f g = refl
-leaf_member find d parent name _ n a b c e f g = refl
+pub leaf_member : (find : List ℕ → Option Reader) (d : Data) (parent : Parent) (name : List ℕ) (sort : Sort) (n : ℕ) → holds_nodes sort ≡ false → member_of find d parent name sort n ≡ alone (leaf_of d name sort)
+leaf_member find d parent name (Sort.Child p) n h = absurd (cc)
+leaf_member find d parent name (Sort.Nullable p) n h = absurd (cc)
+leaf_member find d parent name (Sort.Key p) n h = absurd (cc)
+leaf_member find d parent name (Sort.List p) n h = absurd (cc)
+leaf_member find d parent name (Sort.NonEmptyList p) n h = absurd (cc)
+leaf_member find d parent name (Sort.ListWithHoles p) n h = absurd (cc)
+leaf_member find d parent name Sort.Name n h = refl
+leaf_member find d parent name _ n h = refl
+
+pub no_nodes : (sort : Sort) → ((p : Place) → sort ≡ Sort.Child p → ⊥) → ((p : Place) → sort ≡ Sort.Key p → ⊥) → ((p : Place) → sort ≡ Sort.Nullable p → ⊥)
+    → ((p : Place) → sort ≡ Sort.List p → ⊥) → ((p : Place) → sort ≡ Sort.NonEmptyList p → ⊥) → ((p : Place) → sort ≡ Sort.ListWithHoles p → ⊥) → holds_nodes sort ≡ false
+no_nodes (Sort.Child p) a b c e f g = absurd (a p refl)
+no_nodes (Sort.Key p) a b c e f g = absurd (b p refl)
+no_nodes (Sort.Nullable p) a b c e f g = absurd (c p refl)
+no_nodes (Sort.List p) a b c e f g = absurd (e p refl)
+no_nodes (Sort.NonEmptyList p) a b c e f g = absurd (f p refl)
+no_nodes (Sort.ListWithHoles p) a b c e f g = absurd (g p refl)
+no_nodes Sort.Name a b c e f g = refl
+no_nodes _ a b c e f g = refl
 
 string_nodes : (t : Option (List ℕ)) → nodes_of_part (nullable_string t) ≡ 0
 string_nodes None = refl
@@ -306,3 +340,42 @@ pub member_fits : (d : Data) (ms : List Member) (i : ℕ) (m : Member) (fs : Lis
 member_fits d ms i m fs next at limit l bound is small =
     let here = ap (λ (xs : List Member). values_at d (map field_of xs)) (drop_more ms i m l) in
     omega (arith, here, ap (values_at d) is, bound, small)
+
+-- an item of a list without holes is a node
+pub item_gives : (numbers : Numbers) (d : Data) (holes : Bool) (spot : Spot) (n : ℕ) (t : Tree) (first last : List ℕ) → holes ≡ false → Gives (read numbers d spot n) t first last → Gives ((reader_of numbers d).item holes spot n) (child t) first last
+item_gives numbers d holes spot n t first last is g =
+    subst (λ (b : Bool). Gives ((reader_of numbers d).item b spot n) (child t) first last) (sym is) (child_read (read numbers d spot n) (as_child (read numbers d spot n)) t (child t) first last refl refl g)
+
+pub item_tells : (numbers : Numbers) (d : Data) (holes : Bool) (spot : Spot) (n : ℕ) (e : ReadError) → holes ≡ false → Tells e (read numbers d spot n) → Tells e ((reader_of numbers d).item holes spot n)
+item_tells numbers d holes spot n e is t = subst (λ (b : Bool). Tells e ((reader_of numbers d).item b spot n)) (sym is) (tells_first e (read numbers d spot n) _ t)
+
+-- an item of a list with holes may be none
+pub hole_gives : (numbers : Numbers) (d : Data) (holes : Bool) (spot : Spot) (n : ℕ) (p : Part) (first last : List ℕ) → holes ≡ true → Gives ((reader_of numbers d).item true spot n) p first last → Gives ((reader_of numbers d).item holes spot n) p first last
+hole_gives numbers d holes spot n p first last is g = subst (λ (b : Bool). Gives ((reader_of numbers d).item b spot n) p first last) (sym is) g
+
+pub hole_tells : (numbers : Numbers) (d : Data) (holes : Bool) (spot : Spot) (n : ℕ) (e : ReadError) → holes ≡ true → Tells e ((reader_of numbers d).item true spot n) → Tells e ((reader_of numbers d).item holes spot n)
+hole_tells numbers d holes spot n e is t = subst (λ (b : Bool). Tells e ((reader_of numbers d).item b spot n)) (sym is) t
+
+-- ---- shapes
+
+abbrev pub Shaped : List Field → List code.Part → List Field → Type 0
+Shaped all ps left = (qs : List code.Part) → have_shapes left qs ≡ true → have_shapes all (ps ++ qs) ≡ true
+
+pub shaped_none : (fs : List Field) (ps : List code.Part) → ps ≡ [] → Shaped fs ps fs
+shaped_none fs ps none qs h = ap (λ (xs : List code.Part). have_shapes fs (xs ++ qs)) none ∙ h
+
+pub shaped_on : (all left gs : List Field) (f : Field) (ps later : List code.Part) (p : code.Part) → left ≡ f ∷ gs → Shaped all ps left → has_shape f.sort p ≡ true → later ≡ ps ++ p ∷ [] → Shaped all later gs
+shaped_on all left gs f ps later p is before here put qs h =
+    ap (λ (xs : List code.Part). have_shapes all (xs ++ qs)) put
+    ∙ ap (have_shapes all) (append_assoc ps (p ∷ []) qs)
+    ∙ before (p ∷ qs) (ap (λ (fs : List Field). have_shapes fs (p ∷ qs)) is ∙ both _ _ here h)
+
+pub shaped_all : (all left : List Field) (ps : List code.Part) → left ≡ [] → Shaped all ps left → have_shapes all ps ≡ true
+shaped_all all left ps none before = ap (have_shapes all) (sym (append-nil ps)) ∙ before [] (ap (λ (fs : List Field). have_shapes fs []) none)
+
+-- the members that are left are good, and so is the first of them
+pub good_here : (d : Data) (f : Field) (fs all : List Field) → all ≡ f ∷ fs → are_of_sorts d all ≡ true → is_of_sort d f.name f.sort ≡ true
+good_here d f fs all is h = left_of _ _ (sym (ap (are_of_sorts d) is) ∙ h)
+
+pub good_rest : (d : Data) (f : Field) (fs all : List Field) → all ≡ f ∷ fs → are_of_sorts d all ≡ true → are_of_sorts d fs ≡ true
+good_rest d f fs all is h = right_of (is_of_sort d f.name f.sort) _ (sym (ap (are_of_sorts d) is) ∙ h)

@@ -1,4 +1,4 @@
--- The texts and literals that are read are what their sorts ask for.
+-- The strings and literals that are read are what their sorts ask for.
 use Rattle.std.proofs.Common.{◌≡◌, refl, sym, ap, ◌∙◌, subst, ℕ, zero, suc, ◌-◌, ◌/◌, ◌%◌, ◌<◌, nat_le, nat_lt, nat_eq, ◌==◌, cond, List, [], ◌∷◌, map, Bool, true, false, ◌&&◌, ◌||◌, Option, Some, None, option_map, option_and_then, if◌then◌else◌, decimal, arith}
 use Rattle.std.specs.Prelude.{codes, bytes_eq, is_some}
 use Rattle.std.specs.Str.{chars, chars_after, continuation_len, lead_bits}
@@ -12,8 +12,8 @@ use Rattle.es_base.specs.Conforms.{is_among, is_number_string, literal_conforms,
 use Rattle.es_base.specs.Tree.{Parts, more, literal}
 use Rattle.es_base.specs.Table.{words_of}
 use Rattle.es_base.specs.declared.table.Words.{Words}
-use Rattle.es_members.proofs.And.{left_of, right_of}
-use Rattle.es_plain.proofs.Spelling.{words_of_chars}
+use Rattle.es_base.proofs.Spelling.{words_of_chars}
+use Rattle.es_reading.proofs.And.{left_of, right_of}
 use Rattle.es_reading.specs.Literals.{Form, bigint, boolean, numeral, whole, string as string_form, or_else, regexp_of, regexp_in, bigint_in, string_in, boolean_in, by_raw, by_value, is_whole_or_absent, form_in, value_of, is_key_form}
 use Rattle.es_reading.specs.Look.{string_at, boolean_at}
 

@@ -1,5 +1,5 @@
 -- What a form of a literal in code stands for.
-use Rattle.std.specs.Prelude.{ℕ, List, Option, option_map}
+use Rattle.std.specs.Prelude.{option_map}
 use Rattle.es_reading.specs.Literals.{Form, regexp, bigint, string, boolean, null_form, numeral, whole}
 use Rattle.es_reading.specs.declared.literal.Form as code
 

@@ -1,14 +1,14 @@
 -- The value of a literal (ESTree's `Literal`, `RegExpLiteral` and `BigIntLiteral`): the first form that fits.
 use Rattle.std.specs.Prelude.{ℕ, List, Bool, true, false, ◌&&◌, Option, Some, None, option_map, option_and_then, if◌then◌else◌, bytes_eq, codes, decimal, is_some}
 use Rattle.std.specs.Str.{chars}
-use Rattle.serde_json.specs.Data.{Data, null, number, Num, unsigned, negative, float}
+use Rattle.serde_json.specs.Data.{Data, null, number, unsigned, negative}
 use Rattle.serde_json.specs.Find.{get}
 use Rattle.es_base.specs.Conforms.{is_number_string}
 use Rattle.es_base.specs.declared.literal.LiteralValue.{LiteralValue}
 use Rattle.es_base.specs.declared.literal.LiteralValue.TheVariants as value
 use Rattle.es_reading.specs.Look.{string_at, boolean_at}
 
--- the forms, whose texts are bytes
+-- the forms, whose strings are bytes
 pub data Form : Type 0 where
   regexp : (pattern flags : List ℕ) → Form
   bigint : (digits : List ℕ) → Form
@@ -22,7 +22,7 @@ abbrev pub or_else : Option Form → Option Form → Option Form
 or_else (Some f) other = Some f
 or_else None other = other
 
--- `regex` is an object with texts `pattern` and `flags`
+-- `regex` is an object with strings `pattern` and `flags`
 abbrev pub regexp_of : Option (List ℕ) → Option (List ℕ) → Option Form
 regexp_of (Some pattern) (Some flags) = Some (regexp pattern flags)
 regexp_of (Some pattern) None = None
@@ -31,11 +31,11 @@ regexp_of None flags = None
 abbrev pub regexp_in : Data → Option Form
 regexp_in d = option_and_then (λ r. regexp_of (string_at (codes "pattern") r) (string_at (codes "flags") r)) (get (codes "regex") d)
 
--- `bigint` is a text
+-- `bigint` is a string
 abbrev pub bigint_in : Data → Option Form
 bigint_in d = option_map bigint (string_at (codes "bigint") d)
 
--- `value` is a text; a text `raw` is kept
+-- `value` is a string; a string `raw` is kept
 abbrev pub string_in : Data → Option Form
 string_in d = option_map (λ s. string s (string_at (codes "raw") d)) (string_at (codes "value") d)
 
@@ -51,7 +51,7 @@ is_whole_or_absent (Some (number (unsigned n))) = true
 is_whole_or_absent (Some (number (negative z))) = true
 is_whole_or_absent (Some _) = false
 
--- `raw` is the text `null`, or that of a number whose `value` is no other value
+-- `raw` is the string `null`, or the source text of a number whose `value` is no other value
 abbrev pub by_raw : Option (List ℕ) → Option Data → Option Form
 by_raw None v = None
 by_raw (Some raw) v = if bytes_eq (codes "null") raw then Some null_form else (if is_number_string (chars raw) && is_whole_or_absent v then Some (numeral raw) else None)
@@ -68,7 +68,7 @@ null_or_number_in d = if is_some (get (codes "raw") d) then by_raw (string_at (c
 abbrev pub form_in : Data → Option Form
 form_in d = or_else (regexp_in d) (or_else (bigint_in d) (or_else (string_in d) (or_else (boolean_in d) (null_or_number_in d))))
 
--- what the forms stand for; a whole number is known by its decimal text
+-- what the forms stand for; a whole number is known by its decimal digits
 abbrev pub value_of : Form → LiteralValue
 value_of (regexp pattern flags) = value.RegExp (chars pattern) (chars flags)
 value_of (bigint digits) = value.BigInt (chars digits)

@@ -1,8 +1,8 @@
--- What stands at the members of an object. A text of JSON is a list of bytes, a text of a tree one of
+-- What stands at the members of an object. A string of JSON is a list of bytes, a string of a tree one of
 -- characters.
 use Rattle.std.specs.Prelude.{ℕ, ◌^◌, nat_lt, List, Bool, true, false, is_some, Option, Some, None, option_map, option_and_then, if◌then◌else◌, bytes_eq, codes}
 use Rattle.std.specs.Str.{chars}
-use Rattle.serde_json.specs.Data.{Data, null, Num, Items}
+use Rattle.serde_json.specs.Data.{Data, null, Items}
 use Rattle.serde_json.specs.Find.{get, as_str, as_bool, as_array, as_null, as_number, as_u64}
 
 abbrev pub string_at : List ℕ → Data → Option (List ℕ)
@@ -25,7 +25,7 @@ is_true (Some b) = b
 abbrev pub is_true_at : List ℕ → Data → Bool
 is_true_at key d = is_true (boolean_at key d)
 
--- the member is this text
+-- the member is this string
 abbrev pub is_this : List ℕ → Option (List ℕ) → Bool
 is_this word None = false
 is_this word (Some s) = bytes_eq word s

@@ -22,7 +22,7 @@ is_empty None = false
 is_empty (Some no_items) = true
 is_empty (Some (item d ds)) = false
 
--- a text with a character
+-- a string with a character
 abbrev pub is_name : Option (List ℕ) → Bool
 is_name None = false
 is_name (Some s) = not (bytes_eq (chars s) [])
@@ -35,7 +35,7 @@ abbrev pub is_false : Option Bool → Bool
 is_false None = false
 is_false (Some b) = not b
 
--- a text, or null
+-- a string, or null
 abbrev pub is_cooked : Option Data → Bool
 is_cooked (Some null) = true
 is_cooked (Some (json_string s)) = true
@@ -67,7 +67,7 @@ abbrev pub is_one_more : Option ℕ → Option ℕ → Bool
 is_one_more (Some m) (Some n) = nat_eq m (n + 1)
 is_one_more m n = true
 
--- a template has one text more than expressions
+-- a template has one string more than expressions
 abbrev pub counts_agree : Kind → Data → Bool
 counts_agree Kind.TemplateLiteral d = is_one_more (count_at (codes "quasis") d) (count_at (codes "expressions") d)
 counts_agree kind d = true

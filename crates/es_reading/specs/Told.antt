@@ -1,19 +1,22 @@
 -- What the calls of the reader say.
-use Rattle.std.specs.Prelude.{◌≡◌, ◌+◌, ℕ, List, [], ◌∷◌, ◌++◌, map, Result, Ok, Err, Option, Some, None}
+use Rattle.std.specs.Prelude.{◌≡◌, ◌+◌, ℕ, List, [], ◌∷◌, ◌++◌, map, true, false, Result, Ok, Err, Option, Some, None}
 use Rattle.serde_json.specs.Data.{Data, null, boolean as json_boolean, number, string as json_string, array, object, Items, no_items, item, Members, no_members, member}
 use Rattle.serde_json.specs.Find.{get}
-use Rattle.es_base.specs.Table.{Field}
+use Rattle.es_base.specs.Table.{Field, members_of}
+use Rattle.es_base.specs.declared.table.Sort.{Sort}
 use Rattle.es_base.specs.declared.ids.NodeId.{NodeId}
 use Rattle.es_reading.specs.Fault.{Fault, not_a_tree, float_at, Read}
-use Rattle.es_base.specs.Tree.{Part}
-use Rattle.es_reading.specs.Reading.{reader_of, slot, is_last}
+use Rattle.es_base.specs.Tree.{Part, Parts}
+use Rattle.es_reading.specs.Reading.{reader_of, slot, is_last, finds, members_in, member_of, read_by}
 use Rattle.es_reading.specs.declared.fault.ReadError.{ReadError}
 use Rattle.es_reading.specs.declared.numbers.Numbers.{Numbers}
+use Rattle.es_reading.specs.declared.spot.Parent.{Parent}
 use Rattle.es_reading.specs.declared.spot.Slots.{Slots}
+use Rattle.es_reading.specs.declared.spot.Spot.{Spot}
 use Rattle.serde_json.specs.View.{view}
 use Rattle.serde_json.specs.declared.value.Value.{Value}
 
--- an error is the fault, unless memory ran out
+-- an error is the fault, unless allocation failed
 abbrev pub Tells : {T : Type 0} → ReadError → Result T Fault → Type 0
 Tells ReadError.NoMemory r = Unit
 Tells (ReadError.NotATree at what) r = r ≡ Err (not_a_tree at what)
@@ -31,6 +34,22 @@ pub record Gives {T : Type 0} (r : Result (Read T) Fault) (x : T) (before after 
 -- an item of a list, with those that follow it
 abbrev pub item_in : Numbers → Slots → Value → List Value → ℕ → Result (Read Part) Fault
 item_in numbers slots v rest = (reader_of numbers (view v)).item slots.holes (slot slots (is_last rest))
+
+-- what stands at the members of a node, at one of them, and at one that holds a node, a node or none, or a list
+abbrev pub row_in : Numbers → Data → Parent → ℕ → Result (Read Parts) Fault
+row_in numbers d parent n = members_in (finds numbers d) d parent (members_of parent.kind) n
+
+abbrev pub member_in : Numbers → Data → Parent → List ℕ → Sort → ℕ → Result (Read Part) Fault
+member_in numbers d parent name sort n = member_of (finds numbers d) d parent name sort n
+
+abbrev pub child_in : Numbers → Data → List ℕ → Spot → ℕ → Result (Read Part) Fault
+child_in numbers d name spot n = read_by (finds numbers d name) (λ r. r.item false spot n)
+
+abbrev pub nullable_in : Numbers → Data → List ℕ → Spot → ℕ → Result (Read Part) Fault
+nullable_in numbers d name spot n = read_by (finds numbers d name) (λ r. r.item true spot n)
+
+abbrev pub list_in : Numbers → Data → List ℕ → Slots → ℕ → Result (Read Part) Fault
+list_in numbers d name slots n = read_by (finds numbers d name) (λ r. r.items slots n)
 
 -- how many values there are, itself and those below (JSON, RFC 8259)
 abbrev mutual

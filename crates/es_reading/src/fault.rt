@@ -8,13 +8,13 @@ use thiserror::Error;
 /// What is wrong with a value that stands where a node should.
 #[derive(Debug, Clone, Copy, PartialEq, Eq)]
 pub enum What {
-    /// It is no object with a text `type`.
+    /// It is no object with a string `type`.
     NotANode,
     /// Its `type` names no kind of node.
     UnknownKind,
     /// Its kind may not stand there.
     WrongPlace,
-    /// A member of its kind is missing, is of the wrong type, or is a text that may not stand there.
+    /// A member of its kind is missing, is of the wrong type, or is a string that may not stand there.
     BadMember,
 }
 

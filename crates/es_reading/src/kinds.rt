@@ -10,9 +10,9 @@ use crate::literal::may_be_key;
 use crate::look::{is_node_at, is_string_at, is_true_at};
 use crate::spot::Spot;
 use es_base::kind::Kind;
+use es_base::places::is_target_place;
+use es_base::strings::is_foreign_name;
 use es_base::table::{Place, estree_name, fits};
-use es_plain::places::is_target_place;
-use es_plain::strings::is_foreign_name;
 use serde_json::Value;
 
 /// The kind of a value whose `type` is this name: the first that has the name and may stand there.

@@ -12,8 +12,6 @@ mod members;
 pub mod numbers;
 mod read;
 pub mod spot;
-#[cfg(test)]
-mod tests;
 mod strings;
 pub mod tree;
 mod unlisted;

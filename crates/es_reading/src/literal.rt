@@ -6,28 +6,34 @@ ghost use Rattle.es_reading.specs.Literals.{regexp_in, bigint_in, string_in, boo
 ghost use Rattle.serde_json.specs.Find.{get};
 ghost use Rattle.serde_json.specs.View.{view};
 
-use crate::look::{string_at, boolean_at};
+use crate::look::{boolean_at, string_at};
 use crate::strings::nullable_name;
 use es_base::literal::LiteralValue;
 use es_base::name::Name;
-use es_plain::strings::is_number_string;
+use es_base::strings::is_number_string;
 use serde_json::Value;
 use std::alloc::{AllocError, Global};
 
-/// The form of a literal, with the texts that its value has.
+/// The form of a literal, with the strings that its value has.
 #[derive(Clone, Copy)]
 pub enum Form<'a> {
-    /// `regex` is an object with texts `pattern` and `flags`.
-    RegExp { pattern: &'a str, flags: &'a str },
-    /// `bigint` is a text.
+    /// `regex` is an object with strings `pattern` and `flags`.
+    RegExp {
+        pattern: &'a str,
+        flags: &'a str,
+    },
+    /// `bigint` is a string.
     BigInt(&'a str),
-    /// `value` is a text, and so is `raw` where it is there.
-    Text { string: &'a str, raw: Option<&'a str> },
+    /// `value` is a string, and so is `raw` where it is there.
+    String {
+        value: &'a str,
+        raw: Option<&'a str>,
+    },
     /// `value` is a boolean.
     Bool(bool),
-    /// `raw` is the text `null`, or `value` is null.
+    /// `raw` is the string `null`, or `value` is null.
     Null,
-    /// `raw` is the text of a number.
+    /// `raw` is the source text of a number.
     Number(&'a str),
     /// `value` is a whole number, and there is no `raw`.
     Whole(u64),
@@ -45,7 +51,7 @@ pub fn form_in<'a>(value: &'a Value) -> Option<Form<'a>>
     }
     if let Some(string) = string_at(value, "value") {
         return Some(Form::String {
-            string,
+            value: string,
             raw: string_at(value, "raw"),
         });
     }
@@ -156,12 +162,12 @@ pub fn value_of(alloc: Global, form: Form) -> Result<LiteralValue, AllocError>
             }
         }
         Form::BigInt(digits) => LiteralValue::BigInt {
-            string: Name::new(alloc, digits)?,
+            digits: Name::new(alloc, digits)?,
         },
-        Form::String { string, raw } => {
-            let string = Name::new(alloc, string)?;
+        Form::String { value, raw } => {
+            let value = Name::new(alloc, value)?;
             LiteralValue::String {
-                string,
+                value,
                 raw: nullable_name(alloc, raw)?,
             }
         }

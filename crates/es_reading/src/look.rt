@@ -1,6 +1,6 @@
 // What stands at the members of an object.
 
-ghost use Rattle.std.specs.Prelude.{◌≡◌, option_map};
+ghost use Rattle.std.specs.Prelude.{◌≡◌, Some, option_map, is_some, true};
 ghost use Rattle.es_base.specs.Carried.{span_of};
 ghost use Rattle.es_reading.specs.Look.{string_at, boolean_at, array_at, is_this, is_string_at, type_at, is_node_at, is_true_at, is_null, is_there, u32_at, span_at};
 ghost use Rattle.serde_json.specs.Find.{get};
@@ -9,7 +9,7 @@ ghost use Rattle.serde_json.specs.View.{view, items_view};
 use es_base::ids::Span;
 use serde_json::Value;
 
-/// The text at a member.
+/// The string at a member.
 pub fn string_at<'a>(value: &'a Value, name: &str) -> Option<&'a str>
     ensures { option_map (λ s. s.now) result ≡ string_at name.now (view value.now) }
 {
@@ -39,6 +39,28 @@ pub fn array_at<'a>(value: &'a Value, name: &str) -> Option<&'a Vec<Value>>
     }
 }
 
+/// The value at a member that is there.
+pub fn value_at<'a>(value: &'a Value, name: &str) -> &'a Value
+    requires { is_some (get name.now (view value.now)) ≡ true }
+    ensures { get name.now (view value.now) ≡ Some (view result.now) }
+{
+    match value.get(name) {
+        None => unreachable!(),
+        Some(found) => found,
+    }
+}
+
+/// The items of the list at a member that is there.
+pub fn items_at<'a>(value: &'a Value, name: &str) -> &'a [Value]
+    requires { is_some (array_at name.now (view value.now)) ≡ true }
+    ensures { array_at name.now (view value.now) ≡ Some (items_view result.now) }
+{
+    match array_at(value, name) {
+        None => unreachable!(),
+        Some(items) => items.as_slice(),
+    }
+}
+
 /// Whether a member is true.
 pub fn is_true_at(value: &Value, name: &str) -> bool
     ensures { result ≡ is_true_at name.now (view value.now) }
@@ -49,7 +71,7 @@ pub fn is_true_at(value: &Value, name: &str) -> bool
     }
 }
 
-/// Whether a member is this text.
+/// Whether a member is this string.
 pub fn is_string_at(value: &Value, name: &str, word: &str) -> bool
     ensures { result ≡ is_string_at name.now word.now (view value.now) }
 {

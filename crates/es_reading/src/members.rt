@@ -8,11 +8,11 @@ ghost use Rattle.es_reading.specs.Members.{is_word, is_false, is_of_sort, are_of
 ghost use Rattle.serde_json.specs.View.{view};
 
 use crate::literal::form_in;
-use crate::look::{array_at, string_at, boolean_at};
+use crate::look::{array_at, boolean_at, string_at};
 use crate::strings::is_empty_string;
 use es_base::kind::Kind;
+use es_base::strings::word_of;
 use es_base::table::{Member, Sort, Words, members};
-use es_plain::strings::is_word_of;
 use serde_json::Value;
 
 /// Whether the members of a value are those of its kind, but for the nodes below.
@@ -86,11 +86,11 @@ fn is_word(words: Words, string: Option<&str>) -> bool
 {
     match string {
         None => false,
-        Some(string) => is_word_of(string, words),
+        Some(string) => word_of(string, words).is_some(),
     }
 }
 
-/// Whether the object `value` has a text `raw` (ESTree's `TemplateElement`).
+/// Whether the object `value` has a string `raw` (ESTree's `TemplateElement`).
 fn is_raw(value: &Value) -> bool
     ensures { (name : List ℕ) → result ≡ is_of_sort (view value.now) name Sort.Raw }
 {
@@ -100,7 +100,7 @@ fn is_raw(value: &Value) -> bool
     }
 }
 
-/// Whether the object `value` has a text or null as `cooked` (ESTree's `TemplateElement`).
+/// Whether the object `value` has a string or null as `cooked` (ESTree's `TemplateElement`).
 fn is_cooked(value: &Value) -> bool
     ensures { (name : List ℕ) → result ≡ is_of_sort (view value.now) name Sort.Cooked }
 {
@@ -113,7 +113,7 @@ fn is_cooked(value: &Value) -> bool
     }
 }
 
-/// Whether a template has one text more than expressions.
+/// Whether a template has one string more than expressions.
 fn counts_agree(kind: Kind, value: &Value) -> bool
     ensures { result ≡ counts_agree kind (view value.now) }
 {

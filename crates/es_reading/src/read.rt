@@ -1,21 +1,25 @@
 // Reading a value as a node.
 
-ghost use Rattle.std.specs.Prelude.{◌≡◌, ◌+◌, ◌<◌, ◌≤◌, ◌++◌, ◌^◌, IfOk, IfErr, OnOk, Ok, option_map, codes};
+ghost use Rattle.std.specs.Prelude.{◌≡◌, ◌+◌, ◌<◌, ◌≤◌, ◌++◌, ◌^◌, IfOk, IfErr, OnOk, Ok, option_map, is_some, codes, true, false};
 ghost use Rattle.es_base.specs.Preorder.{nodes, nodes_of, nodes_of_part};
 ghost use Rattle.es_base.specs.Conforms.{key_place};
 ghost use Rattle.es_base.specs.Table.{members_of};
-ghost use Rattle.es_plain.specs.View.{plain_tree, plain_part, plain_parts};
-ghost use Rattle.es_reading.specs.Reading.{kind_of, number_in, number_of, own_number, place_below, parent_of, below, slots_below, slot, member_of, members_in, read, read_by, reader_of, finds, each};
-ghost use Rattle.es_reading.specs.Look.{is_true_at};
+ghost use Rattle.es_base.specs.Tree.{nullable};
+ghost use Rattle.es_node.specs.View.{has_shape, have_shapes, is_child, is_list, is_list_with_holes, is_nullable, part_of, parts_of};
+ghost use Rattle.es_reading.specs.Reading.{kind_of, number_in, number_of, own_number, place_below, parent_of, below, slots_below, slot, read, reader_of};
+ghost use Rattle.es_reading.specs.Look.{array_at, is_true_at};
+ghost use Rattle.es_reading.specs.Members.{are_good, are_of_sorts, is_of_sort};
 ghost use Rattle.es_reading.specs.Unlisted.{is_foreign_node};
-ghost use Rattle.es_reading.specs.Told.{Tells, Gives, ids, item_in, values, values_of_items, values_there, values_at};
+ghost use Rattle.es_reading.specs.Told.{Tells, Gives, child_in, ids, list_in, member_in, nullable_in, row_in, values, values_there, values_at};
 ghost use Rattle.serde_json.specs.Find.{get};
-ghost use Rattle.serde_json.specs.View.{view, items_view};
+ghost use Rattle.serde_json.specs.View.{view};
 
 use crate::fault::{ReadError, What};
 use crate::kinds::kind_in;
 use crate::leaf::leaf_of;
-use crate::look::{is_string_at, is_there, is_true_at, span_at, string_at, u32_at};
+use crate::look::{
+    is_string_at, is_there, is_true_at, items_at, span_at, string_at, u32_at, value_at,
+};
 use crate::members::are_good;
 use crate::numbers::Numbers;
 use crate::spot::{Parent, Slots, Spot};
@@ -24,7 +28,8 @@ use es_base::ids::NodeId;
 use es_base::kind::Kind;
 use es_base::list::List;
 use es_base::table::{Member, Place, Sort, members};
-use es_plain::plain::{Part, Plain, absent_part, child_part, list_part, plain_node};
+use es_node::node::{Contents, Node, Part};
+use es_node::parts::nullable_part;
 use serde_json::Value;
 use std::alloc::{AllocError, Global};
 
@@ -55,6 +60,7 @@ fn kind_of(value: &Value, spot: Spot, at: u32) -> Result<Kind, ReadError>
 /// The number of a node of this kind, where no member is a float or a bad one.
 fn number_of(numbers: Numbers, value: &Value, kind: Kind, at: u32) -> Result<NodeId, ReadError>
     ensures ok { IfOk result (λ i. number_of numbers (view value.now) kind at ≡ Ok i.0) }
+    ensures good { OnOk result (are_good kind (view value.now) ≡ true) }
     ensures err { IfErr result (λ e. Tells e (number_of numbers (view value.now) kind at)) }
 {
     if floats_of(members(kind), value) {
@@ -176,10 +182,11 @@ pub fn read_node(
     spot: Spot,
     at: u32,
     foreign: &mut List<NodeId>,
-) -> Result<(Plain, u32), ReadError>
+) -> Result<(Node, u32), ReadError>
     requires { at + values (view value.now) < 2 ^ 32 }
-    ensures tree { IfOk result (λ r. Gives (read reader.numbers (view value.now) spot at) (plain_tree r.0) (ids foreign.old) (ids foreign.new)) }
-    ensures next { IfOk result (λ r. r.1 ≡ at + nodes (plain_tree r.0)) }
+    ensures tree { IfOk result (λ r.
+        Gives (read reader.numbers (view value.now) spot at) r.0 (ids foreign.old) (ids foreign.new)) }
+    ensures next { IfOk result (λ r. r.1 ≡ at + nodes r.0) }
     ensures bound { IfOk result (λ r. r.1 ≤ at + values (view value.now)) }
     ensures err { IfErr result (λ e. Tells e (read reader.numbers (view value.now) spot at)) }
 {
@@ -188,7 +195,13 @@ pub fn read_node(
     note(foreign, kind, value, node_id)?;
     let parent = parent_of(kind, spot, value);
     let (parts, next) = read_members(reader, value, parent, at + 1, foreign)?;
-    Ok((plain_node(kind, node_id, span_at(value), None, parts), next))
+    let contents = Contents {
+        node_id,
+        span: span_at(value),
+        semantic_id: None,
+        parts,
+    };
+    Ok((Node::new(kind, contents), next))
 }
 
 /// Reads the members of a node.
@@ -200,14 +213,18 @@ fn read_members(
     at: u32,
     foreign: &mut List<NodeId>,
 ) -> Result<(List<Part>, u32), ReadError>
-    requires { at + values_at (view value.now) (members_of parent.kind) < 2 ^ 32 }
-    ensures parts { IfOk result (λ r. Gives (members_in (finds reader.numbers (view value.now)) (view value.now) parent (members_of parent.kind) at) (plain_parts r.0) (ids foreign.old) (ids foreign.new)) }
-    ensures next { IfOk result (λ r. r.1 ≡ at + nodes_of (plain_parts r.0)) }
+    requires room { at + values_at (view value.now) (members_of parent.kind) < 2 ^ 32 }
+    requires good { are_of_sorts (view value.now) (members_of parent.kind) ≡ true }
+    ensures parts { IfOk result (λ r.
+        Gives (row_in reader.numbers (view value.now) parent at)
+        (parts_of r.0) (ids foreign.old) (ids foreign.new)) }
+    ensures shapes { IfOk result (λ r. have_shapes (members_of parent.kind) r.0 ≡ true) }
+    ensures next { IfOk result (λ r. r.1 ≡ at + nodes_of (parts_of r.0)) }
     ensures bound { IfOk result (λ r. r.1 ≤ at + values_at (view value.now) (members_of parent.kind)) }
-    ensures err { IfErr result (λ e. Tells e (members_in (finds reader.numbers (view value.now)) (view value.now) parent (members_of parent.kind) at)) }
+    ensures err { IfErr result (λ e. Tells e (row_in reader.numbers (view value.now) parent at)) }
 {
     let members = members(parent.kind);
-    let mut parts = List::new(reader.alloc);
+    let mut parts = List::from_vec(Vec::with_capacity(reader.alloc, members.len())?);
     let mut next = at;
     for member in members {
         let (part, after) = read_member(reader, value, parent, *member, next, foreign)?;
@@ -227,156 +244,183 @@ fn read_member(
     at: u32,
     foreign: &mut List<NodeId>,
 ) -> Result<(Part, u32), ReadError>
-    requires { at + values_there (get member.name.now (view value.now)) < 2 ^ 32 }
-    ensures part { IfOk result (λ r. Gives (member_of (finds reader.numbers (view value.now)) (view value.now) parent member.name.now member.sort at) (plain_part r.0) (ids foreign.old) (ids foreign.new)) }
-    ensures next { IfOk result (λ r. r.1 ≡ at + nodes_of_part (plain_part r.0)) }
+    requires room { at + values_there (get member.name.now (view value.now)) < 2 ^ 32 }
+    requires good { is_of_sort (view value.now) member.name.now member.sort ≡ true }
+    ensures part { IfOk result (λ r.
+        Gives (member_in reader.numbers (view value.now) parent member.name.now member.sort at)
+        (part_of r.0) (ids foreign.old) (ids foreign.new)) }
+    ensures shape { IfOk result (λ r. has_shape member.sort r.0 ≡ true) }
+    ensures next { IfOk result (λ r. r.1 ≡ at + nodes_of_part (part_of r.0)) }
     ensures bound { IfOk result (λ r. r.1 ≤ at + values_there (get member.name.now (view value.now))) }
-    ensures err { IfErr result (λ e. Tells e (member_of (finds reader.numbers (view value.now)) (view value.now) parent member.name.now member.sort at)) }
+    ensures err { IfErr result (λ e.
+        Tells e (member_in reader.numbers (view value.now) parent member.name.now member.sort at)) }
 {
-    let name = member.name;
     match member.sort {
         Sort::Child(place) => {
             let spot = below(parent, place_below(parent.kind, value, place));
-            read_child(reader, value.get(name), false, spot, at, foreign)
-        }
-        Sort::Nullable(place) => {
-            read_child(
-                reader,
-                value.get(name),
-                true,
-                below(parent, place),
-                at,
-                foreign,
-            )
+            read_child(reader, value, member, spot, at, foreign)
         }
         Sort::Key(place) => {
             let spot = below(parent, key_place(value, place));
-            read_child(reader, value.get(name), false, spot, at, foreign)
+            read_child(reader, value, member, spot, at, foreign)
+        }
+        Sort::Nullable(place) => {
+            read_nullable(reader, value, member, below(parent, place), at, foreign)
         }
         Sort::List(place) | Sort::NonEmptyList(place) => {
             let slots = slots_below(parent, false, place);
-            read_list(reader, value.get(name), slots, at, foreign)
+            read_list(reader, value, member, slots, at, foreign)
         }
         Sort::ListWithHoles(place) => {
             let slots = slots_below(parent, true, place);
-            read_list(reader, value.get(name), slots, at, foreign)
+            read_list_with_holes(reader, value, member, slots, at, foreign)
         }
-        sort => Ok((leaf_of(reader.alloc, value, name, sort)?, at)),
+        sort => Ok((leaf_of(reader.alloc, value, member.name, sort)?, at)),
     }
 }
 
-/// Reads a child; none, where there is no value.
+/// Reads the node at a member.
 #[cycle(read)]
 fn read_child(
     reader: Reader,
-    found: Option<&Value>,
-    nulls: bool,
+    value: &Value,
+    member: Member,
     spot: Spot,
     at: u32,
     foreign: &mut List<NodeId>,
 ) -> Result<(Part, u32), ReadError>
-    requires { at + values_there (option_map (λ v. view v.now) found) < 2 ^ 32 }
-    ensures part { IfOk result (λ r. Gives (read_by (option_map (reader_of reader.numbers) (option_map (λ v. view v.now) found.entry)) (λ k. k.item nulls spot at)) (plain_part r.0) (ids foreign.old) (ids foreign.new)) }
-    ensures next { IfOk result (λ r. r.1 ≡ at + nodes_of_part (plain_part r.0)) }
-    ensures bound { IfOk result (λ r. r.1 ≤ at + values_there (option_map (λ v. view v.now) found.entry)) }
-    ensures err { IfErr result (λ e. Tells e (read_by (option_map (reader_of reader.numbers) (option_map (λ v. view v.now) found.entry)) (λ k. k.item nulls spot at))) }
+    requires room { at + values_there (get member.name.now (view value.now)) < 2 ^ 32 }
+    requires good { is_some (get member.name.now (view value.now)) ≡ true }
+    ensures part { IfOk result (λ r.
+        Gives (child_in reader.numbers (view value.now) member.name.now spot at)
+        (part_of r.0) (ids foreign.old) (ids foreign.new)) }
+    ensures shape { IfOk result (λ r. is_child r.0 ≡ true) }
+    ensures next { IfOk result (λ r. r.1 ≡ at + nodes_of_part (part_of r.0)) }
+    ensures bound { IfOk result (λ r. r.1 ≤ at + values_there (get member.name.now (view value.now))) }
+    ensures err { IfErr result (λ e.
+        Tells e (child_in reader.numbers (view value.now) member.name.now spot at)) }
 {
-    match found {
-        None => Ok((absent_part(), at)),
-        Some(value) => read_item(reader, value, nulls, spot, at, foreign),
-    }
+    let (node, next) = read_node(reader, value_at(value, member.name), spot, at, foreign)?;
+    Ok((Part::Child(node), next))
 }
 
-/// Reads a node, or none where the value is null and may be.
+/// Reads the node at a member, or none where the member is absent or null.
 #[cycle(read)]
-fn read_item(
+fn read_nullable(
     reader: Reader,
     value: &Value,
-    nulls: bool,
+    member: Member,
     spot: Spot,
     at: u32,
     foreign: &mut List<NodeId>,
 ) -> Result<(Part, u32), ReadError>
-    requires { at + values (view value.now) < 2 ^ 32 }
-    ensures part { IfOk result (λ r. Gives ((reader_of reader.numbers (view value.now)).item nulls spot at) (plain_part r.0) (ids foreign.old) (ids foreign.new)) }
-    ensures next { IfOk result (λ r. r.1 ≡ at + nodes_of_part (plain_part r.0)) }
-    ensures bound { IfOk result (λ r. r.1 ≤ at + values (view value.now)) }
-    ensures err { IfErr result (λ e. Tells e ((reader_of reader.numbers (view value.now)).item nulls spot at)) }
+    requires { at + values_there (get member.name.now (view value.now)) < 2 ^ 32 }
+    ensures part { IfOk result (λ r.
+        Gives (nullable_in reader.numbers (view value.now) member.name.now spot at)
+        (part_of r.0) (ids foreign.old) (ids foreign.new)) }
+    ensures shape { IfOk result (λ r. is_nullable r.0 ≡ true) }
+    ensures next { IfOk result (λ r. r.1 ≡ at + nodes_of_part (part_of r.0)) }
+    ensures bound { IfOk result (λ r. r.1 ≤ at + values_there (get member.name.now (view value.now))) }
+    ensures err { IfErr result (λ e.
+        Tells e (nullable_in reader.numbers (view value.now) member.name.now spot at)) }
 {
-    if nulls && value.is_null() {
-        return Ok((absent_part(), at));
-    }
-    let (tree, next) = read_node(reader, value, spot, at, foreign)?;
-    Ok((child_part(tree), next))
-}
-
-/// Reads a list; none, where there is no value.
-#[cycle(read)]
-fn read_list(
-    reader: Reader,
-    found: Option<&Value>,
-    slots: Slots,
-    at: u32,
-    foreign: &mut List<NodeId>,
-) -> Result<(Part, u32), ReadError>
-    requires { at + values_there (option_map (λ v. view v.now) found) < 2 ^ 32 }
-    ensures part { IfOk result (λ r. Gives (read_by (option_map (reader_of reader.numbers) (option_map (λ v. view v.now) found.entry)) (λ k. k.items slots at)) (plain_part r.0) (ids foreign.old) (ids foreign.new)) }
-    ensures next { IfOk result (λ r. r.1 ≡ at + nodes_of_part (plain_part r.0)) }
-    ensures bound { IfOk result (λ r. r.1 ≤ at + values_there (option_map (λ v. view v.now) found.entry)) }
-    ensures err { IfErr result (λ e. Tells e (read_by (option_map (reader_of reader.numbers) (option_map (λ v. view v.now) found.entry)) (λ k. k.items slots at))) }
-{
-    match found {
-        None => Ok((absent_part(), at)),
-        Some(value) => read_array(reader, value, slots, at, foreign),
-    }
-}
-
-/// Reads the items of an array; of any other value, no items.
-#[cycle(read)]
-fn read_array(
-    reader: Reader,
-    value: &Value,
-    slots: Slots,
-    at: u32,
-    foreign: &mut List<NodeId>,
-) -> Result<(Part, u32), ReadError>
-    requires { at + values (view value.now) < 2 ^ 32 }
-    ensures part { IfOk result (λ r. Gives ((reader_of reader.numbers (view value.now)).items slots at) (plain_part r.0) (ids foreign.old) (ids foreign.new)) }
-    ensures next { IfOk result (λ r. r.1 ≡ at + nodes_of_part (plain_part r.0)) }
-    ensures bound { IfOk result (λ r. r.1 ≤ at + values (view value.now)) }
-    ensures err { IfErr result (λ e. Tells e ((reader_of reader.numbers (view value.now)).items slots at)) }
-{
-    match value.as_array() {
-        None => Ok((list_part(List::new(reader.alloc)), at)),
-        Some(items) => {
-            let (parts, next) = read_items(reader, items.as_slice(), slots, at, foreign)?;
-            Ok((list_part(parts), next))
+    match value.get(member.name) {
+        None => Ok((Part::Absent, at)),
+        Some(found) => {
+            let (node, next) = read_nullable_node(reader, found, spot, at, foreign)?;
+            Ok((nullable_part(node), next))
         }
     }
 }
 
-/// Reads the items of a list.
+/// Reads a node, or none where the value is null.
 #[cycle(read)]
-fn read_items(
+fn read_nullable_node(
     reader: Reader,
-    items: &[Value],
+    value: &Value,
+    spot: Spot,
+    at: u32,
+    foreign: &mut List<NodeId>,
+) -> Result<(Option<Node>, u32), ReadError>
+    requires { at + values (view value.now) < 2 ^ 32 }
+    ensures part { IfOk result (λ r.
+        Gives ((reader_of reader.numbers (view value.now)).item true spot at)
+        (nullable r.0) (ids foreign.old) (ids foreign.new)) }
+    ensures next { IfOk result (λ r. r.1 ≡ at + nodes_of_part (nullable r.0)) }
+    ensures bound { IfOk result (λ r. r.1 ≤ at + values (view value.now)) }
+    ensures err { IfErr result (λ e. Tells e ((reader_of reader.numbers (view value.now)).item true spot at)) }
+{
+    if value.is_null() {
+        return Ok((None, at));
+    }
+    let (node, next) = read_node(reader, value, spot, at, foreign)?;
+    Ok((Some(node), next))
+}
+
+/// Reads the list at a member, which has no holes.
+#[cycle(read)]
+fn read_list(
+    reader: Reader,
+    value: &Value,
+    member: Member,
     slots: Slots,
     at: u32,
     foreign: &mut List<NodeId>,
-) -> Result<(List<Part>, u32), ReadError>
-    requires { at + values_of_items (items_view items.now) < 2 ^ 32 }
-    ensures parts { IfOk result (λ r. Gives (each (item_in reader.numbers slots) items.now at) (plain_parts r.0) (ids foreign.old) (ids foreign.new)) }
-    ensures next { IfOk result (λ r. r.1 ≡ at + nodes_of (plain_parts r.0)) }
-    ensures bound { IfOk result (λ r. r.1 ≤ at + values_of_items (items_view items.now)) }
-    ensures err { IfErr result (λ e. Tells e (each (item_in reader.numbers slots) items.now at)) }
+) -> Result<(Part, u32), ReadError>
+    requires room { at + values_there (get member.name.now (view value.now)) < 2 ^ 32 }
+    requires good { is_some (array_at member.name.now (view value.now)) ≡ true }
+    requires full { slots.holes ≡ false }
+    ensures part { IfOk result (λ r.
+        Gives (list_in reader.numbers (view value.now) member.name.now slots at)
+        (part_of r.0) (ids foreign.old) (ids foreign.new)) }
+    ensures shape { IfOk result (λ r. is_list r.0 ≡ true) }
+    ensures next { IfOk result (λ r. r.1 ≡ at + nodes_of_part (part_of r.0)) }
+    ensures bound { IfOk result (λ r. r.1 ≤ at + values_there (get member.name.now (view value.now))) }
+    ensures err { IfErr result (λ e.
+        Tells e (list_in reader.numbers (view value.now) member.name.now slots at)) }
 {
-    let mut parts = List::new(reader.alloc);
+    let items = items_at(value, member.name);
+    let mut nodes = List::from_vec(Vec::with_capacity(reader.alloc, items.len())?);
     let mut next = at;
     for (i, item) in items.iter().enumerate() {
         let spot = slot(slots, i + 1 == items.len());
-        let (part, after) = read_item(reader, item, slots.holes, spot, next, foreign)?;
-        parts.push(part)?;
+        let (node, after) = read_node(reader, item, spot, next, foreign)?;
+        nodes.push(node)?;
         next = after;
     }
-    Ok((parts, next))
+    Ok((Part::List(nodes), next))
+}
+
+/// Reads the list at a member, which may have holes: they are null.
+#[cycle(read)]
+fn read_list_with_holes(
+    reader: Reader,
+    value: &Value,
+    member: Member,
+    slots: Slots,
+    at: u32,
+    foreign: &mut List<NodeId>,
+) -> Result<(Part, u32), ReadError>
+    requires room { at + values_there (get member.name.now (view value.now)) < 2 ^ 32 }
+    requires good { is_some (array_at member.name.now (view value.now)) ≡ true }
+    requires holes { slots.holes ≡ true }
+    ensures part { IfOk result (λ r.
+        Gives (list_in reader.numbers (view value.now) member.name.now slots at)
+        (part_of r.0) (ids foreign.old) (ids foreign.new)) }
+    ensures shape { IfOk result (λ r. is_list_with_holes r.0 ≡ true) }
+    ensures next { IfOk result (λ r. r.1 ≡ at + nodes_of_part (part_of r.0)) }
+    ensures bound { IfOk result (λ r. r.1 ≤ at + values_there (get member.name.now (view value.now))) }
+    ensures err { IfErr result (λ e.
+        Tells e (list_in reader.numbers (view value.now) member.name.now slots at)) }
+{
+    let items = items_at(value, member.name);
+    let mut nodes = List::from_vec(Vec::with_capacity(reader.alloc, items.len())?);
+    let mut next = at;
+    for (i, item) in items.iter().enumerate() {
+        let spot = slot(slots, i + 1 == items.len());
+        let (node, after) = read_nullable_node(reader, item, spot, next, foreign)?;
+        nodes.push(node)?;
+        next = after;
+    }
+    Ok((Part::Holes(nodes), next))
 }

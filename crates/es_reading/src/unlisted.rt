@@ -10,8 +10,8 @@ ghost use Rattle.serde_json.specs.Written.{has_float, items_have_float, members_
 
 use crate::look::is_there;
 use es_base::kind::Kind;
+use es_base::strings::{begins_with, is_among};
 use es_base::table::{Member, Sort, members};
-use es_plain::strings::{begins_with, is_among};
 use serde_json::{Map, Value};
 
 /// Whether a number below is held as a float, in a member that holds no nodes.

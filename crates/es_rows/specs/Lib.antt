@@ -1,3 +1,4 @@
+pub mod Lists
 pub mod Owed
 pub mod rows
 pub mod witnesses

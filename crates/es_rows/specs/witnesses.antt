@@ -15,6 +15,7 @@ pub mod ClassNamedOtherwise
 pub mod ClassRenamed
 pub mod ClassTemporaryBeforeItsClass
 pub mod ClosureBeforeItsClass
+pub mod CompoundAssignment
 pub mod ConstantTemporary
 pub mod DeadTemporary
 pub mod DefaultExports
@@ -25,6 +26,7 @@ pub mod FieldDoubled
 pub mod FieldDropped
 pub mod FieldKeyReadLate
 pub mod FieldsExchanged
+pub mod FreeName
 pub mod GetterMadeAMethod
 pub mod GetterOrMethod
 pub mod GlobalRenamed
@@ -45,6 +47,7 @@ pub mod MethodWithoutBrand
 pub mod NameOfNoMember
 pub mod NameTwice
 pub mod NamedValue
+pub mod NestedClasses
 pub mod NewImport
 pub mod ObjectEvaluatedTwice
 pub mod OddConstructor

@@ -47,7 +47,7 @@ module _ (f : ℕ → ℕ) where
   pub test_of-mapped : (x : PrivateReference) → test_of (mapped_private_reference f x) ≡ mapped_test f (test_of x)
   test_of-mapped x = cond-mapped (mapped_test f) x.is_static _ _ refl (cond-mapped (mapped_test f) x.is_field _ _ (field_test-mapped x x.reads) refl)
 
-  declared_member-mapped : (s : String) (xs : List PrivateMember) → declared_member s (mapped_privates f xs) ≡ mapped_option (mapped_private f) (declared_member s xs)
+  pub declared_member-mapped : (s : String) (xs : List PrivateMember) → declared_member s (mapped_privates f xs) ≡ mapped_option (mapped_private f) (declared_member s xs)
   declared_member-mapped s [] = refl
   declared_member-mapped s (x ∷ xs) = cond-mapped (mapped_option (mapped_private f)) (bytes_eq s x.spelling) (Some x) _ refl (declared_member-mapped s xs)
 

@@ -1,20 +1,21 @@
 -- Spans and semantic ids mean nothing, and neither does giving the new nodes their numbers anew, where none of them stands in
 -- the meaning.
-use Rattle.std.specs.Prelude.{◌≡◌, ℕ, ◌+◌, List, [], ◌∷◌, map, Bool, true, Option, Some, None}
+use Rattle.std.specs.Prelude.{◌≡◌, ℕ, ◌+◌, suc, List, [], ◌∷◌, ◌++◌, map, Bool, true, false, cond, Option, Some, None}
 use Rattle.std.proofs.Common.{refl, sym, ap, ap₂, ◌∙◌}
 use Rattle.es_base.specs.Carried.{stripped, stripped_part, stripped_parts}
 use Rattle.es_base.specs.Numbered.{is_old, new_numbers}
 use Rattle.es_base.specs.Preorder.{preorder, nodes, nodes_of, nodes_of_part, renumbered}
 use Rattle.es_base.specs.Tree.{Tree, Part, Parts, Node, end, more, child, list}
-use Rattle.es_steps.specs.Law.{SemanticIdsLaw, SourceSemanticIdsLaw, RenumberingLaw}
+use Rattle.es_steps.specs.Law.{SemanticIdsLaw, SourceSemanticIdsLaw, PrivateSemanticIdsLaw, RenumberingLaw}
 use Rattle.es_steps.specs.Meaning.{Meaning, Terms, source_terms, means, source_means}
-use Rattle.es_steps.specs.PrivateNames.{PrivateMember, members_of_all, private_members}
+use Rattle.es_steps.specs.PrivateNames.{PrivateMember, PrivateUse, seen_members, members_of_all, private_members, declared_member, used, class_of, is_private_identifier, is_element, private_uses, uses_in, part_uses, item_uses, resolve_privates}
+use Rattle.es_steps.specs.Parts.{at, string_of}
 use Rattle.es_steps.specs.Standing.{meaning_numbers, terms_numbers, all_pass}
 use Rattle.es_steps.specs.declared.options.Options.{Options}
 use Rattle.es_steps.proofs.Mapped.{Renames, mapped, mapped_part, mapped_parts, mapped_option, mapped_privates, mapped_private, mapped_meaning}
 use Rattle.es_steps.proofs.MeaningMapped.{means-same}
-use Rattle.es_steps.proofs.PartsMapped.{append-mapped, preorder-mapped}
-use Rattle.es_steps.proofs.PrivatesMapped.{members_at-mapped}
+use Rattle.es_steps.proofs.PartsMapped.{cond-mapped, append-mapped, string_at-mapped, preorder-mapped}
+use Rattle.es_steps.proofs.PrivatesMapped.{members_at-mapped, seen_members-mapped, declared_member-mapped}
 use Rattle.es_steps.proofs.Renaming.{same, renaming, renaming-renames, renaming-renumbers}
 use Rattle.es_steps.proofs.Still.{meaning-still, terms-still}
 
@@ -92,6 +93,56 @@ source_means-bare o t = ap (λ x. means x (mapped same t)) (source_terms-bare o 
 
 pub source_semantic_ids_law : SourceSemanticIdsLaw
 source_semantic_ids_law o t = sym (source_means-bare o (stripped t)) ∙ ap (source_means o) (bare-stripped t) ∙ source_means-bare o t
+
+-- ---- what private names mean
+
+abbrev mapped_use : (ℕ → ℕ) → PrivateUse → PrivateUse
+mapped_use f u = record { number = f u.number; spelling = u.spelling; class = mapped_option f u.class }
+
+module _ (f : ℕ → ℕ) where
+  class_of-mapped : (x : Option PrivateMember) → class_of (mapped_option (mapped_private f) x) ≡ mapped_option f (class_of x)
+  class_of-mapped None = refl
+  class_of-mapped (Some x) = refl
+
+  mutual
+    private_uses-mapped : (seen : List PrivateMember) (declares : Bool) (t : Tree) → private_uses (mapped_privates f seen) declares (mapped f t) ≡ map (mapped_use f) (private_uses seen declares t)
+    private_uses-mapped seen declares (Node kind m span semantic_id ps) =
+        rw (string_at-mapped f 0 ps, declared_member-mapped f (string_of (at 0 ps)) seen, class_of-mapped (declared_member (string_of (at 0 ps)) seen))
+        (cond-mapped (map (mapped_use f)) (is_private_identifier kind) (cond declares [] (used m (string_of (at 0 ps)) (class_of (declared_member (string_of (at 0 ps)) seen)) ∷ [])) (uses_in (λ i. seen_members kind m ps i ++ seen) (is_element kind) ps)
+        (cond-mapped (map (mapped_use f)) declares [] (used m (string_of (at 0 ps)) (class_of (declared_member (string_of (at 0 ps)) seen)) ∷ []) refl refl)
+        (uses_in-mapped _ (λ i. seen_members kind m ps i ++ seen) (λ i. append-mapped (mapped_private f) (seen_members kind m ps i) seen (seen_members-mapped f kind m ps i) refl) (is_element kind) ps))
+
+    uses_in-mapped : (there here : ℕ → List PrivateMember) → ((i : ℕ) → there i ≡ mapped_privates f (here i)) → (declares : Bool) (ps : Parts) → uses_in there declares (mapped_parts f ps) ≡ map (mapped_use f) (uses_in here declares ps)
+    uses_in-mapped there here equal declares end = refl
+    uses_in-mapped there here equal declares (more p ps) =
+        append-mapped (mapped_use f) _ _ (ap (λ seen. part_uses seen declares (mapped_part f p)) (equal 0) ∙ part_uses-mapped (here 0) declares p)
+        (uses_in-mapped (λ i. there (suc i)) (λ i. here (suc i)) (λ i. equal (suc i)) false ps)
+
+    part_uses-mapped : (seen : List PrivateMember) (declares : Bool) (p : Part) → part_uses (mapped_privates f seen) declares (mapped_part f p) ≡ map (mapped_use f) (part_uses seen declares p)
+    part_uses-mapped seen declares (child t) = private_uses-mapped seen declares t
+    part_uses-mapped seen declares (list ps) = item_uses-mapped seen ps
+    part_uses-mapped seen declares p = refl
+
+    item_uses-mapped : (seen : List PrivateMember) (ps : Parts) → item_uses (mapped_privates f seen) (mapped_parts f ps) ≡ map (mapped_use f) (item_uses seen ps)
+    item_uses-mapped seen end = refl
+    item_uses-mapped seen (more p ps) = append-mapped (mapped_use f) _ _ (part_uses-mapped seen false p) (item_uses-mapped seen ps)
+
+class-unchanged : (n : Option ℕ) → mapped_option same n ≡ n
+class-unchanged None = refl
+class-unchanged (Some n) = refl
+
+uses-unchanged : (us : List PrivateUse) → map (mapped_use same) us ≡ us
+uses-unchanged [] = refl
+uses-unchanged (u ∷ us) = rw (class-unchanged u.class, uses-unchanged us) refl
+
+resolve_privates-bare : (t : Tree) → resolve_privates (mapped same t) ≡ resolve_privates t
+resolve_privates-bare t = private_uses-mapped same [] false t ∙ uses-unchanged (resolve_privates t)
+
+pub private_semantic_ids_law : PrivateSemanticIdsLaw
+private_semantic_ids_law t = (
+  sym (private_members-bare (stripped t)) ∙ ap private_members (bare-stripped t) ∙ private_members-bare t,
+  sym (resolve_privates-bare (stripped t)) ∙ ap resolve_privates (bare-stripped t) ∙ resolve_privates-bare t,
+)
 
 -- ---- numbers given anew
 

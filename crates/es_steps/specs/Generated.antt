@@ -1,4 +1,4 @@
--- The nodes that a lowering makes: numbers in preorder from m on, no spans, no marks.
+-- The nodes that a lowering makes: numbers in preorder from m on, no spans, no semantic ids.
 use Rattle.std.specs.Prelude.{ℕ, ◌+◌, List, [], ◌∷◌, false, codes, None}
 use Rattle.es_base.specs.Tree.{Tree, Parts, Node, end, more, child, absent, list, string, no_string, boolean, literal, trees}
 use Rattle.es_base.specs.declared.kind.Kind.{Kind}

@@ -16,6 +16,7 @@ use Rattle.es_steps.specs.FirstForm.{is_first_form}
 use Rattle.es_steps.specs.GeneratedForms.{known_object}
 use Rattle.es_steps.specs.Lowered.{MeetsClauses, IsLowered}
 use Rattle.es_steps.specs.Meaning.{Meaning, Terms, means, source_means, has_meaning}
+use Rattle.es_steps.specs.PrivateNames.{private_members, resolve_privates}
 use Rattle.es_steps.specs.Reading.{read}
 use Rattle.es_steps.specs.References.{declared}
 use Rattle.es_steps.specs.SameMeanings.{same_meanings}
@@ -34,6 +35,10 @@ SemanticIdsLaw = (o : Terms) (t : Tree) → means o (stripped t) ≡ means o t
 -- nor of that of a source, whose terms are read from it
 abbrev pub SourceSemanticIdsLaw : Type 0
 SourceSemanticIdsLaw = (o : Options) (t : Tree) → source_means o (stripped t) ≡ source_means o t
+
+-- nor of the private members, and of what private names mean
+abbrev pub PrivateSemanticIdsLaw : Type 0
+PrivateSemanticIdsLaw = (t : Tree) → (private_members (stripped t) ≡ private_members t) × (resolve_privates (stripped t) ≡ resolve_privates t)
 
 -- giving the new nodes their numbers anew, in preorder, keeps a meaning, if none of them stands in it or in its terms
 abbrev pub RenumberingLaw : Type 0

@@ -1,16 +1,18 @@
 // The laws of meanings: functions that do nothing.
 
-ghost use Rattle.es_steps.specs.Law.{DifferenceLaw, SemanticIdsLaw, SourceSemanticIdsLaw, RenumberingLaw, ClausesLaw, FirstFormLaw, DefineLaw};
+ghost use Rattle.es_steps.specs.Law.{DifferenceLaw, SemanticIdsLaw, SourceSemanticIdsLaw, PrivateSemanticIdsLaw, RenumberingLaw, ClausesLaw, FirstFormLaw, DefineLaw};
 
 /// Meanings that are found to differ are not equal.
 pub fn different_meanings_are_not_equal()
     ensures { DifferenceLaw }
 {}
 
-/// Semantic ids are no part of a meaning, nor of that of a source.
+/// Semantic ids are no part of a meaning, nor of that of a source, nor of the private members and of what
+/// private names mean.
 pub fn semantic_ids_mean_nothing()
     ensures meaning { SemanticIdsLaw }
     ensures source { SourceSemanticIdsLaw }
+    ensures private_names { PrivateSemanticIdsLaw }
 {}
 
 /// Giving the new nodes of a program their numbers anew, in preorder, keeps its meaning, if no

@@ -1,4 +1,4 @@
--- What JSON keeps of a tree: all but its marks, of a tree whose numbers and texts JSON can hold (our own).
+-- What JSON keeps of a tree: all but its semantic ids, of a tree whose numbers and strings JSON can hold (our own).
 use Rattle.std.specs.Prelude.{◌≡◌, ◌^◌, ◌<◌, ℕ, List, Option, Some, None}
 use Rattle.std.specs.Str.{chars, encode_utf8_all}
 use Rattle.es_base.specs.Tree.{Tree, Part, Parts, Node, end, more, child, absent, list, string, no_string, boolean, literal}
@@ -25,7 +25,7 @@ abbrev pub SpanFits : Option (ℕ × ℕ) → Type 0
 SpanFits None = Unit
 SpanFits (Some s) = (s.0 < 2 ^ 32) × (s.1 < 2 ^ 32)
 
--- the numbers and texts of a tree are such as code holds
+-- the numbers and strings of a tree are such as code holds
 abbrev mutual
   pub IsKept : Tree → Type 0
   IsKept (Node kind id span semantic_id ps) = (id < 2 ^ 32) × SpanFits span × AreKept ps

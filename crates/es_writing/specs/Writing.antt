@@ -1,7 +1,10 @@
 -- Writing a tree as a value (ESTree, off the table of kinds; `node`, the number of a node, is our own).
-use Rattle.std.specs.Prelude.{ℕ, List, [], ◌∷◌, ◌++◌, Bool, true, false, not, Option, Some, None, codes}
+use Rattle.std.specs.Prelude.{◌≡◌, ℕ, List, [], ◌∷◌, ◌++◌, Bool, true, false, not, Option, Some, None, codes, String}
 use Rattle.std.specs.Str.{encode_utf8_all}
+use Rattle.std.specs.declared.alloc.Global.{Global}
 use Rattle.serde_json.specs.Data.{Data, null, boolean as json_boolean, number, string as json_string, array, object, unsigned, Items, no_items, item, Members, no_members, put}
+use Rattle.serde_json.specs.View.{members_view}
+use Rattle.serde_json.specs.declared.value.Value.{Value}
 use Rattle.es_base.specs.Tree.{Tree, Part, Parts, Node, end, more, child, absent, list, string, no_string, boolean, literal}
 use Rattle.es_base.specs.Table.{Field, name_of, members_of}
 use Rattle.es_base.specs.declared.kind.Kind.{Kind}
@@ -20,10 +23,14 @@ abbrev pub put_all : Members → List Entry → Members
 put_all ms [] = ms
 put_all ms (e ∷ es) = put_all (put e.0 e.1 ms) es
 
+-- these entries are put into an object in code, one after another
+abbrev pub Puts : List (String Global × Value) → List (String Global × Value) → List Entry → Type 0
+Puts old new es = members_view new ≡ put_all (members_view old) es
+
 abbrev pub object_of : List Entry → Data
 object_of es = object (put_all no_members es)
 
--- a text of a tree is a list of characters, one of JSON is a list of bytes
+-- a string of a tree is a list of characters, one of JSON is a list of bytes
 abbrev pub string_of : List ℕ → Data
 string_of s = json_string (encode_utf8_all s)
 
@@ -73,7 +80,7 @@ more_entries Kind.UnaryExpression ps = entry (codes "prefix") (json_boolean true
 more_entries Kind.ArrowFunctionExpression ps = entry (codes "expression") (json_boolean (not (is_block ps))) []
 more_entries kind ps = []
 
--- the texts of a template element, of which the second may be absent
+-- the strings of a template element, of which the second may be absent
 abbrev pub cooked_of : Part → Data
 cooked_of (string s) = string_of s
 cooked_of p = null

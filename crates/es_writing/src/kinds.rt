@@ -3,21 +3,21 @@
 ghost use Rattle.std.specs.Prelude.{◌≡◌, IfOk, OnOk, codes};
 ghost use Rattle.es_base.specs.declared.kind.Kind.{Kind};
 ghost use Rattle.es_base.specs.Tree.{absent, end, more};
-ghost use Rattle.es_plain.specs.View.{plain_part, plain_parts};
-ghost use Rattle.es_writing.specs.Writing.{put_all, type_of, is_block, more_entries, raw_of, cooked_of, strings_of, tail_entries, entry};
-ghost use Rattle.serde_json.specs.View.{view, members_view};
+ghost use Rattle.es_node.specs.View.{part_of, parts_of};
+ghost use Rattle.es_writing.specs.Writing.{Puts, type_of, is_block, more_entries, raw_of, cooked_of, strings_of, tail_entries, entry};
+ghost use Rattle.serde_json.specs.View.{view};
 
-use crate::entries::{put_boolean, put_value, string_of};
+use crate::entries::{put_boolean, put_value, string_of, word_of};
 use es_base::kind::Kind;
 use es_base::table::estree_name;
-use es_plain::plain::{Part, Plain};
+use es_node::node::Part;
 use serde_json::{Map, Value};
 use std::alloc::{AllocError, Global};
 
-/// The value of `type`: the name of the kind, or the name that a foreign node keeps. Fails for want of
-/// memory alone.
+/// The value of `type`: the name of the kind, or the name that a foreign node keeps. Fails on
+/// allocation failure alone.
 pub fn type_of(alloc: Global, kind: Kind, parts: &[Part]) -> Result<Value, AllocError>
-    ensures { IfOk result (λ v. view v ≡ type_of kind (plain_parts parts.now)) }
+    ensures { IfOk result (λ v. view v ≡ type_of kind (parts_of parts.now)) }
 {
     match kind {
         Kind::Foreign => foreign_type(alloc, parts),
@@ -26,10 +26,11 @@ pub fn type_of(alloc: Global, kind: Kind, parts: &[Part]) -> Result<Value, Alloc
 }
 
 fn foreign_type(alloc: Global, parts: &[Part]) -> Result<Value, AllocError>
-    ensures { IfOk result (λ v. view v ≡ type_of Kind.Foreign (plain_parts parts.now)) }
+    ensures { IfOk result (λ v. view v ≡ type_of Kind.Foreign (parts_of parts.now)) }
 {
     match parts {
-        [Part::Text(name), ..] => string_of(alloc, name),
+        [Part::String(name), ..] => string_of(alloc, name),
+        [Part::Word(word), ..] => word_of(alloc, *word),
         _ => Value::try_from_str(alloc, estree_name(Kind::Foreign)),
     }
 }
@@ -42,7 +43,7 @@ pub fn put_more(
     kind: Kind,
     parts: &[Part],
 ) -> Result<(), AllocError>
-    ensures { OnOk result (members_view object.new.entries ≡ put_all (members_view object.old.entries) (more_entries kind (plain_parts parts.now))) }
+    ensures { OnOk result (Puts object.old.entries object.new.entries (more_entries kind (parts_of parts.now))) }
 {
     match kind {
         Kind::UnaryExpression => put_boolean(object, alloc, "prefix", true),
@@ -54,7 +55,7 @@ pub fn put_more(
 /// Whether the body of an arrow, its second part, is a block.
 #[tactic(auto, using(crate::proofs::Parts::block_short, crate::proofs::Parts::block_long))]
 fn is_block(parts: &[Part]) -> bool
-    ensures { result ≡ is_block (plain_parts parts.now) }
+    ensures { result ≡ is_block (parts_of parts.now) }
 {
     match parts {
         [_, body, ..] => is_block_statement(body),
@@ -62,16 +63,17 @@ fn is_block(parts: &[Part]) -> bool
     }
 }
 
+#[tactic(auto, using(crate::proofs::Parts::block_is, crate::proofs::Parts::block_not))]
 fn is_block_statement(body: &Part) -> bool
-    ensures { result ≡ is_block (more absent (more (plain_part body.now) end)) }
+    ensures { result ≡ is_block (more absent (more (part_of body.now) end)) }
 {
     match body {
-        Part::Child(tree) => matches!(tree.kind, Kind::BlockStatement),
+        Part::Child(node) => matches!(node.kind(), Kind::BlockStatement),
         _ => false,
     }
 }
 
-/// Puts in the members of a template element: `value`, the object of its texts, and `tail`. Fails for
+/// Puts in the members of a template element: `value`, the object of its strings, and `tail`. Fails on
 /// allocation failure alone.
 pub fn put_template(
     object: &mut Map<String, Value>,
@@ -80,14 +82,15 @@ pub fn put_template(
     cooked: &Part,
     tail: &[Part],
 ) -> Result<(), AllocError>
-    ensures { OnOk result (members_view object.new.entries ≡ put_all (members_view object.old.entries) (entry (codes "value") (strings_of (plain_part raw.now) (plain_part cooked.now)) (tail_entries (plain_parts tail.now)))) }
+    ensures { OnOk result (Puts object.old.entries object.new.entries
+        (entry (codes "value") (strings_of (part_of raw.now) (part_of cooked.now)) (tail_entries (parts_of tail.now)))) }
 {
     put_value(object, alloc, "value", strings_of(alloc, raw, cooked)?)?;
     put_tail(object, alloc, tail)
 }
 
 fn put_tail(object: &mut Map<String, Value>, alloc: Global, tail: &[Part]) -> Result<(), AllocError>
-    ensures { OnOk result (members_view object.new.entries ≡ put_all (members_view object.old.entries) (tail_entries (plain_parts tail.now))) }
+    ensures { OnOk result (Puts object.old.entries object.new.entries (tail_entries (parts_of tail.now))) }
 {
     match tail {
         [Part::Boolean(last), ..] => put_boolean(object, alloc, "tail", *last),
@@ -95,9 +98,9 @@ fn put_tail(object: &mut Map<String, Value>, alloc: Global, tail: &[Part]) -> Re
     }
 }
 
-/// The texts of a template element.
+/// The strings of a template element.
 fn strings_of(alloc: Global, raw: &Part, cooked: &Part) -> Result<Value, AllocError>
-    ensures { IfOk result (λ v. view v ≡ strings_of (plain_part raw.now) (plain_part cooked.now)) }
+    ensures { IfOk result (λ v. view v ≡ strings_of (part_of raw.now) (part_of cooked.now)) }
 {
     let mut object = Map::new(alloc);
     put_value(&mut object, alloc, "raw", string_or_null(alloc, raw)?)?;
@@ -105,13 +108,14 @@ fn strings_of(alloc: Global, raw: &Part, cooked: &Part) -> Result<Value, AllocEr
     Ok(Value::from(object))
 }
 
-/// The text at a part; null, where there is none.
+/// The string at a part; null, where there is none.
 fn string_or_null(alloc: Global, part: &Part) -> Result<Value, AllocError>
-    ensures raw { IfOk result (λ v. view v ≡ raw_of (plain_part part.now)) }
-    ensures cooked { IfOk result (λ v. view v ≡ cooked_of (plain_part part.now)) }
+    ensures raw { IfOk result (λ v. view v ≡ raw_of (part_of part.now)) }
+    ensures cooked { IfOk result (λ v. view v ≡ cooked_of (part_of part.now)) }
 {
     match part {
-        Part::Text(string) => string_of(alloc, string),
+        Part::String(string) => string_of(alloc, string),
+        Part::Word(word) => word_of(alloc, *word),
         _ => Ok(Value::Null),
     }
 }

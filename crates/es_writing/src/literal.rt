@@ -1,36 +1,36 @@
 // What a literal has at its members (ESTree).
 
 ghost use Rattle.std.specs.Prelude.{◌≡◌, IfOk, OnOk};
-ghost use Rattle.es_writing.specs.Writing.{put_all, raw_entry, boolean_string, regex_of, literal_entries};
-ghost use Rattle.serde_json.specs.View.{view, members_view};
+ghost use Rattle.es_writing.specs.Writing.{Puts, raw_entry, boolean_string, regex_of, literal_entries};
+ghost use Rattle.serde_json.specs.View.{view};
 
-use crate::entries::{put_null, put_string, put_boolean, put_value, put_word};
+use crate::entries::{put_boolean, put_null, put_str, put_string, put_value};
 use es_base::literal::LiteralValue;
 use es_base::name::Name;
 use serde_json::{Map, Value};
 use std::alloc::{AllocError, Global};
 
-/// Puts in the value of a literal, and its text: `value` and `raw`, `bigint` or `regex`. What JSON
+/// Puts in the value of a literal, and its source text: `value` and `raw`, `bigint` or `regex`. What JSON
 /// cannot hold has the value null. Fails on allocation failure alone.
 pub fn put_literal(
     object: &mut Map<String, Value>,
     alloc: Global,
     value: &LiteralValue,
 ) -> Result<(), AllocError>
-    ensures { OnOk result (members_view object.new.entries ≡ put_all (members_view object.old.entries) (literal_entries value.now)) }
+    ensures { OnOk result (Puts object.old.entries object.new.entries (literal_entries value.now)) }
 {
     match value {
         LiteralValue::String { value, raw } => {
-            put_string(object, alloc, "value", string)?;
+            put_string(object, alloc, "value", value)?;
             put_raw(object, alloc, raw)
         }
         LiteralValue::Number { raw } => {
             put_null(object, alloc, "value")?;
             put_string(object, alloc, "raw", raw)
         }
-        LiteralValue::BigInt { string } => {
+        LiteralValue::BigInt { digits } => {
             put_null(object, alloc, "value")?;
-            put_string(object, alloc, "bigint", string)
+            put_string(object, alloc, "bigint", digits)
         }
         LiteralValue::RegExp { pattern, flags } => {
             put_null(object, alloc, "value")?;
@@ -38,11 +38,11 @@ pub fn put_literal(
         }
         LiteralValue::Boolean(boolean) => {
             put_boolean(object, alloc, "value", *boolean)?;
-            put_word(object, alloc, "raw", boolean_string(*boolean))
+            put_str(object, alloc, "raw", boolean_string(*boolean))
         }
         LiteralValue::Null => {
             put_null(object, alloc, "value")?;
-            put_word(object, alloc, "raw", "null")
+            put_str(object, alloc, "raw", "null")
         }
     }
 }
@@ -53,7 +53,7 @@ fn put_raw(
     alloc: Global,
     raw: &Option<Name>,
 ) -> Result<(), AllocError>
-    ensures { OnOk result (members_view object.new.entries ≡ put_all (members_view object.old.entries) (raw_entry raw.now)) }
+    ensures { OnOk result (Puts object.old.entries object.new.entries (raw_entry raw.now)) }
 {
     match raw {
         None => Ok(()),

@@ -2,49 +2,46 @@
 
 ghost use Rattle.std.specs.Prelude.{◌≡◌, IfOk, OnOk, map};
 ghost use Rattle.es_base.specs.Table.{field_of, members_of};
-ghost use Rattle.es_plain.specs.View.{plain_tree, plain_part, plain_parts};
+ghost use Rattle.es_base.specs.Tree.{nullable, trees, nullable_trees};
+ghost use Rattle.es_node.specs.View.{part_of, parts_of};
 ghost use Rattle.es_writing.specs.Kept.{IsKept};
-ghost use Rattle.es_writing.specs.Writing.{put_all, kind_entries, write, write_fields, write_part, write_items, write_item};
+ghost use Rattle.es_writing.specs.Writing.{Puts, kind_entries, write, write_fields, write_part, write_items, write_item};
 ghost use Rattle.serde_json.specs.Data.{array};
-ghost use Rattle.serde_json.specs.View.{view, members_view};
+ghost use Rattle.serde_json.specs.View.{view};
 
-use crate::entries::{number_of, put_null, put_span, put_string, put_boolean, put_value};
+use crate::entries::{number_of, put_boolean, put_null, put_span, put_string, put_value, word_of};
 use crate::kept::visit_tree;
 use crate::kinds::{put_more, put_template, type_of};
 use crate::literal::put_literal;
 use es_base::kind::Kind;
 use es_base::table::{Member, members};
-use es_plain::plain::{Part, Plain};
+use es_node::node::{Node, Part};
 use serde_json::{Map, Value};
 use std::alloc::{AllocError, Global};
 
 /// The value of a node: an object with its `type`, its number as `node`, what stands at its members, by
 /// the table of kinds, and where it stands in its source, `start` and `end` (ESTree; `node` is our own).
-/// Its mark is not written. Fails on allocation failure alone.
-pub fn write(alloc: Global, tree: &Plain) -> Result<Value, AllocError>
-    ensures value { IfOk result (λ v. view v ≡ write (plain_tree tree.now)) }
-    ensures kept { IfOk result (λ v. IsKept (plain_tree tree.now)) }
+/// Its semantic id is not written. Fails on allocation failure alone.
+pub fn write(alloc: Global, node: &Node) -> Result<Value, AllocError>
+    ensures value { IfOk result (λ v. view v ≡ write node.now) }
+    ensures kept { IfOk result (λ v. IsKept node.now) }
 {
-    visit_tree(tree);
-    write_tree(alloc, tree)
+    visit_tree(node);
+    write_node(alloc, node)
 }
 
 #[cycle(write)]
-fn write_tree(alloc: Global, tree: &Plain) -> Result<Value, AllocError>
-    ensures { IfOk result (λ v. view v ≡ write (plain_tree tree.now)) }
+fn write_node(alloc: Global, node: &Node) -> Result<Value, AllocError>
+    ensures { IfOk result (λ v. view v ≡ write node.now) }
 {
-    let parts = tree.parts.as_slice();
+    let kind = node.kind();
+    let parts = node.parts();
     let mut object = Map::new(alloc);
-    put_value(
-        &mut object,
-        alloc,
-        "type",
-        type_of(alloc, tree.kind, parts)?,
-    )?;
-    put_value(&mut object, alloc, "node", number_of(tree.node_id.0))?;
-    put_row(&mut object, alloc, tree.kind, parts)?;
-    put_more(&mut object, alloc, tree.kind, parts)?;
-    put_span(&mut object, alloc, tree.span)?;
+    put_value(&mut object, alloc, "type", type_of(alloc, kind, parts)?)?;
+    put_value(&mut object, alloc, "node", number_of(node.node_id().0))?;
+    put_row(&mut object, alloc, kind, parts)?;
+    put_more(&mut object, alloc, kind, parts)?;
+    put_span(&mut object, alloc, node.span())?;
     Ok(Value::from(object))
 }
 
@@ -57,7 +54,8 @@ fn put_row(
     kind: Kind,
     parts: &[Part],
 ) -> Result<(), AllocError>
-    ensures { OnOk result (members_view object.new.entries ≡ put_all (members_view object.old.entries) (kind_entries kind (plain_parts parts.now) (write_fields (members_of kind) (plain_parts parts.now)))) }
+    ensures { OnOk result (Puts object.old.entries object.new.entries
+        (kind_entries kind (parts_of parts.now) (write_fields (members_of kind) (parts_of parts.now)))) }
 {
     match kind {
         Kind::Foreign => Ok(()),
@@ -77,7 +75,8 @@ fn put_fields(
     members: &[Member],
     parts: &[Part],
 ) -> Result<(), AllocError>
-    ensures { OnOk result (members_view object.new.entries ≡ put_all (members_view object.old.entries) (write_fields (map field_of members.now) (plain_parts parts.now))) }
+    ensures { OnOk result (Puts object.old.entries object.new.entries
+        (write_fields (map field_of members.now) (parts_of parts.now))) }
 {
     for (member, part) in members.iter().zip(parts) {
         put_part(object, alloc, member.name, part)?;
@@ -93,38 +92,59 @@ fn put_part(
     name: &str,
     part: &Part,
 ) -> Result<(), AllocError>
-    ensures { OnOk result (members_view object.new.entries ≡ put_all (members_view object.old.entries) (write_part name.now (plain_part part.now))) }
+    ensures { OnOk result (Puts object.old.entries object.new.entries (write_part name.now (part_of part.now))) }
 {
     match part {
-        Part::Child(tree) => put_value(object, alloc, name, write_tree(alloc, tree)?),
+        Part::Child(node) => put_value(object, alloc, name, write_node(alloc, node)?),
         Part::Absent => put_null(object, alloc, name),
-        Part::List(all) => put_value(object, alloc, name, write_items(alloc, all.as_slice())?),
-        Part::Text(string) => put_string(object, alloc, name, string),
+        Part::List(nodes) => put_value(object, alloc, name, write_nodes(alloc, nodes.as_slice())?),
+        Part::Holes(nodes) => {
+            put_value(
+                object,
+                alloc,
+                name,
+                write_nullable_nodes(alloc, nodes.as_slice())?,
+            )
+        }
+        Part::String(string) => put_string(object, alloc, name, string),
         Part::NoString => Ok(()),
+        Part::Word(word) => put_value(object, alloc, name, word_of(alloc, *word)?),
         Part::Boolean(boolean) => put_boolean(object, alloc, name, *boolean),
         Part::Literal(value) => put_literal(object, alloc, value),
     }
 }
 
-/// The value of a list.
+/// The value of a list of nodes.
 #[cycle(write)]
-fn write_items(alloc: Global, parts: &[Part]) -> Result<Value, AllocError>
-    ensures { IfOk result (λ v. view v ≡ array (write_items (plain_parts parts.now))) }
+fn write_nodes(alloc: Global, nodes: &[Node]) -> Result<Value, AllocError>
+    ensures { IfOk result (λ v. view v ≡ array (write_items (trees nodes.now))) }
 {
-    let mut items = Vec::new(alloc);
-    for part in parts {
-        items.push(write_item(alloc, part)?)?;
+    let mut items = Vec::with_capacity(alloc, nodes.len())?;
+    for node in nodes {
+        items.push(write_node(alloc, node)?)?;
     }
     Ok(Value::from(items))
 }
 
-/// The value of an item of a list: null, where there is no node.
+/// The value of a list with holes.
 #[cycle(write)]
-fn write_item(alloc: Global, part: &Part) -> Result<Value, AllocError>
-    ensures { IfOk result (λ v. view v ≡ write_item (plain_part part.now)) }
+fn write_nullable_nodes(alloc: Global, nodes: &[Option<Node>]) -> Result<Value, AllocError>
+    ensures { IfOk result (λ v. view v ≡ array (write_items (nullable_trees nodes.now))) }
 {
-    match part {
-        Part::Child(tree) => write_tree(alloc, tree),
-        _ => Ok(Value::Null),
+    let mut items = Vec::with_capacity(alloc, nodes.len())?;
+    for node in nodes {
+        items.push(write_nullable_node(alloc, node)?)?;
+    }
+    Ok(Value::from(items))
+}
+
+/// The value of a node; null, where there is none.
+#[cycle(write)]
+fn write_nullable_node(alloc: Global, node: &Option<Node>) -> Result<Value, AllocError>
+    ensures { IfOk result (λ v. view v ≡ write_item (nullable node.now)) }
+{
+    match node {
+        None => Ok(Value::Null),
+        Some(node) => write_node(alloc, node),
     }
 }

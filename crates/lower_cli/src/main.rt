@@ -2,41 +2,29 @@
 //! output. docs/JSON.md has the format of both.
 #![tactic(auto)]
 
-mod answer;
-mod lines;
-mod run;
-mod saying;
-mod status;
-#[cfg(test)]
-mod tests;
-#[cfg(test)]
-mod strings;
-mod words;
-
-use crate::run::run;
 use lower_io::standard::{StdinSource, StdoutSink};
-use std::alloc::Global;
+use lower_run::run::run;
 use std::process::ExitCode;
 use std::{env, io};
 
-/// The status where the words of the command line can't be had.
-const NO_WORDS: u8 = 10;
+/// The status where the arguments of the command line can't be had.
+const NO_ARGUMENTS: u8 = 10;
 
 fn main(rt: HostRuntime) -> ExitCode {
-    let Ok(words) = words_of(&rt) else {
-        return ExitCode::from(NO_WORDS);
+    let Ok(arguments) = arguments_of(&rt) else {
+        return ExitCode::from(NO_ARGUMENTS);
     };
     let mut source = StdinSource::new(rt.stdin());
     let mut sink = StdoutSink::new(rt.stdout());
-    let status = run(rt.alloc(), words.as_slice(), &mut source, &mut sink);
+    let status = run(rt.alloc(), arguments.as_slice(), &mut source, &mut sink);
     ExitCode::from(status.number())
 }
 
-/// The words behind the program's name.
-fn words_of(rt: &HostRuntime) -> io::Result<Vec<String>> {
-    let mut words = Vec::new(rt.alloc());
-    for word in env::args(rt)?.skip(1) {
-        words.push(word)?;
+/// The arguments behind the program's name.
+fn arguments_of(rt: &HostRuntime) -> io::Result<Vec<String>> {
+    let mut arguments = Vec::new(rt.alloc());
+    for argument in env::args(rt)?.skip(1) {
+        arguments.push(argument)?;
     }
-    Ok(words)
+    Ok(arguments)
 }

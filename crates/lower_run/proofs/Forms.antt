@@ -1,12 +1,7 @@
 -- What it is for a program to have no node that is not as the form asks.
 use Rattle.std.proofs.Common.{◌≡◌, refl, sym, ap, ◌∙◌, ℕ, List, [], ◌∷◌, ◌++◌, Bool, true, false, Option, Some, None, option_map, true≢false}
-use Rattle.std.proofs.lemmas.Bool.{and_parts}
-use Rattle.es_base.specs.Conforms.{conforms}
 use Rattle.es_base.specs.Tree.{Tree}
 use Rattle.es_base.specs.declared.ids.NodeId.{NodeId}
-use Rattle.es_base.specs.declared.table.Place.{Place}
-use Rattle.es_members.specs.Marked.{semantic_ids_fit}
-use Rattle.es_members.specs.Standing.{Fits}
 use Rattle.es_steps.specs.FirstForm.{breaches, least, not_yet}
 use Rattle.lower_run.specs.Outcome.{IsOfForm}
 
@@ -31,7 +26,3 @@ none_empty t foreign r none e = both_none (breaches t) foreign (none_least (brea
 
 pub none-of_form : (t : Tree) (foreign : List ℕ) (r : Option NodeId) → r ≡ None → option_map (λ n. n.0) r ≡ not_yet t foreign → IsOfForm t foreign
 none-of_form t foreign r none e = let empty = none_empty t foreign r none e in (empty.1, rw empty.0 refl)
-
-pub fits-conform : (p : Place) (t : Tree) → Fits p t → conforms p t ≡ true
-unfolding Fits
-fits-conform p t h = (and_parts (conforms p t) (semantic_ids_fit t) h).0

@@ -5,7 +5,7 @@ use Rattle.es_base.specs.Conforms.{conforms}
 use Rattle.es_base.specs.Preorder.{nodes, numbered_from}
 use Rattle.es_base.specs.Tree.{Tree}
 use Rattle.es_base.specs.declared.table.Place.{Place}
-use Rattle.es_lowered.specs.Lowered.{write_lowered}
+use Rattle.es_writing.specs.Lowered.{write_lowered}
 use Rattle.es_steps.proofs.FirstMeaning.{first_form_law}
 use Rattle.es_steps.specs.FirstForm.{is_first_form}
 use Rattle.es_steps.specs.Law.{has_meaning}

@@ -10,9 +10,9 @@ use Rattle.serde_json.specs.Written.{compact_text, has_float}
 use Rattle.serde_json.specs.declared.value.Value.{Value}
 use Rattle.es_base.specs.Tree.{Tree}
 use Rattle.es_base.specs.declared.ledger.LedgerEntry.{LedgerEntry}
-use Rattle.es_json_law.proofs.Counted.{values-read_text}
-use Rattle.es_json_law.proofs.Lowered.{lowered_no_float}
-use Rattle.es_lowered.specs.Lowered.{Writes, write_lowered}
+use Rattle.es_json.proofs.Counted.{values-read_text}
+use Rattle.es_json.proofs.Lowered.{lowered_no_float}
+use Rattle.es_writing.specs.Lowered.{Writes, write_lowered}
 use Rattle.es_reading.specs.Told.{values}
 use Rattle.lower_run.specs.Lines.{line}
 use Rattle.lower_run.specs.Outcome.{most_bytes}
@@ -27,8 +27,8 @@ none_permuted ys p = empty ys (length_permutation [] ys p)
 -- the value of a program with none of them
 written-value : (v : Value) (t : Tree) → Writes v t [] [] [] → view v ≡ write_lowered t [] [] []
 written-value v t w = w.written
-    ∙ ap (λ names. write_lowered t names w.told []) (none_permuted w.names w.names_in_order.same)
-    ∙ ap (λ told. write_lowered t [] told []) (none_permuted w.told w.told_in_order.same)
+    ∙ ap (λ names. write_lowered t names w.ordered []) (none_permuted w.names w.names_in_order.same)
+    ∙ ap (λ warnings. write_lowered t [] warnings []) (none_permuted w.ordered w.warnings_in_order.same)
 
 -- what was written with no names
 pub nothing-generated : {E : Type 0} (result : Result Value E) (t : Tree) (names : List LedgerEntry) → names ≡ [] → IfOk result (λ v. Writes v t names [] []) → IfOk result (λ v. view v ≡ write_lowered t [] [] [])

@@ -5,7 +5,7 @@ use Rattle.serde_json.specs.Read.{read as read_text}
 use Rattle.serde_json.specs.Written.{compact_text}
 use Rattle.es_base.specs.Preorder.{nodes}
 use Rattle.es_base.specs.Tree.{Tree}
-use Rattle.es_lowered.specs.Lowered.{write_lowered}
+use Rattle.es_writing.specs.Lowered.{write_lowered}
 use Rattle.es_reading.specs.Fault.{Fault, not_a_tree, float_at}
 use Rattle.es_reading.specs.Reading.{read, root}
 use Rattle.es_reading.specs.declared.fault.ReadError.{ReadError}

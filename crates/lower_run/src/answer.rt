@@ -4,8 +4,7 @@ ghost use Rattle.std.specs.Prelude.{◌≡◌, ◌≤◌, ◌<◌, ◌+◌, ◌^
 ghost use Rattle.es_base.specs.Conforms.{conforms};
 ghost use Rattle.es_base.specs.Preorder.{numbered_from};
 ghost use Rattle.es_base.specs.declared.table.Place.{Place};
-ghost use Rattle.es_lowered.specs.Lowered.{write_lowered};
-ghost use Rattle.es_members.specs.Standing.{Fits};
+ghost use Rattle.es_writing.specs.Lowered.{write_lowered};
 ghost use Rattle.es_reading.specs.Reading.{read, root};
 ghost use Rattle.es_reading.specs.Told.{Tells, ids, values};
 ghost use Rattle.es_reading.specs.declared.numbers.Numbers.{Numbers};
@@ -16,21 +15,21 @@ ghost use Rattle.lower_run.specs.Arguments.{options_for, lowered_by};
 ghost use Rattle.serde_json.specs.View.{view};
 ghost use Rattle.serde_json.specs.Written.{compact_text};
 
+use crate::arguments::Lowering;
 use crate::lines::{float_line, not_a_tree_line, not_yet_line};
 use crate::output::{Output, output_with};
 use crate::status::Status;
-use crate::arguments::Lowering;
+use class_properties::lower;
+use class_properties::not_yet::not_yet;
 use es_base::ids::NodeId;
 use es_base::ledger::Ledger;
 use es_base::list::List;
-use es_lowered::lowered::write_lowered;
 use es_node::node::Node;
 use es_reading::fault::ReadError;
 use es_reading::numbers::Numbers;
 use es_reading::tree::read_tree;
 use es_steps::error::LowerError;
-use class_properties::form::not_yet;
-use class_properties::lower::lower;
+use es_writing::lowered::write_lowered;
 use serde_json::Value;
 use std::alloc::{AllocError, Global};
 
@@ -72,7 +71,7 @@ fn of_value(alloc: Global, lowering: Lowering, value: Value) -> Result<Output, A
 fn tree_of(alloc: Global, value: Value) -> Result<(Node, List<NodeId>), ReadError>
     requires { values (view value) + 1 < 2 ^ 32 }
     ensures ok { IfOk result (λ r. read Numbers.Preorder (view value) root 0 ≡ Ok (record { value = r.0; foreign = ids r.1 })) }
-    ensures fits { IfOk result (λ r. Fits Place.Program r.0) }
+    ensures conforms { IfOk result (λ r. conforms Place.Program r.0 ≡ true) }
     ensures preorder { IfOk result (λ r. r.0 ≡ numbered_from 0 r.0) }
     ensures err { IfErr result (λ e. Tells e (read Numbers.Preorder (view value) root 0)) }
 {
@@ -101,7 +100,7 @@ fn of_tree(
     tree: Node,
     foreign: &[NodeId],
 ) -> Result<Output, AllocError>
-    requires fits { conforms Place.Program tree ≡ true }
+    requires conforms { conforms Place.Program tree ≡ true }
     requires preorder { tree ≡ numbered_from 0 tree }
     ensures { IfOk result (λ s. IsOutputOfTree (options_for lowering) tree (ids foreign.now) s.status (string_bytes s.text)) }
 {
@@ -125,6 +124,7 @@ fn lower_form(
     tree: Node,
     foreign: &[NodeId],
 ) -> Result<Node, LowerError>
+    requires { conforms Place.Program tree ≡ true }
     ensures ok { IfOk result (λ r. IsOfForm tree (ids foreign.now) × (r ≡ lowered_by lowering tree)) }
     ensures err { IfErr result (λ e. IsRefused tree (ids foreign.now) e) }
 {
@@ -135,6 +135,7 @@ fn lower_form(
 }
 
 fn lower_by(alloc: Global, lowering: Lowering, tree: Node) -> Result<Node, AllocError>
+    requires conforms { conforms Place.Program tree ≡ true }
     requires form { is_first_form tree [] ≡ true }
     ensures { IfOk result (λ r. r ≡ lowered_by lowering tree) }
 {

@@ -28,7 +28,7 @@ pub fn lowering_of(arguments: &[String]) -> Option<Lowering>
     None
 }
 
-/// Whether each word is `--class-properties`.
+/// Whether each argument is `--class-properties`.
 fn are_class_properties(arguments: &[String]) -> bool
     ensures { result ≡ all_class_properties (map string_bytes arguments.now) }
 {

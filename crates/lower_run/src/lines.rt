@@ -8,7 +8,7 @@ use es_base::ids::NodeId;
 use es_reading::fault::What;
 use std::alloc::{AllocError, Global};
 
-/// The word for what is wrong with a value.
+/// The name of what is wrong with a value.
 fn what_name(what: What) -> &'static str
     ensures { result.now ≡ what_name what }
 {
@@ -20,12 +20,11 @@ fn what_name(what: What) -> &'static str
     }
 }
 
-/// The line for a value that is no tree: what is wrong, and the number of the node. Fails for want of
-/// memory alone.
+/// The line for a value that is no tree: what is wrong, and the number of the node. Fails on allocation failure alone.
 pub fn not_a_tree_line(alloc: Global, at: u32, what: What) -> Result<String, AllocError>
     ensures { IfOk result (λ s. string_bytes s ≡ fault_line (not_a_tree at what)) }
 {
-    let argument = what_name(what);
+    let word = what_name(what);
     format!(in alloc; "not a tree: {word} at {at}\n")
 }
 

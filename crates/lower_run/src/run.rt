@@ -6,9 +6,9 @@ ghost use Rattle.lower_run.specs.Arguments.{options_of};
 ghost use Rattle.lower_run.specs.declared.status.Status.{Status};
 
 use crate::answer::answer;
+use crate::arguments::lowering_of;
 use crate::output::{Output, output_with};
 use crate::status::Status;
-use crate::arguments::lowering_of;
 use lower_io::sink::Sink;
 use lower_io::source::Source;
 use lower_io::whole::{ReadStop, read_all, write_all};
@@ -61,7 +61,11 @@ fn read_and_write<S: Source, K: Sink>(
 }
 
 /// The output for these arguments and this source. Fails on allocation failure alone.
-fn output_of<S: Source>(alloc: Global, arguments: &[String], source: &mut S) -> Result<Output, AllocError>
+fn output_of<S: Source>(
+    alloc: Global,
+    arguments: &[String],
+    source: &mut S,
+) -> Result<Output, AllocError>
     ensures output { IfOk result (λ s. IsOutputOfSource (options_of (map string_bytes arguments.now)) (S.left source.old) (S.faults source.old) (S.faults source.new) s.status (string_bytes s.text)) }
     ensures later { S.faults source.old ≤ S.faults source.new }
 {

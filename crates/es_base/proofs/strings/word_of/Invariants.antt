@@ -1,4 +1,4 @@
-use Rattle.std.proofs.Common.{◌≡◌, drop, map, chars, true}
+use Rattle.std.proofs.Common.{◌≡◌, drop, map, true}
 use Rattle.std.specs.List.{list_all}
 use Rattle.es_base.specs.Conforms.{is_among}
 use Rattle.es_base.specs.Words.{all_of_set, is_of_set, word_string}

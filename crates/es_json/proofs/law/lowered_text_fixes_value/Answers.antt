@@ -1,4 +1,4 @@
-use Rattle.es_json_law.proofs.Told.{lowered_text_fixes_value}
+use Rattle.es_json.proofs.LoweredText.{lowered_text_fixes_value}
 use Rattle.es_json.proofs.law.lowered_text_fixes_value.Goals as goal
 
 pub returns : goal.returns

@@ -1,4 +1,4 @@
-use Rattle.es_json_law.proofs.Fixed.{lowered_fixes_tree, lowered_fixes_names, lowered_fixes_warnings, lowered_fixes_shapes}
+use Rattle.es_json.proofs.Fixed.{lowered_fixes_tree, lowered_fixes_names, lowered_fixes_warnings, lowered_fixes_shapes}
 use Rattle.es_json.proofs.law.lowered_value_fixes_all.Goals as goal
 
 pub returns-clause-tree : goal.returns-clause-tree

@@ -1,4 +1,4 @@
-use Rattle.es_json_law.proofs.Texted.{text_fixes_tree}
+use Rattle.es_json.proofs.JsonText.{text_fixes_tree}
 use Rattle.es_json.proofs.law.text_fixes_tree.Goals as goal
 
 pub returns : goal.returns

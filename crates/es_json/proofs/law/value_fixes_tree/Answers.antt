@@ -1,4 +1,4 @@
-use Rattle.es_json_law.proofs.Texted.{value_fixes_tree}
+use Rattle.es_json.proofs.JsonText.{value_fixes_tree}
 use Rattle.es_json.proofs.law.value_fixes_tree.Goals as goal
 
 pub returns : goal.returns

@@ -1,7 +1,8 @@
-use Rattle.std.proofs.Common.{◌≡◌, ap, sym, ◌∙◌}
-use Rattle.es_base.specs.Preorder.{numbered_from}
-use Rattle.es_json.proofs.Turned.{turned_by}
+use Rattle.std.proofs.Common.{subst}
+use Rattle.es_base.specs.Numbered.{IsNumbered}
+use Rattle.es_json.proofs.Turned.{turned}
 use Rattle.es_json.proofs.read.read_as.Goals as goal
 
 pub returns-clause-numbered : goal.returns-clause-numbered
-returns-clause-numbered c is = turned_by _ _ c.in_ok-program.ensures.tree (c.in_ok-tree.ensures.preorder is)
+returns-clause-numbered c is =
+    subst (IsNumbered 0) c.from_node.ensures.tree (turned c.in_ok-tree.tree (c.in_ok-tree.ensures.preorder is))

@@ -1,14 +1,8 @@
-use Rattle.es_json.proofs.Written.{lowered_written, lowered_float, lowered_back, written_kept}
+use Rattle.es_json.proofs.Written.{lowered_float, lowered_back}
 use Rattle.es_json.proofs.write.write_lowered.Goals as goal
-
-pub returns-clause-value : goal.returns-clause-value
-returns-clause-value c = lowered_written c.write_lowered.result _ _ _ _ _ c.write_lowered.ensures.value c.in_ok-plain.ensures
 
 pub returns-clause-no_float : goal.returns-clause-no_float
 returns-clause-no_float c = lowered_float c.write_lowered.result _ _ _ _ c.write_lowered.ensures.value
 
 pub returns-clause-reads_back : goal.returns-clause-reads_back
-returns-clause-reads_back c = lowered_back c.write_lowered.result _ _ _ _ _ c.write_lowered.ensures.value c.write_lowered.ensures.kept c.in_ok-plain.ensures
-
-pub returns-clause-kept : goal.returns-clause-kept
-returns-clause-kept c = written_kept c.write_lowered.result _ _ c.write_lowered.ensures.kept c.in_ok-plain.ensures
+returns-clause-reads_back c = lowered_back c.write_lowered.result _ _ _ _ c.write_lowered.ensures.value c.write_lowered.ensures.kept

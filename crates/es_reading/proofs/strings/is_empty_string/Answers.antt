@@ -1,5 +1,5 @@
 use Rattle.std.proofs.Common.{refl}
-use Rattle.es_plain.proofs.Spelling.{empty_name}
+use Rattle.es_base.proofs.Spelling.{empty_name}
 use Rattle.es_reading.proofs.strings.is_empty_string.Goals as goal
 
 pub returns : goal.returns

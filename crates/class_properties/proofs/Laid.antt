@@ -1,0 +1,90 @@
+-- Nodes whose old numbers ascend and whose new numbers stand in turn: what such a list owes.
+use Rattle.std.proofs.Common.{◌≡◌, refl, ◌∙◌, ℕ, ◌+◌, ◌<◌, ◌≤◌, ◌⊎◌, inl, inr, List, [], ◌∷◌, ◌++◌, map, Bool, true, false, arith}
+use Rattle.std.specs.Prelude.{◌&&◌, not, nat_eq, filter}
+use Rattle.std.specs.List.{IsDistinct, AllByRecursion}
+use Rattle.std.proofs.lemmas.Bool.{le-leb, lt-leb, and_parts, not-true}
+use Rattle.std.proofs.Math.Bool.{and-false}
+use Rattle.es_base.specs.Numbered.{is_new, AreConsecutive, EachOnce}
+use Rattle.es_base.specs.Preorder.{number_of}
+use Rattle.es_base.specs.Tree.{Tree, Node}
+use Rattle.es_base.specs.declared.kind.Kind.{Kind}
+use Rattle.es_steps.specs.Lowered.{is_lowered_kind, kind_of, none_lowered, all_accounted}
+use Rattle.es_steps.specs.Options.{class_properties_alone}
+use Rattle.es_steps.specs.Scopes.{is_binding_identifier}
+
+-- kinds that stay, and kinds of new nodes
+abbrev pub stays : Kind → Bool
+stays kind = not (is_lowered_kind class_properties_alone kind)
+
+abbrev pub may_be_new : Kind → Bool
+may_be_new kind = stays kind && not (is_binding_identifier kind)
+
+-- old nodes with numbers from lo to below hi, which ascend, and new ones with the numbers from n to below m, in turn
+pub data Laid (first hi m : ℕ) : ℕ → ℕ → List Tree → Type 0 where
+  none : {lo n : ℕ} → lo ≤ hi → n ≡ m → Laid first hi m lo n []
+  kept : {lo n : ℕ} {t : Tree} {ts : List Tree} → lo ≤ number_of t → number_of t < first → stays (kind_of t) ≡ true → Laid first hi m (number_of t + 1) n ts → Laid first hi m lo n (t ∷ ts)
+  generated : {lo n : ℕ} {t : Tree} {ts : List Tree} → number_of t ≡ n → may_be_new (kind_of t) ≡ true → Laid first hi m lo (n + 1) ts → Laid first hi m lo n (t ∷ ts)
+
+pub laid-below : {first hi m lo n : ℕ} (k : ℕ) {ts : List Tree} → k ≤ lo → Laid first hi m lo n ts → Laid first hi m k n ts
+laid-below k l (none lh e) = none (omega (arith, l, lh)) e
+laid-below k l (kept a b s rest) = kept (omega (arith, l, a)) b s rest
+laid-below k l (generated e s rest) = generated e s (laid-below k l rest)
+
+pub laid-append : {first mid j hi m lo n : ℕ} {ts us : List Tree} → Laid first mid j lo n ts → Laid first hi m mid j us → Laid first hi m lo n (ts ++ us)
+laid-append {lo = lo} (none l e) h = rw e (laid-below lo l h)
+laid-append (kept a b s rest) h = kept a b s (laid-append rest h)
+laid-append (generated e s rest) h = generated e s (laid-append rest h)
+
+-- up to other bounds
+pub laid-upto : {first hi m lo n : ℕ} (k j : ℕ) {ts : List Tree} → hi ≤ k → m ≡ j → Laid first hi m lo n ts → Laid first k j lo n ts
+laid-upto k j l e (none lh d) = none (omega (arith, l, lh)) (d ∙ e)
+laid-upto k j l e (kept a b s rest) = kept a b s (laid-upto k j l e rest)
+laid-upto k j l e (generated d s rest) = generated d s (laid-upto k j l e rest)
+
+pub laid-from : {first hi m lo n : ℕ} (k : ℕ) {ts : List Tree} → k ≡ n → Laid first hi m lo n ts → Laid first hi m lo k ts
+laid-from k e h = rw e h
+
+-- ---- the new numbers stand in turn
+
+pub laid-consecutive : {first hi m lo n : ℕ} {ts : List Tree} → first ≤ n → Laid first hi m lo n ts → AreConsecutive n (filter (is_new first) (map number_of ts))
+laid-consecutive l (none lh e) = tt
+laid-consecutive {first = first} {ts = t ∷ ts} l (kept a b s rest) = rw (lt-leb first (number_of t) b) (laid-consecutive l rest)
+laid-consecutive {first = first} {ts = t ∷ ts} l (generated e s rest) = rw (le-leb first (number_of t) (omega (arith, l, e))) (e, laid-consecutive (omega (arith, l)) rest)
+
+-- ---- no number stands twice
+
+nat_eq-apart : (x y : ℕ) → (x ≡ y → ⊥) → nat_eq x y ≡ false
+nat_eq-apart x y apart = grind (arith, apart)
+
+abbrev Apart : ℕ → List Tree → Type 0
+Apart x ts = AllByRecursion (λ y. nat_eq x y ≡ false) (map number_of ts)
+
+later_or_new : (first x lo k : ℕ) → lo ≤ k → (x < lo) ⊎ (first ≤ x) → (x < k + 1) ⊎ (first ≤ x)
+later_or_new first x lo k l (inl a) = inl (omega (arith, l, a))
+later_or_new first x lo k l (inr b) = inr b
+
+-- a number that is below the new ones, and below the old ones or no old one
+laid-apart : {first hi m lo n : ℕ} {ts : List Tree} (x : ℕ) → x < n → (x < lo) ⊎ (first ≤ x) → Laid first hi m lo n ts → Apart x ts
+laid-apart x l o (none lh e) = tt
+laid-apart {first = first} {lo = lo} {ts = t ∷ ts} x l o (kept a b s rest) = (nat_eq-apart x (number_of t) (λ e. omega (arith, o, a, b, e)), laid-apart x l (later_or_new first x lo (number_of t) a o) rest)
+laid-apart {ts = t ∷ ts} x l o (generated e s rest) = (nat_eq-apart x (number_of t) (λ d. omega (arith, l, e, d)), laid-apart x (omega (arith, l)) o rest)
+
+pub laid-once : {first hi m lo n : ℕ} {ts : List Tree} → first ≤ n → Laid first hi m lo n ts → EachOnce (map number_of ts)
+unfolding IsDistinct
+laid-once l (none lh e) = tt
+laid-once {ts = t ∷ ts} l (kept a b s rest) = (laid-apart (number_of t) (omega (arith, l, b)) (inl (omega arith)) rest, laid-once l rest)
+laid-once {ts = t ∷ ts} l (generated e s rest) = (laid-apart (number_of t) (omega (arith, e)) (inr (omega (arith, l, e))) rest, laid-once (omega (arith, l)) rest)
+
+-- ---- nothing is left, and no new node declares a name
+
+pub laid-left : {first hi m lo n : ℕ} {ts : List Tree} → Laid first hi m lo n ts → none_lowered class_properties_alone ts ≡ true
+laid-left (none lh e) = refl
+laid-left (kept a b s rest) = rw (s, laid-left rest) refl
+laid-left {ts = t ∷ ts} (generated e s rest) = rw ((and_parts (stays (kind_of t)) (not (is_binding_identifier (kind_of t))) s).0, laid-left rest) refl
+
+pub laid-accounted : {first hi m lo n : ℕ} {ts : List Tree} (own : List ℕ) → Laid first hi m lo n ts → all_accounted first [] own ts ≡ true
+laid-accounted own (none lh e) = refl
+laid-accounted {first = first} {ts = Node kind b span semantic_id ps ∷ ts} own (kept a l s rest) = rw (lt-leb first b l, and-false (is_binding_identifier kind)) (laid-accounted own rest)
+laid-accounted {ts = Node kind b span semantic_id ps ∷ ts} own (generated e s rest) =
+    let fresh : is_binding_identifier kind ≡ false = not-true (is_binding_identifier kind) (and_parts (stays kind) (not (is_binding_identifier kind)) s).1 in
+    rw fresh (laid-accounted own rest)

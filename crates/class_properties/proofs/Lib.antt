@@ -1,0 +1,17 @@
+pub mod Children
+pub mod Constructions
+pub mod Declared
+pub mod Kept
+pub mod OfKinds
+pub mod Laid
+pub mod Leasts
+pub mod Mapped
+pub mod NameSets
+pub mod Numbered
+pub mod Owed
+pub mod Renumbered
+pub mod Same
+pub mod SameNames
+pub mod Shaped
+pub mod Small
+pub mod Steps

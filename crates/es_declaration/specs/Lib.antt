@@ -1,0 +1,4 @@
+pub mod Class
+pub mod Function
+pub mod Module
+pub mod Pattern

@@ -1,0 +1,7 @@
+// The typed layer of expressions, identifiers and literals. Import it through `es_tree`, of which this is
+// one part: the layer stands in several crates so that each is checked in a few minutes.
+#![tactic(auto)]
+
+pub mod expression;
+pub mod identifier;
+pub mod literal;

@@ -1,0 +1,4 @@
+pub mod Laws
+pub mod Printed
+pub mod Suits
+pub mod Typed

@@ -1,2 +1,0 @@
-// What was written is read again: lemmas alone.
-#![tactic(auto)]

@@ -1,2 +1,0 @@
-pub mod Arranging
-pub mod Comparing

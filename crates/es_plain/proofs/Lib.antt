@@ -1,4 +1,0 @@
-pub mod Asked
-pub mod Rows
-pub mod Spelling
-pub mod Views

@@ -1,0 +1,15 @@
+-- Printed by tools/rows/witnesses.js.
+use Rattle.std.specs.Prelude.{[], ◌∷◌, false, codes, None}
+use Rattle.es_base.specs.Tree.{Tree, end, more, child, list, string, no_string, boolean, literal, trees}
+use Rattle.es_base.specs.declared.kind.Kind.{Kind}
+use Rattle.es_base.specs.declared.literal.LiteralValue.TheVariants as literal_value
+use Rattle.es_steps.specs.Generated.{node}
+use Rattle.es_steps.specs.Options.{options_of}
+use Rattle.es_steps.specs.declared.options.Options.{Options}
+
+-- a compound assignment of a member of a call: `o().x += 1;`
+abbrev pub source_compound_assignment : Tree
+source_compound_assignment = node Kind.Program 0 (more (string (codes "script")) (more (list (trees (node Kind.ExpressionStatement 1 (more (child (node Kind.AssignmentExpression 2 (more (string (codes "+=")) (more (child (node Kind.MemberExpression 3 (more (child (node Kind.CallExpression 4 (more (child (node Kind.IdentifierReference 5 (more (string (codes "o")) end))) (more (list end) (more (boolean false) end))))) (more (child (node Kind.IdentifierName 6 (more (string (codes "x")) end))) (more (boolean false) (more (boolean false) end)))))) (more (child (node Kind.Literal 7 (more (literal (literal_value.Number (codes "1"))) end))) end))))) (more no_string end)) ∷ []))) end))
+
+abbrev pub options_compound_assignment : Options
+options_compound_assignment = options_of false None false

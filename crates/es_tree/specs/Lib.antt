@@ -1,0 +1,10 @@
+pub use Rattle.es_declaration.specs.Class
+pub use Rattle.es_declaration.specs.Function
+pub use Rattle.es_declaration.specs.Module
+pub use Rattle.es_declaration.specs.Pattern
+pub use Rattle.es_expression.specs.Expression
+pub use Rattle.es_expression.specs.Identifier
+pub use Rattle.es_expression.specs.Literal
+pub use Rattle.es_statement.specs.Statement
+pub mod Foreign
+pub mod Program

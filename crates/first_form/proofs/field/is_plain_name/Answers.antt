@@ -1,7 +1,0 @@
-use Rattle.std.proofs.Common.{rules}
-use Rattle.std.specs.Str.{chars}
-use Rattle.first_form.proofs.field.is_plain_name.Goals as goal
-
-pub returns : goal.returns
-unfolding chars
-returns c = search rules

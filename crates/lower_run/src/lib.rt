@@ -1,0 +1,10 @@
+// The run of the program as a library: from the arguments and the bytes of a source to the bytes that a sink gains, with
+// the main theorem on `run::run`.
+#![tactic(auto)]
+
+mod answer;
+mod arguments;
+mod lines;
+mod output;
+pub mod run;
+pub mod status;

@@ -1,0 +1,286 @@
+// Runs, from the bytes of a source to what a sink holds: a table of cases, and sources and sinks that go in small steps
+// or fail.
+
+ghost use Rattle.std.specs.Prelude.{◌<◌};
+
+use crate::programs::{
+    empty, empty_written, no_field, no_field_written, one_field, one_field_kept, one_field_lowered,
+    two_classes, two_classes_lowered, two_fields, two_fields_lowered,
+};
+use lower_io::sink::{BytesSink, SureSink};
+use lower_io::source::{BytesSource, SureSource};
+use lower_run::run::run;
+use std::alloc::{AllocError, Global};
+use std::test::Fail;
+
+/// Room for each output here.
+const ROOM: usize = 4096;
+
+/// How a source or a sink goes: how many bytes a call moves at most, and the numbers of the calls that
+/// fail, counted from 1.
+#[derive(Clone, Copy)]
+struct Pace<'a> {
+    step: usize,
+    fails: &'a [u64],
+}
+
+/// How a run ended, and what its sink then holds.
+#[derive(Drop)]
+struct Ended {
+    status: u8,
+    output: String,
+}
+
+/// The arguments of a command line, which are written a line each.
+fn arguments_of(alloc: Global, arguments: &str) -> Result<Vec<String>, AllocError> {
+    let mut list = Vec::new(alloc);
+    for argument in arguments.lines() {
+        list.push(String::from_str(alloc, argument)?)?;
+    }
+    Ok(list)
+}
+
+/// A run with these arguments on this input.
+fn run_at(
+    alloc: Global,
+    arguments: &str,
+    input: &str,
+    reads: Pace,
+    writes: Pace,
+) -> Result<Ended, AllocError>
+    requires reads_some { 0 < reads.step }
+    requires writes_some { 0 < writes.step }
+{
+    let arguments = arguments_of(alloc, arguments)?;
+    let bytes = input.as_bytes().to_vec(alloc)?;
+    let mut source = BytesSource::new(bytes, reads.step, reads.fails.to_vec(alloc)?);
+    let mut sink = BytesSink::new(alloc, ROOM, writes.step, writes.fails.to_vec(alloc)?)?;
+    let status = run(alloc, arguments.as_slice(), &mut source, &mut sink);
+    Ok(Ended {
+        status: status.number(),
+        output: String::from_utf8_lossy(alloc, sink.bytes())?,
+    })
+}
+
+const ALL_AT_ONCE: Pace = Pace {
+    step: ROOM,
+    fails: &[],
+};
+
+/// Whether a run with these arguments on this input ends with this status and this output.
+fn ends_so(
+    alloc: Global,
+    arguments: &str,
+    input: &str,
+    status: u8,
+    output: &str,
+) -> Result<bool, AllocError> {
+    let ended = run_at(alloc, arguments, input, ALL_AT_ONCE, ALL_AT_ONCE)?;
+    Ok(ended.status == status && ended.output.as_str() == output)
+}
+
+const NONE: &str = "";
+
+const LOWER: &str = "--class-properties\n";
+
+#[test]
+fn programs_of_the_form_are_lowered(rt: HostRuntime) -> Result<(), Fail> {
+    let alloc = rt.alloc();
+    let lowered = [
+        (one_field(), one_field_lowered()),
+        (two_fields(), two_fields_lowered()),
+        (no_field(), no_field_written()),
+        (two_classes(), two_classes_lowered()),
+    ];
+    for (input, output) in lowered {
+        assert!(rt; ends_so(alloc, LOWER, input, 0, output)?, "of {input}");
+    }
+    let twice = "--class-properties\n--class-properties\n";
+    assert!(rt; ends_so(alloc, twice, one_field(), 0, one_field_lowered())?);
+    let kept = [
+        (empty(), empty_written()),
+        (no_field(), no_field_written()),
+        (one_field(), one_field_kept()),
+    ];
+    for (input, output) in kept {
+        assert!(rt; ends_so(alloc, NONE, input, 0, output)?, "of {input}");
+    }
+    Ok(())
+}
+
+#[test]
+fn refusals_have_their_line(rt: HostRuntime) -> Result<(), Fail> {
+    let alloc = rt.alloc();
+    let arguments = [
+        "--minify\n",
+        "--minify\n--class-properties\n",
+        "--class-properties\n--minify\n",
+        "--class-propertie\n",
+        "--class-propertie\n--class-properties\n",
+        "--class-properties\n--class-propertie\n",
+        "--class-propertiess\n",
+        "--class-propertiess\n--class-properties\n",
+        "--class-properties\n--class-propertiess\n",
+        "\n",
+        "\n--class-properties\n",
+        "--class-properties\n\n",
+    ];
+    for arguments in arguments {
+        assert!(rt;
+            ends_so(alloc, arguments, one_field(), 2, "bad words\n")?,
+            "at {arguments}"
+        );
+    }
+    let no_programs = [
+        (r#"{"#, "not a tree: json\n"),
+        (
+            r#"{"type":"Program","sourceType":"script","body":[3]}"#,
+            "not a tree: NotANode at 1\n",
+        ),
+        (
+            r#"{"type":"Program","sourceType":"script","body":[{"type":"ParenthesizedExpression"}]}"#,
+            "not a tree: UnknownKind at 1\n",
+        ),
+        (
+            r#"{"type":"Program","sourceType":"script","body":[{"type":"Identifier","name":"a"}]}"#,
+            "not a tree: WrongPlace at 1\n",
+        ),
+        (
+            r#"{"type":"Program","sourceType":"script","body":1}"#,
+            "not a tree: BadMember at 0\n",
+        ),
+        (
+            r#"{"type":"Program","sourceType":"script","body":[{"type":"ExpressionStatement","expression":{"type":"Literal","value":1.5,"raw":"1.5"}}]}"#,
+            "not a tree: float at 2\n",
+        ),
+    ];
+    for (input, line) in no_programs {
+        assert!(rt; ends_so(alloc, LOWER, input, 3, line)?, "of {input}");
+        assert!(rt; ends_so(alloc, NONE, input, 3, line)?, "of {input}");
+    }
+    let other_forms = [
+        // class D extends C {}
+        (
+            r#"{"type":"Program","body":[{"type":"ClassDeclaration","id":{"type":"Identifier","name":"D"},"superClass":{"type":"Identifier","name":"C"},"body":{"type":"ClassBody","body":[]}}],"sourceType":"script"}"#,
+            "refused: NotYet at 1\n",
+        ),
+        (
+            r#"{"type":"Program","sourceType":"script","body":[{"type":"ExpressionStatement","expression":{"type":"JSXElement"}}]}"#,
+            "refused: NotYet at 1\n",
+        ),
+        // class C { @a x }
+        (
+            r#"{"type":"Program","body":[{"type":"ClassDeclaration","id":{"type":"Identifier","name":"C"},"superClass":null,"body":{"type":"ClassBody","body":[{"type":"PropertyDefinition","static":false,"computed":false,"key":{"type":"Identifier","name":"x"},"value":null,"decorators":[{"type":"Decorator","expression":{"type":"Identifier","name":"a"}}]}]}}],"sourceType":"script"}"#,
+            "refused: NotYet at 4\n",
+        ),
+        // class C {}, a module
+        (
+            r#"{"type":"Program","body":[{"type":"ClassDeclaration","id":{"type":"Identifier","name":"C"},"superClass":null,"body":{"type":"ClassBody","body":[]}}],"sourceType":"module"}"#,
+            "refused: NotYet at 0\n",
+        ),
+    ];
+    for (input, line) in other_forms {
+        assert!(rt; ends_so(alloc, LOWER, input, 1, line)?, "of {input}");
+        assert!(rt; ends_so(alloc, NONE, input, 1, line)?, "of {input}");
+    }
+    Ok(())
+}
+
+#[test]
+fn small_steps_and_faults(rt: HostRuntime) -> Result<(), Fail> {
+    let alloc = rt.alloc();
+    for (read, write) in [(1, ROOM), (ROOM, 64), (1, 64), (7, 1)] {
+        let reads = Pace {
+            step: read,
+            fails: &[],
+        };
+        let writes = Pace {
+            step: write,
+            fails: &[],
+        };
+        let ended = run_at(alloc, "--class-properties\n", two_classes(), reads, writes)?;
+        assert_eq!(rt;
+            ended.output.as_str(),
+            two_classes_lowered(),
+            "at {read} and {write}"
+        );
+        assert_eq!(rt; ended.status, 0);
+    }
+    // five calls give the 318 bytes, and the sixth tells the end
+    for call in 1..8 {
+        let reads = Pace {
+            step: 64,
+            fails: &[call],
+        };
+        let ended = run_at(
+            alloc,
+            "--class-properties\n",
+            one_field(),
+            reads,
+            ALL_AT_ONCE,
+        )?;
+        assert_eq!(rt;
+            ended.status,
+            if call < 7 { 4 } else { 0 },
+            "at call {call}"
+        );
+        let output = if call < 7 {
+            "read fault\n"
+        } else {
+            one_field_lowered()
+        };
+        assert_eq!(rt; ended.output.as_str(), output, "at call {call}");
+    }
+    // sixteen calls take the 1010 bytes
+    for taken in 0..17 {
+        let writes = Pace {
+            step: 64,
+            fails: &[taken as u64 + 1],
+        };
+        let ended = run_at(
+            alloc,
+            "--class-properties\n",
+            one_field(),
+            ALL_AT_ONCE,
+            writes,
+        )?;
+        assert_eq!(rt;
+            ended.status,
+            if taken < 16 { 5 } else { 0 },
+            "after {taken} calls"
+        );
+        let output = one_field_lowered().as_bytes();
+        let part = if taken < 16 {
+            output.get(..64 * taken).ok_or("short")?
+        } else {
+            output
+        };
+        assert_eq!(rt; ended.output.as_bytes(), part, "after {taken} calls");
+    }
+    Ok(())
+}
+
+/// A run on these bytes, where neither the source nor the sink can fail.
+fn run_surely(alloc: Global, bytes: Vec<u8>) -> Result<Ended, AllocError> {
+    let arguments = arguments_of(alloc, "--class-properties\n")?;
+    let mut source = SureSource::new(bytes);
+    let mut sink = SureSink::new(alloc, ROOM)?;
+    let status = run(alloc, arguments.as_slice(), &mut source, &mut sink);
+    Ok(Ended {
+        status: status.number(),
+        output: String::from_utf8_lossy(alloc, sink.bytes())?,
+    })
+}
+
+#[test]
+fn sources_and_sinks_that_never_fail(rt: HostRuntime) -> Result<(), Fail> {
+    let alloc = rt.alloc();
+    let ended = run_surely(alloc, one_field().as_bytes().to_vec(alloc)?)?;
+    assert_eq!(rt; ended.output.as_str(), one_field_lowered());
+    assert_eq!(rt; ended.status, 0);
+    // one byte more than is read
+    let ended = run_surely(alloc, vec![in alloc; b' '; 67_108_865]?)?;
+    assert_eq!(rt; ended.output.as_str(), "too long\n");
+    assert_eq!(rt; ended.status, 7);
+    Ok(())
+}

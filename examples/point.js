@@ -1,0 +1,1 @@
+class Point { x = 0; y = 0; label; }
