@@ -37,8 +37,6 @@ SAYS = {
     'private_chains_keep_their_meaning': 'Private names in optional chains.',
     'static_blocks_alone_keep_their_meaning': 'Static blocks where class fields are not lowered.',
 }
-# what differs where it is not the meaning
-CLAUSES = ['nothing_left', 'names_declared', 'declarations_accounted', 'initializations_stand', 'names_timely', 'keys_stand', 'nodes_kept', 'statements_kept', 'lists_kept', 'definitions_stand', 'elements_kept', 'printable']
 
 
 def write(path, text):
@@ -47,7 +45,10 @@ def write(path, text):
 
 
 def answers(function, clauses):
-    lines = [f'use Rattle.std.specs.Prelude.{{refl}}', f'use Rattle.es_rows.proofs.law.{function}.Goals as goal', '']
+    lines = ['use Rattle.std.specs.Prelude.{refl}']
+    if any('lowered' in proof for name, proof in clauses):
+        lines += ['use Rattle.es_rows.proofs.Computed.{lowered}']
+    lines += [f'use Rattle.es_rows.proofs.law.{function}.Goals as goal', '']
     for name, proof in clauses:
         lines += [f'pub returns-clause-{name} : goal.returns-clause-{name}', f'returns-clause-{name} c = {proof}', '']
     write(f'{CRATE}/proofs/law/{function}/Answers.antt', '\n'.join(lines[:-1]) + '\n')
@@ -63,11 +64,11 @@ for function in SAYS:
         n, outside = r['name'], r.get('outside') or []
         uses.append(f'ghost use Rattle.es_rows.specs.rows.{module(n)}.{{source_{n}, output_{n}, generated_{n}, options_{n}, outside_{n}}};')
         if outside in ([], [8]):
-            word, proof = 'Kept', '(refl, refl, refl, refl)'
+            word, proof = 'Kept', '(refl, refl, lowered refl, refl)'
         elif outside == [2]:
-            word, proof = 'KeptAfter', '(refl, refl, refl, refl)'
+            word, proof = 'KeptAfter', '(refl, refl, lowered refl, refl)'
         else:
-            word, proof = 'Owed', '(refl, refl)'
+            word, proof = 'Owed', '(lowered refl, refl)'
         lines.append(f'    ensures {n} {{ {word} options_{n} generated_{n} source_{n} output_{n} outside_{n} }}')
         proofs.append((n, proof))
     functions.append(f'/// {SAYS[function]}\npub fn {function}()\n' + '\n'.join(lines) + '\n{}\n')
