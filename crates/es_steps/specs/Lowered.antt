@@ -138,7 +138,7 @@ is_generated None = false
 is_generated (Some (GeneratedKind.Private n)) = false
 is_generated (Some g) = true
 
--- a declaring identifier is old, or its name was made, or it is such an own name
+-- a declaring identifier is old, or its name was generated, or it is such an own name
 abbrev pub is_accounted : ℕ → List LedgerEntry → List ℕ → Tree → Bool
 is_accounted first ledger own (Node kind b span semantic_id ps) = not (is_binding_identifier kind && is_new first b) || (is_generated (generated_as (string_of (at 0 ps)) ledger) || has_number b own)
 

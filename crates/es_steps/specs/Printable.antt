@@ -1,5 +1,5 @@
 -- Trees that can be printed as JavaScript: a table of those that cannot. (ECMA-262, 12: names, literals, templates,
--- directives; the rest is what no text is read as.)
+-- directives; the rest is what no source text is read as.)
 use Rattle.std.specs.Prelude.{ℕ, zero, suc, List, [], ◌∷◌, Bool, true, false, cond, not, ◌&&◌, ◌||◌, nat_eq, nat_le, codes, bytes_eq, Option, Some, None}
 use Rattle.es_base.specs.Conforms.{is_among}
 use Rattle.es_base.specs.Tree.{Tree, Part, Parts, Node, end, more, child, absent, list, string, boolean, literal}
