@@ -74,21 +74,44 @@ for function in SAYS:
     functions.append(f'/// {SAYS[function]}\npub fn {function}()\n' + '\n'.join(lines) + '\n{}\n')
     answers(function, proofs)
 
-pairs, wrong, kept = [], [], []
+# witnesses whose output does not meet a clause, where the meanings are equal or are not asked
+LISTS = 'lists_kept options_{n} source_{n} output_{n}'
+TIMELY = 'names_timely (nodes source_{n}) generated_{n} output_{n}'
+NOT_MET = {
+    'class_in_a_constructor': LISTS,
+    'class_behind_its_use': LISTS,
+    'super_function_behind_its_calls': TIMELY,
+    'weak_map_in_another_function': TIMELY,
+    'method_assigned_in_another_function': TIMELY,
+    'class_temporary_before_its_class': TIMELY,
+    'closure_before_its_class': TIMELY,
+    'dead_temporary': TIMELY,
+    'break_in_an_arrow': 'is_printable output_{n}',
+    'hidden_body': 'conforms Place.Program output_{n}',
+    'constant_temporary': 'declarations_accounted (nodes source_{n}) generated_{n} source_{n} output_{n}',
+    'private_name_twice': 'names_declared (nodes source_{n}) generated_{n} output_{n}',
+    'name_twice': 'names_declared (nodes source_{n}) generated_{n} output_{n}',
+    'name_of_no_member': 'initializations_stand (nodes source_{n}) generated_{n} (private_members source_{n}) output_{n} generated_{n}',
+}
+# the shapes of the two programs
+SHAPES = {'loose_member_read_once': ('[]', '4 ∷ []'), 'super_key_that_stays': ('[]', '4 ∷ []'), 'suspended_class_written': ('6 ∷ []', '[]')}
+pairs, wrong, kept, not_met, shaped = [], [], [], [], []
 folder = f'{CRATE}/specs/witnesses'
 for f in sorted(os.listdir(folder)):
     text = open(f'{folder}/{f}').read()
     n = re.search(r'abbrev pub options_(\w+)', text).group(1)
     if f'first_{n} ' in text:
         uses.append(f'ghost use Rattle.es_rows.specs.witnesses.{f[:-5]}.{{first_{n}, second_{n}, options_{n}}};')
-        if n == 'key_of_a_method':
+        if n in SHAPES:
+            shaped.append((n, f'HaveShapes options_{n} first_{n} ({SHAPES[n][0]}) second_{n} ({SHAPES[n][1]})'))
+        elif n in ('key_of_a_method', 'class_named_otherwise'):
             kept.append((n, f'source_means options_{n} second_{n} ≡ source_means options_{n} first_{n}'))
         else:
             pairs.append((n, f'TellsApart options_{n} first_{n} second_{n}'))
     elif f'output_{n} ' in text:
         uses.append(f'ghost use Rattle.es_rows.specs.witnesses.{f[:-5]}.{{source_{n}, output_{n}, generated_{n}, options_{n}}};')
-        if n == 'class_in_a_constructor':
-            kept.append((n, f'lists_kept options_{n} source_{n} output_{n} ≡ false'))
+        if n in NOT_MET:
+            not_met.append((n, NOT_MET[n].format(n=n) + ' ≡ false'))
         else:
             wrong.append((n, f'Refused options_{n} generated_{n} source_{n} output_{n}'))
 
@@ -100,13 +123,22 @@ def listed(function, says, clauses, proof):
 
 listed('programs_are_told_apart', 'Pairs of programs that share their numbers and behave differently have meanings that differ.', pairs, '(refl, refl, refl)')
 listed('wrong_outputs_are_told_apart', 'Wrong outputs of worked rows do not mean what their sources mean.', wrong, 'refl')
-listed('the_same_in_other_words', 'A template and a string are one key; a class that is moved alone is caught by the clause on lists.', kept, 'refl')
+listed('clauses_are_not_met', 'Wrong outputs that a clause on lowered programs finds, though their meanings may be those of their sources.', not_met, 'refl')
+listed('shapes_are_told', 'Pairs of programs that have different shapes.', shaped, '(refl, refl)')
+listed('the_same_in_other_words', 'A template and a string are one key; the own name of a class is no step.', kept, 'refl')
 
 text = '''// Worked rows and witnesses: functions that do nothing. Printed by tools/rows/print_laws.py.
 
-ghost use Rattle.std.specs.Prelude.{◌≡◌, false};
-ghost use Rattle.es_rows.specs.Owed.{Kept, KeptAfter, Owed, TellsApart, Refused};
+ghost use Rattle.std.specs.Prelude.{◌≡◌, [], ◌∷◌, false};
+ghost use Rattle.es_rows.specs.Owed.{Kept, KeptAfter, Owed, TellsApart, Refused, HaveShapes};
+ghost use Rattle.es_base.specs.Conforms.{conforms};
+ghost use Rattle.es_base.specs.Preorder.{nodes};
+ghost use Rattle.es_base.specs.declared.table.Place.{Place};
 ghost use Rattle.es_steps.specs.KeptNodes.{lists_kept};
+ghost use Rattle.es_steps.specs.Lowered.{names_declared, declarations_accounted, initializations_stand};
 ghost use Rattle.es_steps.specs.Meaning.{source_means};
+ghost use Rattle.es_steps.specs.Printable.{is_printable};
+ghost use Rattle.es_steps.specs.PrivateNames.{private_members};
+ghost use Rattle.es_steps.specs.Timely.{names_timely};
 ''' + '\n'.join(uses) + '\n\n' + '\n'.join(functions)
 write(f'{CRATE}/src/law.rt', text)

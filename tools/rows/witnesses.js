@@ -30,9 +30,41 @@ const pair = (name, says, first, second, change, more = {}) => ({ name, says, ki
 // a program whose list or names are computed as they are
 const alone = (name, says, source, more = {}) => ({ name, says, kind: 'alone', source, options: [], ...more });
 // a row and what is made of its output
-const wrong = (name, says, row, change) => ({ name, says, kind: 'wrong', row, change });
+// (`generated` and `options` in place of those of the row)
+const wrong = (name, says, row, change, generated, options) => ({ name, says, kind: 'wrong', row, change, generated, options });
+// the same, where a clause is not met
+const clause = wrong;
 const rows = [...JSON.parse(fs.readFileSync(path.join(__dirname, 'rows.json'))), ...JSON.parse(fs.readFileSync(path.join(__dirname, 'forms.json')))];
 const row = name => rows.find(r => r.name === name);
+const nodes = (t, test) => preorder(t).filter(test);
+// a call around an expression, as its first argument
+function around(t, text, e) {
+  const call = fresh(t, expression(text));
+  if (e) call.arguments[0] = e;
+  return call;
+}
+// `super(..)` with these arguments, new
+function superCall(t, args) {
+  const call = fresh(t, tree('class A extends B { constructor() { super(); } }').body[0].body.body[0].value.body.body[0].expression);
+  call.arguments = args;
+  return call;
+}
+// a class in a method of a lowered class
+const inMethod = (source, output) => ({ options: ['--class-properties'], source: `class D { x = 1; m() { ${source} } }`, output: `class D { constructor() { B.defineProperty(this, "x", 1); } m() { ${output} } }` });
+// what the method `m` begins with, given to a temporary; its statements
+function given(t, name) {
+  const body = nodes(t, n => n.type === 'MethodDefinition' && n.key.name === 'm')[0].value.body.body, first = fresh(t, expression(`${name} = 1`));
+  first.right = body[0].expression;
+  body[0].expression = first;
+  body.unshift(fresh(t, tree(`let ${name};`).body[0]));
+  return body;
+}
+// a part of the inner class evaluated behind it and given to the temporary
+function late(t, take, name = '_t') {
+  const body = given(t, name), s = fresh(t, tree(`${name} = 1;`).body[0]);
+  s.expression.right = take(body.find(n => n.type === 'ClassDeclaration'));
+  body.splice(body.length - 1, 0, s);
+}
 const swap = (list, i, j) => { [list[i], list[j]] = [list[j], list[i]]; };
 
 const witnesses = [
@@ -83,6 +115,84 @@ const witnesses = [
     q => { const call = q.body[0].body.body[0].value.expressions[0], arrow = fresh(q, expression('((_v) => 0)()')); const spread = call.arguments[0]; call.arguments[0] = fresh(q, expression('_v')); arrow.callee.body = call; arrow.arguments = [spread]; q.body[0].body.body[0].value.expressions[0] = arrow; }),
   wrong('test_of_another_object', 'a test for null and undefined of two objects', row('private_chain_call'), q => { const t = preorder(q).find(n => n.type === 'ConditionalExpression').test; t.right.left.name = 'p'; }),
   wrong('key_read_twice', 'a temporary that two keys have', row('two_keys'), q => { const d = constructorOf(q)[1]; d.expression.arguments[1].name = '_k'; }),
+  // the attack on the definitions
+  wrong('receiver_of_a_private_call', 'a private method called without its receiver', { options: ['--class-properties'], source: 'class C { #b; m(a) { return a.#b(5); } }', output: 'var _b = new WeakMap(); class C { constructor() { B.classPrivateFieldInitSpec(this, _b, void 0); } m(a) { return B.classPrivateFieldGet2(_b, a).call(a, 5); } }' },
+    q => { const c = nodes(q, n => n.type === 'CallExpression' && n.callee.property && n.callee.property.name === 'call')[0]; c.callee = c.callee.object; c.arguments.shift(); }),
+  wrong('receiver_of_a_super_call', 'a member of `super` called without its receiver', { options: ['--class-properties'], source: 'class C { static x = super.k(5); }', output: 'class C {} B.defineProperty(C, "x", B.superPropGet(C, "k", C, 2)([5]));' },
+    q => { const c = q.body[1].expression.arguments[2]; c.callee.arguments.pop(); c.arguments = c.arguments[0].elements; }),
+  wrong('receiver_of_a_conditional', 'the receiver of a chain that became a conditional', { options: ['--class-properties'], source: 'class C { x = 1; m(a) { return (a?.b)(5); } }', output: 'class C { constructor() { B.defineProperty(this, "x", 1); } m(a) { return (a?.b)(5); } }' },
+    q => { const c = nodes(q, n => n.type === 'CallExpression' && n.callee.type === 'ChainExpression')[0], test = fresh(q, expression('a === null || a === void 0 ? void 0 : a.b')); test.num = c.callee.num; test.alternate.num = c.callee.expression.num; c.callee = test; }),
+  wrong('member_of_an_object', 'a target inside a new object', { options: ['--class-properties'], source: 'class C { x = 1; m(o) { o.x = 5; } }', output: 'class C { constructor() { B.defineProperty(this, "x", 1); } m(o) { o.x = 5; } }' },
+    q => { const a = nodes(q, n => n.type === 'AssignmentExpression')[0], held = fresh(q, expression('({ k: 1 })["k"]')); held.object.properties[0].value = a.left; a.left = held; }),
+  wrong('deleted_key', '`delete` of a key', { options: ['--class-properties'], source: 'class C { x = 1; m(o) { delete o.x; } }', output: 'class C { constructor() { B.defineProperty(this, "x", 1); } m(o) { delete o.x; } }' },
+    q => { const d = nodes(q, n => n.type === 'UnaryExpression')[0]; d.argument = around(q, 'B.toPropertyKey(o)', d.argument); }),
+  wrong('value_as_a_key', 'the value of a field made a key', { options: ['--class-properties'], source: 'class C { x = o }', output: 'class C { constructor() { B.defineProperty(this, "x", o); } }' },
+    q => { const d = constructorOf(q)[0].expression; d.arguments[2] = around(q, 'B.toPropertyKey(o)', d.arguments[2]); }),
+  wrong('named_value', 'a name given to any value', { options: ['--class-properties'], source: 'class C { x = o }', output: 'class C { constructor() { B.defineProperty(this, "x", o); } }' },
+    q => { const d = constructorOf(q)[0].expression; d.arguments[2] = around(q, 'B.setFunctionName(o, "evil")', d.arguments[2]); }),
+  wrong('parent_constructed_twice', 'what stands for `super(..)` called with what `super(..)` gave', row('super_in_branches'),
+    q => { const c = nodes(q, n => n.type === 'CallExpression' && n.callee.name === '_super')[0], made = fresh(q, expression('_super.call(0)')), inner = superCall(q, c.arguments); made.num = c.num; made.arguments = [inner]; for (const n of nodes(q, x => true)) for (const k of Object.keys(n)) if (n[k] === c) n[k] = made; }),
+  wrong('parent_never_constructed', 'what is called with what `super(..)` gave, called alone', row('super_in_parameters'),
+    q => { const c = nodes(q, n => n.type === 'CallExpression' && n.callee.property && n.callee.property.name === 'call')[0]; c.callee = fresh(q, expression('_super')); c.arguments = []; }),
+  wrong('super_gives_zero', 'what stands for `super(..)` gives another value', { options: ['--class-properties'], source: 'class A extends P { x = 1; constructor(a) { f(a ? super(a) : super()); } }', output: 'class A extends P { constructor(a) { var _super = (..._args) => (super(..._args), B.defineProperty(this, "x", 1), this); f(a ? _super(a) : _super()); } }' },
+    q => { const s = nodes(q, n => n.type === 'SequenceExpression')[0]; s.expressions[2] = fresh(q, expression('0')); }),
+  clause('super_function_behind_its_calls', 'what stands for `super(..)` assigned behind its calls', row('super_in_branches'), q => { const body = constructorOf(q); body.push(body.shift()); }),
+  clause('weak_map_in_another_function', 'the map of a private field made in a function that is not called', { options: ['--class-properties'], source: 'class D { m() { f(); } } class C { #x = 2; t(o) { return o.#x; } }', output: 'class D { m() { f(); } } var _x = new WeakMap(); class C { constructor() { B.classPrivateFieldInitSpec(this, _x, 2); } t(o) { return B.classPrivateFieldGet2(_x, o); } }' },
+    q => { const d = q.body[1].declarations[0], s = fresh(q, tree('_x = 1;').body[0]); s.expression.right = d.init; d.init = null; q.body[0].body.body[0].value.body.body.unshift(s); }),
+  clause('method_assigned_in_another_function', 'the function of a private method assigned in another method', { options: ['--class-properties'], source: 'class C { #m() { return 1; } t(o) { return o.#m; } u() { f(); } }', output: 'var _C_brand = new WeakSet(); class C { constructor() { B.classPrivateMethodInitSpec(this, _C_brand); } t(o) { return B.assertClassBrand(_C_brand, o, _m); } u() { f(); } } function _m() { return 1; }' },
+    q => { const f = q.body.pop(), s = fresh(q, tree('_m = function() {};').body[0]), name = fresh(q, tree('var _m;').body[0]); Object.assign(s.expression.right, { num: f.num, body: f.body, params: f.params }); q.body.unshift(name); nodes(q, n => n.type === 'MethodDefinition' && n.key.name === 'u')[0].value.body.body.unshift(s); }),
+  clause('class_temporary_before_its_class', 'a static field defined in front of its class', row('static_of_expression'), q => { const s = nodes(q, n => n.type === 'SequenceExpression')[0]; swap(s.expressions, 0, 1); }),
+  clause('closure_before_its_class', 'a static block run in front of its class', row('trailing_block'), q => { const s = nodes(q, n => n.type === 'SequenceExpression')[0]; swap(s.expressions, 0, 1); }),
+  wrong('parameter_in_front', 'a generated parameter of a function of the source', { options: ['--class-properties'], source: 'class C { x = 1; m(a) { f(a); } }', output: 'class C { constructor() { B.defineProperty(this, "x", 1); } m(a) { f(a); } }' },
+    q => { nodes(q, n => n.type === 'MethodDefinition' && n.key.name === 'm')[0].value.params.unshift(fresh(q, tree('var _p;').body[0].declarations[0].id)); }, [{ name: '_p', kind: 'Param' }]),
+  wrong('parameter_of_a_new_constructor', 'a new constructor that does not hand on all arguments', { options: ['--class-properties'], source: 'class A extends D { x = 1; }', output: 'class A extends D { constructor(..._args) { super(..._args); B.defineProperty(this, "x", 1); } }' },
+    q => { nodes(q, n => n.type === 'MethodDefinition')[0].value.params.unshift(fresh(q, tree('var _p;').body[0].declarations[0].id)); }, [{ name: '_p', kind: 'Param' }]),
+  clause('class_behind_its_use', 'a lowered class behind its use', { options: ['--class-properties'], source: 'class A { x = 1 } f(A);', output: 'class A { constructor() { B.defineProperty(this, "x", 1); } } f(A);' }, q => { swap(q.body, 0, 1); }),
+  wrong('new_import', 'a new import and a new export of another module', { options: ['--class-properties'], type: 'module', source: 'export class C { x = 1 }', output: 'export class C { constructor() { B.defineProperty(this, "x", 1); } }' },
+    q => { q.body.unshift(...tree('import "evil"; export * from "evil2";', 'module').body.map(n => fresh(q, n))); }),
+  wrong('heritage_read_late', 'a heritage read behind its class', inMethod('h(); class C extends k() { y = 2; } return C;', 'h(); class C extends k() { constructor(..._args) { super(..._args); B.defineProperty(this, "y", 2); } } return C;'),
+    q => late(q, c => { const h = c.superClass; c.superClass = fresh(q, expression('_t')); return h; }), [{ name: '_t', kind: 'Temp' }]),
+  wrong('key_read_late', 'the key of a method read behind its class', inMethod('h(); class C { [k()]() {} y = 2; } return C;', 'h(); class C { constructor() { B.defineProperty(this, "y", 2); } [k()]() {} } return C;'),
+    q => late(q, c => { const m = c.body.body[1], k = m.key; m.key = fresh(q, expression('_t')); return k; }), [{ name: '_t', kind: 'Temp' }]),
+  wrong('static_key_read_late', 'the key of a static field read behind a later key', { options: ['--static-block'], source: 'class D { static { q(); } static v = 1; m() { z(); class C { static [k()] = 1; [h()]() {} } return C; } }', output: 'class D { static v = (q(), 1); m() { z(); class C { static [k()] = 1; [h()]() {} } return C; } }' },
+    q => { given(q, '_u'); const c = nodes(q, n => n.type === 'ClassDeclaration')[1], [x, y] = c.body.body, both = fresh(q, expression('(_u = 1, 2)')); both.expressions[0].right = x.key; both.expressions[1] = y.key; y.key = both; x.key = fresh(q, expression('_u')); }, [{ name: '_u', kind: 'Temp' }]),
+  wrong('field_key_read_late', 'the key of a field read behind its class', { options: ['--static-block'], source: 'class D { static { q(); } static v = 1; m() { z(); class C { [k()] = 1; } return C; } }', output: 'class D { static v = (q(), 1); m() { z(); class C { [k()] = 1; } return C; } }' },
+    q => late(q, c => { const m = c.body.body[0], k = m.key; m.key = fresh(q, expression('_u')); return k; }, '_u'), [{ name: '_u', kind: 'Temp' }]),
+  pair('getter_or_method', 'a private getter and a private method', 'class C { get #m() { return 1; } t(o) { return o.#m; } }', 'class C { #m() { return 1; } t(o) { return o.#m; } }', {}),
+  pair('static_getter_or_method', 'a static private getter and a static private method', 'class C { static get #m() { return 1; } t(o) { return o.#m; } }', 'class C { static #m() { return 1; } t(o) { return o.#m; } }', {}),
+  wrong('getter_made_a_method', 'a private getter that becomes a method', { options: ['--static-block'], source: 'class C { get #m() { return 1; } static { f(); } static v = 1; t(o) { return o.#m; } }', output: 'class C { get #m() { return 1; } static v = (f(), 1); t(o) { return o.#m; } }' }, q => { q.body[0].body.body[0].kind = 'method'; }),
+  wrong('bound_before_its_test', 'a private method bound before it is tested', row('private_optional_call'),
+    q => { const chain = nodes(q, n => n.type === 'ChainExpression')[0], c = chain.expression, get = c.callee.object, bound = around(q, 'x.bind(o)', 0); bound.callee.object = get; c.callee = bound; c.arguments.shift(); c.optional = true; }),
+  clause('break_in_an_arrow', 'a `break` in a new arrow', { options: ['--class-properties'], source: 'class C { x = 1; m() { for (; c();) { f(); break; } } }', output: 'class C { constructor() { B.defineProperty(this, "x", 1); } m() { for (; c();) { f(); break; } } }' },
+    q => { const loop = nodes(q, n => n.type === 'ForStatement')[0], s = fresh(q, tree('(() => { 1; })();').body[0]), body = loop.body.body; s.expression.callee.body.body = body; loop.body.body = [s]; }),
+  wrong('arrow_out_of_a_loop', 'an arrow moved out of a loop', { options: ['--class-properties'], source: 'class C { x = 1; m() { for (; c();) p(() => 7); } }', output: 'class C { constructor() { B.defineProperty(this, "x", 1); } m() { for (; c();) p(() => 7); } }' },
+    q => { const body = nodes(q, n => n.type === 'MethodDefinition' && n.key.name === 'm')[0].value.body.body, call = nodes(q, n => n.type === 'CallExpression' && n.callee.name === 'p')[0], s = fresh(q, tree('_t = 1;').body[0]); s.expression.right = call.arguments[0]; call.arguments[0] = fresh(q, expression('_t')); body.unshift(fresh(q, tree('let _t;').body[0]), s); }, [{ name: '_t', kind: 'Temp' }]),
+  pair('let_out_of_a_loop', 'a `let` of a loop and one in front of it', 'for (; c();) { let y; y = f(); p(() => y); }', 'let y; for (; c();) { y = f(); p(() => y); }', { 1: 5, 2: 6, 3: 7, 4: 1, 5: 2, 6: 3, 7: 4 }),
+  pair('hole_in_a_pattern', 'a hole in a pattern', '[a, ,] = x;', '[a] = x;', {}),
+  pair('global_renamed', 'the name of a `var` of a script', 'var y = 1;', 'var z = 1;', {}),
+  wrong('class_renamed', 'the name of a class of a script', row('instance_field'), q => { q.body[0].id.name = 'Evil'; }),
+  wrong('script_in_an_arrow', 'the declarations of a script in an arrow', { options: ['--class-properties'], source: 'var v = 7; class C { x = 1 }', output: 'var v = 7; class C { constructor() { B.defineProperty(this, "x", 1); } }' },
+    q => { const s = fresh(q, tree('(() => { 1; })();').body[0]); s.expression.callee.body.body = q.body; q.body = [s]; }),
+  clause('constant_temporary', 'a generated name that is a `const`', { options: ['--class-properties'], source: 'class C { [foo()] = 1 }', output: 'let _foo; _foo = foo(); class C { constructor() { B.defineProperty(this, _foo, 1); } }' }, q => { q.body[0].kind = 'const'; }),
+  clause('dead_temporary', 'a temporary in front of its `let`', { options: ['--class-properties'], source: 'class C { [foo()] = 1 }', output: 'let _foo; _foo = foo(); class C { constructor() { B.defineProperty(this, _foo, 1); } }' }, q => { q.body.push(q.body.shift()); }),
+  clause('private_name_twice', 'a private name declared twice', { options: ['--static-block'], source: 'class C { #_ = 1; static { foo } }', output: 'var _staticBlock; let C = (class C { #_ = 1; static #_2 = _staticBlock = () => (foo, this); }, _staticBlock());' }, q => { nodes(q, n => n.type === 'PrivateIdentifier' && n.name === '_2')[0].name = '_'; }, [{ name: '_', kind: 'Private', number: 1 }, { name: '_staticBlock', kind: 'Closure' }]),
+  clause('name_twice', 'a name that the ledger has twice', row('instance_field'), q => { q.body.unshift(fresh(q, tree('var _t;').body[0])); }, [{ name: '_t', kind: 'Temp' }, { name: '_t', kind: 'Param' }]),
+  clause('name_of_no_member', 'a map of a member that the source has not', row('instance_field'), q => { q.body.unshift(fresh(q, tree('var _t = new WeakMap();').body[0])); }, [{ name: '_t', kind: 'WeakMap', number: 3 }]),
+  wrong('maps_in_loose_mode', 'a private field in a map, where the options keep it as a property', row('private_field_forms'), q => {}, undefined, ['--class-properties', '--loose']),
+  wrong('test_of_one_null', 'a test by `==` without the option', row('private_chain_call_no_document_all'), q => {}, undefined, ['--class-properties']),
+  wrong('suspending_constructor', 'a new constructor that is an async generator, in a program that cannot be printed', { options: ['--class-properties'], source: 'var a; class C { x = 1 }', output: 'var a; class C { constructor() { B.defineProperty(this, "x", 1); } }' },
+    (q, p) => { for (const t of [q, p]) t.body[0].declarations[0].id.name = 'yield'; Object.assign(q.body[1].body.body[0].value, { async: true, generator: true }); }),
+  { ...clause('hidden_body', 'a program with an empty body and a third part', row('instance_field'), q => {}), rewrite: text => text.replace('(more (string (codes "script")) (more ', '(more (string (codes "script")) (more (list end) (more ') + ')' },
+  pair('class_named_otherwise', 'the own name of a class is no step', 'x = class D {};', 'x = class E {};', {}),
+  pair('loose_member_read_once', 'the object of a member that is kept as a property is read once, but where a logical operator writes it', 'class A { #x = 1; m(o) { o = f(); o.#x += 2; } }', 'class A { #x = 1; m(o) { o = f(); o.#x ||= 2; } }', {}, { options: ['--class-properties', '--loose'] }),
+  pair('super_key_that_stays', 'the key of a `super` member is read twice where its code is moved', 'class A { x = 1; m(k) { k = f(); super[k] += 2; } }', 'class A { #m(k) { k = f(); super[k] += 2; } }', {}, { options: ['--class-properties'] }),
+  pair('suspended_class_written', 'a class that suspends and has a scope for names becomes a `let`', 'function* g() { class C { [k()] = class { static { h(); } }; [yield 1]() {} } C = 1; }', 'function* g() { class C { [k()] = class { static { h(); } }; [yield 1]() {} } }', {}, { options: ['--static-block'] }),
+  wrong('class_in_front_of_its_use', 'a key that names a class in front of the class', { options: ['--class-properties'], source: 'class E {} class C { [E.k()] = 1 }', output: 'class E {} let _k; _k = E.k(); class C { constructor() { B.defineProperty(this, _k, 1); } }' }, q => { q.body.push(...q.body.splice(0, 1)); swap(q.body, 2, 3); }),
+  wrong('static_field_before_its_class', 'a static field defined in front of the class declaration', { options: ['--class-properties'], source: 'class C { static name = 1 }', output: 'class C {} B.defineProperty(C, "name", 1);' }, q => { swap(q.body, 0, 1); }),
+  wrong('arguments_of_another', 'the arguments of another constructor', { options: ['--class-properties'], source: 'class A extends D { x = 1; }', output: 'class A extends D { constructor(..._args) { super(..._args); B.defineProperty(this, "x", 1); } }' },
+    q => { const f = nodes(q, n => n.type === 'MethodDefinition')[0].value, v = fresh(q, tree('var _args2;').body[0]); nodes(f.body, n => n.name === '_args')[0].name = '_args2'; f.body.body.unshift(v); }, [{ name: '_args', kind: 'Args' }, { name: '_args2', kind: 'Args' }]),
+  wrong('picked_by_an_async_arrow', 'a value picked by an async arrow', { options: ['--class-properties'], source: 'class C { x = 1; m() { f(g()); } }', output: 'class C { constructor() { B.defineProperty(this, "x", 1); } m() { f(g()); } }' },
+    q => { const c = nodes(q, n => n.type === 'CallExpression' && n.callee.name === 'f')[0], pick = fresh(q, expression('(async (_p, _q) => _q[_p])("k", { ["k"]: 1 })')); pick.arguments[1].properties[0].value = c.arguments[0]; c.arguments[0] = pick; }, [{ name: '_p', kind: 'Param' }, { name: '_q', kind: 'Param' }]),
 ];
 
 function moduleOf(w) {
@@ -99,7 +209,7 @@ function moduleOf(w) {
     const told = w.row, given = { words: told.options, input: told.source, out: told.output, type: told.type, outside: told.outside };
     const r = numberRow(given, { outside: told.outside || [], ...told, name: w.name });
     w.change(r.output, r.source);
-    body = [`-- \`${told.source}\`\n${define('source', 'Tree', term(r.source))}`, `-- ${w.says}, where \`${told.output}\` is right\n${define('output', 'Tree', term(r.output))}`, define('generated', 'List LedgerEntry', r.ledger.map(entryTerm).join('') + '[]'), define('options', 'Options', optionsTerm(r.options))].join('\n');
+    body = [`-- \`${told.source}\`\n${define('source', 'Tree', term(r.source))}`, `-- ${w.says}, where \`${told.output}\` is right\n${define('output', 'Tree', (w.rewrite || (text => text))(term(r.output)))}`, define('generated', 'List LedgerEntry', [...(w.generated || []), ...r.ledger.filter(e => !w.generated || !w.generated.some(g => g.kind === e.kind))].map(entryTerm).join('') + '[]'), define('options', 'Options', optionsTerm(w.options ? optionsOf(w.options) : r.options))].join('\n');
   }
   return `-- Printed by tools/rows/witnesses.js.\n${imports(body)}\n\n${body}`;
 }

@@ -13,6 +13,7 @@ use Rattle.es_steps.specs.Lowered.{nothing_left, names_declared, declarations_ac
 use Rattle.es_steps.specs.Printable.{is_printable}
 use Rattle.es_steps.specs.PrivateNames.{private_members}
 use Rattle.es_steps.specs.References.{has_number}
+use Rattle.es_steps.specs.Timely.{names_timely}
 use Rattle.es_steps.specs.declared.options.Options.{Options}
 
 -- no number stands twice, and the new ones are first, first + 1, .. in preorder
@@ -34,6 +35,7 @@ clauses o ledger p q =
     ∷ names_declared (nodes p) ledger q
     ∷ declarations_accounted (nodes p) ledger p q
     ∷ initializations_stand (nodes p) ledger (private_members p) q ledger
+    ∷ names_timely (nodes p) ledger q
     ∷ keys_stand (nodes p) o ledger (private_members p) q (all_temporaries (nodes p) o ledger (private_members p) q (preorder q))
     ∷ nodes_kept p q
     ∷ statements_kept o p q
@@ -44,7 +46,7 @@ clauses o ledger p q =
     ∷ []
 
 abbrev all_met : List Bool
-all_met = true ∷ true ∷ true ∷ true ∷ true ∷ true ∷ true ∷ true ∷ true ∷ true ∷ true ∷ true ∷ []
+all_met = true ∷ true ∷ true ∷ true ∷ true ∷ true ∷ true ∷ true ∷ true ∷ true ∷ true ∷ true ∷ true ∷ []
 
 -- ---- numbers
 
@@ -98,6 +100,7 @@ lowered {p = p} {q = q} e0 =
     let e9 = rest_of _ _ _ _ e8 in
     let e10 = rest_of _ _ _ _ e9 in
     let e11 = rest_of _ _ _ _ e10 in
+    let e12 = rest_of _ _ _ _ e11 in
     record {
       numbered = numbered (nodes p) q (first_of _ _ _ _ e0);
       clauses = record {
@@ -105,12 +108,13 @@ lowered {p = p} {q = q} e0 =
         declared = first_of _ _ _ _ e2;
         accounted = first_of _ _ _ _ e3;
         initialized = first_of _ _ _ _ e4;
-        keys = first_of _ _ _ _ e5;
-        nodes = first_of _ _ _ _ e6;
-        statements = first_of _ _ _ _ e7;
-        lists = first_of _ _ _ _ e8;
-        definitions = first_of _ _ _ _ e9;
-        elements = first_of _ _ _ _ e10;
-        printable = first_of _ _ _ _ e11;
+        timely = first_of _ _ _ _ e5;
+        keys = first_of _ _ _ _ e6;
+        nodes = first_of _ _ _ _ e7;
+        statements = first_of _ _ _ _ e8;
+        lists = first_of _ _ _ _ e9;
+        definitions = first_of _ _ _ _ e10;
+        elements = first_of _ _ _ _ e11;
+        printable = first_of _ _ _ _ e12;
       };
     }

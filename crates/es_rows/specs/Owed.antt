@@ -28,3 +28,7 @@ TellsApart o p q = (same_meanings (source_means o p) (source_means o q) ≡ fals
 -- a wrong output has another meaning, or none
 abbrev pub Refused : Options → List LedgerEntry → Tree → Tree → Type 0
 Refused o ledger p q = same_meanings (source_means o p) (lowered_means o ledger p q) ≡ false
+
+-- two programs have these shapes
+abbrev pub HaveShapes : Options → Tree → List ℕ → Tree → List ℕ → Type 0
+HaveShapes o p ms q ns = (shape_numbers o p ≡ ms) × (shape_numbers o q ≡ ns)

@@ -1,9 +1,16 @@
 // Worked rows and witnesses: functions that do nothing. Printed by tools/rows/print_laws.py.
 
-ghost use Rattle.std.specs.Prelude.{◌≡◌, false};
-ghost use Rattle.es_rows.specs.Owed.{Kept, KeptAfter, Owed, TellsApart, Refused};
+ghost use Rattle.std.specs.Prelude.{◌≡◌, [], ◌∷◌, false};
+ghost use Rattle.es_rows.specs.Owed.{Kept, KeptAfter, Owed, TellsApart, Refused, HaveShapes};
+ghost use Rattle.es_base.specs.Conforms.{conforms};
+ghost use Rattle.es_base.specs.Preorder.{nodes};
+ghost use Rattle.es_base.specs.declared.table.Place.{Place};
 ghost use Rattle.es_steps.specs.KeptNodes.{lists_kept};
+ghost use Rattle.es_steps.specs.Lowered.{names_declared, declarations_accounted, initializations_stand};
 ghost use Rattle.es_steps.specs.Meaning.{source_means};
+ghost use Rattle.es_steps.specs.Printable.{is_printable};
+ghost use Rattle.es_steps.specs.PrivateNames.{private_members};
+ghost use Rattle.es_steps.specs.Timely.{names_timely};
 ghost use Rattle.es_rows.specs.rows.InstanceField.{source_instance_field, output_instance_field, generated_instance_field, options_instance_field, outside_instance_field};
 ghost use Rattle.es_rows.specs.rows.SetField.{source_set_field, output_set_field, generated_set_field, options_set_field, outside_set_field};
 ghost use Rattle.es_rows.specs.rows.SetThisKey.{source_set_this_key, output_set_this_key, generated_set_this_key, options_set_this_key, outside_set_this_key};
@@ -81,41 +88,92 @@ ghost use Rattle.es_rows.specs.rows.PrivateNameTaken.{source_private_name_taken,
 ghost use Rattle.es_rows.specs.rows.BlockOfStatementsAlone.{source_block_of_statements_alone, output_block_of_statements_alone, generated_block_of_statements_alone, options_block_of_statements_alone, outside_block_of_statements_alone};
 ghost use Rattle.es_rows.specs.witnesses.AnotherLiteral.{source_another_literal, output_another_literal, generated_another_literal, options_another_literal};
 ghost use Rattle.es_rows.specs.witnesses.ArgumentsBehindAWrite.{first_arguments_behind_a_write, second_arguments_behind_a_write, options_arguments_behind_a_write};
+ghost use Rattle.es_rows.specs.witnesses.ArgumentsOfAnother.{source_arguments_of_another, output_arguments_of_another, generated_arguments_of_another, options_arguments_of_another};
+ghost use Rattle.es_rows.specs.witnesses.ArrowOutOfALoop.{source_arrow_out_of_a_loop, output_arrow_out_of_a_loop, generated_arrow_out_of_a_loop, options_arrow_out_of_a_loop};
 ghost use Rattle.es_rows.specs.witnesses.BindingNotRenamed.{source_binding_not_renamed, output_binding_not_renamed, generated_binding_not_renamed, options_binding_not_renamed};
 ghost use Rattle.es_rows.specs.witnesses.BlockBehindFields.{source_block_behind_fields, output_block_behind_fields, generated_block_behind_fields, options_block_behind_fields};
 ghost use Rattle.es_rows.specs.witnesses.BodyDropped.{source_body_dropped, output_body_dropped, generated_body_dropped, options_body_dropped};
+ghost use Rattle.es_rows.specs.witnesses.BoundBeforeItsTest.{source_bound_before_its_test, output_bound_before_its_test, generated_bound_before_its_test, options_bound_before_its_test};
+ghost use Rattle.es_rows.specs.witnesses.BreakInAnArrow.{source_break_in_an_arrow, output_break_in_an_arrow, generated_break_in_an_arrow, options_break_in_an_arrow};
 ghost use Rattle.es_rows.specs.witnesses.CaughtNamesExchanged.{first_caught_names_exchanged, second_caught_names_exchanged, options_caught_names_exchanged};
+ghost use Rattle.es_rows.specs.witnesses.ClassBehindItsUse.{source_class_behind_its_use, output_class_behind_its_use, generated_class_behind_its_use, options_class_behind_its_use};
 ghost use Rattle.es_rows.specs.witnesses.ClassInAConstructor.{source_class_in_a_constructor, output_class_in_a_constructor, generated_class_in_a_constructor, options_class_in_a_constructor};
+ghost use Rattle.es_rows.specs.witnesses.ClassInFrontOfItsUse.{source_class_in_front_of_its_use, output_class_in_front_of_its_use, generated_class_in_front_of_its_use, options_class_in_front_of_its_use};
+ghost use Rattle.es_rows.specs.witnesses.ClassNamedOtherwise.{first_class_named_otherwise, second_class_named_otherwise, options_class_named_otherwise};
+ghost use Rattle.es_rows.specs.witnesses.ClassRenamed.{source_class_renamed, output_class_renamed, generated_class_renamed, options_class_renamed};
+ghost use Rattle.es_rows.specs.witnesses.ClassTemporaryBeforeItsClass.{source_class_temporary_before_its_class, output_class_temporary_before_its_class, generated_class_temporary_before_its_class, options_class_temporary_before_its_class};
+ghost use Rattle.es_rows.specs.witnesses.ClosureBeforeItsClass.{source_closure_before_its_class, output_closure_before_its_class, generated_closure_before_its_class, options_closure_before_its_class};
+ghost use Rattle.es_rows.specs.witnesses.ConstantTemporary.{source_constant_temporary, output_constant_temporary, generated_constant_temporary, options_constant_temporary};
+ghost use Rattle.es_rows.specs.witnesses.DeadTemporary.{source_dead_temporary, output_dead_temporary, generated_dead_temporary, options_dead_temporary};
 ghost use Rattle.es_rows.specs.witnesses.DefaultExports.{first_default_exports, second_default_exports, options_default_exports};
 ghost use Rattle.es_rows.specs.witnesses.DefinitionsNested.{source_definitions_nested, output_definitions_nested, generated_definitions_nested, options_definitions_nested};
+ghost use Rattle.es_rows.specs.witnesses.DeletedKey.{source_deleted_key, output_deleted_key, generated_deleted_key, options_deleted_key};
 ghost use Rattle.es_rows.specs.witnesses.FieldBeforeSuper.{source_field_before_super, output_field_before_super, generated_field_before_super, options_field_before_super};
 ghost use Rattle.es_rows.specs.witnesses.FieldDoubled.{source_field_doubled, output_field_doubled, generated_field_doubled, options_field_doubled};
 ghost use Rattle.es_rows.specs.witnesses.FieldDropped.{source_field_dropped, output_field_dropped, generated_field_dropped, options_field_dropped};
+ghost use Rattle.es_rows.specs.witnesses.FieldKeyReadLate.{source_field_key_read_late, output_field_key_read_late, generated_field_key_read_late, options_field_key_read_late};
 ghost use Rattle.es_rows.specs.witnesses.FieldsExchanged.{source_fields_exchanged, output_fields_exchanged, generated_fields_exchanged, options_fields_exchanged};
+ghost use Rattle.es_rows.specs.witnesses.GetterMadeAMethod.{source_getter_made_a_method, output_getter_made_a_method, generated_getter_made_a_method, options_getter_made_a_method};
+ghost use Rattle.es_rows.specs.witnesses.GetterOrMethod.{first_getter_or_method, second_getter_or_method, options_getter_or_method};
+ghost use Rattle.es_rows.specs.witnesses.GlobalRenamed.{first_global_renamed, second_global_renamed, options_global_renamed};
+ghost use Rattle.es_rows.specs.witnesses.HeritageReadLate.{source_heritage_read_late, output_heritage_read_late, generated_heritage_read_late, options_heritage_read_late};
+ghost use Rattle.es_rows.specs.witnesses.HiddenBody.{source_hidden_body, output_hidden_body, generated_hidden_body, options_hidden_body};
+ghost use Rattle.es_rows.specs.witnesses.HoleInAPattern.{first_hole_in_a_pattern, second_hole_in_a_pattern, options_hole_in_a_pattern};
 ghost use Rattle.es_rows.specs.witnesses.ImportsExchanged.{first_imports_exchanged, second_imports_exchanged, options_imports_exchanged};
 ghost use Rattle.es_rows.specs.witnesses.KeyOfAMethod.{first_key_of_a_method, second_key_of_a_method, options_key_of_a_method};
+ghost use Rattle.es_rows.specs.witnesses.KeyReadLate.{source_key_read_late, output_key_read_late, generated_key_read_late, options_key_read_late};
 ghost use Rattle.es_rows.specs.witnesses.KeyReadTwice.{source_key_read_twice, output_key_read_twice, generated_key_read_twice, options_key_read_twice};
+ghost use Rattle.es_rows.specs.witnesses.LetOutOfALoop.{first_let_out_of_a_loop, second_let_out_of_a_loop, options_let_out_of_a_loop};
 ghost use Rattle.es_rows.specs.witnesses.LoopHeadsExchanged.{first_loop_heads_exchanged, second_loop_heads_exchanged, options_loop_heads_exchanged};
+ghost use Rattle.es_rows.specs.witnesses.LooseMemberReadOnce.{first_loose_member_read_once, second_loose_member_read_once, options_loose_member_read_once};
+ghost use Rattle.es_rows.specs.witnesses.MapsInLooseMode.{source_maps_in_loose_mode, output_maps_in_loose_mode, generated_maps_in_loose_mode, options_maps_in_loose_mode};
+ghost use Rattle.es_rows.specs.witnesses.MemberOfAnObject.{source_member_of_an_object, output_member_of_an_object, generated_member_of_an_object, options_member_of_an_object};
+ghost use Rattle.es_rows.specs.witnesses.MethodAssignedInAnotherFunction.{source_method_assigned_in_another_function, output_method_assigned_in_another_function, generated_method_assigned_in_another_function, options_method_assigned_in_another_function};
 ghost use Rattle.es_rows.specs.witnesses.MethodWithoutBrand.{source_method_without_brand, output_method_without_brand, generated_method_without_brand, options_method_without_brand};
+ghost use Rattle.es_rows.specs.witnesses.NameOfNoMember.{source_name_of_no_member, output_name_of_no_member, generated_name_of_no_member, options_name_of_no_member};
+ghost use Rattle.es_rows.specs.witnesses.NameTwice.{source_name_twice, output_name_twice, generated_name_twice, options_name_twice};
+ghost use Rattle.es_rows.specs.witnesses.NamedValue.{source_named_value, output_named_value, generated_named_value, options_named_value};
+ghost use Rattle.es_rows.specs.witnesses.NewImport.{source_new_import, output_new_import, generated_new_import, options_new_import};
 ghost use Rattle.es_rows.specs.witnesses.ObjectEvaluatedTwice.{source_object_evaluated_twice, output_object_evaluated_twice, generated_object_evaluated_twice, options_object_evaluated_twice};
 ghost use Rattle.es_rows.specs.witnesses.OddConstructor.{source_odd_constructor, output_odd_constructor, generated_odd_constructor, options_odd_constructor};
 ghost use Rattle.es_rows.specs.witnesses.OwnNamesExchanged.{first_own_names_exchanged, second_own_names_exchanged, options_own_names_exchanged};
+ghost use Rattle.es_rows.specs.witnesses.ParameterInFront.{source_parameter_in_front, output_parameter_in_front, generated_parameter_in_front, options_parameter_in_front};
+ghost use Rattle.es_rows.specs.witnesses.ParameterOfANewConstructor.{source_parameter_of_a_new_constructor, output_parameter_of_a_new_constructor, generated_parameter_of_a_new_constructor, options_parameter_of_a_new_constructor};
 ghost use Rattle.es_rows.specs.witnesses.ParametersExchanged.{first_parameters_exchanged, second_parameters_exchanged, options_parameters_exchanged};
+ghost use Rattle.es_rows.specs.witnesses.ParentConstructedTwice.{source_parent_constructed_twice, output_parent_constructed_twice, generated_parent_constructed_twice, options_parent_constructed_twice};
+ghost use Rattle.es_rows.specs.witnesses.ParentNeverConstructed.{source_parent_never_constructed, output_parent_never_constructed, generated_parent_never_constructed, options_parent_never_constructed};
 ghost use Rattle.es_rows.specs.witnesses.PatternKeys.{first_pattern_keys, second_pattern_keys, options_pattern_keys};
+ghost use Rattle.es_rows.specs.witnesses.PickedByAnAsyncArrow.{source_picked_by_an_async_arrow, output_picked_by_an_async_arrow, generated_picked_by_an_async_arrow, options_picked_by_an_async_arrow};
 ghost use Rattle.es_rows.specs.witnesses.PrivateNameOfTheOuterClass.{source_private_name_of_the_outer_class, output_private_name_of_the_outer_class, generated_private_name_of_the_outer_class, options_private_name_of_the_outer_class};
+ghost use Rattle.es_rows.specs.witnesses.PrivateNameTwice.{source_private_name_twice, output_private_name_twice, generated_private_name_twice, options_private_name_twice};
 ghost use Rattle.es_rows.specs.witnesses.ReadMoved.{source_read_moved, output_read_moved, generated_read_moved, options_read_moved};
+ghost use Rattle.es_rows.specs.witnesses.ReceiverOfAConditional.{source_receiver_of_a_conditional, output_receiver_of_a_conditional, generated_receiver_of_a_conditional, options_receiver_of_a_conditional};
+ghost use Rattle.es_rows.specs.witnesses.ReceiverOfAPrivateCall.{source_receiver_of_a_private_call, output_receiver_of_a_private_call, generated_receiver_of_a_private_call, options_receiver_of_a_private_call};
+ghost use Rattle.es_rows.specs.witnesses.ReceiverOfASuperCall.{source_receiver_of_a_super_call, output_receiver_of_a_super_call, generated_receiver_of_a_super_call, options_receiver_of_a_super_call};
 ghost use Rattle.es_rows.specs.witnesses.RestDropped.{first_rest_dropped, second_rest_dropped, options_rest_dropped};
 ghost use Rattle.es_rows.specs.witnesses.ResultOfTheSetter.{source_result_of_the_setter, output_result_of_the_setter, generated_result_of_the_setter, options_result_of_the_setter};
 ghost use Rattle.es_rows.specs.witnesses.ReturnInAnArrow.{source_return_in_an_arrow, output_return_in_an_arrow, generated_return_in_an_arrow, options_return_in_an_arrow};
+ghost use Rattle.es_rows.specs.witnesses.ScriptInAnArrow.{source_script_in_an_arrow, output_script_in_an_arrow, generated_script_in_an_arrow, options_script_in_an_arrow};
 ghost use Rattle.es_rows.specs.witnesses.SpreadForAParameter.{source_spread_for_a_parameter, output_spread_for_a_parameter, generated_spread_for_a_parameter, options_spread_for_a_parameter};
 ghost use Rattle.es_rows.specs.witnesses.StatementOfAnIf.{first_statement_of_an_if, second_statement_of_an_if, options_statement_of_an_if};
+ghost use Rattle.es_rows.specs.witnesses.StaticFieldBeforeItsClass.{source_static_field_before_its_class, output_static_field_before_its_class, generated_static_field_before_its_class, options_static_field_before_its_class};
+ghost use Rattle.es_rows.specs.witnesses.StaticGetterOrMethod.{first_static_getter_or_method, second_static_getter_or_method, options_static_getter_or_method};
+ghost use Rattle.es_rows.specs.witnesses.StaticKeyReadLate.{source_static_key_read_late, output_static_key_read_late, generated_static_key_read_late, options_static_key_read_late};
+ghost use Rattle.es_rows.specs.witnesses.SuperFunctionBehindItsCalls.{source_super_function_behind_its_calls, output_super_function_behind_its_calls, generated_super_function_behind_its_calls, options_super_function_behind_its_calls};
+ghost use Rattle.es_rows.specs.witnesses.SuperGivesZero.{source_super_gives_zero, output_super_gives_zero, generated_super_gives_zero, options_super_gives_zero};
+ghost use Rattle.es_rows.specs.witnesses.SuperKeyThatStays.{first_super_key_that_stays, second_super_key_that_stays, options_super_key_that_stays};
+ghost use Rattle.es_rows.specs.witnesses.SuspendedClassWritten.{first_suspended_class_written, second_suspended_class_written, options_suspended_class_written};
+ghost use Rattle.es_rows.specs.witnesses.SuspendingConstructor.{source_suspending_constructor, output_suspending_constructor, generated_suspending_constructor, options_suspending_constructor};
 ghost use Rattle.es_rows.specs.witnesses.TemplateKey.{first_template_key, second_template_key, options_template_key};
 ghost use Rattle.es_rows.specs.witnesses.TemporaryGivenLate.{source_temporary_given_late, output_temporary_given_late, generated_temporary_given_late, options_temporary_given_late};
 ghost use Rattle.es_rows.specs.witnesses.TemporaryNeverGiven.{source_temporary_never_given, output_temporary_never_given, generated_temporary_never_given, options_temporary_never_given};
 ghost use Rattle.es_rows.specs.witnesses.TestOfAnotherObject.{source_test_of_another_object, output_test_of_another_object, generated_test_of_another_object, options_test_of_another_object};
+ghost use Rattle.es_rows.specs.witnesses.TestOfOneNull.{source_test_of_one_null, output_test_of_one_null, generated_test_of_one_null, options_test_of_one_null};
 ghost use Rattle.es_rows.specs.witnesses.TestedName.{first_tested_name, second_tested_name, options_tested_name};
 ghost use Rattle.es_rows.specs.witnesses.TwoConstructors.{source_two_constructors, output_two_constructors, generated_two_constructors, options_two_constructors};
+ghost use Rattle.es_rows.specs.witnesses.ValueAsAKey.{source_value_as_a_key, output_value_as_a_key, generated_value_as_a_key, options_value_as_a_key};
 ghost use Rattle.es_rows.specs.witnesses.VoidOfATemplate.{first_void_of_a_template, second_void_of_a_template, options_void_of_a_template};
+ghost use Rattle.es_rows.specs.witnesses.WeakMapInAnotherFunction.{source_weak_map_in_another_function, output_weak_map_in_another_function, generated_weak_map_in_another_function, options_weak_map_in_another_function};
 
 /// Instance fields and their keys, defined and set, and what is kept as a property.
 pub fn instance_fields_keep_their_meaning()
@@ -221,13 +279,18 @@ pub fn programs_are_told_apart()
     ensures arguments_behind_a_write { TellsApart options_arguments_behind_a_write first_arguments_behind_a_write second_arguments_behind_a_write }
     ensures caught_names_exchanged { TellsApart options_caught_names_exchanged first_caught_names_exchanged second_caught_names_exchanged }
     ensures default_exports { TellsApart options_default_exports first_default_exports second_default_exports }
+    ensures getter_or_method { TellsApart options_getter_or_method first_getter_or_method second_getter_or_method }
+    ensures global_renamed { TellsApart options_global_renamed first_global_renamed second_global_renamed }
+    ensures hole_in_a_pattern { TellsApart options_hole_in_a_pattern first_hole_in_a_pattern second_hole_in_a_pattern }
     ensures imports_exchanged { TellsApart options_imports_exchanged first_imports_exchanged second_imports_exchanged }
+    ensures let_out_of_a_loop { TellsApart options_let_out_of_a_loop first_let_out_of_a_loop second_let_out_of_a_loop }
     ensures loop_heads_exchanged { TellsApart options_loop_heads_exchanged first_loop_heads_exchanged second_loop_heads_exchanged }
     ensures own_names_exchanged { TellsApart options_own_names_exchanged first_own_names_exchanged second_own_names_exchanged }
     ensures parameters_exchanged { TellsApart options_parameters_exchanged first_parameters_exchanged second_parameters_exchanged }
     ensures pattern_keys { TellsApart options_pattern_keys first_pattern_keys second_pattern_keys }
     ensures rest_dropped { TellsApart options_rest_dropped first_rest_dropped second_rest_dropped }
     ensures statement_of_an_if { TellsApart options_statement_of_an_if first_statement_of_an_if second_statement_of_an_if }
+    ensures static_getter_or_method { TellsApart options_static_getter_or_method first_static_getter_or_method second_static_getter_or_method }
     ensures template_key { TellsApart options_template_key first_template_key second_template_key }
     ensures tested_name { TellsApart options_tested_name first_tested_name second_tested_name }
     ensures void_of_a_template { TellsApart options_void_of_a_template first_void_of_a_template second_void_of_a_template }
@@ -236,31 +299,85 @@ pub fn programs_are_told_apart()
 /// Wrong outputs of worked rows do not mean what their sources mean.
 pub fn wrong_outputs_are_told_apart()
     ensures another_literal { Refused options_another_literal generated_another_literal source_another_literal output_another_literal }
+    ensures arguments_of_another { Refused options_arguments_of_another generated_arguments_of_another source_arguments_of_another output_arguments_of_another }
+    ensures arrow_out_of_a_loop { Refused options_arrow_out_of_a_loop generated_arrow_out_of_a_loop source_arrow_out_of_a_loop output_arrow_out_of_a_loop }
     ensures binding_not_renamed { Refused options_binding_not_renamed generated_binding_not_renamed source_binding_not_renamed output_binding_not_renamed }
     ensures block_behind_fields { Refused options_block_behind_fields generated_block_behind_fields source_block_behind_fields output_block_behind_fields }
     ensures body_dropped { Refused options_body_dropped generated_body_dropped source_body_dropped output_body_dropped }
+    ensures bound_before_its_test { Refused options_bound_before_its_test generated_bound_before_its_test source_bound_before_its_test output_bound_before_its_test }
+    ensures class_in_front_of_its_use { Refused options_class_in_front_of_its_use generated_class_in_front_of_its_use source_class_in_front_of_its_use output_class_in_front_of_its_use }
+    ensures class_renamed { Refused options_class_renamed generated_class_renamed source_class_renamed output_class_renamed }
     ensures definitions_nested { Refused options_definitions_nested generated_definitions_nested source_definitions_nested output_definitions_nested }
+    ensures deleted_key { Refused options_deleted_key generated_deleted_key source_deleted_key output_deleted_key }
     ensures field_before_super { Refused options_field_before_super generated_field_before_super source_field_before_super output_field_before_super }
     ensures field_doubled { Refused options_field_doubled generated_field_doubled source_field_doubled output_field_doubled }
     ensures field_dropped { Refused options_field_dropped generated_field_dropped source_field_dropped output_field_dropped }
+    ensures field_key_read_late { Refused options_field_key_read_late generated_field_key_read_late source_field_key_read_late output_field_key_read_late }
     ensures fields_exchanged { Refused options_fields_exchanged generated_fields_exchanged source_fields_exchanged output_fields_exchanged }
+    ensures getter_made_a_method { Refused options_getter_made_a_method generated_getter_made_a_method source_getter_made_a_method output_getter_made_a_method }
+    ensures heritage_read_late { Refused options_heritage_read_late generated_heritage_read_late source_heritage_read_late output_heritage_read_late }
+    ensures key_read_late { Refused options_key_read_late generated_key_read_late source_key_read_late output_key_read_late }
     ensures key_read_twice { Refused options_key_read_twice generated_key_read_twice source_key_read_twice output_key_read_twice }
+    ensures maps_in_loose_mode { Refused options_maps_in_loose_mode generated_maps_in_loose_mode source_maps_in_loose_mode output_maps_in_loose_mode }
+    ensures member_of_an_object { Refused options_member_of_an_object generated_member_of_an_object source_member_of_an_object output_member_of_an_object }
     ensures method_without_brand { Refused options_method_without_brand generated_method_without_brand source_method_without_brand output_method_without_brand }
+    ensures named_value { Refused options_named_value generated_named_value source_named_value output_named_value }
+    ensures new_import { Refused options_new_import generated_new_import source_new_import output_new_import }
     ensures object_evaluated_twice { Refused options_object_evaluated_twice generated_object_evaluated_twice source_object_evaluated_twice output_object_evaluated_twice }
     ensures odd_constructor { Refused options_odd_constructor generated_odd_constructor source_odd_constructor output_odd_constructor }
+    ensures parameter_in_front { Refused options_parameter_in_front generated_parameter_in_front source_parameter_in_front output_parameter_in_front }
+    ensures parameter_of_a_new_constructor { Refused options_parameter_of_a_new_constructor generated_parameter_of_a_new_constructor source_parameter_of_a_new_constructor output_parameter_of_a_new_constructor }
+    ensures parent_constructed_twice { Refused options_parent_constructed_twice generated_parent_constructed_twice source_parent_constructed_twice output_parent_constructed_twice }
+    ensures parent_never_constructed { Refused options_parent_never_constructed generated_parent_never_constructed source_parent_never_constructed output_parent_never_constructed }
+    ensures picked_by_an_async_arrow { Refused options_picked_by_an_async_arrow generated_picked_by_an_async_arrow source_picked_by_an_async_arrow output_picked_by_an_async_arrow }
     ensures private_name_of_the_outer_class { Refused options_private_name_of_the_outer_class generated_private_name_of_the_outer_class source_private_name_of_the_outer_class output_private_name_of_the_outer_class }
     ensures read_moved { Refused options_read_moved generated_read_moved source_read_moved output_read_moved }
+    ensures receiver_of_a_conditional { Refused options_receiver_of_a_conditional generated_receiver_of_a_conditional source_receiver_of_a_conditional output_receiver_of_a_conditional }
+    ensures receiver_of_a_private_call { Refused options_receiver_of_a_private_call generated_receiver_of_a_private_call source_receiver_of_a_private_call output_receiver_of_a_private_call }
+    ensures receiver_of_a_super_call { Refused options_receiver_of_a_super_call generated_receiver_of_a_super_call source_receiver_of_a_super_call output_receiver_of_a_super_call }
     ensures result_of_the_setter { Refused options_result_of_the_setter generated_result_of_the_setter source_result_of_the_setter output_result_of_the_setter }
     ensures return_in_an_arrow { Refused options_return_in_an_arrow generated_return_in_an_arrow source_return_in_an_arrow output_return_in_an_arrow }
+    ensures script_in_an_arrow { Refused options_script_in_an_arrow generated_script_in_an_arrow source_script_in_an_arrow output_script_in_an_arrow }
     ensures spread_for_a_parameter { Refused options_spread_for_a_parameter generated_spread_for_a_parameter source_spread_for_a_parameter output_spread_for_a_parameter }
+    ensures static_field_before_its_class { Refused options_static_field_before_its_class generated_static_field_before_its_class source_static_field_before_its_class output_static_field_before_its_class }
+    ensures static_key_read_late { Refused options_static_key_read_late generated_static_key_read_late source_static_key_read_late output_static_key_read_late }
+    ensures super_gives_zero { Refused options_super_gives_zero generated_super_gives_zero source_super_gives_zero output_super_gives_zero }
+    ensures suspending_constructor { Refused options_suspending_constructor generated_suspending_constructor source_suspending_constructor output_suspending_constructor }
     ensures temporary_given_late { Refused options_temporary_given_late generated_temporary_given_late source_temporary_given_late output_temporary_given_late }
     ensures temporary_never_given { Refused options_temporary_never_given generated_temporary_never_given source_temporary_never_given output_temporary_never_given }
     ensures test_of_another_object { Refused options_test_of_another_object generated_test_of_another_object source_test_of_another_object output_test_of_another_object }
+    ensures test_of_one_null { Refused options_test_of_one_null generated_test_of_one_null source_test_of_one_null output_test_of_one_null }
     ensures two_constructors { Refused options_two_constructors generated_two_constructors source_two_constructors output_two_constructors }
+    ensures value_as_a_key { Refused options_value_as_a_key generated_value_as_a_key source_value_as_a_key output_value_as_a_key }
 {}
 
-/// A template and a string are one key; a class that is moved alone is caught by the clause on lists.
-pub fn the_same_in_other_words()
+/// Wrong outputs that a clause on lowered programs finds, though their meanings may be those of their sources.
+pub fn clauses_are_not_met()
+    ensures break_in_an_arrow { is_printable output_break_in_an_arrow ≡ false }
+    ensures class_behind_its_use { lists_kept options_class_behind_its_use source_class_behind_its_use output_class_behind_its_use ≡ false }
     ensures class_in_a_constructor { lists_kept options_class_in_a_constructor source_class_in_a_constructor output_class_in_a_constructor ≡ false }
+    ensures class_temporary_before_its_class { names_timely (nodes source_class_temporary_before_its_class) generated_class_temporary_before_its_class output_class_temporary_before_its_class ≡ false }
+    ensures closure_before_its_class { names_timely (nodes source_closure_before_its_class) generated_closure_before_its_class output_closure_before_its_class ≡ false }
+    ensures constant_temporary { declarations_accounted (nodes source_constant_temporary) generated_constant_temporary source_constant_temporary output_constant_temporary ≡ false }
+    ensures dead_temporary { names_timely (nodes source_dead_temporary) generated_dead_temporary output_dead_temporary ≡ false }
+    ensures hidden_body { conforms Place.Program output_hidden_body ≡ false }
+    ensures method_assigned_in_another_function { names_timely (nodes source_method_assigned_in_another_function) generated_method_assigned_in_another_function output_method_assigned_in_another_function ≡ false }
+    ensures name_of_no_member { initializations_stand (nodes source_name_of_no_member) generated_name_of_no_member (private_members source_name_of_no_member) output_name_of_no_member generated_name_of_no_member ≡ false }
+    ensures name_twice { names_declared (nodes source_name_twice) generated_name_twice output_name_twice ≡ false }
+    ensures private_name_twice { names_declared (nodes source_private_name_twice) generated_private_name_twice output_private_name_twice ≡ false }
+    ensures super_function_behind_its_calls { names_timely (nodes source_super_function_behind_its_calls) generated_super_function_behind_its_calls output_super_function_behind_its_calls ≡ false }
+    ensures weak_map_in_another_function { names_timely (nodes source_weak_map_in_another_function) generated_weak_map_in_another_function output_weak_map_in_another_function ≡ false }
+{}
+
+/// Pairs of programs that have different shapes.
+pub fn shapes_are_told()
+    ensures loose_member_read_once { HaveShapes options_loose_member_read_once first_loose_member_read_once ([]) second_loose_member_read_once (4 ∷ []) }
+    ensures super_key_that_stays { HaveShapes options_super_key_that_stays first_super_key_that_stays ([]) second_super_key_that_stays (4 ∷ []) }
+    ensures suspended_class_written { HaveShapes options_suspended_class_written first_suspended_class_written (6 ∷ []) second_suspended_class_written ([]) }
+{}
+
+/// A template and a string are one key; the own name of a class is no step.
+pub fn the_same_in_other_words()
+    ensures class_named_otherwise { source_means options_class_named_otherwise second_class_named_otherwise ≡ source_means options_class_named_otherwise first_class_named_otherwise }
     ensures key_of_a_method { source_means options_key_of_a_method second_key_of_a_method ≡ source_means options_key_of_a_method first_key_of_a_method }
 {}

@@ -15,6 +15,8 @@ use Rattle.es_steps.specs.Lowered.{nothing_left, names_declared, declarations_ac
 use Rattle.es_steps.specs.Printable.{is_printable}
 use Rattle.es_steps.specs.PrivateNames.{PrivateMember, members_of_all, private_members}
 use Rattle.es_steps.specs.Standing.{all_numbers, ledger_numbers, all_pass, all_old}
+use Rattle.es_steps.specs.Timely.{names_timely}
+use Rattle.es_steps.proofs.TimelyMapped.{names_timely-mapped}
 use Rattle.es_steps.specs.declared.options.Options.{Options}
 use Rattle.es_steps.proofs.DefinitionsMapped.{definitions_stand-mapped, all_temporaries-mapped, elements_kept-mapped}
 use Rattle.es_steps.proofs.KeptNodesMapped.{nodes_kept-mapped, statements_kept-mapped, lists_kept-mapped}
@@ -106,6 +108,7 @@ clauses_law first o ledger p q once old generated met = record {
     declared = kept first ledger p q once old generated (λ l p q. names_declared first l q) (λ f r l p q. names_declared-mapped r l q) met.declared;
     accounted = kept first ledger p q once old generated (declarations_accounted first) (λ f r l p q. declarations_accounted-mapped r l p q) met.accounted;
     initialized = kept first ledger p q once old generated (λ l p q. initializations_stand first l (private_members p) q l) (initialized-unchanging first o) met.initialized;
+    timely = kept first ledger p q once old generated (λ l p q. names_timely first l q) (λ f r l p q. names_timely-mapped r l q) met.timely;
     keys = kept first ledger p q once old generated (λ l p q. keys_clause first o l (private_members p) q (preorder q)) (keys-unchanging first o) met.keys;
     nodes = kept first ledger p q once old generated (λ l p q. nodes_kept p q) (λ f r l p q. nodes_kept-mapped r p q) met.nodes;
     statements = kept first ledger p q once old generated (λ l p q. statements_kept o p q) (λ f r l p q. statements_kept-mapped r o p q) met.statements;

@@ -6,15 +6,15 @@ use Rattle.es_base.specs.Tree.{Tree, Part, Parts, Node, end, more, child, list}
 use Rattle.es_base.specs.declared.kind.Kind.{Kind}
 use Rattle.es_base.specs.declared.ledger.GeneratedKind.{GeneratedKind}
 use Rattle.es_base.specs.declared.ledger.LedgerEntry.{LedgerEntry}
-use Rattle.es_steps.specs.Context.{NameKind, Fixed, Changing, MeansClass, FunctionRole, a_function, constructor_of, method_on, super_function_of, Context, is_private_entry, generated_as, is_private_for, is_generated_private, unless_written, declared_kind, found_kind, generated_or, name_kind, is_super_call, holds_super, part_holds_super, parts_hold_super, super_statement, first_super, initializing_call, Frame, function_frame, arrow_frame, class_frame, field_frame, method_frame, static_block_frame, object_frame, property_frame, assignment_frame, declarator_frame, same_frame, frame_of, in_function, in_element, is_constructor, method_role, property_role, role_of_generated, name_in, let_class_of, framed, role_in, inside}
+use Rattle.es_steps.specs.Context.{NameKind, Fixed, Changing, MeansClass, Generated, FunctionRole, a_function, constructor_of, method_on, super_function_of, Context, is_private_entry, generated_as, is_private_for, is_generated_private, unless_written, declared_kind, found_kind, generated_or, name_kind, is_function, is_super_call, holds_super, part_holds_super, parts_hold_super, rest_among, super_statement, first_super, initializing_call, Frame, function_frame, arrow_frame, class_frame, field_frame, method_frame, static_block_frame, object_frame, property_frame, assignment_frame, declarator_frame, same_frame, frame_of, in_function, in_element, is_constructor, method_role, property_role, role_of_generated, name_in, let_class_of, framed, role_in, inside}
 use Rattle.es_steps.specs.Meaning.{Terms, start}
-use Rattle.es_steps.specs.Parts.{at, block_items, string_of, is_true, is_present}
+use Rattle.es_steps.specs.Parts.{at, items, block_items, string_of, is_true, is_present}
 use Rattle.es_steps.specs.PrivateNames.{seen_members}
 use Rattle.es_steps.specs.References.{declared, has_number, resolve}
 use Rattle.es_steps.specs.Scopes.{ClassName, no_class, declares, own_name, let_names, Declaration, names_at, class_in}
 use Rattle.es_steps.specs.Values.{String, Bound, Home, OfClass, OfPrototype}
 use Rattle.es_steps.proofs.Mapped.{mapped, mapped_part, mapped_parts, mapped_class_name, mapped_declaration, mapped_option, mapped_generated, mapped_ledger, mapped_name_kind, mapped_private, mapped_home, mapped_role, mapped_pair, mapped_context, mapped_terms, Renames}
-use Rattle.es_steps.proofs.PartsMapped.{cond-mapped, append-mapped, at-mapped, block_items_at-mapped, string_at-mapped, is_true_at-mapped, is_present_at-mapped, number_of-mapped}
+use Rattle.es_steps.proofs.PartsMapped.{cond-mapped, append-mapped, at-mapped, items_at-mapped, block_items-mapped, block_items_at-mapped, string_at-mapped, is_true_at-mapped, is_present_at-mapped, number_of-mapped}
 use Rattle.es_steps.proofs.PrivatesMapped.{seen_members-mapped}
 use Rattle.es_steps.proofs.ReferencesMapped.{declared-mapped, has_number-mapped, resolve-mapped, writes_free-mapped, written-mapped}
 use Rattle.es_steps.proofs.ScopesMapped.{names_at-mapped, class_in-mapped}
@@ -78,7 +78,7 @@ module _ (f : ℕ → ℕ) where
   role_of_generated-mapped (Some (GeneratedKind.SuperFn n)) = refl
   role_of_generated-mapped g = refl
 
-  name_in-mapped : (p : Part) → name_in (mapped_part f p) ≡ name_in p
+  pub name_in-mapped : (p : Part) → name_in (mapped_part f p) ≡ name_in p
   name_in-mapped (child (Node kind m span semantic_id ps)) = string_at-mapped f 0 ps
   name_in-mapped p = refl
 
@@ -94,6 +94,14 @@ module _ (f : ℕ → ℕ) where
   role_in-mapped assignment_frame ps i c = cond-mapped (mapped_role f) (nat_eq i 2) _ a_function (role_at-mapped 1 ps c) refl
   role_in-mapped declarator_frame ps i c = cond-mapped (mapped_role f) (nat_eq i 1) _ a_function (role_at-mapped 0 ps c) refl
   role_in-mapped frame ps i c = refl
+
+  rest_among-mapped : (ps : Parts) → rest_among (mapped_parts f ps) ≡ rest_among ps
+  rest_among-mapped end = refl
+  rest_among-mapped (more (child (Node Kind.RestElement m span semantic_id ps)) rest) = ap name_in (at-mapped f 0 ps) ∙ name_in-mapped (at 0 ps)
+  rest_among-mapped (more p rest) = rest_among-mapped rest
+
+  rest_at-mapped : (i : ℕ) (ps : Parts) → rest_among (items (at i (mapped_parts f ps))) ≡ rest_among (items (at i ps))
+  rest_at-mapped i ps = ap rest_among (items_at-mapped f i ps) ∙ rest_among-mapped (items (at i ps))
 
   let_class_of-mapped : (g : Option GeneratedKind) (n : Option ℕ) (p : Part) → let_class_of (mapped_option (mapped_generated f) g) (mapped_option f n) (mapped_part f p) ≡ mapped_option (mapped_pair f) (let_class_of g n p)
   let_class_of-mapped None (Some n) (child (Node Kind.BindingIdentifier b span semantic_id ps)) = refl
@@ -148,14 +156,14 @@ module _ {first : ℕ} {f : ℕ → ℕ} (r : Renames first f) where
   new_here-mapped c e m = rw e (r.new m)
 
   in_function-mapped : (role : FunctionRole) (g : ℕ) (ps : Parts) (c : Context) → c.first_new ≡ first → in_function (mapped_role f role) (f g) (mapped_parts f ps) (mapped_context f c) ≡ mapped_context f (in_function role g ps c)
-  in_function-mapped a_function g ps c e = rw (new_here-mapped c e g) refl
-  in_function-mapped (constructor_of n) g ps c e = rw (new_here-mapped c e g, initializing_call-mapped f ps, cond-mapped (mapped_option f) c.has_heritage (Some n) None refl refl) refl
-  in_function-mapped (method_on home) g ps c e = rw (new_here-mapped c e g) refl
-  in_function-mapped (super_function_of n) g ps c e = rw (new_here-mapped c e g) refl
+  in_function-mapped a_function g ps c e = rw (new_here-mapped c e g, rest_at-mapped f 1 ps) refl
+  in_function-mapped (constructor_of n) g ps c e = rw (new_here-mapped c e g, rest_at-mapped f 1 ps, initializing_call-mapped f ps, cond-mapped (mapped_option f) c.has_heritage (Some n) None refl refl) refl
+  in_function-mapped (method_on home) g ps c e = rw (new_here-mapped c e g, rest_at-mapped f 1 ps) refl
+  in_function-mapped (super_function_of n) g ps c e = rw (new_here-mapped c e g, rest_at-mapped f 1 ps) refl
 
   framed-mapped : (frame : Frame) (m : ℕ) (ps : Parts) (i : ℕ) (c : Context) → c.first_new ≡ first → framed frame (f m) (mapped_parts f ps) i (mapped_context f c) ≡ mapped_context f (framed frame m ps i c)
   framed-mapped function_frame m ps i c e = in_function-mapped c.role m ps c e
-  framed-mapped arrow_frame m ps i c e = rw (new_here-mapped c e m) refl
+  framed-mapped arrow_frame m ps i c e = rw (new_here-mapped c e m, rest_at-mapped f 0 ps) refl
   framed-mapped class_frame m ps i c e = rw (is_present_at-mapped f 1 ps) (cond-mapped (mapped_context f) (nat_eq i 2) (record c { class = m; has_heritage = is_present (at 1 ps) }) c refl refl)
   framed-mapped field_frame m ps i c e = rw (is_true_at-mapped f 3 ps) (cond-mapped (mapped_context f) (nat_eq i 1) _ c (in_element-mapped f (is_true (at 3 ps)) c) refl)
   framed-mapped method_frame m ps i c e = refl

@@ -1,19 +1,20 @@
 -- The entries of functions and classes follow a change of numbers.
-use Rattle.std.specs.Prelude.{◌≡◌, ℕ, suc, List, [], ◌∷◌, ◌++◌, map, Bool, true, false, cond, Option, Some, None}
-use Rattle.std.proofs.Common.{refl, ap, ◌∙◌}
-use Rattle.es_steps.specs.Code.{Code, Codes, Target, Callee, FunctionForm, Opened, binding, rest, member, private_member, super_member, private_in, assign, compound, logical, logical_assign, update, call, tag, construct, super_call, sequence, template, operation, chain, short, tested, pattern, takes, steps, gives_to, export_default, function, new_function, class_code, field, private_field, method, private_method, constructor, static_block, generated_element, define, private_initialize, call_arrow, call_closure, give_function, give_class, to_name, to_member, to_private, to_super, to_setter, to_pattern, to_default, plain, on_member, on_private, on_super, with_receiver, checked, on_chain, behind_test, done, and}
-use Rattle.es_steps.specs.Context.{Generated}
-use Rattle.es_steps.specs.Entries.{Parameter, Method, Listed, is_string_among, without, parameter_of, parameters_of, constructor_form, constructor_parameters, no_constructor, if_one, in_order, ev_parameter, ev_parameters, ev_body, ev_construction, listed, value_in, after_run, function_entry, class_entry, some_value, method_with, Entries, heritage_in, methods_in, behind_code, behind_all, behind_target, behind_callee, behind_arguments, behind_parameters, behind_fields, entries, target_entries, pattern_entries, taken_entries, take_entries, callee_entries, all_entries, held_entries, parameter_entries, key_entries, key_entry, static_entries, static_entry, field_entries, field_entry, function_entries, element_function}
-use Rattle.es_steps.specs.Evaluation.{Environment, Run, Evaluation, gives, event, bind, write_ready, ev, ev_target, ev_take, ev_key, ev_keys, ev_static, ev_field, ev_initializers}
+use Rattle.std.specs.Prelude.{◌≡◌, ℕ, suc, List, [], ◌∷◌, ◌++◌, map, Bool, true, false, cond, ◌&&◌, ◌||◌, bytes_eq, Option, Some, None}
+use Rattle.std.proofs.Common.{refl, ap, ap₂, ◌∙◌}
+use Rattle.es_base.specs.declared.ledger.GeneratedKind.{GeneratedKind}
+use Rattle.es_steps.specs.Code.{Code, Codes, Target, Callee, FunctionForm, Opened, InitializersOf, nothing, binding, rest, member, private_member, super_member, private_in, assign, compound, logical, logical_assign, update, call, tag, construct, super_call, sequence, template, operation, chain, short, tested, pattern, takes, steps, gives_to, export_default, function, new_function, class_code, field, private_field, method, private_method, constructor, static_block, generated_element, from_call, from_member, key_of, define, private_initialize, call_arrow, call_closure, give_function, give_class, to_name, to_member, to_private, to_super, to_setter, to_pattern, to_default, plain, on_member, on_private, on_super, with_receiver, checked, on_chain, behind_test, done, and}
+use Rattle.es_steps.specs.Context.{NameKind, Generated}
+use Rattle.es_steps.specs.Entries.{Parameter, Identifier, RestIdentifier, Pattern, Method, Listed, Entry, is_string_among, without, parameter_of, parameters_of, constructor_form, constructor_parameters, no_constructor, if_one, in_order, ev_parameter, ev_parameters, ev_body, ev_construction, listed, value_in, after_run, function_entry, class_entry, some_value, method_with, Entries, heritage_in, same_nullable, behind_key, methods_in, keys_stay, behind_code, behind_all, behind_target, behind_callee, behind_arguments, behind_parameters, behind_fields, own_function, entries, target_entries, pattern_entries, taken_entries, take_entries, callee_entries, all_entries, held_entries, parameter_entries, key_entries, key_entry, static_entries, static_entry, field_entries, field_entry, function_entries, element_function}
+use Rattle.es_steps.specs.Evaluation.{Environment, Run, Evaluation, no_meaning, gives, event, bind, write_ready, bind_parameters, ev, ev_all, ev_target, ev_take, ev_callee, ev_key, ev_keys, ev_static, ev_field, ev_initializers}
 use Rattle.es_steps.specs.Events.{Take, Index, Rest, Operate, SuperCallWithAll}
-use Rattle.es_steps.specs.GeneratedForms.{opened_body}
-use Rattle.es_steps.specs.Opening.{assigned_in, assigned_in_all}
+use Rattle.es_steps.specs.GeneratedForms.{opened_body, is_plain}
+use Rattle.es_steps.specs.Opening.{all_arguments, assigned_in, assigned_in_all}
 use Rattle.es_steps.specs.References.{has_number}
-use Rattle.es_steps.specs.Values.{String, Value, Undefined, ThisOf, ResultOf}
-use Rattle.es_steps.proofs.EvaluationMapped.{Follows, no_meaning-follows, gives-follows, event-follows, bind-follows, value_behind-mapped, bind_parameters-follows, ev-follows, ev_target-follows, ev_take-follows, ev_callee-follows, ev_all-follows, ev_keys-follows, ev_key-follows, ev_static-follows, ev_field-follows, ev_initializers-follows}
+use Rattle.es_steps.specs.Values.{String, Value, Undefined, ThisOf, ResultOf, as_key}
+use Rattle.es_steps.proofs.EvaluationMapped.{as_key-mapped, same_value-mapped, Follows, ReadyFollows, no_meaning-follows, gives-follows, event-follows, bind-follows, value_behind-mapped, bind_parameters-follows, ev-follows, ev_target-follows, ev_take-follows, ev_callee-follows, ev_all-follows, ev_keys-follows, ev_key-follows, ev_static-follows, ev_field-follows, ev_initializers-follows}
 use Rattle.es_steps.proofs.FormsMapped.{opened_body-mapped}
-use Rattle.es_steps.proofs.Mapped.{Renames, mapped_option, mapped_value, mapped_nullable, mapped_environment, mapped_runs, mapped_opened, mapped_code, mapped_target, mapped_callee, mapped_codes, mapped_listed, mapped_parameter, mapped_parameters, mapped_methods, mapped_entry, mapped_nullable_entry, mapped_entries}
-use Rattle.es_steps.proofs.OpeningMapped.{assigned_in-mapped, assigned_in_all-mapped}
+use Rattle.es_steps.proofs.Mapped.{Renames, mapped_option, mapped_generated, mapped_name_kind, mapped_value, mapped_nullable, mapped_environment, mapped_runs, mapped_opened, mapped_code, mapped_target, mapped_callee, mapped_codes, mapped_listed, mapped_parameter, mapped_parameters, mapped_method, mapped_methods, mapped_entry, mapped_nullable_entry, mapped_entries}
+use Rattle.es_steps.proofs.OpeningMapped.{all_arguments-mapped, assigned_in-mapped, assigned_in_all-mapped}
 use Rattle.es_steps.proofs.PartsMapped.{cond-mapped, append-mapped}
 use Rattle.es_steps.proofs.ReferencesMapped.{has_number-mapped}
 
@@ -25,9 +26,7 @@ module _ (f : ℕ → ℕ) where
   without-mapped names (p ∷ ps) = cond-mapped (mapped_environment f) (is_string_among p.0 names) (without names ps) (p ∷ without names ps) (without-mapped names ps) (ap (λ rest. (p.0, mapped_value f p.1) ∷ rest) (without-mapped names ps))
 
   parameter_of-mapped : (c : Code) → parameter_of (mapped_code f c) ≡ mapped_parameters f (parameter_of c)
-  parameter_of-mapped (binding b s (Generated g)) = refl
   parameter_of-mapped (binding b s kind) = refl
-  parameter_of-mapped (rest (to_name b s (Generated g))) = refl
   parameter_of-mapped (rest (to_name b s kind)) = refl
   parameter_of-mapped (rest to) = refl
   parameter_of-mapped c = refl
@@ -44,7 +43,6 @@ module _ (f : ℕ → ℕ) where
   constructor_parameters-mapped : (cs : Codes) → constructor_parameters (mapped_codes f cs) ≡ mapped_parameters f (constructor_parameters cs)
   constructor_parameters-mapped done = refl
   constructor_parameters-mapped (and (constructor (function g form own ps body)) cs) = parameters_of-mapped ps
-  constructor_parameters-mapped (and (constructor (new_function g form ps body)) cs) = parameters_of-mapped ps
   constructor_parameters-mapped (and c cs) = constructor_parameters-mapped cs
 
   no_constructor-mapped : (cs : Codes) → no_constructor (mapped_codes f cs) ≡ no_constructor cs
@@ -84,16 +82,16 @@ module _ (f : ℕ → ℕ) where
   function_entry-mapped form own ps None = refl
   function_entry-mapped form own ps (Some l) = refl
 
-  class_entry-mapped : (declared : Option ℕ) (form : FunctionForm) (ps : List Parameter) (h : Option (Option Value)) (ms : Option (List Method)) (l : Option Listed) → class_entry (mapped_option f declared) form (mapped_parameters f ps) (mapped_option (mapped_nullable f) h) (mapped_option (mapped_methods f) ms) (mapped_option (mapped_listed f) l) ≡ mapped_option (mapped_entry f) (class_entry declared form ps h ms l)
-  class_entry-mapped declared form ps (Some h) (Some ms) (Some l) = refl
-  class_entry-mapped declared form ps h ms l = refl
+  class_entry-mapped : (stay : Bool) (declared : Option ℕ) (form : FunctionForm) (ps : List Parameter) (h : Option (Option Value)) (ms : Option (List Method)) (l : Option Listed) → class_entry stay (mapped_option f declared) form (mapped_parameters f ps) (mapped_option (mapped_nullable f) h) (mapped_option (mapped_methods f) ms) (mapped_option (mapped_listed f) l) ≡ mapped_option (mapped_entry f) (class_entry stay declared form ps h ms l)
+  class_entry-mapped true declared form ps (Some h) (Some ms) (Some l) = refl
+  class_entry-mapped stay declared form ps h ms l = refl
 
   some_value-mapped : (v : Option Value) → some_value (mapped_nullable f v) ≡ mapped_option (mapped_nullable f) (some_value v)
   some_value-mapped None = refl
   some_value-mapped (Some v) = refl
 
   method_with-mapped : (is_static : Bool) (kind : String) (k : Option Value) (g : Code) (ms : Option (List Method)) → method_with is_static kind (mapped_nullable f k) (mapped_code f g) (mapped_option (mapped_methods f) ms) ≡ mapped_option (mapped_methods f) (method_with is_static kind k g ms)
-  method_with-mapped is_static kind (Some k) (function g form own ps body) (Some ms) = refl
+  method_with-mapped is_static kind (Some k) (function g form own ps body) (Some ms) = rw (as_key-mapped f k) refl
   method_with-mapped is_static kind k g ms = refl
 
   joined-entries : (xs ys : Entries) {zs ws : Entries} → zs ≡ mapped_entries f xs → ws ≡ mapped_entries f ys → zs ++ ws ≡ mapped_entries f (xs ++ ys)
@@ -130,11 +128,17 @@ module _ {first : ℕ} {f : ℕ → ℕ} (r : Renames first f) (opens there : Op
   derived-follows : (ps es : Codes) (body : Code) → Follows f (if_one (no_constructor es) (ev_body opens first late ps body)) (if_one (no_constructor (mapped_codes f es)) (ev_body there first later (mapped_codes f ps) (mapped_code f body)))
   derived-follows ps es body = rw (no_constructor-mapped f es) (if_one-follows f (no_constructor es) (ev_body-follows ps body))
 
+  new_base-follows : (n : ℕ) (all es : Codes) (form : FunctionForm) (body : Code) → Follows f (if_one (no_constructor es && is_plain form) (bind (ev_initializers opens n all) (λ v. ev opens body))) (if_one (no_constructor (mapped_codes f es) && is_plain form) (bind (ev_initializers there (f n) (mapped_codes f all)) (λ v. ev there (mapped_code f body))))
+  new_base-follows n all es form body = rw (no_constructor-mapped f es) (if_one-follows f (no_constructor es && is_plain form) (bind-follows f (λ v. ev opens body) (λ v. ev there (mapped_code f body)) (initializers-follow n all) (λ v. ev-follows r opens there follow body)))
+
+  new_derived-follows : (ps es : Codes) (form : FunctionForm) (body : Code) → Follows f (if_one (no_constructor es && (is_plain form && all_arguments ps)) (ev opens body)) (if_one (no_constructor (mapped_codes f es) && (is_plain form && all_arguments (mapped_codes f ps))) (ev there (mapped_code f body)))
+  new_derived-follows ps es form body = rw (no_constructor-mapped f es, all_arguments-mapped r ps) (if_one-follows f (no_constructor es && (is_plain form && all_arguments ps)) (ev-follows r opens there follow body))
+
   ev_construction-follows : (n : ℕ) (h all es : Codes) → Follows f (ev_construction opens first late n h all es) (ev_construction there first later (f n) (mapped_codes f h) (mapped_codes f all) (mapped_codes f es))
   ev_construction-follows n done all (and (constructor (function g form own ps body)) es) = base-follows n all ps es body
-  ev_construction-follows n done all (and (constructor (new_function g form ps body)) es) = base-follows n all ps es body
+  ev_construction-follows n done all (and (constructor (new_function g form done body)) es) = new_base-follows n all es form body
   ev_construction-follows n (and h hs) all (and (constructor (function g form own ps body)) es) = derived-follows ps es body
-  ev_construction-follows n (and h hs) all (and (constructor (new_function g form ps body)) es) = derived-follows ps es body
+  ev_construction-follows n (and h hs) all (and (constructor (new_function g form ps body)) es) = new_derived-follows ps es form body
   ev_construction-follows n h all (and (constructor e) es) = no_meaning-follows f
   ev_construction-follows n h all (and e es) = ev_construction-follows n h all es
   ev_construction-follows n done all done = initializers-follow n all
@@ -147,10 +151,26 @@ module _ {first : ℕ} {f : ℕ → ℕ} (r : Renames first f) (opens there : Op
   heritage_in-mapped s done = refl
   heritage_in-mapped s (and h hs) = ap some_value (value_of-mapped s h) ∙ some_value-mapped f (value_in (ev opens h s))
 
+  behind_key-mapped : (s : Environment) (c : Code) → behind_key there first later (mapped_environment f s) (mapped_code f c) ≡ mapped_environment f (behind_key opens first late s c)
+  behind_key-mapped s c = after-follows f (ev_key-follows r opens there follow c) s
+
+  behind_value-mapped : (s : Environment) (c : Code) → after_run (mapped_environment f s) (ev there (mapped_code f c) (mapped_environment f s)) ≡ mapped_environment f (after_run s (ev opens c s))
+  behind_value-mapped s c = after-follows f (ev-follows r opens there follow c) s
+
+  same_nullable-mapped : (v w : Option Value) → same_nullable (mapped_nullable f v) (mapped_nullable f w) ≡ same_nullable v w
+  same_nullable-mapped None w = refl
+  same_nullable-mapped (Some v) None = refl
+  same_nullable-mapped (Some v) (Some w) = same_value-mapped r v w
+
+  keys_stay-mapped : (s i : Environment) (es : Codes) → keys_stay there first later (mapped_environment f s) (mapped_environment f i) (mapped_codes f es) ≡ keys_stay opens first late s i es
+  keys_stay-mapped s i done = refl
+  keys_stay-mapped s i (and (field false form k e) es) = rw (value_of-mapped s k, value_of-mapped i k, same_nullable-mapped (value_in (ev opens k s)) (value_in (ev opens k i)), behind_value-mapped s k, keys_stay-mapped (after_run s (ev opens k s)) i es) refl
+  keys_stay-mapped s i (and e es) = rw (behind_key-mapped s e) (keys_stay-mapped (behind_key opens first late s e) i es)
+
   methods_in-mapped : (s : Environment) (es : Codes) → methods_in there first later (mapped_environment f s) (mapped_codes f es) ≡ mapped_option (mapped_methods f) (methods_in opens first late s es)
   methods_in-mapped s done = refl
-  methods_in-mapped s (and (method is_static kind k g) es) = rw (value_of-mapped s k, methods_in-mapped s es) (method_with-mapped f is_static kind (value_in (ev opens k s)) g (methods_in opens first late s es))
-  methods_in-mapped s (and e es) = methods_in-mapped s es
+  methods_in-mapped s (and (method is_static kind k g) es) = rw (value_of-mapped s k, behind_value-mapped s k, methods_in-mapped (after_run s (ev opens k s)) es) (method_with-mapped f is_static kind (value_in (ev opens k s)) g (methods_in opens first late (after_run s (ev opens k s)) es))
+  methods_in-mapped s (and e es) = rw (behind_key-mapped s e) (methods_in-mapped (behind_key opens first late s e) es)
 
   -- ---- where evaluations lead
 
@@ -187,8 +207,9 @@ module _ {first : ℕ} {f : ℕ → ℕ} (r : Renames first f) (opens there : Op
   elements_start-mapped : (e : Environment) (es : Codes) → without (assigned_in_all (mapped_codes f es)) (mapped_environment f e) ≡ mapped_environment f (without (assigned_in_all es) e)
   elements_start-mapped e es = rw (assigned_in_all-mapped f es) (without-mapped f (assigned_in_all es) e)
 
-  entry_of_class-mapped : (n : ℕ) (declared : Option ℕ) (h es : Codes) (s e : Environment) → class_entry (mapped_option f declared) (constructor_form (mapped_codes f es)) (constructor_parameters (mapped_codes f es)) (heritage_in there first later (mapped_environment f e) (mapped_codes f h)) (methods_in there first later (mapped_environment f e) (mapped_codes f es)) (listed (ev_construction there first later (f n) (mapped_codes f h) (mapped_codes f es) (mapped_codes f es) (mapped_environment f s))) ≡ mapped_option (mapped_entry f) (class_entry declared (constructor_form es) (constructor_parameters es) (heritage_in opens first late e h) (methods_in opens first late e es) (listed (ev_construction opens first late n h es es s)))
-  entry_of_class-mapped n declared h es s e = rw (constructor_form-mapped f es, constructor_parameters-mapped f es, heritage_in-mapped e h, methods_in-mapped e es, listed-follows f (ev_construction-follows n h es es) s) (class_entry-mapped f declared (constructor_form es) (constructor_parameters es) (heritage_in opens first late e h) (methods_in opens first late e es) (listed (ev_construction opens first late n h es es s)))
+  -- s is the environment in front of the class, a that behind its heritage, i that of its construction
+  entry_of_class-mapped : (n : ℕ) (declared : Option ℕ) (h es : Codes) (s a i : Environment) → class_entry (keys_stay there first later (mapped_environment f a) (mapped_environment f i) (mapped_codes f es)) (mapped_option f declared) (constructor_form (mapped_codes f es)) (constructor_parameters (mapped_codes f es)) (heritage_in there first later (mapped_environment f s) (mapped_codes f h)) (methods_in there first later (mapped_environment f a) (mapped_codes f es)) (listed (ev_construction there first later (f n) (mapped_codes f h) (mapped_codes f es) (mapped_codes f es) (mapped_environment f i))) ≡ mapped_option (mapped_entry f) (class_entry (keys_stay opens first late a i es) declared (constructor_form es) (constructor_parameters es) (heritage_in opens first late s h) (methods_in opens first late a es) (listed (ev_construction opens first late n h es es i)))
+  entry_of_class-mapped n declared h es s a i = rw (keys_stay-mapped a i es, constructor_form-mapped f es, constructor_parameters-mapped f es, heritage_in-mapped s h, methods_in-mapped a es, listed-follows f (ev_construction-follows n h es es) i) (class_entry-mapped f (keys_stay opens first late a i es) declared (constructor_form es) (constructor_parameters es) (heritage_in opens first late s h) (methods_in opens first late a es) (listed (ev_construction opens first late n h es es i)))
 
   mutual
     pub entries-mapped : (s e : Environment) (c : Code) → entries there first later (mapped_environment f s) (mapped_environment f e) (mapped_code f c) ≡ mapped_entries f (entries opens first late s e c)
@@ -231,9 +252,12 @@ module _ {first : ℕ} {f : ℕ → ℕ} (r : Renames first f) (opens there : Op
         let start : Environment = without (assigned_in_all es) e in
         let inner : Environment = after_run start (ev_construction opens first late n h es es start) in
         let a : Environment = behind_all opens first late s h in
-        let b : Environment = after_run a (ev_keys opens es a) in
-        rw (elements_start-mapped e es, entry_of_class-mapped n declared h es start e, after-follows f (ev_construction-follows n h es es) start, behind_all-mapped s h, after-follows f (ev_keys-follows r opens there follow es) a, behind_fields-mapped start n h es)
-        (ap (λ rest. mapped_nullable_entry f (n, class_entry declared (constructor_form es) (constructor_parameters es) (heritage_in opens first late e h) (methods_in opens first late e es) (listed (ev_construction opens first late n h es es start))) ∷ rest) (joined-entries f _ _ (joined-entries f _ _ (joined-entries f _ _ (joined-entries f _ _ (all_entries-mapped s e h) (key_entries-mapped a e es)) (static_entries-mapped n b e es)) (field_entries-mapped n start inner es)) (function_entries-mapped (behind_fields opens first late start n h es) inner e es)))
+        let b : Environment = after_run a (ev_keys opens es (λ ks. gives Undefined) a) in
+        rw (elements_start-mapped e es, behind_all-mapped s h, entry_of_class-mapped n declared h es s a start, after-follows f (ev_construction-follows n h es es) start, after-follows f (ev_keys-follows r opens there follow es (λ ks. gives Undefined) (λ ks. gives Undefined) (λ ks. gives-follows f Undefined)) a, behind_fields-mapped start n h es)
+        (ap (λ rest. mapped_nullable_entry f (n, class_entry (keys_stay opens first late a start es) declared (constructor_form es) (constructor_parameters es) (heritage_in opens first late s h) (methods_in opens first late a es) (listed (ev_construction opens first late n h es es start))) ∷ rest) (joined-entries f _ _ (joined-entries f _ _ (joined-entries f _ _ (joined-entries f _ _ (all_entries-mapped s e h) (key_entries-mapped a e es)) (static_entries-mapped n b e es)) (field_entries-mapped n start inner es)) (function_entries-mapped (behind_fields opens first late start n h es) inner e es)))
+    entries-mapped s e (from_call c) = entries-mapped s e c
+    entries-mapped s e (from_member c) = entries-mapped s e c
+    entries-mapped s e (key_of c) = entries-mapped s e c
     entries-mapped s e (define m o k q) = rw (behind_code-mapped s k) (joined-entries f _ _ (entries-mapped s e k) (entries-mapped (behind_code opens first late s k) e q))
     entries-mapped s e (private_initialize m d o q) = entries-mapped s e q
     entries-mapped s e (call_arrow ss body es) = rw (behind_arguments-mapped s ss es) (joined-entries f _ _ (all_entries-mapped s e es) (entries-mapped (behind_arguments opens first late s ss es) e body))
@@ -297,7 +321,7 @@ module _ {first : ℕ} {f : ℕ → ℕ} (r : Renames first f) (opens there : Op
 
     key_entries-mapped : (s e : Environment) (cs : Codes) → key_entries there first later (mapped_environment f s) (mapped_environment f e) (mapped_codes f cs) ≡ mapped_entries f (key_entries opens first late s e cs)
     key_entries-mapped s e done = refl
-    key_entries-mapped s e (and c cs) = rw (after-follows f (ev_key-follows r opens there follow c) s) (joined-entries f _ _ (key_entry-mapped s e c) (key_entries-mapped (after_run s (ev_key opens c s)) e cs))
+    key_entries-mapped s e (and c cs) = rw (behind_key-mapped s c) (joined-entries f _ _ (key_entry-mapped s e c) (key_entries-mapped (behind_key opens first late s c) e cs))
 
     key_entry-mapped : (s e : Environment) (c : Code) → key_entry there first later (mapped_environment f s) (mapped_environment f e) (mapped_code f c) ≡ mapped_entries f (key_entry opens first late s e c)
     key_entry-mapped s e (field is_static form k q) = entries-mapped s e k
@@ -306,7 +330,7 @@ module _ {first : ℕ} {f : ℕ → ℕ} (r : Renames first f) (opens there : Op
 
     static_entries-mapped : (n : ℕ) (s e : Environment) (cs : Codes) → static_entries there first later (f n) (mapped_environment f s) (mapped_environment f e) (mapped_codes f cs) ≡ mapped_entries f (static_entries opens first late n s e cs)
     static_entries-mapped n s e done = refl
-    static_entries-mapped n s e (and c cs) = rw (after-follows f (ev_static-follows r opens there follow n c) s) (joined-entries f _ _ (static_entry-mapped s e c) (static_entries-mapped n (after_run s (ev_static opens n c s)) e cs))
+    static_entries-mapped n s e (and c cs) = rw (after-follows f (ev_static-follows r opens there follow n Undefined c) s) (joined-entries f _ _ (static_entry-mapped s e c) (static_entries-mapped n (after_run s (ev_static opens n Undefined c s)) e cs))
 
     static_entry-mapped : (s e : Environment) (c : Code) → static_entry there first later (mapped_environment f s) (mapped_environment f e) (mapped_code f c) ≡ mapped_entries f (static_entry opens first late s e c)
     static_entry-mapped s e (field true form k q) = entries-mapped s e q

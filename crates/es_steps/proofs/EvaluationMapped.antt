@@ -3,12 +3,12 @@ use Rattle.std.specs.Prelude.{◌≡◌, refl, ℕ, suc, List, [], ◌∷◌, Bo
 use Rattle.std.proofs.Common.{◌∙◌, ap}
 use Rattle.es_base.specs.declared.ledger.GeneratedKind.{GeneratedKind}
 use Rattle.es_steps.proofs.Mapped.{Renames, mapped_option, mapped_generated, mapped_name_kind, mapped_value, mapped_values, mapped_nullable, mapped_event, mapped_events, mapped_environment, mapped_run, mapped_runs, mapped_opened, mapped_code, mapped_target, mapped_callee, mapped_codes}
-use Rattle.es_steps.specs.Code.{Code, Codes, Target, Callee, FieldForm, defines, sets, leaves_out, TemplateString, Opened, InitializersOf, BodyOf, nothing, no_rule, value, spelled, private_name, binding, rest, name, super, member, private_member, super_member, private_in, assign, compound, logical, logical_assign, update, call, tag, construct, super_call, super_call_with_all, sequence, template_string, template, operation, piece, chain, short, tested, pattern, takes, steps, gives_to, export_default, function, new_function, new_return, class_code, field, private_field, method, private_method, constructor, static_block, generated_element, helper, helper_call, throw, define, private_initialize, add_brand, bound, setter, private_value, call_arrow, call_closure, initializers, give_function, give_class, to_name, to_member, to_private, to_super, to_setter, to_pattern, to_default, no_target, plain, on_member, on_private, on_super, with_receiver, checked, on_chain, behind_test, done, and}
+use Rattle.es_steps.specs.Code.{Code, Codes, Target, Callee, FieldForm, defines, sets, leaves_out, TemplateString, Opened, InitializersOf, BodyOf, CalledBodyOf, nothing, no_rule, value, spelled, private_name, binding, rest, name, super, member, private_member, super_member, private_in, assign, compound, logical, logical_assign, update, call, tag, construct, super_call, super_call_with_all, sequence, template_string, template, operation, piece, chain, short, tested, pattern, takes, steps, gives_to, export_default, function, new_function, new_return, class_code, field, private_field, method, private_method, constructor, static_block, generated_element, from_call, from_member, key_of, helper, helper_call, throw, define, private_initialize, add_brand, bound, setter, private_value, call_arrow, call_closure, initializers, give_function, give_class, to_name, to_member, to_private, to_super, to_setter, to_pattern, to_default, no_target, plain, on_member, on_private, on_super, with_receiver, checked, on_chain, behind_test, done, and}
 use Rattle.es_steps.specs.Context.{NameKind, Fixed, Changing, MeansClass, Generated, StaticMethod}
-use Rattle.es_steps.specs.Evaluation.{Environment, Run, Evaluation, no_meaning, gives, event, run_behind, go_on, bind, settle_run, settle, held_run, held, quiet_run, quiet, is_none, same_run, stays, class_run, gives_class, found, give_found, read_given, read_generated, read_name, stands_for, write_generated, write_name, private_key, default_key, read_private, write_private, Ready, ready_member, ready_private, ready_setter, ready_pattern, read_ready, write_ready, initialized, last_of, new_or_former, nullable_gives, has_receiver, receiver_in, ev_template, tag_values, bind_parameters, tested_then, has_instance_methods, brand_first, ev_behind, ev, ev_target, ev_taken, ev_take, ev_callee, ev_again, ev_all, ev_held, ev_keys, ev_key, ev_statics, ev_static, ev_fields, ev_field, ev_initializers}
-use Rattle.es_steps.specs.Events.{OfKind, Take, Place, RightOf, Default, Part, Event, AddBrand, SuperCall, SuperCallWithAll, Throw, Events, none, then, is_throw, throws, behind, value_behind, Short, Operate}
+use Rattle.es_steps.specs.Evaluation.{Environment, Run, Evaluation, no_meaning, gives, event, run_behind, go_on, bind, settle_run, settle, held_run, held, quiet_run, quiet, is_none, same_run, stays, class_run, gives_class, this_run, gives_this, found, give_found, read_given, read_generated, read_name, stands_for, write_generated, write_name, private_key, default_key, read_private, write_private, Ready, ready_name, ready_member, ready_private, ready_super, ready_setter, ready_pattern, read_ready, write_ready, initialized, last_of, operator_step, new_or_former, nullable_gives, has_receiver, receiver_in, template_constant, ev_template, tag_values, bind_parameters, tested_then, has_instance_methods, brand_first, declared_first, ev_behind, ev, ev_target, ev_taken, ev_take, ev_callee, ev_again, ev_all, ev_held, ev_keys, ev_key, ev_statics, ev_static, ev_fields, ev_field, ev_initializers}
+use Rattle.es_steps.specs.Events.{Operation, OfKind, Take, Place, RightOf, Default, Part, Event, AddBrand, SuperCall, SuperCallWithAll, InitializeClass, Update, Throw, Events, none, then, is_throw, throws, behind, value_behind, Short, Operate}
 use Rattle.es_steps.specs.SameValues.{same_value}
-use Rattle.es_steps.specs.Values.{String, Value, ConstantOf, Undefined, BindingOf, FunctionOf, ClassOf, ThisOf, ArgumentsOf, NewTargetOf, ResultOf, FormerOf, TagString, is_class_value}
+use Rattle.es_steps.specs.Values.{String, Value, ConstantOf, Undefined, BindingOf, FunctionOf, ClassOf, ThisOf, ArgumentsOf, NewTargetOf, ResultOf, FormerOf, KeyOf, TagString, as_key, is_class_value}
 
 -- a write whose value is what is written
 abbrev pub write_and_give : Ready → Value → Evaluation
@@ -141,9 +141,19 @@ module _ (f : ℕ → ℕ) where
 
   -- ---- values
 
+  pub as_key-mapped : (v : Value) → as_key (mapped_value f v) ≡ mapped_value f (as_key v)
+  as_key-mapped (KeyOf v) = refl
+  as_key-mapped v = refl
+
+  defined-follows : (o k v w : Value) → Follows f (event (Event.Define o (as_key k) v) w) (event (Event.Define (mapped_value f o) (as_key (mapped_value f k)) (mapped_value f v)) (mapped_value f w))
+  defined-follows o k v w = rw (as_key-mapped k) (event-follows (Event.Define o (as_key k) v) w)
+
+  set-follows : (o k v w : Value) → Follows f (event (Event.Set o (as_key k) v) w) (event (Event.Set (mapped_value f o) (as_key (mapped_value f k)) (mapped_value f v)) (mapped_value f w))
+  set-follows o k v w = rw (as_key-mapped k) (event-follows (Event.Set o (as_key k) v) w)
+
   pub initialized-follows : (form : FieldForm) (o k v : Value) → Follows f (initialized form o k v) (initialized form (mapped_value f o) (mapped_value f k) (mapped_value f v))
-  initialized-follows defines o k v = event-follows _ _
-  initialized-follows sets o k v = event-follows _ _
+  initialized-follows defines o k v = defined-follows o k v Undefined
+  initialized-follows sets o k v = set-follows o k v Undefined
   initialized-follows leaves_out o k v = gives-follows _
 
   pub last_of-mapped : (v : Value) (vs : List Value) → last_of (mapped_value f v) (mapped_values f vs) ≡ mapped_value f (last_of v vs)
@@ -204,6 +214,10 @@ module _ (f : ℕ → ℕ) where
   brand_first-follows true n = event-follows _ _
   brand_first-follows false n = gives-follows _
 
+  declared_first-follows : (d : Option ℕ) (n : ℕ) → Follows f (declared_first d n) (declared_first (mapped_option f d) (f n))
+  declared_first-follows None n = gives-follows _
+  declared_first-follows (Some b) n = event-follows (InitializeClass n) Undefined
+
 -- ---- what looks at numbers
 
 module _ {first : ℕ} {f : ℕ → ℕ} (r : Renames first f) where
@@ -211,7 +225,7 @@ module _ {first : ℕ} {f : ℕ → ℕ} (r : Renames first f) where
   is_none-mapped none = refl
   is_none-mapped (then e es) = refl
 
-  same_value-mapped : (v w : Value) → same_value (mapped_value f v) (mapped_value f w) ≡ same_value v w
+  pub same_value-mapped : (v w : Value) → same_value (mapped_value f v) (mapped_value f w) ≡ same_value v w
   same_value-mapped (ConstantOf c) w = of_constant w
     where
       of_constant : (w : Value) → same_value (ConstantOf c) (mapped_value f w) ≡ same_value (ConstantOf c) w
@@ -230,6 +244,7 @@ module _ {first : ℕ} {f : ℕ → ℕ} (r : Renames first f) where
   same_value-mapped (NewTargetOf n) (NewTargetOf k) = r.apart n k
   same_value-mapped (ResultOf n) (ResultOf k) = r.apart n k
   same_value-mapped (FormerOf n) (FormerOf k) = r.apart n k
+  same_value-mapped (KeyOf v) (KeyOf w) = same_value-mapped v w
   same_value-mapped v w = refl
 
   same_run-mapped : (v : Value) (s : Environment) (x : Option Run) → same_run (mapped_value f v) (mapped_environment f s) (mapped_runs f x) ≡ mapped_runs f (same_run v s x)
@@ -259,6 +274,18 @@ module _ {first : ℕ} {f : ℕ → ℕ} (r : Renames first f) where
   gives_class-follows : {a b : Evaluation} (n : ℕ) → Follows f a b → Follows f (gives_class n a) (gives_class (f n) b)
   gives_class-follows {a = a} n all = record { on = λ s. ap (class_run (f n)) (all.on s) ∙ class_run-mapped n (a s) }
 
+  this_run-mapped : (n : ℕ) (x : Option Run) → this_run (f n) (mapped_runs f x) ≡ mapped_runs f (this_run n x)
+  this_run-mapped n None = refl
+  this_run-mapped n (Some x) = rw (throws-mapped f x.events, same_value-mapped (ThisOf n) x.value) (chosen (throws x.events) (same_value (ThisOf n) x.value))
+    where
+      chosen : (b d : Bool) → cond b (Some (mapped_run f x)) (cond d (Some (mapped_run f x)) None) ≡ mapped_runs f (cond b (Some x) (cond d (Some x) None))
+      chosen true d = refl
+      chosen false true = refl
+      chosen false false = refl
+
+  gives_this-follows : {a b : Evaluation} (n : ℕ) → Follows f a b → Follows f (gives_this n a) (gives_this (f n) b)
+  gives_this-follows {a = a} n all = record { on = λ s. ap (this_run (f n)) (all.on s) ∙ this_run-mapped n (a s) }
+
   -- ---- the list and the value of a code
 
   module _ (opens there : Opened → Evaluation) (opens_follow : (o : Opened) → Follows f (opens o) (there (mapped_opened f o))) where
@@ -270,9 +297,11 @@ module _ {first : ℕ} {f : ℕ → ℕ} (r : Renames first f) where
     write_and_give-follows : (t u : Ready) → ReadyFollows t u → (v : Value) → Follows f (write_and_give t v) (write_and_give u (mapped_value f v))
     write_and_give-follows t u x v = bind-follows f _ _ (x.writes v) (λ w. gives-follows f v)
 
-    ev_behind-follows : (o : Option Opened) → Follows f (ev_behind opens o) (ev_behind there (mapped_option (mapped_opened f) o))
-    ev_behind-follows None = gives-follows f _
-    ev_behind-follows (Some o) = opens_follow o
+    ev_behind-follows : (n : ℕ) (o : Option Opened) → Follows f (ev_behind opens n o) (ev_behind there (f n) (mapped_option (mapped_opened f) o))
+    ev_behind-follows n None = gives-follows f _
+    ev_behind-follows n (Some (InitializersOf k)) = bind-follows f _ _ (opens_follow (InitializersOf k)) (λ w. gives-follows f (ThisOf n))
+    ev_behind-follows n (Some (BodyOf s)) = gives_this-follows n (opens_follow (BodyOf s))
+    ev_behind-follows n (Some (CalledBodyOf s)) = gives_this-follows n (opens_follow (CalledBodyOf s))
 
     -- a chain that is called: its list, and its receiver, which is read by itself
     chain-follows : (m : ℕ) (callee : Callee) (g h : Value → Option Value → Evaluation) → ((v : Value) (receiver : Option Value) → Follows f (g v receiver) (h (mapped_value f v) (mapped_nullable f receiver))) → Follows f (ev_callee opens callee (λ v receiver. gives v)) (ev_callee there (mapped_callee f callee) (λ v receiver. gives v)) → Follows f (ev_callee opens callee (λ v receiver. nullable_gives receiver)) (ev_callee there (mapped_callee f callee) (λ v receiver. nullable_gives receiver)) → Follows f (ev_callee opens (on_chain m callee) g) (ev_callee there (mapped_callee f (on_chain m callee)) h)
@@ -308,7 +337,7 @@ module _ {first : ℕ} {f : ℕ → ℕ} (r : Renames first f) where
       ev-follows (call m g es) = settle-follows f (ev_callee-follows g _ _ (λ callee receiver. ev_all-follows es _ _ (λ vs. event-follows f _ _)))
       ev-follows (tag m g ts es) = settle-follows f (ev_callee-follows g _ _ (λ callee receiver. ev_all-follows es _ _ (λ vs. tag-follows f m callee receiver ts vs)))
       ev-follows (construct m g es) = settle-follows f (bind-follows f _ _ (ev-follows g) (λ callee. ev_all-follows es _ _ (λ vs. event-follows f _ _)))
-      ev-follows (super_call m n o es) = settle-follows f (ev_all-follows es _ _ (λ vs. bind-follows f (λ v. bind (ev_behind opens o) (λ w. gives (ThisOf n))) (λ v. bind (ev_behind there (mapped_option (mapped_opened f) o)) (λ w. gives (ThisOf (f n)))) (event-follows f (SuperCall m n vs) (ThisOf n)) (λ v. bind-follows f _ _ (ev_behind-follows o) (λ w. gives-follows f (ThisOf n)))))
+      ev-follows (super_call m n o es) = settle-follows f (ev_all-follows es _ _ (λ vs. bind-follows f (λ v. ev_behind opens n o) (λ v. ev_behind there (f n) (mapped_option (mapped_opened f) o)) (event-follows f (SuperCall m n vs) (ThisOf n)) (λ v. ev_behind-follows n o)))
       ev-follows (super_call_with_all n) = settle-follows f (bind-follows f (λ v. bind (opens (InitializersOf n)) (λ w. gives (ThisOf n))) (λ v. bind (there (InitializersOf (f n))) (λ w. gives (ThisOf (f n)))) (event-follows f (SuperCallWithAll n) (ThisOf n)) (λ v. bind-follows f _ _ (opens_follow (InitializersOf n)) (λ w. gives-follows f (ThisOf n))))
       ev-follows (sequence es) = settle-follows f (ev_all-follows es _ _ (last_of-follows f))
       ev-follows (template_string t) = no_meaning-follows f
@@ -326,7 +355,7 @@ module _ {first : ℕ} {f : ℕ → ℕ} (r : Renames first f) where
       ev-follows (function g form own ps body) = gives-follows f _
       ev-follows (new_function g form ps body) = no_meaning-follows f
       ev-follows (new_return es) = no_meaning-follows f
-      ev-follows (class_code n declared h es) = settle-follows f (ev_all-follows h _ _ (λ vs. bind-follows f _ _ (ev_keys-follows es) (λ u. bind-follows f _ _ (ev_statics-follows n es) (λ w. gives-follows f _))))
+      ev-follows (class_code n declared h es) = settle-follows f (ev_all-follows h _ _ (λ vs. ev_keys-follows es (λ ks. bind (declared_first declared n) (λ u. bind (ev_statics opens n ks es) (λ w. gives (ClassOf n)))) (λ ks. bind (declared_first (mapped_option f declared) (f n)) (λ u. bind (ev_statics there (f n) ks (mapped_codes f es)) (λ w. gives (ClassOf (f n))))) (λ ks. bind-follows f (λ u. bind (ev_statics opens n ks es) (λ w. gives (ClassOf n))) (λ u. bind (ev_statics there (f n) (mapped_values f ks) (mapped_codes f es)) (λ w. gives (ClassOf (f n)))) (declared_first-follows f declared n) (λ u. bind-follows f _ _ (ev_statics-follows n ks es) (λ w. gives-follows f (ClassOf n))))))
       ev-follows (field is_static form k e) = no_meaning-follows f
       ev-follows (private_field is_static d e) = no_meaning-follows f
       ev-follows (method is_static kind k g) = no_meaning-follows f
@@ -334,10 +363,13 @@ module _ {first : ℕ} {f : ℕ → ℕ} (r : Renames first f) where
       ev-follows (constructor g) = no_meaning-follows f
       ev-follows (static_block es) = no_meaning-follows f
       ev-follows (generated_element s e) = no_meaning-follows f
+      ev-follows (from_call e) = ev-follows e
+      ev-follows (from_member e) = ev-follows e
+      ev-follows (key_of e) = settle-follows f (bind-follows f _ _ (ev-follows e) (λ v. gives-follows f (KeyOf v)))
       ev-follows (helper h) = no_meaning-follows f
       ev-follows (helper_call m h es) = no_meaning-follows f
       ev-follows throw = event-follows f _ _
-      ev-follows (define m o k e) = settle-follows f (bind-follows f _ _ (ev-follows k) (λ a. bind-follows f _ _ (ev-follows e) (λ v. event-follows f _ _)))
+      ev-follows (define m o k e) = settle-follows f (bind-follows f _ _ (ev-follows k) (λ a. bind-follows f _ _ (ev-follows e) (λ v. defined-follows f o a v (ResultOf m))))
       ev-follows (private_initialize m d o e) = settle-follows f (bind-follows f _ _ (ev-follows e) (λ v. event-follows f _ _))
       ev-follows (add_brand m n o) = event-follows f (AddBrand n o) (ResultOf m)
       ev-follows (bound g o) = no_meaning-follows f
@@ -369,6 +401,7 @@ module _ {first : ℕ} {f : ℕ → ℕ} (r : Renames first f) where
 
       pub ev_take-follows : (v : Value) (c : Code) → Follows f (ev_take opens v c) (ev_take there (mapped_value f v) (mapped_code f c))
       ev_take-follows v (takes m ds k to) = ev_all-follows k _ _ (λ ks. ev_target-follows to _ _ (λ t u x. bind-follows f (λ w. write_ready t w) (λ w. write_ready u w) (event-follows f (Operate m (Take ds) (v ∷ ks)) (ResultOf m)) (λ w. x.writes w)))
+      ev_take-follows v (operation m op done done) = event-follows f (Operate m op (v ∷ [])) Undefined
       ev_take-follows v nothing = no_meaning-follows f
       ev_take-follows v c = no_meaning-follows f
 
@@ -394,9 +427,9 @@ module _ {first : ℕ} {f : ℕ → ℕ} (r : Renames first f) where
       ev_held-follows m i done all = all
       ev_held-follows {a = a} {b = b} m i (and e es) all = bind-follows f (λ v. ev_held opens m (suc i) es a) (λ v. ev_held there (f m) (suc i) (mapped_codes f es) b) (held-follows f m (Part i) None (ev-follows e)) (λ v. ev_held-follows m (suc i) es all)
 
-      pub ev_keys-follows : (es : Codes) → Follows f (ev_keys opens es) (ev_keys there (mapped_codes f es))
-      ev_keys-follows done = gives-follows f _
-      ev_keys-follows (and e es) = bind-follows f _ _ (ev_key-follows e) (λ v. ev_keys-follows es)
+      pub ev_keys-follows : (es : Codes) (g h : List Value → Evaluation) → ((vs : List Value) → Follows f (g vs) (h (mapped_values f vs))) → Follows f (ev_keys opens es g) (ev_keys there (mapped_codes f es) h)
+      ev_keys-follows done g h next = next []
+      ev_keys-follows (and e es) g h next = bind-follows f _ _ (ev_key-follows e) (λ v. ev_keys-follows es (λ vs. g (v ∷ vs)) (λ vs. h (mapped_value f v ∷ vs)) (λ vs. next (v ∷ vs)))
 
       pub ev_key-follows : (e : Code) → Follows f (ev_key opens e) (ev_key there (mapped_code f e))
       ev_key-follows (field is_static form k e) = ev-follows k
@@ -408,16 +441,17 @@ module _ {first : ℕ} {f : ℕ → ℕ} (r : Renames first f) where
       ev_key-follows (generated_element s e) = gives-follows f _
       ev_key-follows e = no_meaning-follows f
 
-      pub ev_statics-follows : (n : ℕ) (es : Codes) → Follows f (ev_statics opens n es) (ev_statics there (f n) (mapped_codes f es))
-      ev_statics-follows n done = gives-follows f _
-      ev_statics-follows n (and e es) = bind-follows f _ _ (ev_static-follows n e) (λ v. ev_statics-follows n es)
+      pub ev_statics-follows : (n : ℕ) (ks : List Value) (es : Codes) → Follows f (ev_statics opens n ks es) (ev_statics there (f n) (mapped_values f ks) (mapped_codes f es))
+      ev_statics-follows n [] es = gives-follows f _
+      ev_statics-follows n (k ∷ ks) done = gives-follows f _
+      ev_statics-follows n (k ∷ ks) (and e es) = bind-follows f _ _ (ev_static-follows n k e) (λ v. ev_statics-follows n ks es)
 
-      pub ev_static-follows : (n : ℕ) (e : Code) → Follows f (ev_static opens n e) (ev_static there (f n) (mapped_code f e))
-      ev_static-follows n (field true form k e) = bind-follows f _ _ (quiet-follows f (ev-follows k)) (λ a. bind-follows f _ _ (ev-follows e) (λ v. initialized-follows f form (ClassOf n) a v))
-      ev_static-follows n (private_field true d e) = bind-follows f _ _ (ev-follows e) (λ v. event-follows f _ _)
-      ev_static-follows n (static_block es) = ev_all-follows es _ _ (λ vs. gives-follows f Undefined)
-      ev_static-follows n (generated_element s e) = bind-follows f _ _ (ev-follows e) (λ v. stands_for-follows f (private_key s) v)
-      ev_static-follows n e = gives-follows f _
+      pub ev_static-follows : (n : ℕ) (a : Value) (e : Code) → Follows f (ev_static opens n a e) (ev_static there (f n) (mapped_value f a) (mapped_code f e))
+      ev_static-follows n a (field true form k e) = bind-follows f _ _ (ev-follows e) (λ v. initialized-follows f form (ClassOf n) a v)
+      ev_static-follows n a (private_field true d e) = bind-follows f _ _ (ev-follows e) (λ v. event-follows f _ _)
+      ev_static-follows n a (static_block es) = ev_all-follows es _ _ (λ vs. gives-follows f Undefined)
+      ev_static-follows n a (generated_element s e) = bind-follows f _ _ (ev-follows e) (λ v. stands_for-follows f (private_key s) v)
+      ev_static-follows n a e = gives-follows f _
 
       pub ev_fields-follows : (n : ℕ) (es : Codes) → Follows f (ev_fields opens n es) (ev_fields there (f n) (mapped_codes f es))
       ev_fields-follows n done = gives-follows f _

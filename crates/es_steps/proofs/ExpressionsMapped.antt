@@ -4,13 +4,13 @@ use Rattle.std.proofs.Common.{refl, ap, ap₂, ◌∙◌}
 use Rattle.es_base.specs.Numbered.{is_new}
 use Rattle.es_base.specs.declared.kind.Kind.{Kind}
 use Rattle.es_base.specs.declared.ledger.GeneratedKind.{GeneratedKind}
-use Rattle.es_steps.specs.Code.{Code, Codes, Target, Callee, no_rule, value, spelled, private_name, name, super, member, private_member, super_member, private_in, compound, logical, logical_assign, call, tag, template_string, template, operation, piece, chain, tested, private_value, on_chain, behind_test, done, and}
-use Rattle.es_steps.specs.Context.{Context, NameKind, Changing, Generated, StaticMethod, name_kind}
-use Rattle.es_steps.specs.Events.{Operand, Spelled, Flag, OfKind, Delete}
-use Rattle.es_steps.specs.Expressions.{operation_of, the_code, literal_code, is_arguments, static_method, name_or_arguments, name_code, private_name_code, cooked_of, template_string_code, template_strings, template_code, spelling_of, meta_code, key_code, super_member_at, checked_object, member_on, member_code, is_made_private, names_class, private_on, private_field_of, private_field_code, private_in_of, private_in_code, target_of, is_logical, without_sign, assignment_code, update_code, void_code, deleted, delete_code, unary_code, binary_code, quiet_logical, logical_code, chain_code, spliced, deleted_as, chain_or, conditional_code, callee_of, checked_callee, call_code, new_code, tag_of, tag_code, is_prototype, key_details, property_code}
-use Rattle.es_steps.specs.GeneratedForms.{generated_member, generated_assignment, is_undefined_test, tested_object, class_named, is_method_kind}
-use Rattle.es_steps.specs.Members.{Member, Members, code, string, literal, at, codes_of, word_of, flag_of, details}
-use Rattle.es_steps.specs.PrivateNames.{PrivateMember, PrivateReference, member_at}
+use Rattle.es_steps.specs.Code.{Code, Codes, Target, Callee, TemplateString, no_rule, value, spelled, private_name, rest, name, super, member, private_member, super_member, private_in, assign, compound, logical, logical_assign, call, tag, template_string, template, operation, piece, chain, short, tested, private_value, checked, on_chain, behind_test, done, and, from_call, from_member, bound, with_receiver}
+use Rattle.es_steps.specs.Context.{Context, NameKind, Changing, Generated, StaticMethod, name_kind, new_here}
+use Rattle.es_steps.specs.Events.{Detail, Operand, Spelled, Flag, Key, Prototype, OfKind, Delete}
+use Rattle.es_steps.specs.Expressions.{operation_of, the_code, literal_code, is_arguments, static_method, name_or_arguments, name_code, private_name_code, cooked_of, template_string_code, template_strings, template_code, spelling_of, meta_code, key_code, super_member_at, checked_object, member_on, member_code, is_made_private, names_class, private_on, private_field_of, private_field_code, private_in_of, private_in_code, target_of, is_logical, without_sign, assignment_code, update_code, void_code, deleted, delete_code, unary_code, binary_code, quiet_logical, logical_code, chain_code, spliced, deleted_as, ended_alone, chain_or, conditional_code, callee_of, checked_callee, call_code, new_code, tag_of, tag_code, is_prototype, key_details, property_code}
+use Rattle.es_steps.specs.GeneratedForms.{generated_member, generated_call, generated_binary, generated_assignment, helper_member, is_undefined_test, again_of, tested_object, class_named, is_method_kind}
+use Rattle.es_steps.specs.Members.{Member, Members, code, list, string, literal, end, more, at, codes_of, word_of, flag_of, details}
+use Rattle.es_steps.specs.PrivateNames.{PrivateMember, PrivateReference, private_reference, test_of, member_at}
 use Rattle.es_steps.specs.Values.{String, StringOf, BooleanOf, Value, ConstantOf, Undefined, ResultOf, ThisOf, ClassOf, Free, Home}
 use Rattle.es_steps.proofs.ContextMapped.{name_kind-mapped, is_generated_private-mapped}
 use Rattle.es_steps.proofs.FormsMapped.{code-cond, cond-code, here, class_named-mapped, tested_object-mapped, again_of-mapped, helper_member-mapped, generated_member-mapped, generated_call-mapped, generated_binary-mapped, is_undefined_test-mapped, generated_assignment-mapped}
@@ -95,6 +95,7 @@ module _ (f : ℕ → ℕ) where
 
   pub target_of-mapped : (c : Code) → target_of (mapped_code f c) ≡ mapped_target f (target_of c)
   target_of-mapped (name m s kind) = refl
+  target_of-mapped (from_member e) = target_of-mapped e
   target_of-mapped c = refl
 
   pub target_at-mapped : (i : ℕ) (ps : Members) → target_of (the_code (at i (mapped_members f ps))) ≡ mapped_target f (target_of (the_code (at i ps)))
@@ -113,12 +114,19 @@ module _ (f : ℕ → ℕ) where
   deleted-mapped m (member k o key) = refl
   deleted-mapped m (super_member k home key this) = refl
   deleted-mapped m (tested o again e) = ap (tested (mapped_code f o) (mapped_codes f again)) (deleted-mapped m e)
+  deleted-mapped m (from_member e) = refl
   deleted-mapped m e = refl
+
+  pub ended_alone-mapped : (e : Code) → ended_alone (mapped_code f e) ≡ mapped_code f (ended_alone e)
+  ended_alone-mapped (bound g o) = refl
+  ended_alone-mapped (tested o again e) = refl
+  ended_alone-mapped e = refl
 
   delete_code-mapped : (m : ℕ) (e whole : Code) → delete_code (f m) (mapped_code f e) (mapped_code f whole) ≡ mapped_code f (delete_code m e whole)
   delete_code-mapped m (member k o key) whole = refl
   delete_code-mapped m (super_member k home key this) whole = refl
   delete_code-mapped m (chain k e) whole = ap (chain (f m)) (deleted-mapped m e)
+  delete_code-mapped m (from_member e) whole = refl
   delete_code-mapped m (value (ThisOf k)) whole = refl
   delete_code-mapped m (value (ClassOf n)) whole = refl
   delete_code-mapped m e whole = refl
@@ -145,9 +153,11 @@ module _ (f : ℕ → ℕ) where
   callee_of-mapped (chain m e) = ap (on_chain (f m)) (callee_of-mapped e)
   callee_of-mapped (tested o again e) = ap (behind_test (mapped_code f o) (mapped_codes f again)) (callee_of-mapped e)
   callee_of-mapped (member m o k) = refl
+  callee_of-mapped (from_member e) = refl
   callee_of-mapped c = refl
 
   checked_callee-mapped : (b : Bool) (g : Callee) → checked_callee b (mapped_callee f g) ≡ mapped_callee f (checked_callee b g)
+  checked_callee-mapped true (with_receiver g o) = refl
   checked_callee-mapped true g = refl
   checked_callee-mapped false g = refl
 
@@ -264,7 +274,7 @@ module _ {first : ℕ} {f : ℕ → ℕ} (r : Renames first f) (c : Context) (e 
   deleted_as-mapped m q = refl
 
   chain_or-mapped : (m : ℕ) (test middle q whole : Code) → chain_or there (f m) (mapped_code f test) (mapped_code f middle) (mapped_code f q) (mapped_code f whole) ≡ mapped_code f (chain_or c m test middle q whole)
-  chain_or-mapped m test (value Undefined) q whole = rw (tested_object-mapped f test, spliced-mapped (tested_object test), again_of-mapped f test, spliced-mapped q) refl
+  chain_or-mapped m test (value Undefined) q whole = rw (tested_object-mapped f test, spliced-mapped (tested_object test), again_of-mapped f test, spliced-mapped q, ended_alone-mapped f (spliced c q)) refl
   chain_or-mapped m test (value (ConstantOf (BooleanOf true))) q whole = rw (tested_object-mapped f test, spliced-mapped (tested_object test), again_of-mapped f test, spliced-mapped q, deleted_as-mapped m (spliced c q)) refl
   chain_or-mapped m test middle q whole = refl
 
@@ -284,4 +294,5 @@ module _ {first : ℕ} {f : ℕ → ℕ} (r : Renames first f) (c : Context) (e 
   pub call_code-mapped : (m : ℕ) (ps : Members) → call_code there (f m) (mapped_members f ps) ≡ mapped_code f (call_code c m ps)
   call_code-mapped m ps =
       rw (the_code_at-mapped f 0 ps, codes_at-mapped f 1 ps, flag_at-mapped f 2 ps, callee_of-mapped f (the_code (at 0 ps)), checked_callee-mapped f (flag_of (at 2 ps)) (callee_of (the_code (at 0 ps))))
-      (generated_call-mapped r c e m (the_code (at 0 ps)) (codes_of (at 1 ps)) (call m (checked_callee (flag_of (at 2 ps)) (callee_of (the_code (at 0 ps)))) (codes_of (at 1 ps))))
+      (code-cond f (flag_of (at 2 ps)) (call m (checked_callee (flag_of (at 2 ps)) (callee_of (the_code (at 0 ps)))) (codes_of (at 1 ps))) (generated_call c m (the_code (at 0 ps)) (codes_of (at 1 ps)) (call m (checked_callee (flag_of (at 2 ps)) (callee_of (the_code (at 0 ps)))) (codes_of (at 1 ps)))) refl
+      (generated_call-mapped r c e m (the_code (at 0 ps)) (codes_of (at 1 ps)) (call m (checked_callee (flag_of (at 2 ps)) (callee_of (the_code (at 0 ps)))) (codes_of (at 1 ps)))))

@@ -304,15 +304,15 @@ program-none (Node kind m span semantic_id ps) f h = no_false f
 
 -- ---- the law
 
-with_all-there : (o : Terms) (t : Tree) (l : Option Listed) (es : Option (List (ℕ × Entry))) (ms : Option (List (ℕ × MemberEntry))) (xs : Option (List (String × Exported))) → IsSome l → IsSome es → ms ≡ Some [] → xs ≡ Some [] → has_meaning (with_all o t l es ms xs) ≡ true
-with_all-there o t None es ms xs h k p q = absurd (true≢false (sym h))
-with_all-there o t (Some l) None ms xs h k p q = absurd (true≢false (sym k))
-with_all-there o t (Some l) (Some es) ms xs h k p q = rw (p, q) refl
+with_all-there : (o : Terms) (t : Tree) (d : List (ℕ × ℕ)) (l : Option Listed) (es : Option (List (ℕ × Entry))) (ms : Option (List (ℕ × MemberEntry))) (xs : Option (List (String × Exported))) → IsSome l → IsSome es → ms ≡ Some [] → xs ≡ Some [] → has_meaning (with_all o t d l es ms xs) ≡ true
+with_all-there o t d None es ms xs h k p q = absurd (true≢false (sym h))
+with_all-there o t d (Some l) None ms xs h k p q = absurd (true≢false (sym k))
+with_all-there o t d (Some l) (Some es) ms xs h k p q = rw (p, q) refl
 
 program-means : (o : Terms) (t : Tree) (c : Code) → o.members ≡ [] → ((x : Context) (env : Environment) → exports_in x env (body_of t) ≡ []) → IsProgram c → has_meaning (means_of o t c) ≡ true
 program-means o t c members exports (classes_alone cs h) =
     let opens : Opened → Evaluation = opening (definitions (steps cs)) in
-    with_all-there o t _ _ _ _ (classes-run opens o.first_new o.late cs h) (all-there opens o.first_new o.late [] (after_run [] (ev opens (steps cs) [])) cs h) (ap (member_entries (private_functions (steps cs))) members) (ap all_exports (exports (in_body (start o t) t) (after_run [] (ev opens (steps cs) []))))
+    with_all-there o t _ _ _ _ _ (classes-run opens o.first_new o.late cs h) (all-there opens o.first_new o.late [] (after_run [] (ev opens (steps cs) [])) cs h) (ap (member_entries (private_functions (steps cs))) members) (ap all_exports (exports (in_body (start o t) t) (after_run [] (ev opens (steps cs) []))))
 
 -- a program of the first form has a meaning, under all options
 pub first_form_law : FirstFormLaw

@@ -4,13 +4,15 @@ use Rattle.std.proofs.Common.{refl, ap, ◌∙◌}
 use Rattle.es_base.specs.Numbered.{is_new}
 use Rattle.es_base.specs.declared.kind.Kind.{Kind}
 use Rattle.es_base.specs.declared.ledger.GeneratedKind.{GeneratedKind}
-use Rattle.es_steps.specs.Code.{Code, Codes, Target, FunctionForm, InitializersOf, BodyOf, no_rule, value, spelled, binding, name, super, member, private_member, assign, construct, super_call, super_call_with_all, sequence, logical, operation, steps, function, new_function, new_return, helper, helper_call, throw, private_initialize, bound, setter, call_arrow, to_name, to_private, done, and}
-use Rattle.es_steps.specs.Context.{Context, Changing, MeansClass, Generated, StaticMethod}
-use Rattle.es_steps.specs.Events.{Operand, Spelled, Flag, Key, Opens, Closes, OfKind}
-use Rattle.es_steps.specs.GeneratedForms.{if_member, is_instance_field, is_static_field, is_function_member, weak_map, static_field, private_function, loose_key, class_named, is_number, is_class_named, is_brand, class_value, known_object, class_home, prototype_home, is_string, home_of, is_plain_property, single_property, is_writable_form, writable_value, only_operands, array_elements, is_spread, read_private, set_private, is_method_kind, is_getter_kind, is_setter_kind, asserted, initialized_on, brand_on, define_on, super_get, super_set, is_number_literal, is_constant, is_quiet_key, helper_code, is_helper_object, helper_or_none, helper_or, helper_member, branded_field, own_field, setter_on, field_setter, setter_of_pair, setter_of, underscore_of, same_number, loose_member, is_same_key, kept_name, generated_member, with_name, parameter_names, value_or_undefined, ended, opened_body, no_spread, is_plain_arrow, arrow_call, is_pick, picked, new_function_call, getter_call, received_call, getter_or_received, super_function_call, called_with, bound_to, has_field, has_brand, loose_initialized, object_call, member_call, new_member_call, runs_initializers, initializers_behind, passes_all, super_call_in, super_method_call, helper_call_call, generated_call, is_class_test, generated_binary, is_null, is_undefined, is_comparison, is_null_test, is_void_test, is_undefined_test, left_of, tested_object, again_of, is_new_collection, only_if, is_loose_key_call, field_object, given_function, given, is_own_class, private_assignment, generated_assignment}
+use Rattle.es_steps.specs.Code.{Code, Codes, Target, FunctionForm, Opened, InitializersOf, BodyOf, CalledBodyOf, no_rule, value, spelled, binding, rest, name, super, member, private_member, super_member, private_in, assign, call, construct, super_call, super_call_with_all, sequence, logical, operation, short, steps, function, new_function, new_return, class_code, from_call, from_member, key_of, helper, helper_call, throw, define, private_initialize, add_brand, bound, setter, private_value, call_arrow, call_closure, initializers, give_function, give_class, to_name, to_private, to_super, plain, on_super, with_receiver, done, and, one}
+use Rattle.es_steps.specs.Context.{Context, NameKind, Changing, MeansClass, Generated, StaticMethod, new_here}
+use Rattle.es_steps.specs.Events.{Detail, Operation, Operand, Spelled, Flag, Key, Opens, Closes, OfKind}
+use Rattle.es_steps.specs.GeneratedForms.{if_kept, is_named, if_member, is_instance_field, is_static_field, is_function_member, weak_map, static_field, private_function, loose_key, class_named, is_number, is_class_named, is_brand, class_value, known_object, class_home, prototype_home, is_string, home_of, is_plain_property, single_property, is_writable_form, writable_value, only_operands, array_elements, is_spread, read_private, set_private, is_method_kind, is_getter_kind, is_setter_kind, asserted, initialized_on, brand_on, define_on, super_get, super_set, is_number_literal, is_constant, is_quiet_key, helper_code, is_helper_object, helper_or_none, helper_or, helper_member, branded_field, own_field, setter_on, field_setter, setter_of_pair, setter_of, underscore_of, same_number, loose_member, is_same_key, kept_name, generated_member, with_name, parameter_names, value_or_undefined, ended, opened_body, no_spread, is_plain_arrow, arrow_call, is_pick, picked, new_function_call, getter_call, received_call, getter_or_received, super_function_call, called_with, bound_to, has_field, has_brand, loose_initialized, object_call, member_call, new_member_call, runs_initializers, initializers_behind, passes_all, super_call_in, super_method_call, helper_call_call, generated_call, is_class_test, generated_binary, is_null, is_undefined, is_comparison, is_null_test, is_void_test, is_undefined_test, left_of, tested_object, again_of, is_new_collection, only_if, is_loose_key_call, field_object, given_function, given, is_own_class, private_assignment, generated_assignment}
 use Rattle.es_steps.specs.Helpers.{Helper, DefineProperty, ClassPrivateFieldInitSpec, ClassPrivateMethodInitSpec, ClassPrivateFieldGet2, ClassPrivateFieldSet2, AssertClassBrand, ToSetter, CheckInRHS, ReadOnlyError, WriteOnlyError, SuperPropGet, SuperPropSet, ClassPrivateFieldLooseKey, ClassPrivateFieldLooseBase, SetFunctionName, ToPropertyKey, helper_named}
-use Rattle.es_steps.specs.PrivateNames.{PrivateMember, PrivateReference, member_at, reference_of}
-use Rattle.es_steps.specs.Values.{String, StringOf, NumberOf, BooleanOf, Null, Value, ConstantOf, Undefined, ClassOf, ThisOf, ResultOf, Free, Home}
+use Rattle.es_steps.specs.Options.{keeps_privates_as_properties}
+use Rattle.es_steps.specs.SameValues.{same_boolean}
+use Rattle.es_steps.specs.PrivateNames.{PrivateMember, PrivateReference, member_at, reference_of, is_a_field}
+use Rattle.es_steps.specs.Values.{String, Constant, StringOf, NumberOf, BooleanOf, Null, Value, ConstantOf, Undefined, ClassOf, ThisOf, ResultOf, Free, Home, OfClass, OfPrototype, HasField, HasBrand, IsClass}
 use Rattle.es_steps.proofs.ContextMapped.{new_here-mapped}
 use Rattle.es_steps.proofs.Mapped.{Renames, mapped_option, mapped_generated, mapped_private, mapped_private_reference, mapped_nullable, mapped_home, mapped_context, mapped_opened, mapped_code, mapped_codes, mapped_target}
 use Rattle.es_steps.proofs.PartsMapped.{cond-mapped}
@@ -26,7 +28,7 @@ module _ (f : ℕ → ℕ) where
   pub cond-code : (b : Bool) (x y : Code) → cond b (mapped_code f x) (mapped_code f y) ≡ mapped_code f (cond b x y)
   cond-code b x y = cond-mapped (mapped_code f) b x y refl refl
 
-  if_member-mapped : (test : PrivateMember → Bool) → ((x : PrivateMember) → test (mapped_private f x) ≡ test x) → (x : Option PrivateMember) → if_member test (mapped_option (mapped_private f) x) ≡ mapped_option (mapped_private f) (if_member test x)
+  pub if_member-mapped : (test : PrivateMember → Bool) → ((x : PrivateMember) → test (mapped_private f x) ≡ test x) → (x : Option PrivateMember) → if_member test (mapped_option (mapped_private f) x) ≡ mapped_option (mapped_private f) (if_member test x)
   if_member-mapped test same None = refl
   if_member-mapped test same (Some x) = rw (same x) (cond-mapped (mapped_option (mapped_private f)) (test x) (Some x) None refl refl)
 
@@ -112,7 +114,15 @@ module _ (f : ℕ → ℕ) where
   is_quiet_key-mapped (value (ConstantOf k)) = refl
   is_quiet_key-mapped (name m s (Generated GeneratedKind.Temp)) = refl
   is_quiet_key-mapped (name m s (Generated GeneratedKind.Param)) = refl
+  is_quiet_key-mapped (private_value s) = refl
   is_quiet_key-mapped c = refl
+
+  is_named-mapped : (c : Code) → is_named (mapped_code f c) ≡ is_named c
+  is_named-mapped (function g form own ps body) = refl
+  is_named-mapped (class_code n declared h es) = refl
+  is_named-mapped (value (ClassOf n)) = refl
+  is_named-mapped (name m s (MeansClass n b)) = refl
+  is_named-mapped c = refl
 
   helper_or-mapped : (b : Bool) (k whole : Code) → helper_or b (mapped_code f k) (mapped_code f whole) ≡ mapped_code f (helper_or b k whole)
   helper_or-mapped true (spelled s) whole = found (helper_named s)
@@ -128,15 +138,16 @@ module _ (f : ℕ → ℕ) where
 
   own_field-mapped : (m : ℕ) (x : Option PrivateMember) → own_field (f m) (mapped_option (mapped_private f) x) ≡ mapped_code f (own_field m x)
   own_field-mapped m None = refl
-  own_field-mapped m (Some x) = private_member-mapped m x (value (ClassOf x.class))
+  own_field-mapped m (Some x) = ap from_member (private_member-mapped m x (value (ClassOf x.class)))
 
   is_same_key-mapped : (k l : Code) → is_same_key (mapped_code f k) (mapped_code f l) ≡ is_same_key k l
   is_same_key-mapped (value (ConstantOf (StringOf s))) k = is_string-mapped s k
   is_same_key-mapped (name m s (Generated g)) (name m2 t (Generated g2)) = refl
+  is_same_key-mapped (private_value s) (private_value t) = refl
   is_same_key-mapped k l = refl
 
   kept_name-mapped : (key : Code) (p : Option (Code × Code)) (whole : Code) → kept_name (mapped_code f key) (mapped_option (mapped_two f) p) (mapped_code f whole) ≡ mapped_code f (kept_name key p whole)
-  kept_name-mapped key (Some p) whole = rw (is_same_key-mapped key p.0) (cond-code (is_same_key key p.0) p.1 whole)
+  kept_name-mapped key (Some p) whole = rw (is_same_key-mapped key p.0) (cond-code (is_same_key key p.0) (from_member (from_call p.1)) whole)
   kept_name-mapped key None whole = refl
 
   parameter_names-mapped : (ps : Codes) → parameter_names (mapped_codes f ps) ≡ parameter_names ps
@@ -171,7 +182,7 @@ module _ (f : ℕ → ℕ) where
   is_pick-mapped ps body = refl
 
   picked-mapped : (k : Code) (p : Option (Code × Code)) → picked (mapped_code f k) (mapped_option (mapped_two f) p) ≡ mapped_code f (picked k p)
-  picked-mapped k (Some p) = rw (is_same_key-mapped k p.0) (cond-code (is_same_key k p.0) p.1 no_rule)
+  picked-mapped k (Some p) = rw (is_same_key-mapped k p.0) (cond-code (is_same_key k p.0) (from_call p.1) no_rule)
   picked-mapped k None = refl
 
   received_call-mapped : (m : ℕ) (g : Code) (es : Codes) → received_call (f m) (mapped_code f g) (mapped_codes f es) ≡ mapped_code f (received_call m g es)
@@ -195,9 +206,9 @@ module _ (f : ℕ → ℕ) where
   loose_initialized-mapped m None o v whole = refl
   loose_initialized-mapped m x o v whole = refl
 
-  passes_all-mapped : (es : Codes) → passes_all (mapped_codes f es) ≡ passes_all es
-  passes_all-mapped (and (operation m (OfKind Kind.SpreadElement ds) (and (name k s (Generated GeneratedKind.Args)) done) done) done) = refl
-  passes_all-mapped es = refl
+  passes_all-mapped : (t : String) (es : Codes) → passes_all t (mapped_codes f es) ≡ passes_all t es
+  passes_all-mapped t (and (operation m (OfKind Kind.SpreadElement ds) (and (name k s (Generated GeneratedKind.Args)) done) done) done) = refl
+  passes_all-mapped t es = refl
 
   super_method_call-mapped : (m k : ℕ) (home : Option Home) (key : Code) (this : Option Value) (es : Option Codes) → super_method_call (f m) (f k) (mapped_option (mapped_home f) home) (mapped_code f key) (mapped_nullable f this) (mapped_option (mapped_codes f) es) ≡ mapped_code f (super_method_call m k home key this es)
   super_method_call-mapped m k (Some home) key (Some this) (Some es) = refl
@@ -271,11 +282,11 @@ module _ {first : ℕ} {f : ℕ → ℕ} (r : Renames first f) where
 
   asserted-mapped : (m : ℕ) (x : Option PrivateMember) (q o whole : Code) → asserted (f m) (mapped_option (mapped_private f) x) (mapped_code f q) (mapped_code f o) (mapped_code f whole) ≡ mapped_code f (asserted m x q o whole)
   asserted-mapped m None q o whole = refl
-  asserted-mapped m (Some x) q o whole = rw (is_brand-mapped x q) (code-cond f (is_method_kind x.kind && is_brand x q) (private_member m (reference_of x) o) no_rule (private_member-mapped f m x o) refl)
+  asserted-mapped m (Some x) q o whole = rw (is_brand-mapped x q) (code-cond f (is_method_kind x.kind && is_brand x q) (from_call (private_member m (reference_of x) o)) no_rule (ap from_call (private_member-mapped f m x o)) refl)
 
   branded_field-mapped : (m : ℕ) (x : Option PrivateMember) (z o : Code) → branded_field (f m) (mapped_option (mapped_private f) x) (mapped_code f z) (mapped_code f o) ≡ mapped_code f (branded_field m x z o)
   branded_field-mapped m None z o = refl
-  branded_field-mapped m (Some x) z o = rw (is_class_named-mapped x.class z) (code-cond f (is_class_named x.class z) (private_member m (reference_of x) o) no_rule (private_member-mapped f m x o) refl)
+  branded_field-mapped m (Some x) z o = rw (is_class_named-mapped x.class z) (code-cond f (is_class_named x.class z) (from_member (private_member m (reference_of x) o)) no_rule (ap from_member (private_member-mapped f m x o)) refl)
 
   setter_on-mapped : (m : ℕ) (x : Option PrivateMember) (o : Code) → setter_on (f m) (mapped_option (mapped_private f) x) (mapped_code f o) ≡ mapped_code f (setter_on m x o)
   setter_on-mapped m None o = refl
@@ -287,8 +298,8 @@ module _ {first : ℕ} {f : ℕ → ℕ} (r : Renames first f) where
   same_number-mapped x y = refl
 
   getter_call-mapped : (m : ℕ) (x : PrivateMember) (es : Codes) → getter_call (f m) (mapped_private f x) (mapped_codes f es) ≡ mapped_code f (getter_call m x es)
-  getter_call-mapped m x (and (helper_call k AssertClassBrand (and q (and o done))) done) = rw (is_brand-mapped x q) (code-cond f (is_brand x q) (private_member m (reference_of x) o) no_rule (private_member-mapped f m x o) refl)
-  getter_call-mapped m x (and o done) = rw (is_class_named-mapped x.class o) (code-cond f (x.is_static && is_class_named x.class o) (private_member m (reference_of x) o) no_rule (private_member-mapped f m x o) refl)
+  getter_call-mapped m x (and (helper_call k AssertClassBrand (and q (and o done))) done) = rw (is_brand-mapped x q) (code-cond f (is_brand x q) (from_call (private_member m (reference_of x) o)) no_rule (ap from_call (private_member-mapped f m x o)) refl)
+  getter_call-mapped m x (and o done) = rw (is_class_named-mapped x.class o) (code-cond f (x.is_static && is_class_named x.class o) (from_call (private_member m (reference_of x) o)) no_rule (ap from_call (private_member-mapped f m x o)) refl)
   getter_call-mapped m x es = refl
 
   getter_or_received-mapped : (m : ℕ) (x : Option PrivateMember) (g : Code) (es : Codes) → getter_or_received (f m) (mapped_option (mapped_private f) x) (mapped_code f g) (mapped_codes f es) ≡ mapped_code f (getter_or_received m x g es)
@@ -296,7 +307,7 @@ module _ {first : ℕ} {f : ℕ → ℕ} (r : Renames first f) where
   getter_or_received-mapped m None g es = received_call-mapped f m g es
 
   super_function_call-mapped : (m n : ℕ) (s : String) (es : Codes) → super_function_call (f m) (f n) s (mapped_codes f es) ≡ mapped_code f (super_function_call m n s es)
-  super_function_call-mapped m n s (and (super_call k n2 behind es) done) = rw (r.apart n n2) (cond-code f (nat_eq n n2) (super_call m n (Some (BodyOf s)) es) no_rule)
+  super_function_call-mapped m n s (and (super_call k n2 behind es) done) = rw (r.apart n n2) (cond-code f (nat_eq n n2) (super_call m n (Some (CalledBodyOf s)) es) no_rule)
   super_function_call-mapped m n s es = refl
 
   runs_initializers-mapped : (k : Option ℕ) (m : ℕ) → runs_initializers (mapped_option f k) (f m) ≡ runs_initializers k m
@@ -320,12 +331,17 @@ module _ {first : ℕ} {f : ℕ → ℕ} (r : Renames first f) (c : Context) (e 
 
   -- ---- letters
 
+  if_kept-mapped : (as_properties : Bool) (test : PrivateMember → Bool) (d : ℕ) → ((x : PrivateMember) → test (mapped_private f x) ≡ test x) → if_kept as_properties there test (member_at (f d) there.members) ≡ mapped_option (mapped_private f) (if_kept as_properties c test (member_at d c.members))
+  if_kept-mapped as_properties test d same =
+      cond-mapped (mapped_option (mapped_private f)) (same_boolean as_properties (keeps_privates_as_properties c.options)) (if_member test (member_at d c.members)) None
+      (ap (if_member test) (member_at-mapped r d c.members) ∙ if_member-mapped f test same (member_at d c.members)) refl
+
   weak_map-mapped : (q : Code) → weak_map there (mapped_code f q) ≡ mapped_option (mapped_private f) (weak_map c q)
-  weak_map-mapped (name m s (Generated (GeneratedKind.WeakMap d))) = ap (if_member is_instance_field) (member_at-mapped r d.0 c.members) ∙ if_member-mapped f is_instance_field (λ x. refl) (member_at d.0 c.members)
+  weak_map-mapped (name m s (Generated (GeneratedKind.WeakMap d))) = if_kept-mapped false is_instance_field d.0 (λ x. refl)
   weak_map-mapped q = refl
 
   static_field-mapped : (q : Code) → static_field there (mapped_code f q) ≡ mapped_option (mapped_private f) (static_field c q)
-  static_field-mapped (name m s (Generated (GeneratedKind.StaticField d))) = ap (if_member is_static_field) (member_at-mapped r d.0 c.members) ∙ if_member-mapped f is_static_field (λ x. refl) (member_at d.0 c.members)
+  static_field-mapped (name m s (Generated (GeneratedKind.StaticField d))) = if_kept-mapped false is_static_field d.0 (λ x. refl)
   static_field-mapped q = refl
 
   private_function-mapped : (q : Code) → private_function there (mapped_code f q) ≡ mapped_option (mapped_private f) (private_function c q)
@@ -334,7 +350,7 @@ module _ {first : ℕ} {f : ℕ → ℕ} (r : Renames first f) (c : Context) (e 
   private_function-mapped q = refl
 
   loose_key-mapped : (q : Code) → loose_key there (mapped_code f q) ≡ mapped_option (mapped_private f) (loose_key c q)
-  loose_key-mapped (name m s (Generated (GeneratedKind.LooseKey d))) = ap (if_member _) (member_at-mapped r d.0 c.members) ∙ if_member-mapped f _ (λ x. refl) (member_at d.0 c.members)
+  loose_key-mapped (name m s (Generated (GeneratedKind.LooseKey d))) = if_kept-mapped true (λ x. is_a_field x.kind) d.0 (λ x. refl)
   loose_key-mapped q = refl
 
   -- ---- objects
@@ -355,7 +371,7 @@ module _ {first : ℕ} {f : ℕ → ℕ} (r : Renames first f) (c : Context) (e 
   -- ---- helpers
 
   helper_code-mapped : (m : ℕ) (h : Helper) (es : Codes) → helper_code there (f m) h (mapped_codes f es) ≡ mapped_code f (helper_code c m h es)
-  helper_code-mapped m ClassPrivateFieldGet2 (and w (and o done)) = rw (weak_map-mapped w) (read_private-mapped f m (weak_map c w) o)
+  helper_code-mapped m ClassPrivateFieldGet2 (and w (and o done)) = rw (weak_map-mapped w) (ap from_call (read_private-mapped f m (weak_map c w) o))
   helper_code-mapped m ClassPrivateFieldSet2 (and w (and o (and v done))) = rw (weak_map-mapped w) (set_private-mapped f m (weak_map c w) o v)
   helper_code-mapped m AssertClassBrand (and q (and o (and g done))) = rw (private_function-mapped g) (asserted-mapped r m (private_function c g) q o (helper_call m AssertClassBrand (and q (and o (and g done)))))
   helper_code-mapped m ReadOnlyError (and s done) = rw (is_constant-mapped f s) (cond-code f (is_constant s) throw no_rule)
@@ -366,7 +382,7 @@ module _ {first : ℕ} {f : ℕ → ℕ} (r : Renames first f) (c : Context) (e 
   helper_code-mapped m SuperPropGet (and h (and k (and x done))) = rw (home_of-mapped f h, known_object-mapped f x) (super_get-mapped f m (home_of h) k (known_object x))
   helper_code-mapped m SuperPropSet (and h (and k (and v (and x (and n done))))) = rw (is_number_literal-mapped f (codes "1") n, home_of-mapped f h, known_object-mapped f x) (code-cond f (is_number_literal (codes "1") n) (super_set m (home_of h) k v (known_object x)) no_rule (super_set-mapped f m (home_of h) k v (known_object x)) refl)
   helper_code-mapped m ToPropertyKey (and k done) = refl
-  helper_code-mapped m SetFunctionName (and g (and k done)) = rw (is_quiet_key-mapped f k) (cond-code f (is_quiet_key k) g no_rule)
+  helper_code-mapped m SetFunctionName (and g (and k done)) = rw (is_named-mapped f g, is_quiet_key-mapped f k) (cond-code f (is_named g && is_quiet_key k) (from_call g) no_rule)
   helper_code-mapped m h es = refl
 
   is_helper_object-mapped : (o : Code) → is_helper_object there (mapped_code f o) ≡ is_helper_object c o
@@ -409,7 +425,7 @@ module _ {first : ℕ} {f : ℕ → ℕ} (r : Renames first f) (c : Context) (e 
   new_function_call-mapped : (form : FunctionForm) (ps : Codes) (body : Code) (es : Codes) → new_function_call there form (mapped_codes f ps) (mapped_code f body) (mapped_codes f es) ≡ mapped_code f (new_function_call c form ps body es)
   new_function_call-mapped form ps body (and k (and o done)) =
       rw (is_pick-mapped f ps body, single_property-mapped o, parameter_names-mapped f ps)
-      (code-cond f (is_pick ps body) (picked k (single_property c o)) (arrow_call form (parameter_names ps) body (and k (and o done))) (picked-mapped f k (single_property c o)) (arrow_call-mapped f form (parameter_names ps) body (and k (and o done))))
+      (code-cond f (is_plain_arrow form && is_pick ps body) (picked k (single_property c o)) (arrow_call form (parameter_names ps) body (and k (and o done))) (picked-mapped f k (single_property c o)) (arrow_call-mapped f form (parameter_names ps) body (and k (and o done))))
   new_function_call-mapped form ps body es = rw (parameter_names-mapped f ps) (arrow_call-mapped f form (parameter_names ps) body es)
 
   called_with-mapped : (m : ℕ) (g : Code) (es : Codes) → called_with there (f m) (mapped_code f g) (mapped_codes f es) ≡ mapped_code f (called_with c m g es)
@@ -445,7 +461,7 @@ module _ {first : ℕ} {f : ℕ → ℕ} (r : Renames first f) (c : Context) (e 
 
   super_call_in-mapped : (m : ℕ) (n : Option ℕ) (es : Codes) → super_call_in there (f m) (mapped_option f n) (mapped_codes f es) ≡ mapped_code f (super_call_in c m n es)
   super_call_in-mapped m None es = refl
-  super_call_in-mapped m (Some n) es = rw (passes_all-mapped f es, initializers_behind-mapped m n) (cond-code f (passes_all es) (super_call_with_all n) (super_call m n (initializers_behind c m n) es))
+  super_call_in-mapped m (Some n) es = rw (passes_all-mapped f c.rest_name es, initializers_behind-mapped m n) (cond-code f (passes_all c.rest_name es) (super_call_with_all n) (super_call m n (initializers_behind c m n) es))
 
   helper_call_call-mapped : (m k : ℕ) (h : Helper) (arguments es : Codes) → helper_call_call there (f m) (f k) h (mapped_codes f arguments) (mapped_codes f es) ≡ mapped_code f (helper_call_call c m k h arguments es)
   helper_call_call-mapped m k SuperPropGet (and h (and key (and x (and two done)))) (and form done) =

@@ -6,17 +6,19 @@ use Rattle.es_base.specs.Table.{is_statement}
 use Rattle.es_base.specs.Tree.{Tree, Part, Parts, Node, end, more, child, absent, list, string, no_string, boolean, literal}
 use Rattle.es_base.specs.declared.kind.Kind.{Kind}
 use Rattle.es_steps.specs.Context.{is_constructor}
-use Rattle.es_steps.specs.KeptNodes.{NodeSort, sort_of, is_kept_sort, same_sort, stands_as, all_stand, nodes_kept, is_free_statement, free_statements, free_at, free_in, stands_equal, all_equal, statements_kept, statement_list, item_number, item_numbers, free_number, free_numbers, free_lists, free_lists_at, free_lists_in, list_of, is_within, all_within, lists_kept}
+use Rattle.es_steps.specs.KeptNodes.{NodeSort, sort_of, is_kept_sort, same_sort, stands_as, all_stand, nodes_kept, is_free_statement, free_statements, free_at, free_in, stands_equal, all_equal, statements_kept, statement_list, declared_classes, class_or_none, given_classes, carried_classes, is_static_block, item_number, item_numbers, free_number, free_numbers, free_lists, free_lists_at, free_lists_in, list_of, is_within, all_within, lists_kept}
 use Rattle.es_steps.specs.LoweredClasses.{Element, is_private_key, element_of, elements_in, body_elements, elements_of, is_lowered_element, any_element, is_lowered_class, holds_lowered, has_lowered_class, constructor_function, constructor_in, referent_of, is_fixed, has_no_items, needs_temporary, is_left_out}
 use Rattle.es_steps.specs.Parts.{at, items, string_of}
 use Rattle.es_steps.specs.PrivateNames.{is_class}
 use Rattle.es_steps.specs.References.{Reference}
 use Rattle.es_steps.specs.SameTrees.{same_kind, same_tree, same_part, same_parts}
+use Rattle.es_steps.specs.Scopes.{class_in}
 use Rattle.es_steps.specs.Values.{Referent, Bound, Free}
 use Rattle.es_steps.specs.declared.options.Options.{Options}
 use Rattle.es_steps.proofs.Mapped.{Renames, mapped, mapped_part, mapped_parts, mapped_option, mapped_referent, mapped_reference}
 use Rattle.es_steps.proofs.PartsMapped.{cond-mapped, append-mapped, at-mapped, items_at-mapped, string_at-mapped, is_true_at-mapped, is_present-mapped, number_of-mapped, preorder-mapped}
 use Rattle.es_steps.proofs.ReferencesMapped.{has_number-mapped}
+use Rattle.es_steps.proofs.ScopesMapped.{class_in-mapped}
 
 module _ (f : ℕ → ℕ) where
   -- ---- elements
@@ -104,8 +106,40 @@ module _ (f : ℕ → ℕ) where
   statement_list-mapped Kind.SwitchCase ps = items_at-mapped f 1 ps
   statement_list-mapped kind ps = refl
 
+  declared_classes-mapped : (p : Part) → declared_classes (mapped_part f p) ≡ map f (declared_classes p)
+  declared_classes-mapped (child (Node Kind.ClassDeclaration n span semantic_id ps)) = refl
+  declared_classes-mapped (child (Node Kind.ExportNamedDeclaration m span semantic_id (more (child (Node Kind.ClassDeclaration n nspan n_semantic_id ps)) rest))) = refl
+  declared_classes-mapped (child (Node Kind.ExportDefaultDeclaration m span semantic_id (more (child (Node Kind.ClassDeclaration n nspan n_semantic_id ps)) rest))) = refl
+  declared_classes-mapped p = refl
+
+  class_or_none-mapped : (n : Option ℕ) → class_or_none (mapped_option f n) ≡ map f (class_or_none n)
+  class_or_none-mapped None = refl
+  class_or_none-mapped (Some n) = refl
+
+  given_class-mapped : (p : Part) → class_or_none (class_in (mapped_part f p)) ≡ map f (class_or_none (class_in p))
+  given_class-mapped p = ap class_or_none (class_in-mapped f p) ∙ class_or_none-mapped (class_in p)
+
+  given_classes-mapped : (ps : Parts) → given_classes (mapped_parts f ps) ≡ map f (given_classes ps)
+  given_classes-mapped end = refl
+  given_classes-mapped (more (child (Node Kind.VariableDeclarator m span semantic_id ps)) rest) = append-mapped f _ _ (ap (λ p. class_or_none (class_in p)) (at-mapped f 1 ps) ∙ given_class-mapped (at 1 ps)) (given_classes-mapped rest)
+  given_classes-mapped (more p rest) = given_classes-mapped rest
+
+  given_classes_at-mapped : (ps : Parts) → given_classes (items (at 1 (mapped_parts f ps))) ≡ map f (given_classes (items (at 1 ps)))
+  given_classes_at-mapped ps = ap given_classes (items_at-mapped f 1 ps) ∙ given_classes-mapped (items (at 1 ps))
+
+  carried_classes-mapped : (p : Part) → carried_classes (mapped_part f p) ≡ map f (carried_classes p)
+  carried_classes-mapped (child (Node Kind.VariableDeclaration m span semantic_id ps)) = given_classes_at-mapped ps
+  carried_classes-mapped (child (Node Kind.ExportNamedDeclaration m span semantic_id (more (child (Node Kind.VariableDeclaration k kspan k_semantic_id ps)) rest))) = given_classes_at-mapped ps
+  carried_classes-mapped (child (Node Kind.ExportDefaultDeclaration m span semantic_id (more (child (Node Kind.ClassDeclaration n nspan n_semantic_id ps)) rest))) = refl
+  carried_classes-mapped (child (Node Kind.ExportDefaultDeclaration m span semantic_id (more e rest))) = default_classes-mapped e
+    where
+      default_classes-mapped : (e : Part) → carried_classes (child (Node Kind.ExportDefaultDeclaration (f m) None None (more (mapped_part f e) (mapped_parts f rest)))) ≡ map f (carried_classes (child (Node Kind.ExportDefaultDeclaration m span semantic_id (more e rest))))
+      default_classes-mapped (child (Node Kind.ClassDeclaration n nspan n_semantic_id ps)) = refl
+      default_classes-mapped e = given_class-mapped e
+  carried_classes-mapped p = declared_classes-mapped p
+
   item_number-mapped : (p : Part) → item_number (mapped_part f p) ≡ map f (item_number p)
-  item_number-mapped (child t) = ap (λ n. n ∷ []) (number_of-mapped f t)
+  item_number-mapped (child t) = ap₂ (λ n ns. n ∷ ns) (number_of-mapped f t) (carried_classes-mapped (child t))
   item_number-mapped p = refl
 
   item_numbers-mapped : (ps : Parts) → item_numbers (mapped_parts f ps) ≡ map f (item_numbers ps)
@@ -113,7 +147,10 @@ module _ (f : ℕ → ℕ) where
   item_numbers-mapped (more p ps) = append-mapped f _ _ (item_number-mapped p) (item_numbers-mapped ps)
 
   free_number-mapped : (o : Options) (p : Part) → free_number o (mapped_part f p) ≡ map f (free_number o p)
-  free_number-mapped o (child t) = rw (is_free_statement-mapped o t, number_of-mapped f t) (cond-mapped (map f) (is_free_statement o t) (number_of t ∷ []) [] refl refl)
+  free_number-mapped o (child t) = append-mapped f _ _ (own o t) (declared_classes-mapped (child t))
+    where
+      own : (o : Options) (t : Tree) → cond (is_free_statement o (mapped f t)) (number_of (mapped f t) ∷ []) [] ≡ map f (cond (is_free_statement o t) (number_of t ∷ []) [])
+      own o t = rw (is_free_statement-mapped o t, number_of-mapped f t) (cond-mapped (map f) (is_free_statement o t) (number_of t ∷ []) [] refl refl)
   free_number-mapped o p = refl
 
   free_numbers-mapped : (o : Options) (ps : Parts) → free_numbers o (mapped_parts f ps) ≡ map f (free_numbers o ps)
@@ -123,11 +160,18 @@ module _ (f : ℕ → ℕ) where
   abbrev mapped_list : ℕ × List ℕ → ℕ × List ℕ
   mapped_list l = (f l.0, map f l.1)
 
+  abbrev own_list : Options → Kind → ℕ → Parts → List (ℕ × List ℕ)
+  own_list o kind m ps = cond (is_static_block kind) [] ((m, free_numbers o (statement_list kind ps)) ∷ [])
+
+  own_list-mapped : (o : Options) (kind : Kind) (m : ℕ) (ps : Parts) → own_list o kind (f m) (mapped_parts f ps) ≡ map mapped_list (own_list o kind m ps)
+  own_list-mapped o kind m ps =
+      ap (λ ns. cond (is_static_block kind) [] ((f m, ns) ∷ [])) (ap (free_numbers o) (statement_list-mapped kind ps) ∙ free_numbers-mapped o (statement_list kind ps))
+      ∙ cond-mapped (map mapped_list) (is_static_block kind) [] ((m, free_numbers o (statement_list kind ps)) ∷ []) refl refl
+
   mutual
     free_lists-mapped : (o : Options) (t : Tree) → free_lists o (mapped f t) ≡ map mapped_list (free_lists o t)
     free_lists-mapped o (Node kind m span semantic_id ps) =
-        rw (is_lowered_class-mapped o kind ps, statement_list-mapped kind ps, free_numbers-mapped o (statement_list kind ps))
-        (cond-mapped (map mapped_list) (is_lowered_class o kind ps) [] ((m, free_numbers o (statement_list kind ps)) ∷ free_lists_in o ps) refl (ap (λ rest. (f m, map f (free_numbers o (statement_list kind ps))) ∷ rest) (free_lists_in-mapped o ps)))
+        append-mapped mapped_list _ _ (own_list-mapped o kind m ps) (free_lists_in-mapped o ps)
 
     free_lists_at-mapped : (o : Options) (p : Part) → free_lists_at o (mapped_part f p) ≡ map mapped_list (free_lists_at o p)
     free_lists_at-mapped o (child t) = free_lists-mapped o t

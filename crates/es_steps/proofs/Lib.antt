@@ -17,6 +17,7 @@ pub mod EvaluationMapped
 pub mod OpeningMapped
 pub mod EntriesMapped
 pub mod ModulesMapped
+pub mod RepeatedMapped
 pub mod Still
 pub mod MeaningMapped
 pub mod Renaming
@@ -25,4 +26,5 @@ pub mod PrintableMapped
 pub mod KeptNodesMapped
 pub mod DefinitionsMapped
 pub mod LoweredMapped
+pub mod TimelyMapped
 pub mod Clauses

@@ -11,18 +11,20 @@ use Rattle.es_base.specs.declared.ledger.LedgerEntry.{LedgerEntry}
 use Rattle.es_steps.specs.Context.{generated_as}
 use Rattle.es_steps.specs.Definitions.{spelling, field_part, names_class, class_identifiers, all_different, is_among_first}
 use Rattle.es_steps.specs.KeptNodes.{statement_list}
-use Rattle.es_steps.specs.Lowered.{none_lowered, nothing_left, declaring_number, declaring_numbers, is_bound_to, all_mean, is_one_new, private_key, private_keys, keys_of_body, keys_of_class, keys_in, is_one, declared_by_kind, names_declared, class_name_at, declares_class, own_name_number, own_name_numbers, is_generated, is_accounted, all_accounted, declarations_accounted, spelled_as, is_helper_callee, is_new_of, is_key_call, is_function_part, class_number_in, assignment_number, paired, pairs_behind, all_behind, has_pair, is_class_or_name, is_class_value, is_initial, is_class_kind, is_method_kind, initialization_at, initializations, comes_before, class_of_member, class_before, all_before, needs_none, is_one_initialization, initializations_stand, any_before, keys_before, keys_stand}
+use Rattle.es_steps.specs.Lowered.{kind_of, none_lowered, nothing_left, declaring_number, declaring_numbers, is_bound_to, all_mean, is_one_new, private_key, private_keys, keys_of_body, keys_of_class, keys_in, is_one, declared_by_kind, same_space, is_named_again, names_declared, is_new_const, is_there, has_branded, belongs, class_name_at, declares_class, own_name_number, own_name_numbers, is_generated, is_accounted, all_accounted, declarations_accounted, spelled_as, is_helper_callee, is_new_of, is_key_call, is_function_part, class_number_in, assignment_number, paired, pairs_behind, all_behind, has_pair, is_class_or_name, is_class_value, is_initial, is_class_kind, is_method_kind, initialization_at, initializations, comes_before, class_of_member, class_before, all_before, needs_none, is_one_initialization, initializations_stand, any_before, keys_before, keys_stand}
 use Rattle.es_steps.specs.Options.{lowers_fields}
 use Rattle.es_steps.specs.Parts.{at, items, string_of, is_present}
-use Rattle.es_steps.specs.PrivateNames.{PrivateMember, member_at}
-use Rattle.es_steps.specs.References.{Reference, resolve}
+use Rattle.es_steps.specs.GeneratedForms.{if_member, is_instance_field, is_static_field, is_function_member}
+use Rattle.es_steps.specs.PrivateNames.{PrivateMember, member_at, is_a_field}
+use Rattle.es_steps.specs.References.{Reference, resolve, has_number}
 use Rattle.es_steps.specs.Scopes.{is_binding_identifier, class_in}
 use Rattle.es_steps.specs.Values.{String, Referent, Bound, Free}
 use Rattle.es_steps.specs.declared.options.Options.{Options}
 use Rattle.es_steps.proofs.ContextMapped.{generated_as-mapped}
 use Rattle.es_steps.proofs.DefinitionsMapped.{mapped_temporary, spelling-mapped, field_part-mapped, class_identifiers-mapped, names_class-mapped}
+use Rattle.es_steps.proofs.FormsMapped.{if_member-mapped}
 use Rattle.es_steps.proofs.KeptNodesMapped.{statement_list-mapped}
-use Rattle.es_steps.proofs.Mapped.{Renames, mapped, mapped_part, mapped_parts, mapped_option, mapped_generated, mapped_ledger, mapped_privates, mapped_private, mapped_pair, mapped_referent, mapped_reference}
+use Rattle.es_steps.proofs.Mapped.{Renames, mapped, mapped_part, mapped_parts, mapped_option, mapped_generated, mapped_ledger, mapped_ledger_entry, mapped_privates, mapped_private, mapped_pair, mapped_referent, mapped_reference}
 use Rattle.es_steps.proofs.PartsMapped.{cond-mapped, append-mapped, at-mapped, items_at-mapped, string_at-mapped, is_present-mapped, is_present_at-mapped, number_of-mapped, preorder-mapped}
 use Rattle.es_steps.proofs.PrivatesMapped.{member_at-mapped}
 use Rattle.es_steps.proofs.ReferencesMapped.{resolve-mapped, has_number-mapped}
@@ -46,11 +48,6 @@ module _ (f : ℕ → ℕ) where
   declaring_numbers-mapped : (s : String) (ts : List Tree) → declaring_numbers s (map (mapped f) ts) ≡ map f (declaring_numbers s ts)
   declaring_numbers-mapped s [] = refl
   declaring_numbers-mapped s (t ∷ ts) = append-mapped f _ _ (declaring_number-mapped s t) (declaring_numbers-mapped s ts)
-
-  is_one-mapped : (ks : List ℕ) → is_one (map f ks) ≡ is_one ks
-  is_one-mapped [] = refl
-  is_one-mapped (k ∷ []) = refl
-  is_one-mapped (k ∷ l ∷ ks) = refl
 
   is_generated-mapped : (g : Option GeneratedKind) → is_generated (mapped_option (mapped_generated f) g) ≡ is_generated g
   is_generated-mapped None = refl
@@ -139,7 +136,7 @@ module _ {first : ℕ} {f : ℕ → ℕ} (r : Renames first f) where
   -- ---- a private name
 
   private_key-mapped : (s : String) (p : Part) → private_key first s (mapped_part f p) ≡ map f (private_key first s p)
-  private_key-mapped s (child (Node kind m span semantic_id (more (child (Node Kind.PrivateIdentifier d dspan d_semantic_id ds)) ps))) = rw (r.new d, string_at-mapped f 0 ds) (cond-mapped (map f) (is_new first d && bytes_eq s (string_of (at 0 ds))) (d ∷ []) [] refl refl)
+  private_key-mapped s (child (Node kind m span semantic_id (more (child (Node Kind.PrivateIdentifier d dspan d_semantic_id ds)) ps))) = rw (string_at-mapped f 0 ds) (cond-mapped (map f) (bytes_eq s (string_of (at 0 ds))) (d ∷ []) [] refl refl)
   private_key-mapped s p = refl
 
   private_keys-mapped : (s : String) (ps : Parts) → private_keys first s (mapped_parts f ps) ≡ map f (private_keys first s ps)
@@ -157,16 +154,39 @@ module _ {first : ℕ} {f : ℕ → ℕ} (r : Renames first f) where
   keys_in-mapped n s [] = refl
   keys_in-mapped n s (t ∷ ts) = append-mapped f _ _ (keys_of_class-mapped n s t) (keys_in-mapped n s ts)
 
-  declared_in_class-mapped : (n : ℕ) (s : String) (q : Tree) → is_one (keys_in first (f n) s (preorder (mapped f q))) ≡ is_one (keys_in first n s (preorder q))
-  declared_in_class-mapped n s q = ap is_one (ap (keys_in first (f n) s) (preorder-mapped f q) ∙ keys_in-mapped n s (preorder q)) ∙ is_one-mapped f (keys_in first n s (preorder q))
+  is_one-mapped : (ks : List ℕ) → is_one first (map f ks) ≡ is_one first ks
+  is_one-mapped [] = refl
+  is_one-mapped (k ∷ []) = r.new k
+  is_one-mapped (k ∷ l ∷ ks) = refl
+
+  declared_in_class-mapped : (n : ℕ) (s : String) (q : Tree) → is_one first (keys_in first (f n) s (preorder (mapped f q))) ≡ is_one first (keys_in first n s (preorder q))
+  declared_in_class-mapped n s q = ap (is_one first) (ap (keys_in first (f n) s) (preorder-mapped f q) ∙ keys_in-mapped n s (preorder q)) ∙ is_one-mapped (keys_in first n s (preorder q))
 
   declared_by_kind-mapped : (q : Tree) (s : String) (g : GeneratedKind) → declared_by_kind first (mapped f q) s (mapped_generated f g) ≡ declared_by_kind first q s g
   declared_by_kind-mapped q s (GeneratedKind.Private n) = declared_in_class-mapped n.0 s q
   declared_by_kind-mapped q s g = declared_in_scope-mapped s q
 
+  same_space-mapped : (g h : GeneratedKind) → same_space (mapped_generated f g) (mapped_generated f h) ≡ same_space g h
+  same_space-mapped (GeneratedKind.Private n) h = of_private h
+    where
+      of_private : (h : GeneratedKind) → same_space (mapped_generated f (GeneratedKind.Private n)) (mapped_generated f h) ≡ same_space (GeneratedKind.Private n) h
+      of_private (GeneratedKind.Private k) = r.apart n.0 k.0
+      of_private h = refl
+  same_space-mapped g h = of_other g h
+    where
+      of_other : (g h : GeneratedKind) → same_space (mapped_generated f g) (mapped_generated f h) ≡ same_space g h
+      of_other (GeneratedKind.Private n) (GeneratedKind.Private k) = r.apart n.0 k.0
+      of_other (GeneratedKind.Private n) h = refl
+      of_other g (GeneratedKind.Private k) = refl
+      of_other g h = refl
+
+  is_named_again-mapped : (e : LedgerEntry) (es : List LedgerEntry) → is_named_again (mapped_ledger_entry f e) (mapped_ledger f es) ≡ is_named_again e es
+  is_named_again-mapped e [] = refl
+  is_named_again-mapped e (x ∷ xs) = ap₂ (λ a b. (a && bytes_eq e.name x.name) || b) (same_space-mapped e.kind x.kind) (is_named_again-mapped e xs)
+
   pub names_declared-mapped : (ledger : List LedgerEntry) (q : Tree) → names_declared first (mapped_ledger f ledger) (mapped f q) ≡ names_declared first ledger q
   names_declared-mapped [] q = refl
-  names_declared-mapped (e ∷ es) q = ap₂ (λ a b. a && b) (declared_by_kind-mapped q e.name e.kind) (names_declared-mapped es q)
+  names_declared-mapped (e ∷ es) q = ap₂ (λ a b. not a && b) (is_named_again-mapped e es) (ap₂ (λ a b. a && b) (declared_by_kind-mapped q e.name e.kind) (names_declared-mapped es q))
 
   -- ---- new declarations
 
@@ -190,9 +210,13 @@ module _ {first : ℕ} {f : ℕ → ℕ} (r : Renames first f) where
   is_accounted-mapped : (ledger : List LedgerEntry) (own : List ℕ) (t : Tree) → is_accounted first (mapped_ledger f ledger) (map f own) (mapped f t) ≡ is_accounted first ledger own t
   is_accounted-mapped ledger own (Node kind b span semantic_id ps) = rw (r.new b, string_at-mapped f 0 ps, generated_as-mapped f (string_of (at 0 ps)) ledger, is_generated-mapped f (generated_as (string_of (at 0 ps)) ledger), has_number-mapped r b own) refl
 
+  is_new_const-mapped : (t : Tree) → is_new_const first (mapped f t) ≡ is_new_const first t
+  is_new_const-mapped (Node Kind.VariableDeclaration m span semantic_id ps) = rw (r.new m, string_at-mapped f 0 ps) refl
+  is_new_const-mapped t = refl
+
   all_accounted-mapped : (ledger : List LedgerEntry) (own : List ℕ) (ts : List Tree) → all_accounted first (mapped_ledger f ledger) (map f own) (map (mapped f) ts) ≡ all_accounted first ledger own ts
   all_accounted-mapped ledger own [] = refl
-  all_accounted-mapped ledger own (t ∷ ts) = ap₂ (λ a b. a && b) (is_accounted-mapped ledger own t) (all_accounted-mapped ledger own ts)
+  all_accounted-mapped ledger own (t ∷ ts) = ap₂ (λ a b. not a && b) (is_new_const-mapped t) (ap₂ (λ a b. a && b) (is_accounted-mapped ledger own t) (all_accounted-mapped ledger own ts))
 
   pub declarations_accounted-mapped : (ledger : List LedgerEntry) (p q : Tree) → declarations_accounted first (mapped_ledger f ledger) (mapped f p) (mapped f q) ≡ declarations_accounted first ledger p q
   declarations_accounted-mapped ledger p q = rw (preorder-mapped f q, own_name_numbers-mapped p (preorder q)) (all_accounted-mapped ledger (own_name_numbers p (preorder q)) (preorder q))
@@ -276,6 +300,27 @@ module _ {first : ℕ} {f : ℕ → ℕ} (r : Renames first f) where
   all_before-mapped m [] ts = refl
   all_before-mapped m (n ∷ ns) ts = ap₂ (λ a b. a && b) (comes_before-mapped m n ts) (all_before-mapped m ns ts)
 
+  is_there-mapped : (x : Option PrivateMember) → is_there (mapped_option (mapped_private f) x) ≡ is_there x
+  is_there-mapped None = refl
+  is_there-mapped (Some x) = refl
+
+  member_there-mapped : (test : PrivateMember → Bool) (d : ℕ) (members : List PrivateMember) → ((x : PrivateMember) → test (mapped_private f x) ≡ test x) → is_there (if_member test (member_at (f d) (mapped_privates f members))) ≡ is_there (if_member test (member_at d members))
+  member_there-mapped test d members same =
+      ap (λ x. is_there (if_member test x)) (member_at-mapped r d members)
+      ∙ ap is_there (if_member-mapped f test same (member_at d members)) ∙ is_there-mapped (if_member test (member_at d members))
+
+  has_branded-mapped : (n : ℕ) (members : List PrivateMember) → has_branded (f n) (mapped_privates f members) ≡ has_branded n members
+  has_branded-mapped n [] = refl
+  has_branded-mapped n (x ∷ xs) = ap₂ (λ a b. (a && (is_function_member x && not x.is_static)) || b) (r.apart n x.class) (has_branded-mapped n xs)
+
+  belongs-mapped : (members : List PrivateMember) (g : GeneratedKind) → belongs (mapped_privates f members) (mapped_generated f g) ≡ belongs members g
+  belongs-mapped members (GeneratedKind.WeakMap d) = member_there-mapped is_instance_field d.0 members (λ x. refl)
+  belongs-mapped members (GeneratedKind.StaticField d) = member_there-mapped is_static_field d.0 members (λ x. refl)
+  belongs-mapped members (GeneratedKind.Brand n) = has_branded-mapped n.0 members
+  belongs-mapped members (GeneratedKind.Method d) = member_there-mapped is_function_member d.0 members (λ x. refl)
+  belongs-mapped members (GeneratedKind.LooseKey d) = member_there-mapped (λ x. is_a_field x.kind) d.0 members (λ x. refl)
+  belongs-mapped members g = refl
+
   is_one_initialization-mapped : (g : GeneratedKind) (members : List PrivateMember) (q : Tree) (is : List (ℕ × Bool)) → is_one_initialization (mapped_generated f g) (mapped_privates f members) (mapped f q) (map (mapped_initialization f) is) ≡ is_one_initialization g members q is
   is_one_initialization-mapped g members q [] = refl
   is_one_initialization-mapped g members q (i ∷ []) = ap (λ b. i.1 && b) (ap₂ (all_before (f i.0)) (class_before-mapped g members) (preorder-mapped f q) ∙ all_before-mapped i.0 (class_before g members) (preorder q))
@@ -286,7 +331,7 @@ module _ {first : ℕ} {f : ℕ → ℕ} (r : Renames first f) where
   initializations_stand-mapped ledger members q (e ∷ es) =
       let own : List (ℕ × Bool) = initializations first ledger q e.name e.kind (preorder q) in
       ap₂ (λ a b. a && b)
-      (ap₂ (λ a b. a || b) (needs_none-mapped f e.kind) (ap (is_one_initialization (mapped_generated f e.kind) (mapped_privates f members) (mapped f q)) (initializations_in-mapped ledger q e.name e.kind) ∙ is_one_initialization-mapped e.kind members q own))
+      (ap₂ (λ a b. a || b) (needs_none-mapped f e.kind) (ap₂ (λ a b. a && b) (belongs-mapped members e.kind) (ap (is_one_initialization (mapped_generated f e.kind) (mapped_privates f members) (mapped f q)) (initializations_in-mapped ledger q e.name e.kind) ∙ is_one_initialization-mapped e.kind members q own)))
       (initializations_stand-mapped ledger members q es)
 
   any_before-mapped : (is : List (ℕ × Bool)) (n : ℕ) (ts : List Tree) → any_before (map (mapped_initialization f) is) (f n) (map (mapped f) ts) ≡ any_before is n ts

@@ -6,19 +6,19 @@ use Rattle.es_base.specs.Tree.{Tree, Part, Parts, Node}
 use Rattle.es_base.specs.declared.ids.NodeId.{NodeId}
 use Rattle.es_base.specs.declared.ledger.GeneratedKind.{GeneratedKind}
 use Rattle.es_base.specs.declared.ledger.LedgerEntry.{LedgerEntry}
-use Rattle.es_steps.specs.Code.{Code, Codes, Target, Callee, Opened, InitializersOf, BodyOf, nothing, no_rule, value, spelled, private_name, binding, rest, name, super, member, private_member, super_member, private_in, assign, compound, logical, logical_assign, update, call, tag, construct, super_call, super_call_with_all, sequence, template_string, template, operation, piece, chain, short, tested, pattern, takes, steps, gives_to, export_default, function, new_function, new_return, class_code, field, private_field, method, private_method, constructor, static_block, generated_element, helper, helper_call, throw, define, private_initialize, add_brand, bound, setter, private_value, call_arrow, call_closure, initializers, give_function, give_class, to_name, to_member, to_private, to_super, to_setter, to_pattern, to_default, no_target, plain, on_member, on_private, on_super, with_receiver, checked, on_chain, behind_test, done, and}
+use Rattle.es_steps.specs.Code.{Code, Codes, Target, Callee, Opened, InitializersOf, BodyOf, CalledBodyOf, nothing, no_rule, value, spelled, private_name, binding, rest, name, super, member, private_member, super_member, private_in, assign, compound, logical, logical_assign, update, call, tag, construct, super_call, super_call_with_all, sequence, template_string, template, operation, piece, chain, short, tested, pattern, takes, steps, gives_to, export_default, function, new_function, new_return, class_code, field, private_field, method, private_method, constructor, static_block, generated_element, from_call, from_member, key_of, helper, helper_call, throw, define, private_initialize, add_brand, bound, setter, private_value, call_arrow, call_closure, initializers, give_function, give_class, to_name, to_member, to_private, to_super, to_setter, to_pattern, to_default, no_target, plain, on_member, on_private, on_super, with_receiver, checked, on_chain, behind_test, done, and}
 use Rattle.es_steps.specs.Context.{Context, NameKind, Fixed, Changing, MeansClass, Generated, StaticMethod, FunctionRole, a_function, constructor_of, method_on, super_function_of}
 use Rattle.es_steps.specs.Entries.{Parameter, Identifier, RestIdentifier, Pattern, Method, Listed, Entry, FunctionEntry, ClassEntry, Entries}
 use Rattle.es_steps.specs.Evaluation.{Environment, Run}
-use Rattle.es_steps.specs.Events.{Event, ReadName, SetName, Get, Set, Define, Call, Construct, Operate, Update, PrivateGet, PrivateSet, PrivateInitialize, PrivateIn, AddBrand, SuperGet, SuperSet, SuperCall, SuperCallWithAll, Throw, Short, Held, Events, none, then}
+use Rattle.es_steps.specs.Events.{Event, ReadName, SetName, Get, Set, Define, Call, Construct, Operate, Update, PrivateGet, PrivateSet, PrivateInitialize, PrivateIn, AddBrand, SuperGet, SuperSet, SuperCall, SuperCallWithAll, InitializeClass, Throw, Short, Held, Events, none, then}
 use Rattle.es_steps.specs.Meaning.{Meaning, DeclarationKind, MemberEntry, IsField, FunctionIs, Terms}
 use Rattle.es_steps.specs.Members.{Member, Members, code, absent, list, string, no_string, boolean, literal, end, more}
 use Rattle.es_steps.specs.Modules.{Specifier, Imported, ImportedDefault, ImportedNamespace, Reexported, ReexportedAll, ModuleLink, Export, Exported, ExportedClass, ExportedBinding, ExportedFree, ExportedValue}
-use Rattle.es_steps.specs.Opening.{Definition, of_class, of_name}
+use Rattle.es_steps.specs.Opening.{Definition, of_class, of_name, of_called}
 use Rattle.es_steps.specs.PrivateNames.{PrivateMember, PrivateReference}
 use Rattle.es_steps.specs.References.{Reference}
 use Rattle.es_steps.specs.Scopes.{ClassName, no_class, declares, own_name, let_names, Declaration}
-use Rattle.es_steps.specs.Values.{String, Value, ConstantOf, Undefined, BindingOf, FunctionOf, ClassOf, ThisOf, ArgumentsOf, NewTargetOf, ResultOf, FormerOf, Referent, Bound, Free, Home, OfClass, OfPrototype, OfObject, PrivateTest, HasField, HasBrand, IsClass}
+use Rattle.es_steps.specs.Values.{String, Value, ConstantOf, Undefined, BindingOf, FunctionOf, ClassOf, ThisOf, ArgumentsOf, NewTargetOf, ResultOf, FormerOf, KeyOf, Referent, Bound, Free, Home, OfClass, OfPrototype, OfObject, PrivateTest, HasField, HasBrand, IsClass}
 
 abbrev pub mapped_option : {A B : Type 0} → (A → B) → Option A → Option B
 mapped_option f None = None
@@ -123,6 +123,7 @@ module _ (f : ℕ → ℕ) where
   mapped_value (NewTargetOf k) = NewTargetOf (f k)
   mapped_value (ResultOf m) = ResultOf (f m)
   mapped_value (FormerOf m) = FormerOf (f m)
+  mapped_value (KeyOf v) = KeyOf (mapped_value v)
 
   abbrev pub mapped_values : List Value → List Value
   mapped_values vs = map mapped_value vs
@@ -160,6 +161,7 @@ module _ (f : ℕ → ℕ) where
     mapped_event (SuperSet home k v this) = SuperSet (mapped_home home) (mapped_value k) (mapped_value v) (mapped_value this)
     mapped_event (SuperCall m n vs) = SuperCall (f m) (f n) (mapped_values vs)
     mapped_event (SuperCallWithAll n) = SuperCallWithAll (f n)
+    mapped_event (InitializeClass n) = InitializeClass (f n)
     mapped_event Throw = Throw
     mapped_event (Short v) = Short (mapped_value v)
     mapped_event (Held m place test l v) = Held (f m) place (mapped_nullable test) (mapped_events l) (mapped_value v)
@@ -208,6 +210,7 @@ module _ (f : ℕ → ℕ) where
     constructs = mapped_option f c.constructs;
     initializing = mapped_option f c.initializing;
     in_new_function = c.in_new_function;
+    rest_name = c.rest_name;
     class = f c.class;
     has_heritage = c.has_heritage;
     object = f c.object;
@@ -219,6 +222,7 @@ module _ (f : ℕ → ℕ) where
   abbrev pub mapped_opened : Opened → Opened
   mapped_opened (InitializersOf n) = InitializersOf (f n)
   mapped_opened (BodyOf s) = BodyOf s
+  mapped_opened (CalledBodyOf s) = CalledBodyOf s
 
   abbrev mutual
     pub mapped_code : Code → Code
@@ -269,6 +273,9 @@ module _ (f : ℕ → ℕ) where
     mapped_code (constructor g) = constructor (mapped_code g)
     mapped_code (static_block es) = static_block (mapped_codes es)
     mapped_code (generated_element s e) = generated_element s (mapped_code e)
+    mapped_code (from_call e) = from_call (mapped_code e)
+    mapped_code (from_member e) = from_member (mapped_code e)
+    mapped_code (key_of e) = key_of (mapped_code e)
     mapped_code (helper h) = helper h
     mapped_code (helper_call m h es) = helper_call (f m) h (mapped_codes es)
     mapped_code throw = throw
@@ -325,6 +332,7 @@ module _ (f : ℕ → ℕ) where
   abbrev pub mapped_definition : Definition → Definition
   mapped_definition (of_class n es) = of_class (f n) (mapped_codes es)
   mapped_definition (of_name s c) = of_name s (mapped_code c)
+  mapped_definition (of_called s c) = of_called s (mapped_code c)
 
   -- ---- meanings
 
@@ -359,14 +367,17 @@ module _ (f : ℕ → ℕ) where
   mapped_numbered_entry p = (f p.0, mapped_entry p.1)
 
   abbrev pub mapped_member_entry : MemberEntry → MemberEntry
-  mapped_member_entry IsField = IsField
-  mapped_member_entry (FunctionIs g) = FunctionIs (f g)
+  mapped_member_entry (IsField is_static) = IsField is_static
+  mapped_member_entry (FunctionIs is_static kind g) = FunctionIs is_static kind (f g)
 
   abbrev pub mapped_numbered_member : ℕ × MemberEntry → ℕ × MemberEntry
   mapped_numbered_member p = (f p.0, mapped_member_entry p.1)
 
   abbrev pub mapped_binding : ℕ × DeclarationKind → ℕ × DeclarationKind
   mapped_binding p = (f p.0, p.1)
+
+  abbrev pub mapped_name : ℕ × String → ℕ × String
+  mapped_name p = (f p.0, p.1)
 
   abbrev pub mapped_specifier : Specifier → Specifier
   mapped_specifier (Imported s b) = Imported s (f b)
@@ -398,6 +409,8 @@ module _ (f : ℕ → ℕ) where
     members = map mapped_numbered_member m.members;
     functions = map mapped_pair m.functions;
     bindings = map mapped_binding m.bindings;
+    globals = map mapped_name m.globals;
+    places = map mapped_pair m.places;
     links = map mapped_link m.links;
     exports = map mapped_named_export m.exports;
   }

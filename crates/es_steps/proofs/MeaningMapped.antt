@@ -11,23 +11,25 @@ use Rattle.es_steps.specs.Code.{Code, Opened, private_method, give_function, fun
 use Rattle.es_steps.specs.Context.{Context, generated_as}
 use Rattle.es_steps.specs.Entries.{Entry, Entries, Listed, listed, after_run, entries}
 use Rattle.es_steps.specs.Evaluation.{Environment, Evaluation, Run, ev}
-use Rattle.es_steps.specs.Meaning.{Meaning, Terms, DeclarationKind, ClassDeclared, MemberEntry, FunctionIs, declarator_kind, declares_at, declaring, declaring_parts, declaring_part, declaring_items, old_bindings, names_class, unless_generated, declared_function, declared_functions, function_of, private_function_by, private_functions, function_at, member_entry, with_member, member_entries, inserted, by_number, with_entry, whole, with_export, all_exports, source_type_of, body_of, in_body, start, with_all, means_by, means_of, means}
+use Rattle.es_steps.specs.Meaning.{Meaning, Terms, DeclarationKind, ClassDeclared, MemberEntry, IsField, FunctionIs, declarator_kind, declares_at, declaring, declaring_parts, declaring_part, declaring_items, old_names, globals, second_numbers, old_bindings, names_class, unless_generated, declared_function, declared_functions, function_of, private_function_by, private_functions, function_at, member_entry, with_member, member_entries, inserted, by_number, with_entry, whole, with_export, all_exports, source_type_of, body_of, in_body, start, with_all, means_by, means_of, means}
 use Rattle.es_steps.specs.Modules.{Export, Exported, links_in, exports_in}
 use Rattle.es_steps.specs.Opening.{Definition, definitions, opening}
-use Rattle.es_steps.specs.Parts.{at}
+use Rattle.es_steps.specs.Parts.{at, items}
 use Rattle.es_steps.specs.PrivateNames.{PrivateMember, PrivateKind, a_field}
 use Rattle.es_steps.specs.Reading.{read}
-use Rattle.es_steps.specs.Scopes.{is_binding_identifier, class_in}
+use Rattle.es_steps.specs.Repeated.{all_places}
+use Rattle.es_steps.specs.Scopes.{Declaration, is_binding_identifier, class_in, body_names}
 use Rattle.es_steps.specs.Values.{String}
 use Rattle.es_steps.proofs.ContextMapped.{generated_as-mapped, inside-mapped, inside-first, start-mapped}
 use Rattle.es_steps.proofs.EntriesMapped.{entries-mapped, listed-mapped, after_run-mapped}
 use Rattle.es_steps.proofs.EvaluationMapped.{Follows, ev-follows}
-use Rattle.es_steps.proofs.Mapped.{Renames, mapped, mapped_part, mapped_parts, mapped_option, mapped_generated, mapped_ledger, mapped_privates, mapped_context, mapped_code, mapped_opened, mapped_definition, mapped_environment, mapped_listed, mapped_entry, mapped_entries, mapped_numbered_entry, mapped_member_entry, mapped_numbered_member, mapped_pair, mapped_binding, mapped_exported, mapped_export, mapped_named_export, mapped_meaning, mapped_terms}
+use Rattle.es_steps.proofs.Mapped.{Renames, mapped, mapped_part, mapped_parts, mapped_option, mapped_generated, mapped_ledger, mapped_privates, mapped_context, mapped_code, mapped_codes, mapped_opened, mapped_definition, mapped_environment, mapped_runs, mapped_listed, mapped_entry, mapped_entries, mapped_numbered_entry, mapped_member_entry, mapped_numbered_member, mapped_pair, mapped_binding, mapped_link, mapped_exported, mapped_export, mapped_named_export, mapped_declaration, mapped_declarations, mapped_meaning, mapped_terms}
 use Rattle.es_steps.proofs.ModulesMapped.{links_in-mapped, exports_in-mapped}
 use Rattle.es_steps.proofs.OpeningMapped.{gather-mapped, definitions-mapped, opening-follows}
 use Rattle.es_steps.proofs.PartsMapped.{cond-mapped, append-mapped, at-mapped, items_at-mapped, string_at-mapped, preorder-mapped}
 use Rattle.es_steps.proofs.ReadingMapped.{read-mapped}
-use Rattle.es_steps.proofs.ScopesMapped.{class_in-mapped}
+use Rattle.es_steps.proofs.ScopesMapped.{body_names-mapped, class_in-mapped}
+use Rattle.es_steps.proofs.RepeatedMapped.{all_places-mapped}
 
 -- ---- by number
 
@@ -119,20 +121,24 @@ module _ (f : ℕ → ℕ) where
   declarator_kind-mapped true (Some n) d = refl
   declarator_kind-mapped new n d = refl
 
-module _ {first : ℕ} {f : ℕ → ℕ} (r : Renames first f) where
-  function_at-mapped : (d : ℕ) (ps : List (ℕ × ℕ)) → function_at (f d) (map (mapped_pair f) ps) ≡ mapped_option (mapped_member_entry f) (function_at d ps)
-  function_at-mapped d [] = refl
-  function_at-mapped d (p ∷ ps) = rw (r.apart d p.0) (cond-mapped (mapped_option (mapped_member_entry f)) (nat_eq d p.0) (Some (FunctionIs p.1)) (function_at d ps) refl (function_at-mapped d ps))
+  second_numbers-mapped : (ps : List (ℕ × ℕ)) → second_numbers (map (mapped_pair f) ps) ≡ map f (second_numbers ps)
+  second_numbers-mapped [] = refl
+  second_numbers-mapped (p ∷ ps) = ap (λ ns. f p.1 ∷ ns) (second_numbers-mapped ps)
 
-  member_entry-mapped : (kind : PrivateKind) (d : ℕ) (functions : List (ℕ × ℕ)) → member_entry kind (f d) (map (mapped_pair f) functions) ≡ mapped_option (mapped_member_entry f) (member_entry kind d functions)
-  member_entry-mapped a_field d functions = refl
-  member_entry-mapped kind d functions = function_at-mapped d functions
+module _ {first : ℕ} {f : ℕ → ℕ} (r : Renames first f) where
+  function_at-mapped : (is_static : Bool) (kind : PrivateKind) (d : ℕ) (ps : List (ℕ × ℕ)) → function_at is_static kind (f d) (map (mapped_pair f) ps) ≡ mapped_option (mapped_member_entry f) (function_at is_static kind d ps)
+  function_at-mapped is_static kind d [] = refl
+  function_at-mapped is_static kind d (p ∷ ps) = rw (r.apart d p.0) (cond-mapped (mapped_option (mapped_member_entry f)) (nat_eq d p.0) (Some (FunctionIs is_static kind p.1)) (function_at is_static kind d ps) refl (function_at-mapped is_static kind d ps))
+
+  member_entry-mapped : (is_static : Bool) (kind : PrivateKind) (d : ℕ) (functions : List (ℕ × ℕ)) → member_entry is_static kind (f d) (map (mapped_pair f) functions) ≡ mapped_option (mapped_member_entry f) (member_entry is_static kind d functions)
+  member_entry-mapped is_static a_field d functions = refl
+  member_entry-mapped is_static kind d functions = function_at-mapped is_static kind d functions
 
   member_entries-mapped : (functions : List (ℕ × ℕ)) (xs : List PrivateMember) → member_entries (map (mapped_pair f) functions) (mapped_privates f xs) ≡ mapped_option (map (mapped_numbered_member f)) (member_entries functions xs)
   member_entries-mapped functions [] = refl
   member_entries-mapped functions (x ∷ xs) =
-      ap₂ (with_member (f x.number)) (member_entry-mapped x.kind x.number functions) (member_entries-mapped functions xs)
-      ∙ with_member-mapped f x.number (member_entry x.kind x.number functions) (member_entries functions xs)
+      ap₂ (with_member (f x.number)) (member_entry-mapped x.is_static x.kind x.number functions) (member_entries-mapped functions xs)
+      ∙ with_member-mapped f x.number (member_entry x.is_static x.kind x.number functions) (member_entries functions xs)
 
   declares_at-mapped : (kind : Kind) (m : ℕ) (ps : Parts) (d : DeclarationKind) (i : ℕ) → declares_at first kind (f m) (mapped_parts f ps) d i ≡ declares_at first kind m ps d i
   declares_at-mapped Kind.VariableDeclaration m ps d i = ap DeclarationKind.Variable (string_at-mapped f 0 ps)
@@ -173,6 +179,24 @@ module _ {first : ℕ} {f : ℕ → ℕ} (r : Renames first f) where
       ∙ kept-mapped (is_new first d.0) d (old_bindings first (map (mapped_binding f) ds)) refl
       ∙ ap (kept (is_new first d.0) d) (old_bindings-mapped ds)
 
+  abbrev kept_name : Bool → Declaration → List (ℕ × String) → List (ℕ × String)
+  kept_name new d ds = cond new ds ((d.number, d.spelling) ∷ ds)
+
+  kept_name-mapped : (b : Bool) (d : Declaration) (ds : List (ℕ × String)) → is_new first d.number ≡ b → kept_name b (mapped_declaration f d) ds ≡ kept_name b d ds
+  kept_name-mapped true d ds e = refl
+  kept_name-mapped false d ds e = ap (λ (n : ℕ). (n, d.spelling) ∷ ds) (r.old d.number (ap not e))
+
+  old_names-mapped : (ds : List Declaration) → old_names first (mapped_declarations f ds) ≡ old_names first ds
+  old_names-mapped [] = refl
+  old_names-mapped (d ∷ ds) =
+      ap (λ b. kept_name b (mapped_declaration f d) (old_names first (mapped_declarations f ds))) (r.new d.number)
+      ∙ kept_name-mapped (is_new first d.number) d (old_names first (mapped_declarations f ds)) refl
+      ∙ ap (kept_name (is_new first d.number) d) (old_names-mapped ds)
+
+  globals-mapped : (t : Tree) → globals first (mapped f t) ≡ globals first t
+  globals-mapped (Node kind m span semantic_id ps) =
+      rw (string_at-mapped f 0 ps, items_at-mapped f 1 ps, body_names-mapped f (items (at 1 ps)), old_names-mapped (body_names (items (at 1 ps)))) refl
+
   in_body-mapped : (c : Context) → c.first_new ≡ first → (t : Tree) → in_body (mapped_context f c) (mapped f t) ≡ mapped_context f (in_body c t)
   in_body-mapped c e (Node kind m span semantic_id ps) = inside-mapped r c e kind m ps 1
 
@@ -188,22 +212,29 @@ module _ {f : ℕ → ℕ} (o : Terms) (r : Renames o.first_new f) (t : Tree) wh
   bindings-same : old_bindings o.first_new (declaring o.first_new ClassDeclared (mapped f t)) ≡ old_bindings o.first_new (declaring o.first_new ClassDeclared t)
   bindings-same = ap (old_bindings o.first_new) (declaring-mapped r ClassDeclared t) ∙ old_bindings-mapped r (declaring o.first_new ClassDeclared t)
 
-  abbrev found : Listed → List (ℕ × Entry) → List (ℕ × MemberEntry) → List (String × Exported) → Meaning
-  found l es ms xs = record { source_type = source_type_of t; program = l; entries = by_number es; members = by_number ms; functions = by_number (declared_functions o.ledger (preorder t)); bindings = by_number (old_bindings o.first_new (declaring o.first_new ClassDeclared t)); links = links_in o.first_new (body_of t); exports = xs }
+  abbrev private_places : List (ℕ × ℕ) → List (ℕ × ℕ)
+  private_places d = all_places o.first_new o.ledger (second_numbers d) t
 
-  found-same : (l : Listed) (es : List (ℕ × Entry)) (ms : List (ℕ × MemberEntry)) (xs : List (String × Exported)) → mapped_meaning f (found l es ms xs) ≡ found l es ms xs → with_all (mapped_terms f o) (mapped f t) (Some (mapped_listed f l)) (Some (map (mapped_numbered_entry f) es)) (Some (map (mapped_numbered_member f) ms)) (Some (map (mapped_named_export f) xs)) ≡ Some (found l es ms xs)
-  found-same l es ms xs still =
+  places-mapped : (d : List (ℕ × ℕ)) → all_places o.first_new (mapped_ledger f o.ledger) (second_numbers (map (mapped_pair f) d)) (mapped f t) ≡ map (mapped_pair f) (private_places d)
+  places-mapped d = ap (λ ns. all_places o.first_new (mapped_ledger f o.ledger) ns (mapped f t)) (second_numbers-mapped f d) ∙ all_places-mapped r o.ledger (second_numbers d) t
+
+  abbrev found : List (ℕ × ℕ) → Listed → List (ℕ × Entry) → List (ℕ × MemberEntry) → List (String × Exported) → Meaning
+  found d l es ms xs = record { source_type = source_type_of t; program = l; entries = by_number es; members = by_number ms; functions = by_number (declared_functions o.ledger (preorder t)); bindings = by_number (old_bindings o.first_new (declaring o.first_new ClassDeclared t)); globals = by_number (globals o.first_new t); places = by_number (private_places d); links = links_in (body_of t); exports = xs }
+
+  found-same : (d : List (ℕ × ℕ)) (l : Listed) (es : List (ℕ × Entry)) (ms : List (ℕ × MemberEntry)) (xs : List (String × Exported)) → mapped_meaning f (found d l es ms xs) ≡ found d l es ms xs → with_all (mapped_terms f o) (mapped f t) (map (mapped_pair f) d) (Some (mapped_listed f l)) (Some (map (mapped_numbered_entry f) es)) (Some (map (mapped_numbered_member f) ms)) (Some (map (mapped_named_export f) xs)) ≡ Some (found d l es ms xs)
+  found-same d l es ms xs still =
       let program : mapped_listed f l ≡ l = ap (λ (m : Meaning). m.program) still in
       let same_entries : map (mapped_numbered_entry f) es ≡ es = by_number-still (mapped_numbered_entry f) es (ap (λ (m : Meaning). m.entries) still) in
       let same_members : map (mapped_numbered_member f) ms ≡ ms = by_number-still (mapped_numbered_member f) ms (ap (λ (m : Meaning). m.members) still) in
       let same_functions : declared_functions (mapped_ledger f o.ledger) (preorder (mapped f t)) ≡ declared_functions o.ledger (preorder t) = functions-mapped ∙ by_number-still (mapped_pair f) (declared_functions o.ledger (preorder t)) (ap (λ (m : Meaning). m.functions) still) in
-      let same_links : links_in o.first_new (body_of (mapped f t)) ≡ links_in o.first_new (body_of t) = ap (links_in o.first_new) (body_of-mapped f t) ∙ links_in-mapped r (body_of t) ∙ ap (λ (m : Meaning). m.links) still in
+      let same_places : all_places o.first_new (mapped_ledger f o.ledger) (second_numbers (map (mapped_pair f) d)) (mapped f t) ≡ private_places d = places-mapped d ∙ by_number-still (mapped_pair f) (private_places d) (ap (λ (m : Meaning). m.places) still) in
+      let same_links : links_in (body_of (mapped f t)) ≡ links_in (body_of t) = ap links_in (body_of-mapped f t) ∙ links_in-mapped r (body_of t) ∙ ap (λ (m : Meaning). m.links) still in
       let same_exports : map (mapped_named_export f) xs ≡ xs = ap (λ (m : Meaning). m.exports) still in
-      rw (program, same_entries, same_members, same_functions, same_links, same_exports, bindings-same, source_type_of-mapped f t) refl
+      rw (program, same_entries, same_members, same_functions, same_places, same_links, same_exports, bindings-same, globals-mapped r t, source_type_of-mapped f t) refl
 
-  with_all-same : (l : Option Listed) (es : Option (List (ℕ × Entry))) (ms : Option (List (ℕ × MemberEntry))) (xs : Option (List (String × Exported))) (m : Option Meaning) → with_all o t l es ms xs ≡ m → mapped_option (mapped_meaning f) m ≡ m → with_all (mapped_terms f o) (mapped f t) (mapped_option (mapped_listed f) l) (mapped_option (map (mapped_numbered_entry f)) es) (mapped_option (map (mapped_numbered_member f)) ms) (mapped_option (map (mapped_named_export f)) xs) ≡ m
-  with_all-same (Some l) (Some es) (Some ms) (Some xs) m e still = found-same l es ms xs (some-same _ _ (ap (mapped_option (mapped_meaning f)) e ∙ still ∙ sym e)) ∙ e
-  with_all-same l es ms xs m e still = e
+  with_all-same : (d : List (ℕ × ℕ)) (l : Option Listed) (es : Option (List (ℕ × Entry))) (ms : Option (List (ℕ × MemberEntry))) (xs : Option (List (String × Exported))) (m : Option Meaning) → with_all o t d l es ms xs ≡ m → mapped_option (mapped_meaning f) m ≡ m → with_all (mapped_terms f o) (mapped f t) (map (mapped_pair f) d) (mapped_option (mapped_listed f) l) (mapped_option (map (mapped_numbered_entry f)) es) (mapped_option (map (mapped_numbered_member f)) ms) (mapped_option (map (mapped_named_export f)) xs) ≡ m
+  with_all-same d (Some l) (Some es) (Some ms) (Some xs) m e still = found-same d l es ms xs (some-same _ _ (ap (mapped_option (mapped_meaning f)) e ∙ still ∙ sym e)) ∙ e
+  with_all-same d l es ms xs m e still = e
 
   abbrev body_context : Context
   body_context = in_body (start o t) t
@@ -217,7 +248,7 @@ module _ {f : ℕ → ℕ} (o : Terms) (r : Renames o.first_new f) (t : Tree) wh
       ∙ all_exports-mapped f (exports_in body_context env (body_of t))
 
   module _ (opens there : Opened → Evaluation) (follow : (x : Opened) → Follows f (opens x) (there (mapped_opened f x))) where
-    means_by-mapped : (c : Code) → means_by there (mapped_terms f o) (mapped f t) (mapped_code f c) ≡ with_all (mapped_terms f o) (mapped f t) (mapped_option (mapped_listed f) (listed (ev opens c []))) (mapped_option (map (mapped_numbered_entry f)) (whole (entries opens o.first_new o.late [] (after_run [] (ev opens c [])) c))) (mapped_option (map (mapped_numbered_member f)) (member_entries (private_functions c) o.members)) (mapped_option (map (mapped_named_export f)) (all_exports (exports_in body_context (after_run [] (ev opens c [])) (body_of t))))
+    means_by-mapped : (c : Code) → means_by there (mapped_terms f o) (mapped f t) (mapped_code f c) ≡ with_all (mapped_terms f o) (mapped f t) (map (mapped_pair f) (private_functions c)) (mapped_option (mapped_listed f) (listed (ev opens c []))) (mapped_option (map (mapped_numbered_entry f)) (whole (entries opens o.first_new o.late [] (after_run [] (ev opens c [])) c))) (mapped_option (map (mapped_numbered_member f)) (member_entries (private_functions c) o.members)) (mapped_option (map (mapped_named_export f)) (all_exports (exports_in body_context (after_run [] (ev opens c [])) (body_of t))))
     means_by-mapped c =
         let run : Option Run = ev opens c [] in
         rw ((ev-follows r opens there follow c).on [], listed-mapped f run, after_run-mapped f [] run, entries-mapped r opens there follow o.late [] (after_run [] run) c, whole-mapped f (entries opens o.first_new o.late [] (after_run [] run) c), private_functions-mapped f c, member_entries-mapped r (private_functions c) o.members, exports-mapped (after_run [] run)) refl
@@ -228,7 +259,7 @@ module _ {f : ℕ → ℕ} (o : Terms) (r : Renames o.first_new f) (t : Tree) wh
       let run : Option Run = ev (opening ds) c [] in
       ap (λ es. means_by (opening es) (mapped_terms f o) (mapped f t) (mapped_code f c)) (definitions-mapped r c)
       ∙ means_by-mapped (opening ds) (opening (map (mapped_definition f) ds)) (opening-follows r ds) c
-      ∙ with_all-same (listed run) (whole (entries (opening ds) o.first_new o.late [] (after_run [] run) c)) (member_entries (private_functions c) o.members) (all_exports (exports_in body_context (after_run [] run) (body_of t))) m e still
+      ∙ with_all-same (private_functions c) (listed run) (whole (entries (opening ds) o.first_new o.late [] (after_run [] run) c)) (member_entries (private_functions c) o.members) (all_exports (exports_in body_context (after_run [] run) (body_of t))) m e still
 
   pub means-same : (m : Option Meaning) → means o t ≡ m → mapped_option (mapped_meaning f) m ≡ m → means (mapped_terms f o) (mapped f t) ≡ m
   means-same m e still =

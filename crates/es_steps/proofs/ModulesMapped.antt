@@ -8,8 +8,8 @@ use Rattle.es_base.specs.declared.ledger.GeneratedKind.{GeneratedKind}
 use Rattle.es_base.specs.declared.literal.LiteralValue.TheVariants as literal_value
 use Rattle.es_steps.specs.Context.{Context, NameKind, Fixed, Changing, MeansClass, Generated, StaticMethod, name_kind}
 use Rattle.es_steps.specs.Evaluation.{Environment, found, default_key}
-use Rattle.es_steps.specs.Modules.{Specifier, Imported, ImportedDefault, ImportedNamespace, ModuleLink, Exported, module_name, importing, specifier_of, specifiers_of, nullable_name, export_link, link_of, old_links, links_in, exported_referent, exported_as, exported_value, declared_exports, specifier_export, specifier_exports, local_exports, default_export, is_named_declaration, default_exports, exports_of, exports_in}
-use Rattle.es_steps.specs.Parts.{at, items}
+use Rattle.es_steps.specs.Modules.{Specifier, Imported, ImportedDefault, ImportedNamespace, ReexportedAll, ModuleLink, Export, Exported, module_name, importing, specifier_of, specifiers_of, nullable_name, link, export_link, link_of, links_in, exported_referent, exported_as, exported_value, declared_exports, specifier_export, specifier_exports, local_exports, default_export, is_named_declaration, default_exports, exports_of, exports_in}
+use Rattle.es_steps.specs.Parts.{at, items, string_of}
 use Rattle.es_steps.specs.Scopes.{Declaration, lexical_part, var_part}
 use Rattle.es_steps.specs.Values.{String, Value, ClassOf, Referent, Bound, Free}
 use Rattle.es_steps.proofs.ContextMapped.{name_kind-mapped}
@@ -91,17 +91,9 @@ module _ (f : ℕ → ℕ) where
   default_means-mapped false x y p q = ap default_export q
 
 module _ {first : ℕ} {f : ℕ → ℕ} (r : Renames first f) where
-  old_links-mapped : (ls : List ModuleLink) → old_links first (map (mapped_link f) ls) ≡ map (mapped_link f) (old_links first ls)
-  old_links-mapped [] = refl
-  old_links-mapped (l ∷ ls) = rw (r.new l.number, old_links-mapped ls) (by_age (is_new first l.number))
-    where
-      by_age : (b : Bool) → cond b (map (mapped_link f) (old_links first ls)) (mapped_link f l ∷ map (mapped_link f) (old_links first ls)) ≡ map (mapped_link f) (cond b (old_links first ls) (l ∷ old_links first ls))
-      by_age true = refl
-      by_age false = refl
-
-  pub links_in-mapped : (ps : Parts) → links_in first (mapped_parts f ps) ≡ map (mapped_link f) (links_in first ps)
+  pub links_in-mapped : (ps : Parts) → links_in (mapped_parts f ps) ≡ map (mapped_link f) (links_in ps)
   links_in-mapped end = refl
-  links_in-mapped (more p ps) = append-mapped (mapped_link f) _ _ (ap (old_links first) (link_of-mapped f p) ∙ old_links-mapped (link_of p)) (links_in-mapped ps)
+  links_in-mapped (more p ps) = append-mapped (mapped_link f) _ _ (link_of-mapped f p) (links_in-mapped ps)
 
   module _ (c : Context) (e : c.first_new ≡ first) where
     exported_name-mapped : (s : String) → exported_as (name_kind (mapped_context f c) s) ≡ mapped_option (mapped_exported f) (exported_as (name_kind c s))

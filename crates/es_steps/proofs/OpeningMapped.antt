@@ -1,13 +1,13 @@
 -- What is evaluated elsewhere than where it stands follows a change of numbers.
-use Rattle.std.specs.Prelude.{◌≡◌, ℕ, zero, suc, List, [], ◌∷◌, map, Bool, true, false, nat_eq, length, Option, Some, None}
+use Rattle.std.specs.Prelude.{◌≡◌, ℕ, zero, suc, List, [], ◌∷◌, map, Bool, true, false, nat_eq, length, Option, Some, None, cond}
 use Rattle.std.proofs.Common.{refl, ap, ◌∙◌}
 use Rattle.std.proofs.lemmas.List.{length-map}
 use Rattle.es_base.specs.declared.ledger.GeneratedKind.{GeneratedKind}
-use Rattle.es_steps.specs.Code.{Code, Codes, Target, Callee, Opened, InitializersOf, BodyOf, FunctionForm, nothing, no_rule, rest, member, private_member, super_member, private_in, assign, compound, logical, logical_assign, update, call, tag, construct, super_call, super_call_with_all, sequence, template, operation, piece, chain, short, tested, pattern, takes, steps, gives_to, export_default, function, new_function, new_return, class_code, field, private_field, method, private_method, constructor, static_block, generated_element, define, private_initialize, bound, setter, call_arrow, call_closure, initializers, give_function, give_class, to_name, to_member, to_private, to_super, to_setter, to_pattern, to_default, no_target, plain, on_member, on_private, on_super, with_receiver, checked, on_chain, behind_test, done, and}
-use Rattle.es_steps.specs.Context.{Generated}
-use Rattle.es_steps.specs.Evaluation.{Evaluation}
-use Rattle.es_steps.specs.GeneratedForms.{opened_body, is_plain_arrow}
-use Rattle.es_steps.specs.Opening.{gather, gather_target, gather_callee, gather_all, target_name, assigned_by, assigned_in, assigned_in_all, Definition, of_class, of_name, behind_super, all_arguments, super_body, closure_body, function_definition, defined_by, definitions, defines, definition_of, without_definition, ev_definition, opening_in, opening}
+use Rattle.es_steps.specs.Code.{Code, Codes, Target, Callee, Opened, InitializersOf, BodyOf, CalledBodyOf, FunctionForm, nothing, no_rule, rest, name, member, private_member, super_member, private_in, assign, compound, logical, logical_assign, update, call, tag, construct, super_call, super_call_with_all, sequence, template, operation, piece, chain, short, tested, pattern, takes, steps, gives_to, export_default, function, new_function, new_return, class_code, field, private_field, method, private_method, constructor, static_block, generated_element, from_call, from_member, key_of, define, private_initialize, bound, setter, call_arrow, call_closure, initializers, give_function, give_class, to_name, to_member, to_private, to_super, to_setter, to_pattern, to_default, no_target, plain, on_member, on_private, on_super, with_receiver, checked, on_chain, behind_test, done, and}
+use Rattle.es_steps.specs.Context.{NameKind, Generated}
+use Rattle.es_steps.specs.Evaluation.{Evaluation, no_meaning, ev, ev_initializers, private_key}
+use Rattle.es_steps.specs.GeneratedForms.{opened_body, is_plain, is_plain_arrow}
+use Rattle.es_steps.specs.Opening.{gather, gather_target, gather_callee, gather_all, target_name, assigned_by, assigned_in, assigned_in_all, Definition, of_class, of_name, of_called, behind_super, all_arguments, super_definition, closure_body, function_definition, defined_by, definitions, defines, definition_of, without_definition, ev_definition, opening_in, opening}
 use Rattle.es_steps.specs.Values.{String}
 use Rattle.es_steps.proofs.EvaluationMapped.{Follows, no_meaning-follows, ev-follows, ev_initializers-follows}
 use Rattle.es_steps.proofs.FormsMapped.{cond-code, opened_body-mapped}
@@ -55,6 +55,9 @@ module _ (f : ℕ → ℕ) {A B : Type 0} (g : A → B) (own : Code → List A) 
     gather-mapped (constructor q) = gather-mapped q
     gather-mapped (static_block es) = gather_all-mapped es
     gather-mapped (generated_element s e) = append-mapped g _ _ (same (generated_element s e)) (gather-mapped e)
+    gather-mapped (from_call e) = gather-mapped e
+    gather-mapped (from_member e) = gather-mapped e
+    gather-mapped (key_of e) = gather-mapped e
     gather-mapped (define m o k e) = append-mapped g _ _ (gather-mapped k) (gather-mapped e)
     gather-mapped (private_initialize m d o e) = gather-mapped e
     gather-mapped (bound q o) = append-mapped g _ _ (gather-mapped q) (gather-mapped o)
@@ -130,23 +133,27 @@ module _ {first : ℕ} {f : ℕ → ℕ} (r : Renames first f) where
   behind_super-mapped n (sequence (and (super_call_with_all k) cs)) = rw (r.apart n k) (cond-code f (nat_eq n k) (sequence (and (initializers n) cs)) no_rule)
   behind_super-mapped n c = refl
 
-  all_arguments-mapped : (ps : Codes) → all_arguments (mapped_codes f ps) ≡ all_arguments ps
+  pub all_arguments-mapped : (ps : Codes) → all_arguments (mapped_codes f ps) ≡ all_arguments ps
   all_arguments-mapped (and (rest (to_name m s (Generated GeneratedKind.Args))) done) = refl
   all_arguments-mapped ps = refl
 
-  super_body-mapped : (n : ℕ) (is_arrow : Bool) (ps : Codes) (body : Code) → super_body (f n) is_arrow (mapped_codes f ps) (mapped_code f body) ≡ mapped_code f (super_body n is_arrow ps body)
-  super_body-mapped n true ps body =
+  definitions-cond : (b : Bool) (ds : List Definition) → cond b (map (mapped_definition f) ds) [] ≡ map (mapped_definition f) (cond b ds [])
+  definitions-cond true ds = refl
+  definitions-cond false ds = refl
+
+  super_definition-mapped : (s : String) (n : ℕ) (is_arrow : Bool) (ps : Codes) (body : Code) → super_definition s (f n) is_arrow (mapped_codes f ps) (mapped_code f body) ≡ map (mapped_definition f) (super_definition s n is_arrow ps body)
+  super_definition-mapped s n true ps body =
       rw (all_arguments-mapped ps, opened_body-mapped f body, behind_super-mapped n (opened_body body))
-      (cond-code f (all_arguments ps) (behind_super n (opened_body body)) no_rule)
-  super_body-mapped n false done body = rw (opened_body-mapped f body) refl
-  super_body-mapped n false (and c cs) body = refl
+      (definitions-cond (all_arguments ps) (of_name s (behind_super n (opened_body body)) ∷ []))
+  super_definition-mapped s n false done body = rw (opened_body-mapped f body) refl
+  super_definition-mapped s n false (and c cs) body = refl
 
   closure_body-mapped : (form : FunctionForm) (ps : Codes) (body : Code) → closure_body form (mapped_codes f ps) (mapped_code f body) ≡ mapped_code f (closure_body form ps body)
   closure_body-mapped form done body = rw (opened_body-mapped f body) (cond-code f (is_plain_arrow form) (opened_body body) no_rule)
   closure_body-mapped form (and c cs) body = refl
 
   function_definition-mapped : (s : String) (g : GeneratedKind) (form : FunctionForm) (ps : Codes) (body : Code) → function_definition s (mapped_generated f g) form (mapped_codes f ps) (mapped_code f body) ≡ map (mapped_definition f) (function_definition s g form ps body)
-  function_definition-mapped s (GeneratedKind.SuperFn n) form ps body = ap (λ c. of_name s c ∷ []) (super_body-mapped n.0 form.is_arrow ps body)
+  function_definition-mapped s (GeneratedKind.SuperFn n) form ps body = rw (super_definition-mapped s n.0 form.is_arrow ps body) (definitions-cond (is_plain form) (super_definition s n.0 form.is_arrow ps body))
   function_definition-mapped s GeneratedKind.Closure form ps body = ap (λ c. of_name s c ∷ []) (closure_body-mapped form ps body)
   function_definition-mapped s g form ps body = refl
 
@@ -163,6 +170,7 @@ module _ {first : ℕ} {f : ℕ → ℕ} (r : Renames first f) where
   defines-mapped : (o : Opened) (d : Definition) → defines (mapped_opened f o) (mapped_definition f d) ≡ defines o d
   defines-mapped (InitializersOf n) (of_class k es) = r.apart n k
   defines-mapped (BodyOf s) (of_name t c) = refl
+  defines-mapped (CalledBodyOf s) (of_called t c) = refl
   defines-mapped o d = refl
 
   definition_of-mapped : (o : Opened) (ds : List Definition) → definition_of (mapped_opened f o) (map (mapped_definition f) ds) ≡ mapped_option (mapped_definition f) (definition_of o ds)
@@ -177,6 +185,7 @@ module _ {first : ℕ} {f : ℕ → ℕ} (r : Renames first f) where
   ev_definition-follows opens there follow None = no_meaning-follows f
   ev_definition-follows opens there follow (Some (of_class n es)) = ev_initializers-follows r opens there follow n es
   ev_definition-follows opens there follow (Some (of_name s c)) = ev-follows r opens there follow c
+  ev_definition-follows opens there follow (Some (of_called s c)) = ev-follows r opens there follow c
 
   opening_in-follows : (k : ℕ) (ds : List Definition) (o : Opened) → Follows f (opening_in k ds o) (opening_in k (map (mapped_definition f) ds) (mapped_opened f o))
   opening_in-follows zero ds o = no_meaning-follows f

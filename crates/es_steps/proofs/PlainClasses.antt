@@ -1,15 +1,16 @@
 -- Classes without heritage whose elements are fields with plain values have a meaning.
-use Rattle.std.specs.Prelude.{◌≡◌, refl, ℕ, List, [], ◌∷◌, ◌++◌, false, Option, Some, None}
+use Rattle.std.specs.Prelude.{◌≡◌, refl, ℕ, List, [], ◌∷◌, ◌++◌, Bool, true, false, Option, Some, None}
 use Rattle.std.specs.Option.{IsSome}
 use Rattle.std.proofs.Common.{sym, ◌∙◌, subst}
 use Rattle.std.proofs.lemmas.Bool.{true≢false}
 use Rattle.es_steps.specs.Code.{Code, Codes, FieldForm, FunctionForm, Opened, defines, sets, leaves_out, value, name, steps, class_code, field, done, and}
 use Rattle.es_steps.specs.Context.{NameKind, Fixed, Changing, MeansClass}
-use Rattle.es_steps.specs.Entries.{Entry, Entries, Listed, Method, Parameter, listed, after_run, methods_in, class_entry, without, constructor_form, constructor_parameters, ev_construction, entries, key_entries, key_entry, static_entries, static_entry, field_entries, field_entry, function_entries, element_function}
-use Rattle.es_steps.specs.Evaluation.{Environment, Run, Evaluation, gives, run_behind, go_on, bind, settle_run, settle, quiet, initialized, read_name, has_instance_methods, ev, ev_all, ev_keys, ev_key, ev_statics, ev_static, ev_fields, ev_field, ev_initializers}
+use Rattle.es_steps.specs.Entries.{Entry, Entries, Listed, Method, Parameter, listed, after_run, methods_in, keys_stay, class_entry, without, constructor_form, constructor_parameters, ev_construction, entries, key_entries, key_entry, static_entries, static_entry, field_entries, field_entry, function_entries, element_function}
+use Rattle.es_steps.specs.Evaluation.{Environment, Run, Evaluation, gives, run_behind, go_on, bind, settle_run, settle, quiet, initialized, read_name, has_instance_methods, declared_first, ev, ev_all, ev_keys, ev_key, ev_statics, ev_static, ev_fields, ev_field, ev_initializers}
 use Rattle.es_steps.specs.Events.{Events}
 use Rattle.es_steps.specs.Meaning.{with_entry, whole}
 use Rattle.es_steps.specs.Opening.{assigned_in, assigned_in_all}
+use Rattle.es_steps.proofs.Reflexive.{value-same}
 use Rattle.es_steps.specs.Values.{String, Value, Undefined, ClassOf, ThisOf, Referent}
 
 -- ---- evaluations that have a run in each environment, which ends in the same environment
@@ -102,9 +103,9 @@ no_methods : (cs : Codes) → AreFields cs → has_instance_methods cs ≡ false
 no_methods done h = refl
 no_methods (and c cs) h = no_methods-field c cs h.0 ∙ no_methods cs h.1
 
-class_entry-there : (declared : Option ℕ) (form : FunctionForm) (ps : List Parameter) (ms : Option (List Method)) (l : Option Listed) → ms ≡ Some [] → IsSome l → IsSome (class_entry declared form ps (Some None) ms l)
-class_entry-there declared form ps ms None e h = absurd (true≢false (sym h))
-class_entry-there declared form ps ms (Some l) e h = rw e refl
+class_entry-there : (stay : Bool) (declared : Option ℕ) (form : FunctionForm) (ps : List Parameter) (ms : Option (List Method)) (l : Option Listed) → stay ≡ true → ms ≡ Some [] → IsSome l → IsSome (class_entry stay declared form ps (Some None) ms l)
+class_entry-there stay declared form ps ms None t e h = absurd (true≢false (sym h))
+class_entry-there stay declared form ps ms (Some l) t e h = rw (t, e) refl
 
 with_entry-there : (n : ℕ) (e : Option Entry) (es : Option (List (ℕ × Entry))) → IsSome e → IsSome es → IsSome (with_entry n e es)
 with_entry-there n None es h k = h
@@ -141,16 +142,17 @@ module _ (opens : Opened → Evaluation) (first : ℕ) (late : List ℕ) where
   ev_key-stays : (c : Code) → IsField c → Stays (ev_key opens c)
   ev_key-stays c (plain_field form k r h) env = refl
 
-  ev_keys-stays : (cs : Codes) → AreFields cs → Stays (ev_keys opens cs)
-  ev_keys-stays done h env = refl
-  ev_keys-stays (and c cs) h env = bind-stays (ev_key opens c) (λ v. ev_keys opens cs) (ev_key-stays c h.0) (λ v. ev_keys-stays cs h.1) env
+  ev_keys-stays : (cs : Codes) (f : List Value → Evaluation) → AreFields cs → ((vs : List Value) → Stays (f vs)) → Stays (ev_keys opens cs f)
+  ev_keys-stays done f h k = k []
+  ev_keys-stays (and c cs) f h k = bind-stays (ev_key opens c) (λ v. ev_keys opens cs (λ vs. f (v ∷ vs))) (ev_key-stays c h.0) (λ v. ev_keys-stays cs (λ vs. f (v ∷ vs)) h.1 (λ vs. k (v ∷ vs)))
 
-  ev_static-stays : (n : ℕ) (c : Code) → IsField c → Stays (ev_static opens n c)
-  ev_static-stays n c (plain_field form k r h) env = refl
+  ev_static-stays : (n : ℕ) (a : Value) (c : Code) → IsField c → Stays (ev_static opens n a c)
+  ev_static-stays n a c (plain_field form k r h) env = refl
 
-  ev_statics-stays : (n : ℕ) (cs : Codes) → AreFields cs → Stays (ev_statics opens n cs)
-  ev_statics-stays n done h env = refl
-  ev_statics-stays n (and c cs) h env = bind-stays (ev_static opens n c) (λ v. ev_statics opens n cs) (ev_static-stays n c h.0) (λ v. ev_statics-stays n cs h.1) env
+  ev_statics-stays : (n : ℕ) (ks : List Value) (cs : Codes) → AreFields cs → Stays (ev_statics opens n ks cs)
+  ev_statics-stays n [] cs h env = refl
+  ev_statics-stays n (k ∷ ks) done h env = refl
+  ev_statics-stays n (k ∷ ks) (and c cs) h env = bind-stays (ev_static opens n k c) (λ v. ev_statics opens n ks cs) (ev_static-stays n k c h.0) (λ v. ev_statics-stays n ks cs h.1) env
 
   ev_field-stays : (n : ℕ) (c : Code) → IsField c → Stays (ev_field opens n c)
   ev_field-stays n c (plain_field form k r h) env =
@@ -182,6 +184,13 @@ module _ (opens : Opened → Evaluation) (first : ℕ) (late : List ℕ) where
   methods-fields env done h = refl
   methods-fields env (and c cs) h = methods-passes env c cs h.0 ∙ methods-fields env cs h.1
 
+  keys-passes : (s i : Environment) (c : Code) (cs : Codes) → IsField c → keys_stay opens first late s i (and c cs) ≡ keys_stay opens first late s i cs
+  keys-passes s i c cs (plain_field form k r h) = rw (value-same k) refl
+
+  keys-fields : (s i : Environment) (cs : Codes) → AreFields cs → keys_stay opens first late s i cs ≡ true
+  keys-fields s i done h = refl
+  keys-fields s i (and c cs) h = keys-passes s i c cs h.0 ∙ keys-fields s i cs h.1
+
   -- ---- entries of a class: behind its own it has none
 
   key-none : (s e : Environment) (c : Code) → IsField c → key_entry opens first late s e c ≡ []
@@ -196,7 +205,7 @@ module _ (opens : Opened → Evaluation) (first : ℕ) (late : List ℕ) where
 
   statics-none : (n : ℕ) (s e : Environment) (cs : Codes) → AreFields cs → static_entries opens first late n s e cs ≡ []
   statics-none n s e done h = refl
-  statics-none n s e (and c cs) h = rw (static-none s e c h.0) (statics-none n (after_run s (ev_static opens n c s)) e cs h.1)
+  statics-none n s e (and c cs) h = rw (static-none s e c h.0) (statics-none n (after_run s (ev_static opens n Undefined c s)) e cs h.1)
 
   field-none : (s e : Environment) (c : Code) → IsField c → field_entry opens first late s e c ≡ []
   field-none s e c (plain_field form k r p) = plain-entries s e r p
@@ -215,15 +224,19 @@ module _ (opens : Opened → Evaluation) (first : ℕ) (late : List ℕ) where
   class-entries : (n : ℕ) (declared : Option ℕ) (s e : Environment) (cs : Codes) → AreFields cs → IsSome (whole (entries opens first late s e (class_code n declared done cs)))
   class-entries n declared s e cs h =
       rw (keys-none _ e cs h, statics-none n _ e cs h, fields-none n _ _ cs h, functions-none _ _ e cs h)
-      (with_entry-there n _ (Some []) (class_entry-there declared (constructor_form cs) (constructor_parameters cs) (methods_in opens first late e cs) _ (methods-fields e cs h) (ends-there _ _ (construction-stays n cs h (without (assigned_in_all cs) e)))) refl)
+      (with_entry-there n _ (Some []) (class_entry-there _ declared (constructor_form cs) (constructor_parameters cs) _ _ (keys-fields s (without (assigned_in_all cs) e) cs h) (methods-fields s cs h) (ends-there _ _ (construction-stays n cs h (without (assigned_in_all cs) e)))) refl)
 
   -- ---- classes
 
+  declared-stays : (d : Option ℕ) (n : ℕ) → Stays (declared_first d n)
+  declared-stays None n env = refl
+  declared-stays (Some b) n env = refl
+
   class-stays : (c : Code) → IsClass c → Stays (ev opens c)
   class-stays c (plain_class n declared cs h) =
-      let statics : Value → Evaluation = λ u. bind (ev_statics opens n cs) (λ w. gives (ClassOf n)) in
-      settle-stays (bind (ev_keys opens cs) statics) (bind-stays (ev_keys opens cs) statics (ev_keys-stays cs h)
-      (λ u. bind-stays (ev_statics opens n cs) (λ w. gives (ClassOf n)) (ev_statics-stays n cs h) (λ w env. refl)))
+      let behind : List Value → Value → Evaluation = λ ks u. bind (ev_statics opens n ks cs) (λ w. gives (ClassOf n)) in
+      let statics : List Value → Evaluation = λ ks. bind (declared_first declared n) (behind ks) in
+      settle-stays (ev_keys opens cs statics) (ev_keys-stays cs statics h (λ ks. bind-stays (declared_first declared n) (behind ks) (declared-stays declared n) (λ u. bind-stays (ev_statics opens n ks cs) (λ w. gives (ClassOf n)) (ev_statics-stays n ks cs h) (λ w env. refl))))
 
   ev_all-stays : (cs : Codes) (f : List Value → Evaluation) → AreClasses cs → ((vs : List Value) → Stays (f vs)) → Stays (ev_all opens cs f)
   ev_all-stays done f h k = k []

@@ -1,11 +1,12 @@
 -- Whether a tree can be printed does not depend on its numbers.
-use Rattle.std.specs.Prelude.{◌≡◌, ℕ, suc, Bool, false, cond, not, ◌&&◌, ◌||◌, codes}
+use Rattle.std.specs.Prelude.{◌≡◌, ℕ, suc, Bool, false, cond, not, ◌&&◌, ◌||◌, codes, List}
 use Rattle.std.proofs.Common.{refl, ap, ap₂, ◌∙◌}
+use Rattle.es_base.specs.Conforms.{is_among}
 use Rattle.es_base.specs.Tree.{Tree, Part, Parts, Node, end, more, child, absent, list, string, boolean, literal}
 use Rattle.es_base.specs.declared.kind.Kind.{Kind}
 use Rattle.es_base.specs.declared.literal.LiteralValue.TheVariants as literal_value
-use Rattle.es_steps.specs.Parts.{at, items, is_present}
-use Rattle.es_steps.specs.Printable.{is_bad_name, is_bad_label_name, is_bad_label, is_bad_literal, tails_fit, is_bad_template, is_directive_of, is_bad_directive, count, is_kind_of, is_default, is_function_expression, name_of_part, shorthand_name, has_id, is_suspending, is_bad_property, is_spelled, is_bad_method, is_bad_field, is_meta_property, only_named, are_behind_default, are_specifiers, is_declaration_body, is_lexical_body, ends_open, part_ends_open, is_bad_if, is_super_part, has_optional, part_has_optional, is_spine_kind, any_optional, behind_first, has_stray_optional, is_bad_form, is_bad_node, is_default_export, is_module, is_declaration_without_name, is_bad_in, has_bad, bad_at, bad_in, is_printable}
+use Rattle.es_steps.specs.Parts.{at, items, string_of, is_true, is_present}
+use Rattle.es_steps.specs.Printable.{is_bad_name, is_bad_label_name, is_bad_label, is_bad_literal, tails_fit, is_bad_template, is_directive_of, is_bad_directive, count, is_kind_of, is_default, is_function_expression, is_identifier_name, name_of_part, shorthand_name, has_id, is_suspending, is_bad_property, is_spelled, is_bad_method, is_bad_field, is_meta_property, only_named, are_behind_default, are_specifiers, is_declaration_body, is_lexical_body, ends_open, part_ends_open, is_bad_if, is_super_part, has_optional, part_has_optional, is_spine_kind, any_optional, behind_first, has_stray_optional, is_bad_form, is_bad_node, is_default_export, is_module, is_declaration_without_name, is_bad_in, has_bad, bad_at, bad_in, Jumps, no_jumps, is_label_among, is_stray, is_looping, part_is_looping, labelled, jumps_inside, has_stray, stray_at, stray_in, is_printable}
 use Rattle.es_steps.specs.Values.{String}
 use Rattle.es_steps.proofs.Mapped.{mapped, mapped_part, mapped_parts}
 use Rattle.es_steps.proofs.PartsMapped.{cond-mapped, at-mapped, items_at-mapped, string_at-mapped, is_true_at-mapped, is_present_at-mapped}
@@ -77,7 +78,7 @@ module _ (f : ℕ → ℕ) where
   is_suspending-mapped p = refl
 
   is_bad_property-mapped : (ps : Parts) → is_bad_property (mapped_parts f ps) ≡ is_bad_property ps
-  is_bad_property-mapped ps = rw (string_at-mapped f 2 ps, is_true_at-mapped f 3 ps, is_true_at-mapped f 4 ps, is_true_at-mapped f 5 ps, at-mapped f 0 ps, at-mapped f 1 ps, name_of_part-mapped (at 0 ps), shorthand_name-mapped (at 1 ps), is_kind_of-mapped is_function_expression (at 1 ps), has_id-mapped (at 1 ps), is_suspending-mapped (at 1 ps)) refl
+  is_bad_property-mapped ps = rw (string_at-mapped f 2 ps, is_true_at-mapped f 3 ps, is_true_at-mapped f 4 ps, is_true_at-mapped f 5 ps, at-mapped f 0 ps, at-mapped f 1 ps, name_of_part-mapped (at 0 ps), shorthand_name-mapped (at 1 ps), is_kind_of-mapped is_identifier_name (at 0 ps), is_kind_of-mapped is_function_expression (at 1 ps), has_id-mapped (at 1 ps), is_suspending-mapped (at 1 ps)) refl
 
   is_spelled-mapped : (s : String) (p : Part) → is_spelled s (mapped_part f p) ≡ is_spelled s p
   is_spelled-mapped s (child (Node Kind.IdentifierName m span semantic_id ps)) = rw (string_at-mapped f 0 ps) refl
@@ -236,5 +237,47 @@ module _ (f : ℕ → ℕ) where
     bad_in-mapped d m end = refl
     bad_in-mapped d m (more p ps) = ap₂ (λ a b. a || b) (bad_at-mapped d m p) (bad_in-mapped d m ps)
 
+  -- ---- jumps
+
+  is_label_among-mapped : (unlabelled : Bool) (labels : List String) (p : Part) → is_label_among unlabelled labels (mapped_part f p) ≡ is_label_among unlabelled labels p
+  is_label_among-mapped unlabelled labels absent = refl
+  is_label_among-mapped unlabelled labels (child (Node kind m span semantic_id ps)) = ap (λ s. is_among s labels) (string_at-mapped f 0 ps)
+  is_label_among-mapped unlabelled labels p = refl
+
+  label_at-mapped : (unlabelled : Bool) (labels : List String) (ps : Parts) → is_label_among unlabelled labels (at 0 (mapped_parts f ps)) ≡ is_label_among unlabelled labels (at 0 ps)
+  label_at-mapped unlabelled labels ps = ap (is_label_among unlabelled labels) (at-mapped f 0 ps) ∙ is_label_among-mapped unlabelled labels (at 0 ps)
+
+  is_stray-mapped : (j : Jumps) (kind : Kind) (ps : Parts) → is_stray j kind (mapped_parts f ps) ≡ is_stray j kind ps
+  is_stray-mapped j Kind.BreakStatement ps = ap not (label_at-mapped j.breaks j.labels ps)
+  is_stray-mapped j Kind.ContinueStatement ps = ap not (label_at-mapped j.continues j.loops ps)
+  is_stray-mapped j kind ps = refl
+
+  mutual
+    is_looping-mapped : (t : Tree) → is_looping (mapped f t) ≡ is_looping t
+    is_looping-mapped (Node Kind.LabeledStatement m span semantic_id (more l (more b end))) = part_is_looping-mapped b
+    is_looping-mapped (Node kind m span semantic_id ps) = refl
+
+    part_is_looping-mapped : (p : Part) → part_is_looping (mapped_part f p) ≡ part_is_looping p
+    part_is_looping-mapped (child t) = is_looping-mapped t
+    part_is_looping-mapped p = refl
+
+  jumps_inside-mapped : (j : Jumps) (kind : Kind) (ps : Parts) → jumps_inside j kind (mapped_parts f ps) ≡ jumps_inside j kind ps
+  jumps_inside-mapped j Kind.LabeledStatement ps = rw (at-mapped f 0 ps, name_of_part-mapped (at 0 ps), at-mapped f 1 ps, part_is_looping-mapped (at 1 ps)) refl
+  jumps_inside-mapped j kind ps = refl
+
+  mutual
+    has_stray-mapped : (j : Jumps) (t : Tree) → has_stray j (mapped f t) ≡ has_stray j t
+    has_stray-mapped j (Node kind m span semantic_id ps) =
+        ap₂ (λ a b. a || b) (is_stray-mapped j kind ps) (ap (λ k. stray_in k (mapped_parts f ps)) (jumps_inside-mapped j kind ps) ∙ stray_in-mapped (jumps_inside j kind ps) ps)
+
+    stray_at-mapped : (j : Jumps) (p : Part) → stray_at j (mapped_part f p) ≡ stray_at j p
+    stray_at-mapped j (child t) = has_stray-mapped j t
+    stray_at-mapped j (list ps) = stray_in-mapped j ps
+    stray_at-mapped j p = refl
+
+    stray_in-mapped : (j : Jumps) (ps : Parts) → stray_in j (mapped_parts f ps) ≡ stray_in j ps
+    stray_in-mapped j end = refl
+    stray_in-mapped j (more p ps) = ap₂ (λ a b. a || b) (stray_at-mapped j p) (stray_in-mapped j ps)
+
   pub is_printable-mapped : (t : Tree) → is_printable (mapped f t) ≡ is_printable t
-  is_printable-mapped t = ap not (has_bad-mapped false false t)
+  is_printable-mapped t = ap not (ap₂ (λ a b. a || b) (has_bad-mapped false false t) (has_stray-mapped (no_jumps false) t))

@@ -4,13 +4,14 @@ use Rattle.std.proofs.Common.{ap, sym, ◌∙◌, rules}
 use Rattle.std.proofs.lemmas.Bool.{and_from, true≢false}
 use Rattle.es_steps.specs.Code.{FunctionForm}
 use Rattle.es_steps.specs.Entries.{Parameter, Identifier, RestIdentifier, Pattern, Method, Listed, Entry, FunctionEntry, ClassEntry}
-use Rattle.es_steps.specs.Events.{Detail, Operand, Empty, Spelled, Flag, Key, Opens, Closes, Prototype, Index, Rest, Operation, OfKind, Delete, Take, Place, RightOf, Default, Part, Event, ReadName, SetName, Get, Set, Define, Call, Construct, Operate, Update, PrivateGet, PrivateSet, PrivateInitialize, PrivateIn, AddBrand, SuperGet, SuperSet, SuperCall, SuperCallWithAll, Throw, Short, Held, Events, none, then}
+use Rattle.es_steps.specs.Events.{Detail, Operand, Empty, Spelled, Flag, Key, Opens, Closes, Prototype, Index, Rest, Operation, OfKind, Delete, Take, Place, RightOf, Default, Part, Event, ReadName, SetName, Get, Set, Define, Call, Construct, Operate, Update, PrivateGet, PrivateSet, PrivateInitialize, PrivateIn, AddBrand, SuperGet, SuperSet, SuperCall, SuperCallWithAll, InitializeClass, Throw, Short, Held, Events, none, then}
 use Rattle.es_steps.specs.Meaning.{Meaning, DeclarationKind, Variable, FunctionName, ParameterName, CaughtName, ImportName, ClassDeclared, MemberEntry, IsField, FunctionIs}
 use Rattle.es_steps.specs.Modules.{Specifier, Imported, ImportedDefault, ImportedNamespace, Reexported, ReexportedAll, ModuleLink, Exported, ExportedClass, ExportedBinding, ExportedFree, ExportedValue}
-use Rattle.es_steps.specs.SameMeanings.{same_list, same_option, same_detail, same_operation, same_place, same_referent, same_home, same_test, same_event, same_events, same_listed, same_form, same_parameter, same_method, same_entry, same_numbered, same_member, same_declaration, same_specifier, same_link, same_exported, same_export, same_meaning, same_meanings}
+use Rattle.es_steps.specs.SameMeanings.{same_list, same_option, same_detail, same_operation, same_place, same_referent, same_home, same_test, same_event, same_events, same_listed, same_form, same_parameter, same_method, same_entry, same_numbered, same_private_kind, same_member, same_declaration, same_specifier, same_link, same_exported, same_export, same_meaning, same_meanings}
+use Rattle.es_steps.specs.PrivateNames.{PrivateKind, a_field, a_method, a_getter, a_setter}
 use Rattle.es_steps.specs.SameTrees.{kind_number}
 use Rattle.es_steps.specs.SameValues.{same_boolean, same_nullable_string, same_constant, same_value}
-use Rattle.es_steps.specs.Values.{String, Constant, StringOf, NumberOf, BigIntOf, RegExpOf, BooleanOf, Null, RawTemplate, TagString, Value, ConstantOf, Undefined, BindingOf, FunctionOf, ClassOf, ThisOf, ArgumentsOf, NewTargetOf, ResultOf, FormerOf, Referent, Bound, Free, Home, OfClass, OfPrototype, OfObject, PrivateTest, HasField, HasBrand, IsClass}
+use Rattle.es_steps.specs.Values.{String, Constant, StringOf, NumberOf, BigIntOf, RegExpOf, BooleanOf, Null, RawTemplate, TagString, Value, ConstantOf, Undefined, BindingOf, FunctionOf, ClassOf, ThisOf, ArgumentsOf, NewTargetOf, ResultOf, FormerOf, KeyOf, Referent, Bound, Free, Home, OfClass, OfPrototype, OfObject, PrivateTest, HasField, HasBrand, IsClass}
 
 both : {a b : Bool} → a ≡ true → b ≡ true → a && b ≡ true
 both {a = a} {b = b} p q = and_from a b p q
@@ -47,7 +48,7 @@ constant-same Null = refl
 constant-same (RawTemplate s) = string-same s
 constant-same (TagString r c) = both (string-same r) (nullable_string-same c)
 
-value-same : (x : Value) → same_value x x ≡ true
+pub value-same : (x : Value) → same_value x x ≡ true
 value-same (ConstantOf c) = constant-same c
 value-same Undefined = refl
 value-same (BindingOf n) = number-same n
@@ -58,6 +59,7 @@ value-same (ArgumentsOf n) = number-same n
 value-same (NewTargetOf n) = number-same n
 value-same (ResultOf n) = number-same n
 value-same (FormerOf n) = number-same n
+value-same (KeyOf v) = value-same v
 
 detail-same : (x : Detail) → same_detail x x ≡ true
 detail-same Operand = refl
@@ -121,6 +123,7 @@ mutual
   event-same (SuperSet h k v w) = both (home-same h) (both (value-same k) (both (value-same v) (value-same w)))
   event-same (SuperCall m n vs) = both (number-same m) (both (number-same n) (values-same vs))
   event-same (SuperCallWithAll n) = number-same n
+  event-same (InitializeClass n) = number-same n
   event-same Throw = refl
   event-same (Short v) = value-same v
   event-same (Held m p t l v) = both (number-same m) (both (place-same p) (both (nullable-same t) (both (events-same l) (value-same v))))
@@ -153,9 +156,15 @@ numbered-same same each p = both (number-same p.0) (each p.1)
 numbered_list-same : {A : Type 0} (same : A → A → Bool) → ((x : A) → same x x ≡ true) → (ps : List (ℕ × A)) → same_list (same_numbered same) ps ps ≡ true
 numbered_list-same same each ps = list-same (same_numbered same) (numbered-same same each) ps
 
+private_kind-same : (x : PrivateKind) → same_private_kind x x ≡ true
+private_kind-same a_field = refl
+private_kind-same a_method = refl
+private_kind-same a_getter = refl
+private_kind-same a_setter = refl
+
 member-same : (e : MemberEntry) → same_member e e ≡ true
-member-same IsField = refl
-member-same (FunctionIs f) = number-same f
+member-same (IsField b) = boolean-same b
+member-same (FunctionIs b kind f) = both (boolean-same b) (both (private_kind-same kind) (number-same f))
 
 declaration-same : (d : DeclarationKind) → same_declaration d d ≡ true
 declaration-same (Variable s) = string-same s
@@ -187,7 +196,7 @@ export-same p = both (string-same p.0) (exported-same p.1)
 pub meaning-same : (m : Meaning) → same_meaning m m ≡ true
 meaning-same m =
     both (string-same m.source_type) (both (listed-same m.program) (both (numbered_list-same same_entry entry-same m.entries) (both (numbered_list-same same_member member-same m.members)
-    (both (numbered_list-same nat_eq number-same m.functions) (both (numbered_list-same same_declaration declaration-same m.bindings) (both (list-same same_link link-same m.links) (list-same same_export export-same m.exports)))))))
+    (both (numbered_list-same nat_eq number-same m.functions) (both (numbered_list-same same_declaration declaration-same m.bindings) (both (numbered_list-same bytes_eq string-same m.globals) (both (numbered_list-same nat_eq number-same m.places) (both (list-same same_link link-same m.links) (list-same same_export export-same m.exports)))))))))
 
 -- meanings that are found to differ are not equal
 pub differ : (a b : Option Meaning) → same_meanings a b ≡ false → a ≡ b → ⊥

@@ -4,17 +4,20 @@ use Rattle.std.proofs.Common.{refl, ap, ap₂, ◌∙◌}
 use Rattle.es_base.specs.Numbered.{is_new}
 use Rattle.es_base.specs.declared.kind.Kind.{Kind}
 use Rattle.es_base.specs.declared.ledger.GeneratedKind.{GeneratedKind}
-use Rattle.es_steps.specs.Code.{Code, Codes, Target, FunctionForm, no_rule, value, spelled, private_name, binding, rest, assign, operation, pattern, takes, steps, gives_to, new_return, field, private_field, method, generated_element, no_target, done, and, one, joined}
-use Rattle.es_steps.specs.Context.{Context, Generated, MeansClass, is_constructor, is_generated_private}
-use Rattle.es_steps.specs.Events.{Detail, Operand, Index, Rest, OfKind}
+use Rattle.es_steps.specs.Code.{Code, Codes, Target, FunctionForm, FieldForm, nothing, no_rule, value, spelled, private_name, binding, rest, assign, operation, pattern, takes, steps, gives_to, export_default, function, new_function, new_return, class_code, field, private_field, method, private_method, constructor, generated_element, give_function, give_class, to_name, to_pattern, to_default, no_target, done, and, one, joined}
+use Rattle.es_steps.specs.Context.{Context, NameKind, Generated, MeansClass, new_here, is_constructor, is_generated_private}
+use Rattle.es_steps.specs.Events.{Detail, Operand, Empty, Index, Rest, OfKind, Take}
 use Rattle.es_steps.specs.Expressions.{the_code, key_code, key_details, target_of}
 use Rattle.es_steps.specs.Members.{Member, Members, code, absent, list, string, more, end, at, from, before, operands, details, codes_in, codes_of, word_of, flag_of}
-use Rattle.es_steps.specs.Statements.{held_from, case_code, given_codes, catch_code, is_initialized, initialized_first, head_initializers, declared_target, given_targets, head_targets, for_each_code, is_directive, expression_code, declarator_of, declarator_code, return_code, suspension_code, default_export_code, default_code, rest_code, pattern_property_code, target_number, taken, taken_element, elements_from, members_of_list, array_pattern_code, taken_properties, object_pattern_code, form_of, function_or_new, own_name_of, function_code, function_expression_code, declared_function, function_declaration_code, arrow_code, declared_by, declared_by_let, elements_of, class_of, value_or_undefined, is_name_or_length, is_absent, field_form, private_element, field_of, field_code, is_constructor_key, method_or_constructor, method_of, method_code}
-use Rattle.es_steps.specs.Values.{String, StringOf, ConstantOf}
+use Rattle.es_steps.specs.Options.{sets_fields, leaves_out_fields}
+use Rattle.es_steps.specs.PrivateNames.{PrivateMember, member_at}
+use Rattle.es_steps.specs.Statements.{held_from, case_code, given_codes, catch_code, is_initialized, initialized_first, head_initializers, declared_target, given_targets, head_targets, for_each_code, is_directive, expression_code, declarator_of, declarator_code, return_code, suspension_code, default_export_code, default_code, rest_code, pattern_property_code, target_number, taken, taken_element, elements_from, members_of_list, array_pattern_code, taken_properties, object_pattern_code, form_of, function_or_new, own_name_of, function_code, function_expression_code, declared_function, function_declaration_code, arrow_code, declared_by, declared_by_let, elements_of, class_of, value_or_undefined, is_name_string, is_name_or_length, is_absent, field_form, private_element, field_of, field_code, is_constructor_key, method_or_constructor, is_declared_as, method_of, method_code}
+use Rattle.es_steps.specs.Values.{String, StringOf, ConstantOf, Undefined}
 use Rattle.es_steps.proofs.ContextMapped.{is_generated_private-mapped}
 use Rattle.es_steps.proofs.ExpressionsMapped.{the_code_at-mapped, key_code-mapped, key_details-mapped, target_of-mapped, target_at-mapped}
 use Rattle.es_steps.proofs.FormsMapped.{code-cond, cond-code, here, given-mapped}
-use Rattle.es_steps.proofs.Mapped.{Renames, mapped_option, mapped_generated, mapped_pair, mapped_context, mapped_code, mapped_codes, mapped_target, mapped_member, mapped_members}
+use Rattle.es_steps.proofs.Mapped.{Renames, mapped_option, mapped_generated, mapped_name_kind, mapped_private, mapped_pair, mapped_context, mapped_code, mapped_codes, mapped_target, mapped_member, mapped_members}
+use Rattle.es_steps.proofs.PrivatesMapped.{member_at-mapped}
 use Rattle.es_steps.proofs.MembersMapped.{at-mapped, from-mapped, before-mapped, joined-mapped, operands-mapped, details-mapped, codes_in-mapped, word_at-mapped, flag_at-mapped, codes_at-mapped}
 use Rattle.es_steps.proofs.PartsMapped.{cond-mapped}
 
@@ -100,7 +103,7 @@ module _ (f : ℕ → ℕ) where
   elements_from-mapped : (m i : ℕ) (ps : Members) → elements_from (f m) i (mapped_members f ps) ≡ mapped_codes f (elements_from m i ps)
   elements_from-mapped m i end = refl
   elements_from-mapped m i (more (code c) ps) = ap₂ and (taken_element-mapped m i c) (elements_from-mapped m (suc i) ps)
-  elements_from-mapped m i (more p ps) = elements_from-mapped m (suc i) ps
+  elements_from-mapped m i (more p ps) = ap (and (operation (f m) (Take (Index i ∷ Empty ∷ [])) done done)) (elements_from-mapped m (suc i) ps)
 
   members_of_list-mapped : (p : Member) → members_of_list (mapped_member f p) ≡ mapped_members f (members_of_list p)
   members_of_list-mapped (list ps) = refl
@@ -183,12 +186,9 @@ module _ (f : ℕ → ℕ) where
       rw (flag_at-mapped f 4 ps, flag_at-mapped f 3 ps, word_at-mapped f 2 ps, the_code_at-mapped f 1 ps, is_constructor_key-mapped k, key_code-mapped f (flag_of (at 3 ps)) k)
       (method_or_constructor-mapped (is_constructor (word_of (at 2 ps))) (is_constructor_key k && not (flag_of (at 4 ps) || flag_of (at 3 ps))) (method (flag_of (at 4 ps)) (word_of (at 2 ps)) (key_code (flag_of (at 3 ps)) k) (the_code (at 1 ps))) (the_code (at 1 ps)))
 
-  method_of-mapped : (ps : Members) (k : Code) → method_of (mapped_members f ps) (mapped_code f k) ≡ mapped_code f (method_of ps k)
-  method_of-mapped ps (private_name d s x) = rw (flag_at-mapped f 4 ps, the_code_at-mapped f 1 ps) refl
-  method_of-mapped ps k = ordinary-mapped ps k
-
-  pub method_code-mapped : (ps : Members) → method_code (mapped_members f ps) ≡ mapped_code f (method_code ps)
-  method_code-mapped ps = ap (method_of (mapped_members f ps)) (the_code_at-mapped f 0 ps) ∙ method_of-mapped ps (the_code (at 0 ps))
+  is_declared_as-mapped : (x : Option PrivateMember) (is_static : Bool) (kind : String) → is_declared_as (mapped_option (mapped_private f) x) is_static kind ≡ is_declared_as x is_static kind
+  is_declared_as-mapped None is_static kind = refl
+  is_declared_as-mapped (Some x) is_static kind = refl
 
 module _ {first : ℕ} {f : ℕ → ℕ} (r : Renames first f) (c : Context) (e : c.first_new ≡ first) where
   abbrev there : Context
@@ -245,6 +245,15 @@ module _ {first : ℕ} {f : ℕ → ℕ} (r : Renames first f) (c : Context) (e 
       (function_or_new-mapped f (is_new c.first_new g) g (form_of true (flag_of (at 2 ps)) false) None (codes_of (at 0 ps)) (the_code (at 1 ps)))
 
   -- ---- classes
+
+  method_of-mapped : (ps : Members) (k : Code) → method_of there (mapped_members f ps) (mapped_code f k) ≡ mapped_code f (method_of c ps k)
+  method_of-mapped ps (private_name d s x) =
+      rw (member_at-mapped r d c.members, flag_at-mapped f 4 ps, word_at-mapped f 2 ps, is_declared_as-mapped f (member_at d c.members) (flag_of (at 4 ps)) (word_of (at 2 ps)), the_code_at-mapped f 1 ps)
+      (cond-code f (is_declared_as (member_at d c.members) (flag_of (at 4 ps)) (word_of (at 2 ps))) (private_method (flag_of (at 4 ps)) d (the_code (at 1 ps))) no_rule)
+  method_of-mapped ps k = ordinary-mapped f ps k
+
+  pub method_code-mapped : (ps : Members) → method_code there (mapped_members f ps) ≡ mapped_code f (method_code c ps)
+  method_code-mapped ps = ap (method_of there (mapped_members f ps)) (the_code_at-mapped f 0 ps) ∙ method_of-mapped ps (the_code (at 0 ps))
 
   pub declared_by_let-mapped : (n : ℕ) (p : Option (ℕ × ℕ)) → declared_by_let (f n) (mapped_option (mapped_pair f) p) ≡ mapped_option f (declared_by_let n p)
   declared_by_let-mapped n None = refl

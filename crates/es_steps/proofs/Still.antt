@@ -6,13 +6,13 @@ use Rattle.es_base.specs.declared.ids.NodeId.{NodeId}
 use Rattle.es_base.specs.declared.ledger.GeneratedKind.{GeneratedKind}
 use Rattle.es_base.specs.declared.ledger.LedgerEntry.{LedgerEntry}
 use Rattle.es_steps.specs.Entries.{Parameter, Identifier, RestIdentifier, Pattern, Method, Listed, Entry, FunctionEntry, ClassEntry}
-use Rattle.es_steps.specs.Events.{Event, ReadName, SetName, Get, Set, Define, Call, Construct, Operate, Update, PrivateGet, PrivateSet, PrivateInitialize, PrivateIn, AddBrand, SuperGet, SuperSet, SuperCall, SuperCallWithAll, Throw, Short, Held, Events, none, then}
+use Rattle.es_steps.specs.Events.{Event, ReadName, SetName, Get, Set, Define, Call, Construct, Operate, Update, PrivateGet, PrivateSet, PrivateInitialize, PrivateIn, AddBrand, SuperGet, SuperSet, SuperCall, SuperCallWithAll, InitializeClass, Throw, Short, Held, Events, none, then}
 use Rattle.es_steps.specs.Meaning.{Meaning, Terms, DeclarationKind, MemberEntry, IsField, FunctionIs}
 use Rattle.es_steps.specs.Modules.{Specifier, Imported, ImportedDefault, ImportedNamespace, Reexported, ReexportedAll, ModuleLink, Exported, ExportedClass, ExportedBinding, ExportedFree, ExportedValue}
 use Rattle.es_steps.specs.PrivateNames.{PrivateMember}
-use Rattle.es_steps.specs.Standing.{value_numbers, values_numbers, nullable_value_numbers, referent_numbers, home_numbers, test_numbers, event_numbers, events_numbers, listed_numbers, parameter_numbers, nullable_number, all_numbers, method_numbers, entry_numbers, numbered_entry_numbers, member_numbers, numbered_member_numbers, pair_numbers, binding_numbers, specifier_numbers, link_numbers, exported_numbers, named_export_numbers, meaning_numbers, generated_numbers, ledger_numbers, private_numbers, terms_numbers, all_pass}
-use Rattle.es_steps.specs.Values.{String, Value, ConstantOf, Undefined, BindingOf, FunctionOf, ClassOf, ThisOf, ArgumentsOf, NewTargetOf, ResultOf, FormerOf, Referent, Bound, Free, Home, OfClass, OfPrototype, OfObject, PrivateTest, HasField, HasBrand, IsClass}
-use Rattle.es_steps.proofs.Mapped.{mapped_option, mapped_referent, mapped_value, mapped_values, mapped_nullable, mapped_home, mapped_test, mapped_event, mapped_events, mapped_listed, mapped_parameter, mapped_method, mapped_entry, mapped_numbered_entry, mapped_member_entry, mapped_numbered_member, mapped_pair, mapped_binding, mapped_specifier, mapped_link, mapped_exported, mapped_named_export, mapped_meaning, mapped_generated, mapped_ledger_entry, mapped_private, mapped_terms}
+use Rattle.es_steps.specs.Standing.{value_numbers, values_numbers, nullable_value_numbers, referent_numbers, home_numbers, test_numbers, event_numbers, events_numbers, listed_numbers, parameter_numbers, nullable_number, all_numbers, method_numbers, entry_numbers, numbered_entry_numbers, member_numbers, numbered_member_numbers, pair_numbers, binding_numbers, name_numbers, specifier_numbers, link_numbers, exported_numbers, named_export_numbers, meaning_numbers, generated_numbers, ledger_numbers, private_numbers, terms_numbers, all_pass}
+use Rattle.es_steps.specs.Values.{String, Value, ConstantOf, Undefined, BindingOf, FunctionOf, ClassOf, ThisOf, ArgumentsOf, NewTargetOf, ResultOf, FormerOf, KeyOf, Referent, Bound, Free, Home, OfClass, OfPrototype, OfObject, PrivateTest, HasField, HasBrand, IsClass}
+use Rattle.es_steps.proofs.Mapped.{mapped_option, mapped_referent, mapped_value, mapped_values, mapped_nullable, mapped_home, mapped_test, mapped_event, mapped_events, mapped_listed, mapped_parameter, mapped_method, mapped_entry, mapped_numbered_entry, mapped_member_entry, mapped_numbered_member, mapped_pair, mapped_binding, mapped_name, mapped_specifier, mapped_link, mapped_exported, mapped_named_export, mapped_meaning, mapped_generated, mapped_ledger_entry, mapped_private, mapped_terms}
 
 -- all pass in two parts if they do in both
 pub in_two : (test : ℕ → Bool) (xs ys : List ℕ) → all_pass test (xs ++ ys) ≡ true → (all_pass test xs ≡ true) × (all_pass test ys ≡ true)
@@ -67,6 +67,7 @@ module _ (f : ℕ → ℕ) (test : ℕ → Bool) (still : (n : ℕ) → test n �
   value-still (NewTargetOf k) all = ap NewTargetOf (number-still k [] all)
   value-still (ResultOf m) all = ap ResultOf (number-still m [] all)
   value-still (FormerOf m) all = ap FormerOf (number-still m [] all)
+  value-still (KeyOf v) all = ap KeyOf (value-still v all)
 
   values-still : (vs : List Value) → Pass (values_numbers vs) → mapped_values f vs ≡ vs
   values-still [] all = refl
@@ -140,6 +141,7 @@ module _ (f : ℕ → ℕ) (test : ℕ → Bool) (still : (n : ℕ) → test n �
         let ps = in_three test (m ∷ []) (n ∷ []) (values_numbers vs) all in
         rw (number-still m [] ps.0, number-still n [] ps.1.0, values-still vs ps.1.1) refl
     event-still (SuperCallWithAll n) all = ap SuperCallWithAll (number-still n [] all)
+    event-still (InitializeClass n) all = ap InitializeClass (number-still n [] all)
     event-still Throw all = refl
     event-still (Short v) all = ap Short (value-still v all)
     event-still (Held m place x l v) all =
@@ -184,8 +186,8 @@ module _ (f : ℕ → ℕ) (test : ℕ → Bool) (still : (n : ℕ) → test n �
   numbered_entry-still p all = rw (number-still p.0 (entry_numbers p.1) all, entry-still p.1 (rest p.0 (entry_numbers p.1) all)) refl
 
   member-still : (e : MemberEntry) → Pass (member_numbers e) → mapped_member_entry f e ≡ e
-  member-still IsField all = refl
-  member-still (FunctionIs g) all = ap FunctionIs (number-still g [] all)
+  member-still (IsField is_static) all = refl
+  member-still (FunctionIs is_static kind g) all = ap (FunctionIs is_static kind) (number-still g [] all)
 
   numbered_member-still : (p : ℕ × MemberEntry) → Pass (numbered_member_numbers p) → mapped_numbered_member f p ≡ p
   numbered_member-still p all = rw (number-still p.0 (member_numbers p.1) all, member-still p.1 (rest p.0 (member_numbers p.1) all)) refl
@@ -195,6 +197,9 @@ module _ (f : ℕ → ℕ) (test : ℕ → Bool) (still : (n : ℕ) → test n �
 
   binding-still : (b : ℕ × DeclarationKind) → Pass (binding_numbers b) → mapped_binding f b ≡ b
   binding-still b all = rw (number-still b.0 [] all) refl
+
+  name-still : (p : ℕ × String) → Pass (name_numbers p) → mapped_name f p ≡ p
+  name-still p all = rw (number-still p.0 [] all) refl
 
   specifier-still : (s : Specifier) → Pass (specifier_numbers s) → mapped_specifier f s ≡ s
   specifier-still (Imported s b) all = ap (Imported s) (number-still b [] all)
@@ -225,9 +230,12 @@ module _ (f : ℕ → ℕ) (test : ℕ → Bool) (still : (n : ℕ) → test n �
       let bindings : List ℕ = all_numbers binding_numbers m.bindings in
       let links : List ℕ = all_numbers link_numbers m.links in
       let exports : List ℕ = all_numbers named_export_numbers m.exports in
-      let behind = in_four test (listed_numbers m.program ++ entries ++ members ++ functions) bindings links exports all in
-      let front = in_four test (listed_numbers m.program) entries members functions behind.0 in
-      rw (listed-still m.program front.0, all-still numbered_entry_numbers (mapped_numbered_entry f) numbered_entry-still m.entries front.1.0, all-still numbered_member_numbers (mapped_numbered_member f) numbered_member-still m.members front.1.1.0, all-still pair_numbers (mapped_pair f) pair-still m.functions front.1.1.1, all-still binding_numbers (mapped_binding f) binding-still m.bindings behind.1.0, all-still link_numbers (mapped_link f) link-still m.links behind.1.1.0, all-still named_export_numbers (mapped_named_export f) named_export-still m.exports behind.1.1.1) refl
+      let globals : List ℕ = all_numbers name_numbers m.globals in
+      let places : List ℕ = all_numbers pair_numbers m.places in
+      let behind = in_three test (listed_numbers m.program ++ entries ++ members ++ functions ++ bindings ++ globals ++ places) links exports all in
+      let middle = in_four test (listed_numbers m.program ++ entries ++ members ++ functions) bindings globals places behind.0 in
+      let front = in_four test (listed_numbers m.program) entries members functions middle.0 in
+      rw (listed-still m.program front.0, all-still numbered_entry_numbers (mapped_numbered_entry f) numbered_entry-still m.entries front.1.0, all-still numbered_member_numbers (mapped_numbered_member f) numbered_member-still m.members front.1.1.0, all-still pair_numbers (mapped_pair f) pair-still m.functions front.1.1.1, all-still binding_numbers (mapped_binding f) binding-still m.bindings middle.1.0, all-still name_numbers (mapped_name f) name-still m.globals middle.1.1.0, all-still pair_numbers (mapped_pair f) pair-still m.places middle.1.1.1, all-still link_numbers (mapped_link f) link-still m.links behind.1.0, all-still named_export_numbers (mapped_named_export f) named_export-still m.exports behind.1.1) refl
 
   id-still : (n : NodeId) (ns : List ℕ) → Pass (n.0 ∷ ns) → record { 0 = f n.0 } ≡ n
   id-still n ns all = ap (λ (k : ℕ). record { 0 = k }) (number-still n.0 ns all)

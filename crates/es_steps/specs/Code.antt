@@ -31,6 +31,8 @@ pub record TemplateString : Type 0 where
 pub data Opened : Type 0 where
   InitializersOf : (n : ℕ) → Opened
   BodyOf : (s : String) → Opened
+  -- of a function that is called with what `super(..)` gave
+  CalledBodyOf : (s : String) → Opened
 
 mutual
   pub data Code : Type 0 where
@@ -92,6 +94,11 @@ mutual
     constructor : (function : Code) → Code
     static_block : (all : Codes) → Code
     generated_element : (s : String) (right : Code) → Code
+    -- what a generated call or member gives: a value without a receiver
+    from_call : (e : Code) → Code
+    from_member : (e : Code) → Code
+    -- a value as the key of a property
+    key_of : (e : Code) → Code
     -- generated forms: a helper, a call of one that stands in another form, and what they do
     helper : (h : Helper) → Code
     helper_call : (m : ℕ) (h : Helper) (arguments : Codes) → Code

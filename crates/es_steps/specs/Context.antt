@@ -7,7 +7,7 @@ use Rattle.es_base.specs.Tree.{Tree, Part, Parts, Node, end, more, child, list}
 use Rattle.es_base.specs.declared.kind.Kind.{Kind}
 use Rattle.es_base.specs.declared.ledger.GeneratedKind.{GeneratedKind}
 use Rattle.es_base.specs.declared.ledger.LedgerEntry.{LedgerEntry}
-use Rattle.es_steps.specs.Parts.{at, block_items, string_of, is_true, is_present}
+use Rattle.es_steps.specs.Parts.{at, items, block_items, string_of, is_true, is_present}
 use Rattle.es_steps.specs.PrivateNames.{PrivateMember, seen_members}
 use Rattle.es_steps.specs.References.{declared, has_number}
 use Rattle.es_steps.specs.Scopes.{ClassName, no_class, declares, own_name, let_names, Declaration, names_at, is_body_part, class_in}
@@ -54,8 +54,9 @@ pub record Context : Type 0 where
   -- number, or all
   pub constructs : Option ℕ
   pub initializing : Option ℕ
-  -- whether the nearest function or arrow is new
+  -- whether the nearest function or arrow is new, and the name of its rest parameter
   pub in_new_function : Bool
+  pub rest_name : String
   -- the nearest class whose body is around, and whether it has a heritage
   pub class : ℕ
   pub has_heritage : Bool
@@ -179,12 +180,22 @@ frame_of Kind.AssignmentExpression = assignment_frame
 frame_of Kind.VariableDeclarator = declarator_frame
 frame_of kind = same_frame
 
+abbrev pub name_in : Part → String
+name_in (child (Node kind m span semantic_id ps)) = string_of (at 0 ps)
+name_in p = []
+
+-- the name of the rest among parameters
+abbrev pub rest_among : Parts → String
+rest_among end = []
+rest_among (more (child (Node Kind.RestElement m span semantic_id ps)) rest) = name_in (at 0 ps)
+rest_among (more p rest) = rest_among rest
+
 -- in a function f that is no arrow: `this` in a constructor and in what stands for `super(..)` is the class's
 abbrev pub in_function : FunctionRole → ℕ → Parts → Context → Context
-in_function a_function f ps c = record c { this = ThisOf f; new_target = NewTargetOf f; arguments = ArgumentsOf f; home = None; constructs = None; in_new_function = new_here c f }
-in_function (constructor_of n) f ps c = record c { this = ThisOf n; new_target = NewTargetOf n; arguments = ArgumentsOf n; home = Some (OfPrototype n); constructs = cond c.has_heritage (Some n) None; initializing = initializing_call ps; in_new_function = new_here c f }
-in_function (method_on home) f ps c = record c { this = ThisOf f; new_target = NewTargetOf f; arguments = ArgumentsOf f; home = Some home; constructs = None; in_new_function = new_here c f }
-in_function (super_function_of n) f ps c = record c { this = ThisOf n; new_target = Undefined; arguments = ArgumentsOf f; home = None; constructs = None; in_new_function = new_here c f }
+in_function a_function f ps c = record c { this = ThisOf f; new_target = NewTargetOf f; arguments = ArgumentsOf f; home = None; constructs = None; in_new_function = new_here c f; rest_name = rest_among (items (at 1 ps)) }
+in_function (constructor_of n) f ps c = record c { this = ThisOf n; new_target = NewTargetOf n; arguments = ArgumentsOf n; home = Some (OfPrototype n); constructs = cond c.has_heritage (Some n) None; initializing = initializing_call ps; in_new_function = new_here c f; rest_name = rest_among (items (at 1 ps)) }
+in_function (method_on home) f ps c = record c { this = ThisOf f; new_target = NewTargetOf f; arguments = ArgumentsOf f; home = Some home; constructs = None; in_new_function = new_here c f; rest_name = rest_among (items (at 1 ps)) }
+in_function (super_function_of n) f ps c = record c { this = ThisOf n; new_target = Undefined; arguments = ArgumentsOf f; home = None; constructs = None; in_new_function = new_here c f; rest_name = rest_among (items (at 1 ps)) }
 
 -- in the value of a field or in a static block, where `new.target` is undefined
 abbrev pub in_element : Bool → Context → Context
@@ -206,10 +217,6 @@ abbrev pub role_of_generated : Option GeneratedKind → FunctionRole
 role_of_generated (Some (GeneratedKind.SuperFn n)) = super_function_of n.0
 role_of_generated g = a_function
 
-abbrev pub name_in : Part → String
-name_in (child (Node kind m span semantic_id ps)) = string_of (at 0 ps)
-name_in p = []
-
 -- the class in the initializer of a new declarator, and the identifier that it declares, unless that is a generated name
 abbrev pub let_class_of : Option GeneratedKind → Option ℕ → Part → Option (ℕ × ℕ)
 let_class_of None (Some n) (child (Node Kind.BindingIdentifier b span semantic_id ps)) = Some (n, b)
@@ -217,7 +224,7 @@ let_class_of g n p = None
 
 abbrev pub framed : Frame → ℕ → Parts → ℕ → Context → Context
 framed function_frame m ps i c = in_function c.role m ps c
-framed arrow_frame m ps i c = record c { in_new_function = new_here c m }
+framed arrow_frame m ps i c = record c { in_new_function = new_here c m; rest_name = rest_among (items (at 0 ps)) }
 framed class_frame m ps i c = cond (nat_eq i 2) (record c { class = m; has_heritage = is_present (at 1 ps) }) c
 framed field_frame m ps i c = cond (nat_eq i 1) (in_element (is_true (at 3 ps)) c) c
 framed method_frame m ps i c = c

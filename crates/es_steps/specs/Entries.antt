@@ -1,14 +1,14 @@
 -- What a program's functions and classes do when they are called and constructed: an entry for each, read where it
 -- stands. (ECMA-262, 10.2 and 15.7: calls, field initialization, class definition evaluation. Entries are our own.)
-use Rattle.std.specs.Prelude.{ℕ, suc, List, [], ◌∷◌, ◌++◌, Bool, true, false, cond, ◌||◌, bytes_eq, Option, Some, None}
-use Rattle.es_steps.specs.Code.{Code, Codes, Target, Callee, FunctionForm, Opened, binding, rest, member, private_member, super_member, private_in, assign, compound, logical, logical_assign, update, call, tag, construct, super_call, sequence, template, operation, chain, short, tested, pattern, takes, steps, gives_to, export_default, function, new_function, class_code, field, private_field, method, private_method, constructor, static_block, generated_element, define, private_initialize, call_arrow, call_closure, give_function, give_class, to_name, to_member, to_private, to_super, to_setter, to_pattern, to_default, plain, on_member, on_private, on_super, with_receiver, checked, on_chain, behind_test, done, and}
-use Rattle.es_steps.specs.Context.{Generated}
+use Rattle.std.specs.Prelude.{ℕ, suc, List, [], ◌∷◌, ◌++◌, Bool, true, false, cond, ◌&&◌, ◌||◌, bytes_eq, Option, Some, None}
+use Rattle.es_steps.specs.Code.{Code, Codes, Target, Callee, FunctionForm, Opened, binding, rest, member, private_member, super_member, private_in, assign, compound, logical, logical_assign, update, call, tag, construct, super_call, sequence, template, operation, chain, short, tested, pattern, takes, steps, gives_to, export_default, function, new_function, class_code, field, private_field, method, private_method, constructor, static_block, generated_element, from_call, from_member, key_of, define, private_initialize, call_arrow, call_closure, give_function, give_class, to_name, to_member, to_private, to_super, to_setter, to_pattern, to_default, plain, on_member, on_private, on_super, with_receiver, checked, on_chain, behind_test, done, and}
 use Rattle.es_steps.specs.Evaluation.{Environment, Run, Evaluation, no_meaning, gives, event, bind, bind_parameters, write_ready, ev, ev_all, ev_target, ev_take, ev_callee, ev_key, ev_keys, ev_static, ev_field, ev_initializers}
 use Rattle.es_steps.specs.Events.{Events, Take, Index, Rest, Operate, SuperCallWithAll, value_behind}
-use Rattle.es_steps.specs.GeneratedForms.{opened_body}
-use Rattle.es_steps.specs.Opening.{assigned_in, assigned_in_all}
+use Rattle.es_steps.specs.GeneratedForms.{opened_body, is_plain}
+use Rattle.es_steps.specs.Opening.{assigned_in, assigned_in_all, all_arguments}
 use Rattle.es_steps.specs.References.{has_number}
-use Rattle.es_steps.specs.Values.{String, Value, Undefined, ThisOf, ResultOf}
+use Rattle.es_steps.specs.SameValues.{same_value}
+use Rattle.es_steps.specs.Values.{String, Value, Undefined, ThisOf, ResultOf, as_key}
 
 -- a parameter: an identifier, alone or as a rest, or a pattern, which the list takes apart
 pub data Parameter : Type 0 where
@@ -41,12 +41,10 @@ abbrev pub without : List String → Environment → Environment
 without names [] = []
 without names (p ∷ ps) = cond (is_string_among p.0 names) (without names ps) (p ∷ without names ps)
 
--- ---- parameters: a generated one is no part of an entry
+-- ---- parameters
 
 abbrev pub parameter_of : Code → List Parameter
-parameter_of (binding b s (Generated g)) = []
 parameter_of (binding b s kind) = Identifier b ∷ []
-parameter_of (rest (to_name b s (Generated g))) = []
 parameter_of (rest (to_name b s kind)) = RestIdentifier b ∷ []
 parameter_of c = Pattern ∷ []
 
@@ -62,10 +60,10 @@ constructor_form done = plain_form
 constructor_form (and (constructor (function f form own_name ps body)) cs) = form
 constructor_form (and c cs) = constructor_form cs
 
+-- a new constructor has the parameters of none
 abbrev pub constructor_parameters : Codes → List Parameter
 constructor_parameters done = []
 constructor_parameters (and (constructor (function f form own_name ps body)) cs) = parameters_of ps
-constructor_parameters (and (constructor (new_function f form ps body)) cs) = parameters_of ps
 constructor_parameters (and c cs) = constructor_parameters cs
 
 -- ---- bodies and constructions; `late` are the classes whose parameters come before their fields
@@ -104,9 +102,9 @@ module _ (opens : Opened → Evaluation) (first_new : ℕ) (late : List ℕ) whe
   -- another constructs its parent with all arguments where it has no constructor
   abbrev pub ev_construction : ℕ → Codes → Codes → Codes → Evaluation
   ev_construction n done all (and (constructor (function f form own_name ps body)) es) = if_one (no_constructor es) (in_order (has_number n late) (ev_initializers opens n all) (ev_parameters 0 ps) (ev opens body))
-  ev_construction n done all (and (constructor (new_function f form ps body)) es) = if_one (no_constructor es) (in_order (has_number n late) (ev_initializers opens n all) (ev_parameters 0 ps) (ev opens body))
+  ev_construction n done all (and (constructor (new_function f form done body)) es) = if_one (no_constructor es && is_plain form) (bind (ev_initializers opens n all) (λ v. ev opens body))
   ev_construction n (and h hs) all (and (constructor (function f form own_name ps body)) es) = if_one (no_constructor es) (ev_body ps body)
-  ev_construction n (and h hs) all (and (constructor (new_function f form ps body)) es) = if_one (no_constructor es) (ev_body ps body)
+  ev_construction n (and h hs) all (and (constructor (new_function f form ps body)) es) = if_one (no_constructor es && (is_plain form && all_arguments ps)) (ev opens body)
   ev_construction n heritage all (and (constructor e) es) = no_meaning
   ev_construction n heritage all (and e es) = ev_construction n heritage all es
   ev_construction n done all done = ev_initializers opens n all
@@ -130,17 +128,21 @@ abbrev pub function_entry : FunctionForm → Option ℕ → List Parameter → O
 function_entry form own_name ps None = None
 function_entry form own_name ps (Some l) = Some (FunctionEntry form own_name ps l)
 
-abbrev pub class_entry : Option ℕ → FunctionForm → List Parameter → Option (Option Value) → Option (List Method) → Option Listed → Option Entry
-class_entry declared form ps (Some h) (Some ms) (Some l) = Some (ClassEntry declared h ms form ps l)
-class_entry declared form ps h ms l = None
+abbrev pub class_entry : Bool → Option ℕ → FunctionForm → List Parameter → Option (Option Value) → Option (List Method) → Option Listed → Option Entry
+class_entry true declared form ps (Some h) (Some ms) (Some l) = Some (ClassEntry declared h ms form ps l)
+class_entry keys_stay declared form ps h ms l = None
 
 abbrev pub some_value : Option Value → Option (Option Value)
 some_value None = None
 some_value (Some v) = Some (Some v)
 
 abbrev pub method_with : Bool → String → Option Value → Code → Option (List Method) → Option (List Method)
-method_with is_static kind (Some k) (function f form own_name ps body) (Some ms) = Some (record { is_static = is_static; kind = kind; key = k; function = f } ∷ ms)
+method_with is_static kind (Some k) (function f form own_name ps body) (Some ms) = Some (record { is_static = is_static; kind = kind; key = as_key k; function = f } ∷ ms)
 method_with is_static kind k f ms = None
+
+abbrev pub same_nullable : Option Value → Option Value → Bool
+same_nullable (Some v) (Some w) = same_value v w
+same_nullable v w = false
 
 abbrev pub Entries : Type 0
 Entries = List (ℕ × Option Entry)
@@ -152,11 +154,20 @@ module _ (opens : Opened → Evaluation) (first_new : ℕ) (late : List ℕ) whe
   heritage_in env done = Some None
   heritage_in env (and h hs) = some_value (value_in (ev opens h env))
 
-  -- the methods in order, with the values of their keys
+  abbrev pub behind_key : Environment → Code → Environment
+  behind_key s c = after_run s (ev_key opens c s)
+
+  -- the methods in order, with the values of their keys; s is the environment in front of the key
   abbrev pub methods_in : Environment → Codes → Option (List Method)
-  methods_in env done = Some []
-  methods_in env (and (method is_static kind k f) es) = method_with is_static kind (value_in (ev opens k env)) f (methods_in env es)
-  methods_in env (and e es) = methods_in env es
+  methods_in s done = Some []
+  methods_in s (and (method is_static kind k f) es) = method_with is_static kind (value_in (ev opens k s)) f (methods_in (after_run s (ev opens k s)) es)
+  methods_in s (and e es) = methods_in (behind_key s e) es
+
+  -- the key of an instance field has the same value where it stands and where a construction, in i, defines it
+  abbrev pub keys_stay : Environment → Environment → Codes → Bool
+  keys_stay s i done = true
+  keys_stay s i (and (field false form k e) es) = same_nullable (value_in (ev opens k s)) (value_in (ev opens k i)) && keys_stay (after_run s (ev opens k s)) i es
+  keys_stay s i (and e es) = keys_stay (behind_key s e) i es
 
   -- where evaluations lead
   abbrev pub behind_code : Environment → Code → Environment
@@ -217,9 +228,12 @@ module _ (opens : Opened → Evaluation) (first_new : ℕ) (late : List ℕ) whe
         let start : Environment = without (assigned_in_all es) e in
         let run : Option Run = ev_construction opens first_new late n h es es start in
         let a : Environment = behind_all s h in
-        let b : Environment = after_run a (ev_keys opens es a) in
-        ((n, class_entry declared (constructor_form es) (constructor_parameters es) (heritage_in e h) (methods_in e es) (listed run)) ∷ all_entries s e h)
+        let b : Environment = after_run a (ev_keys opens es (λ ks. gives Undefined) a) in
+        ((n, class_entry (keys_stay a start es) declared (constructor_form es) (constructor_parameters es) (heritage_in s h) (methods_in a es) (listed run)) ∷ all_entries s e h)
         ++ key_entries a e es ++ static_entries n b e es ++ field_entries n start (after_run start run) es ++ function_entries (behind_fields start n h es) (after_run start run) e es
+    entries s e (from_call c) = entries s e c
+    entries s e (from_member c) = entries s e c
+    entries s e (key_of c) = entries s e c
     entries s e (define m o k r) = entries s e k ++ entries (behind_code s k) e r
     entries s e (private_initialize m d o r) = entries s e r
     entries s e (call_arrow ss body es) = all_entries s e es ++ entries (behind_arguments s ss es) e body
@@ -282,7 +296,7 @@ module _ (opens : Opened → Evaluation) (first_new : ℕ) (late : List ℕ) whe
     -- of the elements of a class: their keys, then the static ones
     pub key_entries : Environment → Environment → Codes → Entries
     key_entries s e done = []
-    key_entries s e (and c cs) = key_entry s e c ++ key_entries (after_run s (ev_key opens c s)) e cs
+    key_entries s e (and c cs) = key_entry s e c ++ key_entries (behind_key s c) e cs
 
     pub key_entry : Environment → Environment → Code → Entries
     key_entry s e (field is_static form k r) = entries s e k
@@ -291,7 +305,7 @@ module _ (opens : Opened → Evaluation) (first_new : ℕ) (late : List ℕ) whe
 
     pub static_entries : ℕ → Environment → Environment → Codes → Entries
     static_entries n s e done = []
-    static_entries n s e (and c cs) = static_entry s e c ++ static_entries n (after_run s (ev_static opens n c s)) e cs
+    static_entries n s e (and c cs) = static_entry s e c ++ static_entries n (after_run s (ev_static opens n Undefined c s)) e cs
 
     pub static_entry : Environment → Environment → Code → Entries
     static_entry s e (field true form k r) = entries s e r

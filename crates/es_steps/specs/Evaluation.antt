@@ -3,11 +3,11 @@
 use Rattle.std.specs.Prelude.{ℕ, suc, List, [], ◌∷◌, Bool, true, false, cond, ◌&&◌, bytes_eq, Option, Some, None}
 use Rattle.es_base.specs.declared.kind.Kind.{Kind}
 use Rattle.es_base.specs.declared.ledger.GeneratedKind.{GeneratedKind}
-use Rattle.es_steps.specs.Code.{Code, Codes, Target, Callee, FieldForm, defines, sets, leaves_out, TemplateString, Opened, InitializersOf, BodyOf, nothing, no_rule, value, spelled, private_name, binding, rest, name, super, member, private_member, super_member, private_in, assign, compound, logical, logical_assign, update, call, tag, construct, super_call, super_call_with_all, sequence, template_string, template, operation, piece, chain, short, tested, pattern, takes, steps, gives_to, export_default, function, new_function, new_return, class_code, field, private_field, method, private_method, constructor, static_block, generated_element, helper, helper_call, throw, define, private_initialize, add_brand, bound, setter, private_value, call_arrow, call_closure, initializers, give_function, give_class, to_name, to_member, to_private, to_super, to_setter, to_pattern, to_default, no_target, plain, on_member, on_private, on_super, with_receiver, checked, on_chain, behind_test, done, and}
+use Rattle.es_steps.specs.Code.{Code, Codes, Target, Callee, FieldForm, defines, sets, leaves_out, TemplateString, Opened, InitializersOf, BodyOf, CalledBodyOf, nothing, no_rule, value, spelled, private_name, binding, rest, name, super, member, private_member, super_member, private_in, assign, compound, logical, logical_assign, update, call, tag, construct, super_call, super_call_with_all, sequence, template_string, template, operation, piece, chain, short, tested, pattern, takes, steps, gives_to, export_default, function, new_function, new_return, class_code, field, private_field, method, private_method, constructor, static_block, generated_element, from_call, from_member, key_of, helper, helper_call, throw, define, private_initialize, add_brand, bound, setter, private_value, call_arrow, call_closure, initializers, give_function, give_class, to_name, to_member, to_private, to_super, to_setter, to_pattern, to_default, no_target, plain, on_member, on_private, on_super, with_receiver, checked, on_chain, behind_test, done, and}
 use Rattle.es_steps.specs.Context.{NameKind, Fixed, Changing, MeansClass, Generated, StaticMethod}
-use Rattle.es_steps.specs.Events.{Detail, Operation, OfKind, Take, Operand, Empty, Spelled, Flag, Place, RightOf, Default, Part, Event, ReadName, SetName, Get, Set, Define, Call, Construct, Operate, Update, PrivateGet, PrivateSet, PrivateInitialize, PrivateIn, AddBrand, SuperGet, SuperSet, SuperCall, SuperCallWithAll, Throw, Short, Held, Events, none, then, throws, behind, value_behind}
+use Rattle.es_steps.specs.Events.{Detail, Operation, OfKind, Take, Operand, Empty, Spelled, Flag, Place, RightOf, Default, Part, Event, ReadName, SetName, Get, Set, Define, Call, Construct, Operate, Update, PrivateGet, PrivateSet, PrivateInitialize, PrivateIn, AddBrand, SuperGet, SuperSet, SuperCall, SuperCallWithAll, InitializeClass, Throw, Short, Held, Events, none, then, throws, behind, value_behind}
 use Rattle.es_steps.specs.SameValues.{same_value}
-use Rattle.es_steps.specs.Values.{String, Constant, StringOf, RawTemplate, TagString, Value, ConstantOf, Undefined, BindingOf, FunctionOf, ClassOf, ThisOf, ResultOf, FormerOf, Bound, Home, is_class_value}
+use Rattle.es_steps.specs.Values.{String, Constant, StringOf, RawTemplate, TagString, Value, ConstantOf, Undefined, BindingOf, FunctionOf, ClassOf, ThisOf, ResultOf, FormerOf, KeyOf, Bound, Home, as_key, is_class_value}
 
 -- the values of temporaries, the last given first
 abbrev pub Environment : Type 0
@@ -87,6 +87,14 @@ class_run n (Some r) = cond (throws r.events) (Some r) (cond (is_class_value n r
 
 abbrev pub gives_class : ℕ → Evaluation → Evaluation
 gives_class n a env = class_run n (a env)
+
+-- what gives `this` of class n, or throws
+abbrev pub this_run : ℕ → Option Run → Option Run
+this_run n None = None
+this_run n (Some r) = cond (throws r.events) (Some r) (cond (same_value (ThisOf n) r.value) (Some r) None)
+
+abbrev pub gives_this : ℕ → Evaluation → Evaluation
+gives_this n a env = this_run n (a env)
 
 -- ---- names
 
@@ -175,8 +183,8 @@ write_ready (ready_pattern write) v = write v
 -- ---- what a field does when its value is there
 
 abbrev pub initialized : FieldForm → Value → Value → Value → Evaluation
-initialized defines o k v = event (Define o k v) Undefined
-initialized sets o k v = event (Set o k v) Undefined
+initialized defines o k v = event (Define o (as_key k) v) Undefined
+initialized sets o k v = event (Set o (as_key k) v) Undefined
 initialized leaves_out o k v = gives Undefined
 
 abbrev pub last_of : Value → List Value → Value
@@ -255,12 +263,19 @@ abbrev pub brand_first : Bool → ℕ → Evaluation
 brand_first true n = event (AddBrand n (ThisOf n)) Undefined
 brand_first false n = gives Undefined
 
+-- a class that is declared gets its name before its static elements
+abbrev pub declared_first : Option ℕ → ℕ → Evaluation
+declared_first None n = gives Undefined
+declared_first (Some b) n = event (InitializeClass n) Undefined
+
 -- ---- the list and the value of a code; `opens` is the evaluation of what stands elsewhere
 
 module _ (opens : Opened → Evaluation) where
-  abbrev pub ev_behind : Option Opened → Evaluation
-  ev_behind None = gives Undefined
-  ev_behind (Some o) = opens o
+  -- behind a `super(..)` of class n; a body that stands for it gives `this`
+  abbrev pub ev_behind : ℕ → Option Opened → Evaluation
+  ev_behind n None = gives (ThisOf n)
+  ev_behind n (Some (InitializersOf k)) = bind (opens (InitializersOf k)) (λ w. gives (ThisOf n))
+  ev_behind n (Some o) = gives_this n (opens o)
 
   abbrev mutual
     pub ev : Code → Evaluation
@@ -285,7 +300,7 @@ module _ (opens : Opened → Evaluation) where
     ev (call m f es) = settle (ev_callee f (λ callee receiver. ev_all es (λ vs. event (Call m callee receiver vs) (ResultOf m))))
     ev (tag m f ts es) = settle (ev_callee f (λ callee receiver. ev_all es (λ vs. event (Call m callee receiver (tag_values ts vs)) (ResultOf m))))
     ev (construct m f es) = settle (bind (ev f) (λ callee. ev_all es (λ vs. event (Construct m callee vs) (ResultOf m))))
-    ev (super_call m n o es) = settle (ev_all es (λ vs. bind (event (SuperCall m n vs) (ThisOf n)) (λ v. bind (ev_behind o) (λ w. gives (ThisOf n)))))
+    ev (super_call m n o es) = settle (ev_all es (λ vs. bind (event (SuperCall m n vs) (ThisOf n)) (λ v. ev_behind n o)))
     ev (super_call_with_all n) = settle (bind (event (SuperCallWithAll n) (ThisOf n)) (λ v. bind (opens (InitializersOf n)) (λ w. gives (ThisOf n))))
     ev (sequence es) = settle (ev_all es (λ vs. gives (last_of Undefined vs)))
     ev (template_string t) = no_meaning
@@ -303,7 +318,7 @@ module _ (opens : Opened → Evaluation) where
     ev (function f form own_name ps body) = gives (FunctionOf f)
     ev (new_function f form ps body) = no_meaning
     ev (new_return es) = no_meaning
-    ev (class_code n declared h es) = settle (ev_all h (λ vs. bind (ev_keys es) (λ u. bind (ev_statics n es) (λ w. gives (ClassOf n)))))
+    ev (class_code n declared h es) = settle (ev_all h (λ vs. ev_keys es (λ ks. bind (declared_first declared n) (λ u. bind (ev_statics n ks es) (λ w. gives (ClassOf n))))))
     ev (field is_static form k e) = no_meaning
     ev (private_field is_static d e) = no_meaning
     ev (method is_static kind k f) = no_meaning
@@ -311,10 +326,13 @@ module _ (opens : Opened → Evaluation) where
     ev (constructor f) = no_meaning
     ev (static_block es) = no_meaning
     ev (generated_element s e) = no_meaning
+    ev (from_call e) = ev e
+    ev (from_member e) = ev e
+    ev (key_of e) = settle (bind (ev e) (λ v. gives (KeyOf v)))
     ev (helper h) = no_meaning
     ev (helper_call m h es) = no_meaning
     ev throw = event Throw Undefined
-    ev (define m o k e) = settle (bind (ev k) (λ a. bind (ev e) (λ v. event (Define o a v) (ResultOf m))))
+    ev (define m o k e) = settle (bind (ev k) (λ a. bind (ev e) (λ v. event (Define o (as_key a) v) (ResultOf m))))
     ev (private_initialize m d o e) = settle (bind (ev e) (λ v. event (PrivateInitialize d o v) (ResultOf m)))
     ev (add_brand m n o) = event (AddBrand n o) (ResultOf m)
     ev (bound f o) = no_meaning
@@ -343,6 +361,7 @@ module _ (opens : Opened → Evaluation) where
 
     pub ev_take : Value → Code → Evaluation
     ev_take v (takes m ds k to) = ev_all k (λ ks. ev_target to (λ t. bind (event (Operate m (Take ds) (v ∷ ks)) (ResultOf m)) (λ w. write_ready t w)))
+    ev_take v (operation m op done done) = event (Operate m op (v ∷ [])) Undefined
     ev_take v c = no_meaning
 
     pub ev_callee : Callee → (Value → Option Value → Evaluation) → Evaluation
@@ -370,9 +389,9 @@ module _ (opens : Opened → Evaluation) where
     ev_held m i (and e es) a = bind (held m (Part i) None (ev e)) (λ v. ev_held m (suc i) es a)
 
     -- the keys of the elements in order: those that are not computed are constants and have no event
-    pub ev_keys : Codes → Evaluation
-    ev_keys done = gives Undefined
-    ev_keys (and e es) = bind (ev_key e) (λ v. ev_keys es)
+    pub ev_keys : Codes → (List Value → Evaluation) → Evaluation
+    ev_keys done f = f []
+    ev_keys (and e es) f = bind (ev_key e) (λ v. ev_keys es (λ vs. f (v ∷ vs)))
 
     pub ev_key : Code → Evaluation
     ev_key (field is_static form k e) = ev k
@@ -384,17 +403,17 @@ module _ (opens : Opened → Evaluation) where
     ev_key (generated_element s e) = gives Undefined
     ev_key e = no_meaning
 
-    -- static fields and static blocks in order
-    pub ev_statics : ℕ → Codes → Evaluation
-    ev_statics n done = gives Undefined
-    ev_statics n (and e es) = bind (ev_static n e) (λ v. ev_statics n es)
+    -- static fields and static blocks in order, with the values of the keys
+    pub ev_statics : ℕ → List Value → Codes → Evaluation
+    ev_statics n (k ∷ ks) (and e es) = bind (ev_static n k e) (λ v. ev_statics n ks es)
+    ev_statics n ks es = gives Undefined
 
-    pub ev_static : ℕ → Code → Evaluation
-    ev_static n (field true form k e) = bind (quiet (ev k)) (λ a. bind (ev e) (λ v. initialized form (ClassOf n) a v))
-    ev_static n (private_field true d e) = bind (ev e) (λ v. event (PrivateInitialize d (ClassOf n) v) Undefined)
-    ev_static n (static_block es) = ev_all es (λ vs. gives Undefined)
-    ev_static n (generated_element s e) = bind (ev e) (λ v. stands_for (private_key s) v)
-    ev_static n e = gives Undefined
+    pub ev_static : ℕ → Value → Code → Evaluation
+    ev_static n a (field true form k e) = bind (ev e) (λ v. initialized form (ClassOf n) a v)
+    ev_static n a (private_field true d e) = bind (ev e) (λ v. event (PrivateInitialize d (ClassOf n) v) Undefined)
+    ev_static n a (static_block es) = ev_all es (λ vs. gives Undefined)
+    ev_static n a (generated_element s e) = bind (ev e) (λ v. stands_for (private_key s) v)
+    ev_static n a e = gives Undefined
 
     -- instance fields in order, each its value and then its definition
     pub ev_fields : ℕ → Codes → Evaluation

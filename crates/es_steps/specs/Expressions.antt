@@ -4,7 +4,7 @@ use Rattle.es_base.specs.declared.kind.Kind.{Kind}
 use Rattle.es_base.specs.declared.ledger.GeneratedKind.{GeneratedKind}
 use Rattle.es_base.specs.declared.literal.LiteralValue.{LiteralValue}
 use Rattle.es_base.specs.declared.literal.LiteralValue.TheVariants as literal_value
-use Rattle.es_steps.specs.Code.{Code, Codes, Target, Callee, TemplateString, no_rule, value, spelled, private_name, binding, name, super, member, private_member, super_member, private_in, compound, logical, logical_assign, update, call, tag, construct, template_string, template, operation, piece, chain, short, tested, pattern, bound, setter, private_value, to_name, to_member, to_private, to_super, to_setter, no_target, plain, on_member, on_private, on_super, with_receiver, checked, on_chain, behind_test, done, and}
+use Rattle.es_steps.specs.Code.{Code, Codes, Target, Callee, TemplateString, no_rule, value, spelled, private_name, binding, name, super, member, private_member, super_member, private_in, compound, logical, logical_assign, update, call, tag, construct, template_string, template, operation, piece, chain, short, tested, pattern, from_call, from_member, bound, setter, private_value, to_name, to_member, to_private, to_super, to_setter, no_target, plain, on_member, on_private, on_super, with_receiver, checked, on_chain, behind_test, done, and}
 use Rattle.es_steps.specs.Context.{Context, NameKind, Changing, Generated, StaticMethod, name_kind, new_here, is_generated_private}
 use Rattle.es_steps.specs.Events.{Detail, Operand, Spelled, Flag, Key, Prototype, OfKind, Delete}
 use Rattle.es_steps.specs.GeneratedForms.{helper_member, generated_member, generated_call, generated_binary, generated_assignment, is_undefined_test, again_of, tested_object, class_named, is_method_kind}
@@ -141,6 +141,7 @@ target_of (member m o k) = to_member m o k
 target_of (private_member m r o) = to_private m r o
 target_of (super_member m home k this) = to_super m home k this
 target_of (setter m d o) = to_setter m d o
+target_of (from_member e) = target_of e
 target_of (pattern m to) = to
 target_of c = no_target
 
@@ -174,6 +175,7 @@ abbrev pub deleted : ℕ → Code → Code
 deleted m (member k o key) = operation m Delete (and o (and key done)) done
 deleted m (super_member k home key this) = operation m Delete (and key done) done
 deleted m (tested o again e) = tested o again (deleted m e)
+deleted m (from_member e) = no_rule
 deleted m e = operation m Delete (and e done) done
 
 -- `delete` of a member evaluates its operands and not the member; `delete this` is true
@@ -181,6 +183,7 @@ abbrev pub delete_code : ℕ → Code → Code → Code
 delete_code m (member k o key) whole = deleted m (member k o key)
 delete_code m (super_member k home key this) whole = deleted m (super_member k home key this)
 delete_code m (chain k e) whole = chain m (deleted m e)
+delete_code m (from_member e) whole = no_rule
 delete_code m (value (ThisOf k)) whole = value (ConstantOf (BooleanOf true))
 delete_code m (value (ClassOf n)) whole = value (ConstantOf (BooleanOf true))
 delete_code m e whole = whole
@@ -222,9 +225,15 @@ deleted_as c m (operation k Delete es held) = cond (new_here c k) (operation m D
 deleted_as c m (tested o again e) = tested o again (deleted_as c m e)
 deleted_as c m e = no_rule
 
+-- the rest of such a chain hands on a receiver by a `.bind` alone
+abbrev pub ended_alone : Code → Code
+ended_alone (bound f o) = bound f o
+ended_alone (tested o again e) = tested o again e
+ended_alone e = from_call e
+
 -- `T ? void 0 : r` and `T ? true : delete r`, T a new test of an object for null and undefined, are the chain m
 abbrev pub chain_or : Context → ℕ → Code → Code → Code → Code → Code
-chain_or c m test (value Undefined) e whole = chain m (tested (spliced c (tested_object test)) (again_of test) (spliced c e))
+chain_or c m test (value Undefined) e whole = chain m (tested (spliced c (tested_object test)) (again_of test) (ended_alone (spliced c e)))
 chain_or c m test (value (ConstantOf (BooleanOf true))) e whole = chain m (tested (spliced c (tested_object test)) (again_of test) (deleted_as c m (spliced c e)))
 chain_or c m test middle e whole = whole
 
@@ -243,9 +252,12 @@ callee_of (super_member m home k this) = on_super m home k this
 callee_of (bound f o) = with_receiver f o
 callee_of (chain m e) = on_chain m (callee_of e)
 callee_of (tested o again e) = behind_test o again (callee_of e)
+callee_of (from_member e) = plain no_rule
 callee_of e = plain e
 
+-- a `.bind` is called without `?.`
 abbrev pub checked_callee : Bool → Callee → Callee
+checked_callee true (with_receiver f o) = plain no_rule
 checked_callee true f = checked f
 checked_callee false f = f
 
@@ -253,7 +265,8 @@ abbrev pub call_code : Context → ℕ → Members → Code
 call_code c m ps =
     let f : Code = the_code (at 0 ps) in
     let es : Codes = codes_of (at 1 ps) in
-    generated_call c m f es (call m (checked_callee (flag_of (at 2 ps)) (callee_of f)) es)
+    let whole : Code = call m (checked_callee (flag_of (at 2 ps)) (callee_of f)) es in
+    cond (flag_of (at 2 ps)) whole (generated_call c m f es whole)
 
 abbrev pub new_code : ℕ → Members → Code
 new_code m ps = construct m (the_code (at 0 ps)) (codes_of (at 1 ps))

@@ -4,11 +4,13 @@
 use Rattle.std.specs.Prelude.{ℕ, List, [], ◌∷◌, Bool, true, false, cond, not, ◌&&◌, ◌||◌, nat_eq, codes, bytes_eq, Option, Some, None}
 use Rattle.es_base.specs.declared.kind.Kind.{Kind}
 use Rattle.es_base.specs.declared.ledger.GeneratedKind.{GeneratedKind}
-use Rattle.es_steps.specs.Code.{Code, Codes, Target, FunctionForm, Opened, InitializersOf, BodyOf, no_rule, value, spelled, binding, name, super, member, private_member, super_member, private_in, assign, call, construct, super_call, super_call_with_all, sequence, logical, operation, steps, function, new_function, new_return, helper, helper_call, throw, define, private_initialize, add_brand, bound, setter, call_arrow, call_closure, give_function, give_class, to_name, to_private, to_super, on_super, with_receiver, done, and, one}
+use Rattle.es_steps.specs.Code.{Code, Codes, Target, FunctionForm, Opened, InitializersOf, BodyOf, CalledBodyOf, no_rule, value, spelled, binding, name, super, member, private_member, super_member, private_in, assign, call, construct, super_call, super_call_with_all, sequence, logical, operation, steps, function, new_function, new_return, class_code, from_call, from_member, key_of, helper, helper_call, throw, define, private_initialize, add_brand, bound, setter, private_value, call_arrow, call_closure, give_function, give_class, to_name, to_private, to_super, on_super, with_receiver, done, and, one}
 use Rattle.es_steps.specs.Context.{Context, Changing, MeansClass, Generated, StaticMethod, new_here}
 use Rattle.es_steps.specs.Events.{Detail, Operand, Spelled, Flag, Key, Opens, Closes, OfKind}
 use Rattle.es_steps.specs.Helpers.{Helper, DefineProperty, ClassPrivateFieldInitSpec, ClassPrivateMethodInitSpec, ClassPrivateFieldGet2, ClassPrivateFieldSet2, AssertClassBrand, ToSetter, CheckInRHS, ReadOnlyError, WriteOnlyError, SuperPropGet, SuperPropSet, ClassPrivateFieldLooseKey, ClassPrivateFieldLooseBase, SetFunctionName, ToPropertyKey, helper_named}
+use Rattle.es_steps.specs.Options.{keeps_privates_as_properties}
 use Rattle.es_steps.specs.PrivateNames.{PrivateMember, PrivateReference, PrivateKind, a_method, a_getter, a_setter, member_at, reference_of, is_a_field}
+use Rattle.es_steps.specs.SameValues.{same_boolean}
 use Rattle.es_steps.specs.Values.{String, StringOf, NumberOf, BooleanOf, Null, Value, ConstantOf, Undefined, ClassOf, ThisOf, ResultOf, Free, Home, OfClass, OfPrototype, HasField, HasBrand, IsClass}
 
 -- ---- the letters: a name is of a kind, and the source has such a member
@@ -26,14 +28,18 @@ is_static_field x = is_a_field x.kind && x.is_static
 abbrev pub is_function_member : PrivateMember → Bool
 is_function_member x = not (is_a_field x.kind)
 
+-- members of one sort, where the options keep private members as properties or do not
+abbrev pub if_kept : Bool → Context → (PrivateMember → Bool) → Option PrivateMember → Option PrivateMember
+if_kept as_properties c test x = cond (same_boolean as_properties (keeps_privates_as_properties c.options)) (if_member test x) None
+
 -- W, the `WeakMap` of an instance field
 abbrev pub weak_map : Context → Code → Option PrivateMember
-weak_map c (name m s (Generated (GeneratedKind.WeakMap d))) = if_member is_instance_field (member_at d.0 c.members)
+weak_map c (name m s (Generated (GeneratedKind.WeakMap d))) = if_kept false c is_instance_field (member_at d.0 c.members)
 weak_map c e = None
 
 -- S, the object of a static field
 abbrev pub static_field : Context → Code → Option PrivateMember
-static_field c (name m s (Generated (GeneratedKind.StaticField d))) = if_member is_static_field (member_at d.0 c.members)
+static_field c (name m s (Generated (GeneratedKind.StaticField d))) = if_kept false c is_static_field (member_at d.0 c.members)
 static_field c e = None
 
 -- M, G, A, the function of a method, getter or setter
@@ -44,7 +50,7 @@ private_function c e = None
 
 -- L, the key of a member that is kept as a property
 abbrev pub loose_key : Context → Code → Option PrivateMember
-loose_key c (name m s (Generated (GeneratedKind.LooseKey d))) = if_member (λ x. is_a_field x.kind) (member_at d.0 c.members)
+loose_key c (name m s (Generated (GeneratedKind.LooseKey d))) = if_kept true c (λ x. is_a_field x.kind) (member_at d.0 c.members)
 loose_key c e = None
 
 -- Z, a name that means a class
@@ -148,7 +154,7 @@ is_setter_kind kind = false
 -- `assertClassBrand(Q, o, M)` reads a method; else the call stands in another form
 abbrev pub asserted : ℕ → Option PrivateMember → Code → Code → Code → Code
 asserted m None q o whole = whole
-asserted m (Some x) q o whole = cond (is_method_kind x.kind && is_brand x q) (private_member m (reference_of x) o) no_rule
+asserted m (Some x) q o whole = cond (is_method_kind x.kind && is_brand x q) (from_call (private_member m (reference_of x) o)) no_rule
 
 abbrev pub initialized_on : ℕ → Option PrivateMember → Option Value → Code → Code
 initialized_on m (Some x) (Some o) v = private_initialize m x.number o v
@@ -163,7 +169,7 @@ define_on m None k v = no_rule
 define_on m (Some o) k v = define m o k v
 
 abbrev pub super_get : ℕ → Option Home → Code → Option Value → Code
-super_get m (Some home) k (Some this) = super_member m home k this
+super_get m (Some home) k (Some this) = from_call (super_member m home k this)
 super_get m home k this = no_rule
 
 abbrev pub super_set : ℕ → Option Home → Code → Code → Option Value → Code
@@ -178,15 +184,24 @@ abbrev pub is_constant : Code → Bool
 is_constant (value (ConstantOf k)) = true
 is_constant e = false
 
--- a name of a function has no event: a constant, or a temporary
+-- a name of a function has no event: a constant, a temporary, or what a generated private element holds
 abbrev pub is_quiet_key : Code → Bool
 is_quiet_key (value (ConstantOf k)) = true
 is_quiet_key (name m s (Generated GeneratedKind.Temp)) = true
 is_quiet_key (name m s (Generated GeneratedKind.Param)) = true
+is_quiet_key (private_value s) = true
 is_quiet_key e = false
 
+-- what `setFunctionName` may name: a function, an arrow, a class where it is made, and a class by `this` or its name
+abbrev pub is_named : Code → Bool
+is_named (function f form own_name ps body) = true
+is_named (class_code n declared h es) = true
+is_named (value (ClassOf n)) = true
+is_named (name m s (MeansClass n b)) = true
+is_named e = false
+
 abbrev pub helper_code : Context → ℕ → Helper → Codes → Code
-helper_code c m ClassPrivateFieldGet2 (and w (and o done)) = read_private m (weak_map c w) o
+helper_code c m ClassPrivateFieldGet2 (and w (and o done)) = from_call (read_private m (weak_map c w) o)
 helper_code c m ClassPrivateFieldSet2 (and w (and o (and v done))) = set_private m (weak_map c w) o v
 helper_code c m AssertClassBrand (and q (and o (and f done))) = asserted m (private_function c f) q o (helper_call m AssertClassBrand (and q (and o (and f done))))
 helper_code c m ReadOnlyError (and s done) = cond (is_constant s) throw no_rule
@@ -196,8 +211,8 @@ helper_code c m ClassPrivateMethodInitSpec (and o (and q done)) = brand_on m q (
 helper_code c m DefineProperty (and o (and k (and v done))) = define_on m (known_object o) k v
 helper_code c m SuperPropGet (and h (and k (and r done))) = super_get m (home_of h) k (known_object r)
 helper_code c m SuperPropSet (and h (and k (and v (and r (and one done))))) = cond (is_number_literal (codes "1") one) (super_set m (home_of h) k v (known_object r)) no_rule
-helper_code c m ToPropertyKey (and e done) = e
-helper_code c m SetFunctionName (and e (and k done)) = cond (is_quiet_key k) e no_rule
+helper_code c m ToPropertyKey (and e done) = key_of e
+helper_code c m SetFunctionName (and e (and k done)) = cond (is_named e && is_quiet_key k) (from_call e) no_rule
 helper_code c m h es = helper_call m h es
 
 -- ---- members
@@ -221,12 +236,12 @@ helper_member c computed o k whole = helper_or (is_helper_object c o && not comp
 -- `B.assertClassBrand(Z, o, S)._`
 abbrev pub branded_field : ℕ → Option PrivateMember → Code → Code → Code
 branded_field m None z o = no_rule
-branded_field m (Some x) z o = cond (is_class_named x.class z) (private_member m (reference_of x) o) no_rule
+branded_field m (Some x) z o = cond (is_class_named x.class z) (from_member (private_member m (reference_of x) o)) no_rule
 
 -- `S._`
 abbrev pub own_field : ℕ → Option PrivateMember → Code
 own_field m None = no_rule
-own_field m (Some x) = private_member m (reference_of x) (value (ClassOf x.class))
+own_field m (Some x) = from_member (private_member m (reference_of x) (value (ClassOf x.class)))
 
 -- what a setter is bound to: a branded object, or a name of the class of a static one
 abbrev pub setter_on : ℕ → Option PrivateMember → Code → Code
@@ -268,10 +283,11 @@ loose_member c m o key whole = whole
 abbrev pub is_same_key : Code → Code → Bool
 is_same_key (value (ConstantOf (StringOf s))) k = is_string s k
 is_same_key (name m s (Generated g)) (name m2 t (Generated g2)) = bytes_eq s t
+is_same_key (private_value s) (private_value t) = bytes_eq s t
 is_same_key k l = false
 
 abbrev pub kept_name : Code → Option (Code × Code) → Code → Code
-kept_name key (Some p) whole = cond (is_same_key key p.0) p.1 whole
+kept_name key (Some p) whole = cond (is_same_key key p.0) (from_member (from_call p.1)) whole
 kept_name key None whole = whole
 
 abbrev pub generated_member : Context → ℕ → Code → Code → Code → Code
@@ -307,8 +323,11 @@ abbrev pub no_spread : Codes → Bool
 no_spread done = true
 no_spread (and c cs) = not (is_spread c) && no_spread cs
 
+abbrev pub is_plain : FunctionForm → Bool
+is_plain form = not (form.is_async || form.is_generator)
+
 abbrev pub is_plain_arrow : FunctionForm → Bool
-is_plain_arrow form = form.is_arrow && not (form.is_async || form.is_generator)
+is_plain_arrow form = form.is_arrow && is_plain form
 
 abbrev pub arrow_call : FunctionForm → Option (List String) → Code → Codes → Code
 arrow_call form None body es = no_rule
@@ -320,19 +339,19 @@ is_pick (and (binding b p (Generated GeneratedKind.Param)) (and (binding b2 q (G
 is_pick ps body = false
 
 abbrev pub picked : Code → Option (Code × Code) → Code
-picked k (Some p) = cond (is_same_key k p.0) p.1 no_rule
+picked k (Some p) = cond (is_same_key k p.0) (from_call p.1) no_rule
 picked k None = no_rule
 
 abbrev pub new_function_call : Context → FunctionForm → Codes → Code → Codes → Code
-new_function_call c form ps body (and k (and o done)) = cond (is_pick ps body) (picked k (single_property c o)) (arrow_call form (parameter_names ps) body (and k (and o done)))
+new_function_call c form ps body (and k (and o done)) = cond (is_plain_arrow form && is_pick ps body) (picked k (single_property c o)) (arrow_call form (parameter_names ps) body (and k (and o done)))
 new_function_call c form ps body es = arrow_call form (parameter_names ps) body es
 
 -- ---- calls of a new member `call` or `bind`, and of others on generated names
 
 -- `G.call(B.assertClassBrand(Q, o))`, `G.call(o)`
 abbrev pub getter_call : ℕ → PrivateMember → Codes → Code
-getter_call m x (and (helper_call k AssertClassBrand (and q (and o done))) done) = cond (is_brand x q) (private_member m (reference_of x) o) no_rule
-getter_call m x (and o done) = cond (x.is_static && is_class_named x.class o) (private_member m (reference_of x) o) no_rule
+getter_call m x (and (helper_call k AssertClassBrand (and q (and o done))) done) = cond (is_brand x q) (from_call (private_member m (reference_of x) o)) no_rule
+getter_call m x (and o done) = cond (x.is_static && is_class_named x.class o) (from_call (private_member m (reference_of x) o)) no_rule
 getter_call m x es = no_rule
 
 -- `f.call(o, a)`
@@ -346,7 +365,7 @@ getter_or_received m None f es = received_call m f es
 
 -- `F.call(super(a))`
 abbrev pub super_function_call : ℕ → ℕ → String → Codes → Code
-super_function_call m n s (and (super_call k n2 behind es) done) = cond (nat_eq n n2) (super_call m n (Some (BodyOf s)) es) no_rule
+super_function_call m n s (and (super_call k n2 behind es) done) = cond (nat_eq n n2) (super_call m n (Some (CalledBodyOf s)) es) no_rule
 super_function_call m n s es = no_rule
 
 abbrev pub called_with : Context → ℕ → Code → Codes → Code
@@ -396,14 +415,14 @@ runs_initializers (Some k) m = nat_eq k m
 abbrev pub initializers_behind : Context → ℕ → ℕ → Option Opened
 initializers_behind c m n = cond (runs_initializers c.initializing m) (Some (InitializersOf n)) None
 
--- `super(..._args)` with all arguments
-abbrev pub passes_all : Codes → Bool
-passes_all (and (operation m (OfKind Kind.SpreadElement ds) (and (name k s (Generated GeneratedKind.Args)) done) done) done) = true
-passes_all es = false
+-- `super(..._args)` with all arguments: the rest of the function or arrow around
+abbrev pub passes_all : String → Codes → Bool
+passes_all rest (and (operation m (OfKind Kind.SpreadElement ds) (and (name k s (Generated GeneratedKind.Args)) done) done) done) = bytes_eq rest s
+passes_all rest es = false
 
 abbrev pub super_call_in : Context → ℕ → Option ℕ → Codes → Code
 super_call_in c m None es = no_rule
-super_call_in c m (Some n) es = cond (passes_all es) (super_call_with_all n) (super_call m n (initializers_behind c m n) es)
+super_call_in c m (Some n) es = cond (passes_all c.rest_name es) (super_call_with_all n) (super_call m n (initializers_behind c m n) es)
 
 -- ---- all calls
 
@@ -462,7 +481,7 @@ is_void_test e = false
 
 abbrev pub is_undefined_test : Context → Code → Bool
 is_undefined_test c (logical m operator l r) = new_here c m && (bytes_eq operator (codes "||") && (is_null_test (codes "===") l && is_void_test r))
-is_undefined_test c (operation m op es held) = new_here c m && is_null_test (codes "==") (operation m op es held)
+is_undefined_test c (operation m op es held) = (new_here c m && c.options.assumptions.no_document_all) && is_null_test (codes "==") (operation m op es held)
 is_undefined_test c e = false
 
 abbrev pub left_of : Code → Code

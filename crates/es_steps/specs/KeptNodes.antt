@@ -1,5 +1,5 @@
 -- Which nodes of the source stand in a lowered program. (Our own.)
-use Rattle.std.specs.Prelude.{ℕ, List, [], ◌∷◌, ◌++◌, Bool, true, false, cond, not, ◌&&◌, ◌||◌, nat_eq}
+use Rattle.std.specs.Prelude.{ℕ, List, [], ◌∷◌, ◌++◌, Bool, true, false, cond, not, ◌&&◌, ◌||◌, nat_eq, Option, Some, None}
 use Rattle.es_base.specs.Preorder.{preorder, number_of}
 use Rattle.es_base.specs.Table.{is_statement}
 use Rattle.es_base.specs.Tree.{Tree, Part, Parts, Node, end, more, child, list}
@@ -7,6 +7,7 @@ use Rattle.es_base.specs.declared.kind.Kind.{Kind}
 use Rattle.es_steps.specs.LoweredClasses.{is_lowered_class, has_lowered_class}
 use Rattle.es_steps.specs.Parts.{at, items}
 use Rattle.es_steps.specs.SameTrees.{same_tree}
+use Rattle.es_steps.specs.Scopes.{class_in}
 use Rattle.es_steps.specs.declared.options.Options.{Options}
 
 -- ---- classes, functions, calls and `new` stand once, each on a node of its sort
@@ -81,7 +82,7 @@ all_equal (t ∷ ts) qs = stands_equal t qs && all_equal ts qs
 abbrev pub statements_kept : Options → Tree → Tree → Bool
 statements_kept o p q = all_equal (free_statements o p) (preorder q)
 
--- ---- those of one list stand in the list of the same node, in order
+-- ---- the statements and classes of one list stand in the list of the same node, in order
 
 abbrev pub statement_list : Kind → Parts → Parts
 statement_list Kind.Program ps = items (at 1 ps)
@@ -90,8 +91,31 @@ statement_list Kind.StaticBlock ps = items (at 0 ps)
 statement_list Kind.SwitchCase ps = items (at 1 ps)
 statement_list kind ps = end
 
+-- the class that a declaration declares, and the class that gives an export or a variable its value
+abbrev pub declared_classes : Part → List ℕ
+declared_classes (child (Node Kind.ClassDeclaration n span semantic_id ps)) = n ∷ []
+declared_classes (child (Node Kind.ExportNamedDeclaration m span semantic_id (more (child (Node Kind.ClassDeclaration n nspan n_semantic_id ps)) rest))) = n ∷ []
+declared_classes (child (Node Kind.ExportDefaultDeclaration m span semantic_id (more (child (Node Kind.ClassDeclaration n nspan n_semantic_id ps)) rest))) = n ∷ []
+declared_classes p = []
+
+abbrev pub class_or_none : Option ℕ → List ℕ
+class_or_none None = []
+class_or_none (Some n) = n ∷ []
+
+abbrev pub given_classes : Parts → List ℕ
+given_classes end = []
+given_classes (more (child (Node Kind.VariableDeclarator m span semantic_id ps)) rest) = class_or_none (class_in (at 1 ps)) ++ given_classes rest
+given_classes (more p rest) = given_classes rest
+
+abbrev pub carried_classes : Part → List ℕ
+carried_classes (child (Node Kind.VariableDeclaration m span semantic_id ps)) = given_classes (items (at 1 ps))
+carried_classes (child (Node Kind.ExportNamedDeclaration m span semantic_id (more (child (Node Kind.VariableDeclaration k kspan k_semantic_id ps)) rest))) = given_classes (items (at 1 ps))
+carried_classes (child (Node Kind.ExportDefaultDeclaration m span semantic_id (more (child (Node Kind.ClassDeclaration n nspan n_semantic_id ps)) rest))) = n ∷ []
+carried_classes (child (Node Kind.ExportDefaultDeclaration m span semantic_id (more e rest))) = class_or_none (class_in e)
+carried_classes p = declared_classes p
+
 abbrev pub item_number : Part → List ℕ
-item_number (child t) = number_of t ∷ []
+item_number (child t) = number_of t ∷ carried_classes (child t)
 item_number p = []
 
 abbrev pub item_numbers : Parts → List ℕ
@@ -99,17 +123,22 @@ item_numbers end = []
 item_numbers (more p ps) = item_number p ++ item_numbers ps
 
 abbrev pub free_number : Options → Part → List ℕ
-free_number o (child t) = cond (is_free_statement o t) (number_of t ∷ []) []
+free_number o (child t) = cond (is_free_statement o t) (number_of t ∷ []) [] ++ declared_classes (child t)
 free_number o p = []
 
 abbrev pub free_numbers : Options → Parts → List ℕ
 free_numbers o end = []
 free_numbers o (more p ps) = free_number o p ++ free_numbers o ps
 
--- the numbers of such statements, list by list, outside lowered classes; each list with the number of its node
+-- the list of a static block may become an expression
+abbrev pub is_static_block : Kind → Bool
+is_static_block Kind.StaticBlock = true
+is_static_block kind = false
+
+-- their numbers, list by list, each list with the number of its node
 abbrev mutual
   pub free_lists : Options → Tree → List (ℕ × List ℕ)
-  free_lists o (Node kind m span semantic_id ps) = cond (is_lowered_class o kind ps) [] ((m, free_numbers o (statement_list kind ps)) ∷ free_lists_in o ps)
+  free_lists o (Node kind m span semantic_id ps) = cond (is_static_block kind) [] ((m, free_numbers o (statement_list kind ps)) ∷ []) ++ free_lists_in o ps
 
   pub free_lists_at : Options → Part → List (ℕ × List ℕ)
   free_lists_at o (child t) = free_lists o t

@@ -20,8 +20,8 @@ use Rattle.es_steps.specs.PrivateNames.{private_members, resolve_privates}
 use Rattle.es_steps.specs.Reading.{read}
 use Rattle.es_steps.specs.References.{declared}
 use Rattle.es_steps.specs.SameMeanings.{same_meanings}
-use Rattle.es_steps.specs.Standing.{all_numbers, meaning_numbers, ledger_numbers, terms_numbers, all_old}
-use Rattle.es_steps.specs.Values.{Value, ResultOf}
+use Rattle.es_steps.specs.Standing.{meaning_numbers, terms_numbers, all_old, all_numbers, ledger_numbers}
+use Rattle.es_steps.specs.Values.{Value, ResultOf, as_key}
 use Rattle.es_steps.specs.declared.options.Options.{Options}
 
 -- meanings that are found to differ are not equal
@@ -59,7 +59,7 @@ define_call m m2 b n o k v =
 
 -- the list of the key, that of the value, and the definition; the value is the result of the call
 abbrev pub key_value_define : ℕ → Value → Evaluation → Evaluation → Evaluation
-key_value_define m w k v = settle (bind k (λ a. bind v (λ c. event (Define w a c) (ResultOf m))))
+key_value_define m w k v = settle (bind k (λ a. bind v (λ c. event (Define w (as_key a) c) (ResultOf m))))
 
 -- the context inside a call
 abbrev pub in_call : Context → Context

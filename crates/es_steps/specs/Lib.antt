@@ -16,6 +16,7 @@ pub mod LoweredClasses
 pub mod Meaning
 pub mod Members
 pub mod Modules
+pub mod NameScopes
 pub mod Opening
 pub mod Options
 pub mod Parts
@@ -23,6 +24,7 @@ pub mod Printable
 pub mod PrivateNames
 pub mod Reading
 pub mod References
+pub mod Repeated
 pub mod SameMeanings
 pub mod SameTrees
 pub mod SameValues
@@ -30,5 +32,6 @@ pub mod Scopes
 pub mod Shapes
 pub mod Statements
 pub mod Standing
+pub mod Timely
 pub mod Told
 pub mod Values

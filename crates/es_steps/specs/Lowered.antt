@@ -11,14 +11,16 @@ use Rattle.es_base.specs.declared.ledger.GeneratedKind.{GeneratedKind}
 use Rattle.es_base.specs.declared.ledger.LedgerEntry.{LedgerEntry}
 use Rattle.es_steps.specs.Context.{generated_as}
 use Rattle.es_steps.specs.Definitions.{spelling, field_part, names_class, class_identifiers, definitions_stand, all_temporaries, all_different, elements_kept}
+use Rattle.es_steps.specs.GeneratedForms.{if_member, is_instance_field, is_static_field, is_function_member}
 use Rattle.es_steps.specs.KeptNodes.{statement_list, nodes_kept, statements_kept, lists_kept}
 use Rattle.es_steps.specs.LoweredClasses.{has_lowered_class}
 use Rattle.es_steps.specs.Options.{lowers_fields, lowers_blocks}
 use Rattle.es_steps.specs.Parts.{at, items, string_of, is_present}
 use Rattle.es_steps.specs.Printable.{is_printable}
-use Rattle.es_steps.specs.PrivateNames.{PrivateMember, private_members, member_at}
+use Rattle.es_steps.specs.PrivateNames.{PrivateMember, private_members, member_at, is_a_field}
 use Rattle.es_steps.specs.References.{Reference, resolve, has_number}
 use Rattle.es_steps.specs.Scopes.{is_binding_identifier, class_in}
+use Rattle.es_steps.specs.Timely.{names_timely}
 use Rattle.es_steps.specs.Values.{String, Referent, Bound}
 use Rattle.es_steps.specs.declared.options.Options.{Options}
 
@@ -68,9 +70,9 @@ abbrev pub is_one_new : ℕ → String → Tree → List ℕ → Bool
 is_one_new first s q (b ∷ []) = is_new first b && all_mean s b (resolve q)
 is_one_new first s q bs = false
 
--- the new private identifiers of this spelling that are keys in the body of class n
+-- the private identifiers of this spelling that are keys in the body of class n
 abbrev pub private_key : ℕ → String → Part → List ℕ
-private_key first s (child (Node kind m span semantic_id (more (child (Node Kind.PrivateIdentifier d dspan d_semantic_id ds)) ps))) = cond (is_new first d && bytes_eq s (string_of (at 0 ds))) (d ∷ []) []
+private_key first s (child (Node kind m span semantic_id (more (child (Node Kind.PrivateIdentifier d dspan d_semantic_id ds)) ps))) = cond (bytes_eq s (string_of (at 0 ds))) (d ∷ []) []
 private_key first s p = []
 
 abbrev pub private_keys : ℕ → String → Parts → List ℕ
@@ -88,18 +90,29 @@ abbrev pub keys_in : ℕ → ℕ → String → List Tree → List ℕ
 keys_in first n s [] = []
 keys_in first n s (t ∷ ts) = keys_of_class first n s t ++ keys_in first n s ts
 
-abbrev pub is_one : List ℕ → Bool
-is_one (d ∷ []) = true
-is_one ds = false
+abbrev pub is_one : ℕ → List ℕ → Bool
+is_one first (d ∷ []) = is_new first d
+is_one first ds = false
 
 -- a private name is declared in the body of its class, each other name in a scope
 abbrev pub declared_by_kind : ℕ → Tree → String → GeneratedKind → Bool
-declared_by_kind first q s (GeneratedKind.Private n) = is_one (keys_in first n.0 s (preorder q))
+declared_by_kind first q s (GeneratedKind.Private n) = is_one first (keys_in first n.0 s (preorder q))
 declared_by_kind first q s kind = is_one_new first s q (declaring_numbers s (preorder q))
+
+-- private names of two classes may be spelled alike, and as other names; all else is named once
+abbrev pub same_space : GeneratedKind → GeneratedKind → Bool
+same_space (GeneratedKind.Private n) (GeneratedKind.Private k) = nat_eq n.0 k.0
+same_space (GeneratedKind.Private n) g = false
+same_space g (GeneratedKind.Private n) = false
+same_space g h = true
+
+abbrev pub is_named_again : LedgerEntry → List LedgerEntry → Bool
+is_named_again e [] = false
+is_named_again e (x ∷ xs) = (same_space e.kind x.kind && bytes_eq e.name x.name) || is_named_again e xs
 
 abbrev pub names_declared : ℕ → List LedgerEntry → Tree → Bool
 names_declared first [] q = true
-names_declared first (e ∷ es) q = declared_by_kind first q e.name e.kind && names_declared first es q
+names_declared first (e ∷ es) q = not (is_named_again e es) && (declared_by_kind first q e.name e.kind && names_declared first es q)
 
 -- ---- each new declaration is accounted for
 
@@ -125,13 +138,18 @@ is_generated None = false
 is_generated (Some (GeneratedKind.Private n)) = false
 is_generated (Some g) = true
 
--- a declaring identifier is old, or its name was made, or it is such an own name
+-- a declaring identifier is old, or its name was generated, or it is such an own name
 abbrev pub is_accounted : ℕ → List LedgerEntry → List ℕ → Tree → Bool
 is_accounted first ledger own (Node kind b span semantic_id ps) = not (is_binding_identifier kind && is_new first b) || (is_generated (generated_as (string_of (at 0 ps)) ledger) || has_number b own)
 
+-- a new declaration is a `var` or a `let`
+abbrev pub is_new_const : ℕ → Tree → Bool
+is_new_const first (Node Kind.VariableDeclaration m span semantic_id ps) = is_new first m && bytes_eq (string_of (at 0 ps)) (codes "const")
+is_new_const first t = false
+
 abbrev pub all_accounted : ℕ → List LedgerEntry → List ℕ → List Tree → Bool
 all_accounted first ledger own [] = true
-all_accounted first ledger own (t ∷ ts) = is_accounted first ledger own t && all_accounted first ledger own ts
+all_accounted first ledger own (t ∷ ts) = not (is_new_const first t) && (is_accounted first ledger own t && all_accounted first ledger own ts)
 
 abbrev pub declarations_accounted : ℕ → List LedgerEntry → Tree → Tree → Bool
 declarations_accounted first ledger p q = all_accounted first ledger (own_name_numbers p (preorder q)) (preorder q)
@@ -256,13 +274,30 @@ needs_none GeneratedKind.Args = true
 needs_none (GeneratedKind.Private n) = true
 needs_none kind = false
 
+-- what a name belongs to is a member, or a class with private methods of its instances, of the source
+abbrev pub is_there : Option PrivateMember → Bool
+is_there None = false
+is_there (Some x) = true
+
+abbrev pub has_branded : ℕ → List PrivateMember → Bool
+has_branded n [] = false
+has_branded n (x ∷ xs) = (nat_eq n x.class && (is_function_member x && not x.is_static)) || has_branded n xs
+
+abbrev pub belongs : List PrivateMember → GeneratedKind → Bool
+belongs members (GeneratedKind.WeakMap d) = is_there (if_member is_instance_field (member_at d.0 members))
+belongs members (GeneratedKind.StaticField d) = is_there (if_member is_static_field (member_at d.0 members))
+belongs members (GeneratedKind.Brand n) = has_branded n.0 members
+belongs members (GeneratedKind.Method d) = is_there (if_member is_function_member (member_at d.0 members))
+belongs members (GeneratedKind.LooseKey d) = is_there (if_member (λ x. is_a_field x.kind) (member_at d.0 members))
+belongs members g = true
+
 abbrev pub is_one_initialization : GeneratedKind → List PrivateMember → Tree → List (ℕ × Bool) → Bool
 is_one_initialization g members q (i ∷ []) = i.1 && all_before i.0 (class_before g members) (preorder q)
 is_one_initialization g members q is = false
 
 abbrev pub initializations_stand : ℕ → List LedgerEntry → List PrivateMember → Tree → List LedgerEntry → Bool
 initializations_stand first ledger members q [] = true
-initializations_stand first ledger members q (e ∷ es) = (needs_none e.kind || is_one_initialization e.kind members q (initializations first ledger q e.name e.kind (preorder q))) && initializations_stand first ledger members q es
+initializations_stand first ledger members q (e ∷ es) = (needs_none e.kind || (belongs members e.kind && is_one_initialization e.kind members q (initializations first ledger q e.name e.kind (preorder q)))) && initializations_stand first ledger members q es
 
 -- the temporaries of keys are given before their class
 abbrev pub any_before : List (ℕ × Bool) → ℕ → List Tree → Bool
@@ -284,6 +319,7 @@ pub record MeetsClauses (first : ℕ) (o : Options) (ledger : List LedgerEntry) 
   pub declared : names_declared first ledger q ≡ true
   pub accounted : declarations_accounted first ledger p q ≡ true
   pub initialized : initializations_stand first ledger (private_members p) q ledger ≡ true
+  pub timely : names_timely first ledger q ≡ true
   pub keys : keys_stand first o ledger (private_members p) q (all_temporaries first o ledger (private_members p) q (preorder q)) ≡ true
   pub nodes : nodes_kept p q ≡ true
   pub statements : statements_kept o p q ≡ true

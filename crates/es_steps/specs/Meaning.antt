@@ -1,6 +1,6 @@
 -- What a program means: its list of events, what its functions and classes do, and what it declares, imports and exports.
 -- (Our own; what each part comes from is said in docs/MEANING.md.)
-use Rattle.std.specs.Prelude.{ℕ, zero, suc, List, [], ◌∷◌, ◌++◌, Bool, true, false, cond, nat_le, nat_eq, codes, Option, Some, None}
+use Rattle.std.specs.Prelude.{ℕ, zero, suc, List, [], ◌∷◌, ◌++◌, Bool, true, false, cond, nat_le, nat_eq, bytes_eq, codes, Option, Some, None}
 use Rattle.es_base.specs.Numbered.{is_new}
 use Rattle.es_base.specs.Preorder.{preorder, number_of, nodes}
 use Rattle.es_base.specs.Tree.{Tree, Part, Parts, Node, end, more, child, list, string}
@@ -17,7 +17,8 @@ use Rattle.es_steps.specs.Parts.{at, items, string_of}
 use Rattle.es_steps.specs.PrivateNames.{PrivateMember, PrivateKind, a_field, private_members}
 use Rattle.es_steps.specs.Reading.{read}
 use Rattle.es_steps.specs.References.{resolve, written, writes_free}
-use Rattle.es_steps.specs.Scopes.{is_binding_identifier, class_in}
+use Rattle.es_steps.specs.Repeated.{all_places}
+use Rattle.es_steps.specs.Scopes.{Declaration, is_binding_identifier, class_in, body_names}
 use Rattle.es_steps.specs.Values.{String, ThisOf, ArgumentsOf, NewTargetOf}
 use Rattle.es_steps.specs.declared.options.Options.{Options}
 
@@ -96,8 +97,8 @@ declared_functions ledger (t ∷ ts) = declared_function ledger t ++ declared_fu
 -- ---- private members: a field, or the function of a method, getter or setter
 
 pub data MemberEntry : Type 0 where
-  IsField : MemberEntry
-  FunctionIs : (f : ℕ) → MemberEntry
+  IsField : (is_static : Bool) → MemberEntry
+  FunctionIs : (is_static : Bool) (kind : PrivateKind) (f : ℕ) → MemberEntry
 
 abbrev pub function_of : ℕ → Code → List (ℕ × ℕ)
 function_of d (function f form own_name ps body) = (d, f) ∷ []
@@ -111,13 +112,13 @@ private_function_by c = []
 abbrev pub private_functions : Code → List (ℕ × ℕ)
 private_functions c = gather private_function_by c
 
-abbrev pub function_at : ℕ → List (ℕ × ℕ) → Option MemberEntry
-function_at d [] = None
-function_at d (p ∷ ps) = cond (nat_eq d p.0) (Some (FunctionIs p.1)) (function_at d ps)
+abbrev pub function_at : Bool → PrivateKind → ℕ → List (ℕ × ℕ) → Option MemberEntry
+function_at is_static kind d [] = None
+function_at is_static kind d (p ∷ ps) = cond (nat_eq d p.0) (Some (FunctionIs is_static kind p.1)) (function_at is_static kind d ps)
 
-abbrev pub member_entry : PrivateKind → ℕ → List (ℕ × ℕ) → Option MemberEntry
-member_entry a_field d functions = Some IsField
-member_entry kind d functions = function_at d functions
+abbrev pub member_entry : Bool → PrivateKind → ℕ → List (ℕ × ℕ) → Option MemberEntry
+member_entry is_static a_field d functions = Some (IsField is_static)
+member_entry is_static kind d functions = function_at is_static kind d functions
 
 abbrev pub with_member : ℕ → Option MemberEntry → Option (List (ℕ × MemberEntry)) → Option (List (ℕ × MemberEntry))
 with_member d (Some e) (Some es) = Some ((d, e) ∷ es)
@@ -125,7 +126,16 @@ with_member d e es = None
 
 abbrev pub member_entries : List (ℕ × ℕ) → List PrivateMember → Option (List (ℕ × MemberEntry))
 member_entries functions [] = Some []
-member_entries functions (x ∷ xs) = with_member x.number (member_entry x.kind x.number functions) (member_entries functions xs)
+member_entries functions (x ∷ xs) = with_member x.number (member_entry x.is_static x.kind x.number functions) (member_entries functions xs)
+
+-- ---- the names that a script gives to other scripts: those of its own scope (ECMA-262, 16.1.7)
+
+abbrev pub old_names : ℕ → List Declaration → List (ℕ × String)
+old_names first [] = []
+old_names first (d ∷ ds) = cond (is_new first d.number) (old_names first ds) ((d.number, d.spelling) ∷ old_names first ds)
+
+abbrev pub globals : ℕ → Tree → List (ℕ × String)
+globals first (Node kind m span semantic_id ps) = cond (bytes_eq (string_of (at 0 ps)) (codes "script")) (old_names first (body_names (items (at 1 ps)))) []
 
 -- ---- by number
 
@@ -164,6 +174,9 @@ pub record Meaning : Type 0 where
   pub members : List (ℕ × MemberEntry)
   pub functions : List (ℕ × ℕ)
   pub bindings : List (ℕ × DeclarationKind)
+  pub globals : List (ℕ × String)
+  -- where functions, classes and declaring identifiers stand
+  pub places : List (ℕ × ℕ)
   pub links : List ModuleLink
   pub exports : List (String × Exported)
 
@@ -193,6 +206,7 @@ start o t = record {
   constructs = None;
   initializing = None;
   in_new_function = false;
+  rest_name = [];
   class = number_of t;
   has_heritage = false;
   object = number_of t;
@@ -211,25 +225,32 @@ body_of (Node kind m span semantic_id ps) = items (at 1 ps)
 abbrev pub in_body : Context → Tree → Context
 in_body c (Node kind m span semantic_id ps) = inside c kind m ps 1
 
-abbrev pub with_all : Terms → Tree → Option Listed → Option (List (ℕ × Entry)) → Option (List (ℕ × MemberEntry)) → Option (List (String × Exported)) → Option Meaning
-with_all o t (Some l) (Some es) (Some ms) (Some xs) = Some (record {
+abbrev pub second_numbers : List (ℕ × ℕ) → List ℕ
+second_numbers [] = []
+second_numbers (p ∷ ps) = p.1 ∷ second_numbers ps
+
+-- d are the private members with their functions
+abbrev pub with_all : Terms → Tree → List (ℕ × ℕ) → Option Listed → Option (List (ℕ × Entry)) → Option (List (ℕ × MemberEntry)) → Option (List (String × Exported)) → Option Meaning
+with_all o t d (Some l) (Some es) (Some ms) (Some xs) = Some (record {
   source_type = source_type_of t;
   program = l;
   entries = by_number es;
   members = by_number ms;
   functions = by_number (declared_functions o.ledger (preorder t));
   bindings = by_number (old_bindings o.first_new (declaring o.first_new ClassDeclared t));
-  links = links_in o.first_new (body_of t);
+  globals = by_number (globals o.first_new t);
+  places = by_number (all_places o.first_new o.ledger (second_numbers d) t);
+  links = links_in (body_of t);
   exports = xs;
 })
-with_all o t l es ms xs = None
+with_all o t d l es ms xs = None
 
 -- the meaning of a code: entries are read in the environment at its end
 abbrev pub means_by : (Opened → Evaluation) → Terms → Tree → Code → Option Meaning
 means_by opens o t c =
     let run : Option Run = ev opens c [] in
     let env : Environment = after_run [] run in
-    with_all o t (listed run) (whole (entries opens o.first_new o.late [] env c)) (member_entries (private_functions c) o.members) (all_exports (exports_in (in_body (start o t) t) env (body_of t)))
+    with_all o t (private_functions c) (listed run) (whole (entries opens o.first_new o.late [] env c)) (member_entries (private_functions c) o.members) (all_exports (exports_in (in_body (start o t) t) env (body_of t)))
 
 abbrev pub means_of : Terms → Tree → Code → Option Meaning
 means_of o t c = means_by (opening (definitions c)) o t c

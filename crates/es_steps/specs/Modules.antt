@@ -1,7 +1,6 @@
 -- What a module imports and exports. (ECMA-262, 16.2. Directly exported names are known by what they mean, since other
 -- modules see the binding and not a value.)
 use Rattle.std.specs.Prelude.{ℕ, List, [], ◌∷◌, ◌++◌, Bool, true, false, cond, codes, Option, Some, None}
-use Rattle.es_base.specs.Numbered.{is_new}
 use Rattle.es_base.specs.Tree.{Part, Parts, Node, end, more, child, absent, literal}
 use Rattle.es_base.specs.declared.kind.Kind.{Kind}
 use Rattle.es_base.specs.declared.ledger.GeneratedKind.{GeneratedKind}
@@ -12,7 +11,7 @@ use Rattle.es_steps.specs.Parts.{at, items, string_of}
 use Rattle.es_steps.specs.Scopes.{Declaration, lexical_part, var_part}
 use Rattle.es_steps.specs.Values.{String, Value, ClassOf, Referent, Bound, Free}
 
--- ---- imports and exports from another module, in order, those that are not new
+-- ---- imports and exports from another module, in order
 
 pub data Specifier : Type 0 where
   -- a name of the other module, and the identifier or the name that it has here
@@ -66,13 +65,9 @@ link_of (child (Node Kind.ExportNamedDeclaration m span semantic_id ps)) = expor
 link_of (child (Node Kind.ExportAllDeclaration m span semantic_id ps)) = link m (at 1 ps) (ReexportedAll (nullable_name (at 0 ps)) ∷ [])
 link_of p = []
 
-abbrev pub old_links : ℕ → List ModuleLink → List ModuleLink
-old_links first [] = []
-old_links first (l ∷ ls) = cond (is_new first l.number) (old_links first ls) (l ∷ old_links first ls)
-
-abbrev pub links_in : ℕ → Parts → List ModuleLink
-links_in first end = []
-links_in first (more p ps) = old_links first (link_of p) ++ links_in first ps
+abbrev pub links_in : Parts → List ModuleLink
+links_in end = []
+links_in (more p ps) = link_of p ++ links_in ps
 
 -- ---- exported names of its own, and what they mean
 

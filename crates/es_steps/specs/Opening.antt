@@ -2,10 +2,10 @@
 -- generated names are assigned. (Initializers: ECMA-262, 10.2.1.3 and 13.3.7.1; the rest is our own.)
 use Rattle.std.specs.Prelude.{ℕ, zero, suc, List, [], ◌∷◌, ◌++◌, Bool, true, false, cond, nat_eq, bytes_eq, length, Option, Some, None}
 use Rattle.es_base.specs.declared.ledger.GeneratedKind.{GeneratedKind}
-use Rattle.es_steps.specs.Code.{Code, Codes, Target, Callee, Opened, InitializersOf, BodyOf, FunctionForm, no_rule, rest, sequence, super_call_with_all, member, private_member, super_member, private_in, assign, compound, logical, logical_assign, update, call, tag, construct, super_call, template, operation, piece, chain, short, tested, pattern, takes, steps, gives_to, export_default, function, new_function, class_code, field, private_field, method, private_method, constructor, static_block, generated_element, define, private_initialize, bound, setter, call_arrow, call_closure, initializers, give_function, give_class, new_return, to_name, to_member, to_private, to_super, to_setter, to_pattern, to_default, plain, on_member, on_private, on_super, with_receiver, checked, on_chain, behind_test, done, and}
+use Rattle.es_steps.specs.Code.{Code, Codes, Target, Callee, Opened, InitializersOf, BodyOf, CalledBodyOf, FunctionForm, no_rule, rest, sequence, super_call_with_all, member, private_member, super_member, private_in, assign, compound, logical, logical_assign, update, call, tag, construct, super_call, template, operation, piece, chain, short, tested, pattern, takes, steps, gives_to, export_default, function, new_function, class_code, field, private_field, method, private_method, constructor, static_block, generated_element, from_call, from_member, key_of, define, private_initialize, bound, setter, call_arrow, call_closure, initializers, give_function, give_class, new_return, to_name, to_member, to_private, to_super, to_setter, to_pattern, to_default, plain, on_member, on_private, on_super, with_receiver, checked, on_chain, behind_test, done, and}
 use Rattle.es_steps.specs.Context.{Generated}
 use Rattle.es_steps.specs.Evaluation.{Evaluation, no_meaning, ev, ev_initializers, private_key}
-use Rattle.es_steps.specs.GeneratedForms.{opened_body, is_plain_arrow}
+use Rattle.es_steps.specs.GeneratedForms.{opened_body, is_plain, is_plain_arrow}
 use Rattle.es_steps.specs.Values.{String}
 
 -- ---- what the codes in a code add that assign or define, itself first
@@ -50,6 +50,9 @@ module _ {A : Type 0} (own : Code → List A) where
     gather (constructor f) = gather f
     gather (static_block es) = gather_all es
     gather (generated_element s e) = own (generated_element s e) ++ gather e
+    gather (from_call e) = gather e
+    gather (from_member e) = gather e
+    gather (key_of e) = gather e
     gather (define m o k e) = gather k ++ gather e
     gather (private_initialize m d o e) = gather e
     gather (bound f o) = gather f ++ gather o
@@ -109,6 +112,7 @@ assigned_in_all cs = gather_all assigned_by cs
 pub data Definition : Type 0 where
   of_class : (n : ℕ) (elements : Codes) → Definition
   of_name : (s : String) (body : Code) → Definition
+  of_called : (s : String) (body : Code) → Definition
 
 -- what follows `super(..._args)` in the function that stands for `super(..)` of class n
 abbrev pub behind_super : ℕ → Code → Code
@@ -120,17 +124,17 @@ all_arguments (and (rest (to_name m s (Generated GeneratedKind.Args))) done) = t
 all_arguments ps = false
 
 -- an arrow begins with `super(..._args)`; a function is called with what `super(..)` gave
-abbrev pub super_body : ℕ → Bool → Codes → Code → Code
-super_body n true ps body = cond (all_arguments ps) (behind_super n (opened_body body)) no_rule
-super_body n false done body = sequence (and (initializers n) (and (opened_body body) done))
-super_body n false ps body = no_rule
+abbrev pub super_definition : String → ℕ → Bool → Codes → Code → List Definition
+super_definition s n true ps body = cond (all_arguments ps) (of_name s (behind_super n (opened_body body)) ∷ []) []
+super_definition s n false done body = of_called s (sequence (and (initializers n) (and (opened_body body) done))) ∷ []
+super_definition s n false ps body = []
 
 abbrev pub closure_body : FunctionForm → Codes → Code → Code
 closure_body form done body = cond (is_plain_arrow form) (opened_body body) no_rule
 closure_body form ps body = no_rule
 
 abbrev pub function_definition : String → GeneratedKind → FunctionForm → Codes → Code → List Definition
-function_definition s (GeneratedKind.SuperFn n) form ps body = of_name s (super_body n.0 form.is_arrow ps body) ∷ []
+function_definition s (GeneratedKind.SuperFn n) form ps body = cond (is_plain form) (super_definition s n.0 form.is_arrow ps body) []
 function_definition s GeneratedKind.Closure form ps body = of_name s (closure_body form ps body) ∷ []
 function_definition s g form ps body = []
 
@@ -147,6 +151,7 @@ definitions c = gather defined_by c
 abbrev pub defines : Opened → Definition → Bool
 defines (InitializersOf n) (of_class k es) = nat_eq n k
 defines (BodyOf s) (of_name t c) = bytes_eq s t
+defines (CalledBodyOf s) (of_called t c) = bytes_eq s t
 defines o d = false
 
 abbrev pub definition_of : Opened → List Definition → Option Definition
@@ -161,6 +166,7 @@ abbrev pub ev_definition : (Opened → Evaluation) → Option Definition → Eva
 ev_definition opens None = no_meaning
 ev_definition opens (Some (of_class n es)) = ev_initializers opens n es
 ev_definition opens (Some (of_name s c)) = ev opens c
+ev_definition opens (Some (of_called s c)) = ev opens c
 
 -- k is the number of the definitions
 abbrev pub opening_in : ℕ → List Definition → Opened → Evaluation

@@ -1,13 +1,14 @@
 -- Trees that can be printed as JavaScript: a table of those that cannot. (ECMA-262, 12: names, literals, templates,
--- directives; the rest is what no text is read as.)
+-- directives; the rest is what no source text is read as.)
 use Rattle.std.specs.Prelude.{ℕ, zero, suc, List, [], ◌∷◌, Bool, true, false, cond, not, ◌&&◌, ◌||◌, nat_eq, nat_le, codes, bytes_eq, Option, Some, None}
 use Rattle.es_base.specs.Conforms.{is_among}
 use Rattle.es_base.specs.Tree.{Tree, Part, Parts, Node, end, more, child, absent, list, string, boolean, literal}
 use Rattle.es_base.specs.declared.kind.Kind.{Kind}
 use Rattle.es_base.specs.declared.literal.LiteralValue.{LiteralValue}
 use Rattle.es_base.specs.declared.literal.LiteralValue.TheVariants as literal_value
-use Rattle.es_steps.specs.Context.{is_constructor}
+use Rattle.es_steps.specs.Context.{is_constructor, is_function}
 use Rattle.es_steps.specs.Parts.{at, items, string_of, is_true, is_present}
+use Rattle.es_steps.specs.Repeated.{is_loop, is_arrow}
 use Rattle.es_steps.specs.Values.{String}
 
 -- ---- characters
@@ -216,6 +217,10 @@ abbrev pub is_function_expression : Kind → Bool
 is_function_expression Kind.FunctionExpression = true
 is_function_expression kind = false
 
+abbrev pub is_identifier_name : Kind → Bool
+is_identifier_name Kind.IdentifierName = true
+is_identifier_name kind = false
+
 abbrev pub name_of_part : Part → String
 name_of_part (child (Node kind m span semantic_id ps)) = string_of (at 0 ps)
 name_of_part p = []
@@ -243,7 +248,7 @@ is_bad_property ps =
     let kind : String = string_of (at 2 ps) in
     let method : Bool = is_true (at 3 ps) in
     let shorthand : Bool = is_true (at 4 ps) in
-    (shorthand && (method || (is_accessor kind || (is_true (at 5 ps) || not (bytes_eq (name_of_part (at 0 ps)) (shorthand_name (at 1 ps)))))))
+    (shorthand && (method || (is_accessor kind || (not (is_kind_of is_identifier_name (at 0 ps)) || (is_true (at 5 ps) || not (bytes_eq (name_of_part (at 0 ps)) (shorthand_name (at 1 ps))))))))
     || (((method && is_accessor kind) || ((method || is_accessor kind) && (not (is_kind_of is_function_expression (at 1 ps)) || has_id (at 1 ps)))) || (is_accessor kind && is_suspending (at 1 ps)))
 
 -- an element that is no constructor, and one that is (ECMA-262, 15.7.1)
@@ -424,5 +429,60 @@ abbrev mutual
   bad_in in_default in_module end = false
   bad_in in_default in_module (more p ps) = bad_at in_default in_module p || bad_in in_default in_module ps
 
+-- ---- jumps: a `break`, `continue` or `return` without what it leaves (ECMA-262, 14.8, 14.9, 14.10)
+
+pub record Jumps : Type 0 where
+  pub breaks : Bool
+  pub continues : Bool
+  pub returns : Bool
+  pub labels : List String
+  -- the labels of loops
+  pub loops : List String
+
+abbrev pub no_jumps : Bool → Jumps
+no_jumps in_function = record { breaks = false; continues = false; returns = in_function; labels = []; loops = [] }
+
+abbrev pub is_label_among : Bool → List String → Part → Bool
+is_label_among unlabelled labels absent = unlabelled
+is_label_among unlabelled labels p = is_among (name_of_part p) labels
+
+abbrev pub is_stray : Jumps → Kind → Parts → Bool
+is_stray j Kind.BreakStatement ps = not (is_label_among j.breaks j.labels (at 0 ps))
+is_stray j Kind.ContinueStatement ps = not (is_label_among j.continues j.loops (at 0 ps))
+is_stray j Kind.ReturnStatement ps = not j.returns
+is_stray j kind ps = false
+
+-- whether a statement is a loop, behind its labels
+abbrev mutual
+  pub is_looping : Tree → Bool
+  is_looping (Node Kind.LabeledStatement m span semantic_id (more l (more b end))) = part_is_looping b
+  is_looping (Node kind m span semantic_id ps) = is_loop kind
+
+  pub part_is_looping : Part → Bool
+  part_is_looping (child t) = is_looping t
+  part_is_looping p = false
+
+abbrev pub labelled : Jumps → String → Bool → Jumps
+labelled j s is_loop = record j { labels = s ∷ j.labels; loops = cond is_loop (s ∷ j.loops) j.loops }
+
+abbrev pub jumps_inside : Jumps → Kind → Parts → Jumps
+jumps_inside j Kind.StaticBlock ps = no_jumps false
+jumps_inside j Kind.SwitchStatement ps = record j { breaks = true }
+jumps_inside j Kind.LabeledStatement ps = labelled j (name_of_part (at 0 ps)) (part_is_looping (at 1 ps))
+jumps_inside j kind ps = cond (is_function kind || is_arrow kind) (no_jumps true) (cond (is_loop kind) (record j { breaks = true; continues = true }) j)
+
+abbrev mutual
+  pub has_stray : Jumps → Tree → Bool
+  has_stray j (Node kind m span semantic_id ps) = is_stray j kind ps || stray_in (jumps_inside j kind ps) ps
+
+  pub stray_at : Jumps → Part → Bool
+  stray_at j (child t) = has_stray j t
+  stray_at j (list ps) = stray_in j ps
+  stray_at j p = false
+
+  pub stray_in : Jumps → Parts → Bool
+  stray_in j end = false
+  stray_in j (more p ps) = stray_at j p || stray_in j ps
+
 abbrev pub is_printable : Tree → Bool
-is_printable t = not (has_bad false false t)
+is_printable t = not (has_bad false false t || has_stray (no_jumps false) t)

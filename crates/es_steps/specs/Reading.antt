@@ -63,7 +63,7 @@ class_form_code c Kind.ClassDeclaration m ps = class_of (declared_by (at 0 ps)) 
 class_form_code c Kind.ClassExpression m ps = class_of (declared_by_let m c.let_class) m ps
 class_form_code c Kind.ClassBody m ps = steps (codes_in ps)
 class_form_code c Kind.PropertyDefinition m ps = field_code c ps
-class_form_code c Kind.MethodDefinition m ps = method_code ps
+class_form_code c Kind.MethodDefinition m ps = method_code c ps
 class_form_code c Kind.StaticBlock m ps = static_block (codes_in ps)
 class_form_code c kind m ps = pattern_code c kind m ps
 

@@ -2,9 +2,10 @@
 use Rattle.std.specs.Prelude.{ℕ, List, [], ◌∷◌, Bool, true, false, ◌&&◌, bytes_eq, nat_eq, Option, Some, None}
 use Rattle.es_steps.specs.Code.{FunctionForm}
 use Rattle.es_steps.specs.Entries.{Parameter, Identifier, RestIdentifier, Pattern, Method, Listed, Entry, FunctionEntry, ClassEntry}
-use Rattle.es_steps.specs.Events.{Detail, Operand, Empty, Spelled, Flag, Key, Opens, Closes, Prototype, Index, Rest, Operation, OfKind, Delete, Take, Place, RightOf, Default, Part, Event, ReadName, SetName, Get, Set, Define, Call, Construct, Operate, Update, PrivateGet, PrivateSet, PrivateInitialize, PrivateIn, AddBrand, SuperGet, SuperSet, SuperCall, SuperCallWithAll, Throw, Short, Held, Events, none, then}
+use Rattle.es_steps.specs.Events.{Detail, Operand, Empty, Spelled, Flag, Key, Opens, Closes, Prototype, Index, Rest, Operation, OfKind, Delete, Take, Place, RightOf, Default, Part, Event, ReadName, SetName, Get, Set, Define, Call, Construct, Operate, Update, PrivateGet, PrivateSet, PrivateInitialize, PrivateIn, AddBrand, SuperGet, SuperSet, SuperCall, SuperCallWithAll, InitializeClass, Throw, Short, Held, Events, none, then}
 use Rattle.es_steps.specs.Meaning.{Meaning, DeclarationKind, Variable, FunctionName, ParameterName, CaughtName, ImportName, ClassDeclared, MemberEntry, IsField, FunctionIs}
 use Rattle.es_steps.specs.Modules.{Specifier, Imported, ImportedDefault, ImportedNamespace, Reexported, ReexportedAll, ModuleLink, Exported, ExportedClass, ExportedBinding, ExportedFree, ExportedValue}
+use Rattle.es_steps.specs.PrivateNames.{PrivateKind, a_field, a_method, a_getter, a_setter}
 use Rattle.es_steps.specs.SameTrees.{same_kind}
 use Rattle.es_steps.specs.SameValues.{same_boolean, same_nullable_string, same_constant, same_value}
 use Rattle.es_steps.specs.Values.{String, Referent, Bound, Free, Home, OfClass, OfPrototype, OfObject, PrivateTest, HasField, HasBrand, IsClass}
@@ -83,6 +84,7 @@ abbrev mutual
   same_event (SuperSet h k v x) (SuperSet g l w y) = same_home h g && (same_value k l && (same_value v w && same_value x y))
   same_event (SuperCall m n vs) (SuperCall k l ws) = nat_eq m k && (nat_eq n l && same_list same_value vs ws)
   same_event (SuperCallWithAll n) (SuperCallWithAll k) = nat_eq n k
+  same_event (InitializeClass n) (InitializeClass k) = nat_eq n k
   same_event Throw Throw = true
   same_event (Short v) (Short w) = same_value v w
   same_event (Held m p t l v) (Held n q u k w) = nat_eq m n && (same_place p q && (same_option same_value t u && (same_events l k && same_value v w)))
@@ -118,9 +120,16 @@ same_entry x y = false
 abbrev pub same_numbered : {A : Type 0} → (A → A → Bool) → ℕ × A → ℕ × A → Bool
 same_numbered same p q = nat_eq p.0 q.0 && same p.1 q.1
 
+abbrev pub same_private_kind : PrivateKind → PrivateKind → Bool
+same_private_kind a_field a_field = true
+same_private_kind a_method a_method = true
+same_private_kind a_getter a_getter = true
+same_private_kind a_setter a_setter = true
+same_private_kind kind other = false
+
 abbrev pub same_member : MemberEntry → MemberEntry → Bool
-same_member IsField IsField = true
-same_member (FunctionIs f) (FunctionIs g) = nat_eq f g
+same_member (IsField b) (IsField c) = same_boolean b c
+same_member (FunctionIs b kind f) (FunctionIs c other g) = same_boolean b c && (same_private_kind kind other && nat_eq f g)
 same_member x y = false
 
 abbrev pub same_declaration : DeclarationKind → DeclarationKind → Bool
@@ -160,7 +169,7 @@ same_export p q = bytes_eq p.0 q.0 && same_exported p.1 q.1
 abbrev pub same_meaning : Meaning → Meaning → Bool
 same_meaning a b =
     bytes_eq a.source_type b.source_type && (same_listed a.program b.program && (same_list (same_numbered same_entry) a.entries b.entries && (same_list (same_numbered same_member) a.members b.members
-    && (same_list (same_numbered nat_eq) a.functions b.functions && (same_list (same_numbered same_declaration) a.bindings b.bindings && (same_list same_link a.links b.links && same_list same_export a.exports b.exports))))))
+    && (same_list (same_numbered nat_eq) a.functions b.functions && (same_list (same_numbered same_declaration) a.bindings b.bindings && (same_list (same_numbered bytes_eq) a.globals b.globals && (same_list (same_numbered nat_eq) a.places b.places && (same_list same_link a.links b.links && same_list same_export a.exports b.exports))))))))
 
 abbrev pub same_meanings : Option Meaning → Option Meaning → Bool
 same_meanings a b = same_option same_meaning a b

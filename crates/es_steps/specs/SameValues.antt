@@ -1,6 +1,6 @@
 -- Whether two values are one.
 use Rattle.std.specs.Prelude.{Bool, true, false, ◌&&◌, bytes_eq, nat_eq, Option, Some, None}
-use Rattle.es_steps.specs.Values.{String, Constant, StringOf, NumberOf, BigIntOf, RegExpOf, BooleanOf, Null, RawTemplate, TagString, Value, ConstantOf, Undefined, BindingOf, FunctionOf, ClassOf, ThisOf, ArgumentsOf, NewTargetOf, ResultOf, FormerOf}
+use Rattle.es_steps.specs.Values.{String, Constant, StringOf, NumberOf, BigIntOf, RegExpOf, BooleanOf, Null, RawTemplate, TagString, Value, ConstantOf, Undefined, BindingOf, FunctionOf, ClassOf, ThisOf, ArgumentsOf, NewTargetOf, ResultOf, FormerOf, KeyOf}
 
 abbrev pub same_boolean : Bool → Bool → Bool
 same_boolean true b = b
@@ -34,4 +34,5 @@ same_value (ArgumentsOf m) (ArgumentsOf k) = nat_eq m k
 same_value (NewTargetOf m) (NewTargetOf k) = nat_eq m k
 same_value (ResultOf m) (ResultOf k) = nat_eq m k
 same_value (FormerOf m) (FormerOf k) = nat_eq m k
+same_value (KeyOf v) (KeyOf w) = same_value v w
 same_value v w = false

@@ -7,11 +7,13 @@ use Rattle.es_base.specs.Tree.{Tree, Part, Parts, Node, end, more, child, absent
 use Rattle.es_base.specs.declared.kind.Kind.{Kind}
 use Rattle.es_base.specs.declared.shape.Shape.{Shape}
 use Rattle.es_steps.specs.Code.{Code, Codes, class_code}
+use Rattle.es_steps.specs.Expressions.{is_logical}
 use Rattle.es_steps.specs.Evaluation.{Run, gives, is_none, ev_all}
-use Rattle.es_steps.specs.LoweredClasses.{Element, elements_of, any_element, is_lowered_class, constructor_in, referent_of, is_written_binding, is_hoisted_key}
+use Rattle.es_steps.specs.LoweredClasses.{is_private_key, Element, elements_of, any_element, is_lowered_class, constructor_in, referent_of, is_written_binding, is_hoisted_key}
 use Rattle.es_steps.specs.Meaning.{Meaning, start, source_terms, means}
+use Rattle.es_steps.specs.NameScopes.{is_suspended_scope}
 use Rattle.es_steps.specs.Opening.{gather, definitions, opening}
-use Rattle.es_steps.specs.Options.{lowers_fields, lowers_blocks}
+use Rattle.es_steps.specs.Options.{lowers_fields, lowers_blocks, keeps_privates_as_properties}
 use Rattle.es_steps.specs.Parts.{at, items, string_of, is_true, is_present}
 use Rattle.es_steps.specs.PrivateNames.{PrivateMember, PrivateReference, seen_members, private_reference}
 use Rattle.es_steps.specs.Reading.{read}
@@ -112,7 +114,8 @@ abbrev pub has_shape_3 : Options → List ClassAt → Bool
 has_shape_3 o ks = lowers_fields o && (not (lowers_blocks o) && any_class keeps_block ks)
 
 -- ---- 4: a written bound name that is read twice: the object of a private member that is written by an operator, updated,
--- called, a tag or behind `?.`, or the key of a `super` member that is written by an operator or updated
+-- called, a tag or behind `?.`, or the key of a `super` member in moved code that is written by an operator or updated. A
+-- private member that is kept as a property is read once but where a logical operator writes it, and behind `?.`.
 
 abbrev pub is_written_name : List ℕ → List Reference → Part → Bool
 is_written_name written references (child (Node Kind.IdentifierReference m span semantic_id ps)) = is_written_binding written (referent_of m references)
@@ -134,25 +137,56 @@ abbrev pub optional_object : Bool → Part → Part
 optional_object true p = p
 optional_object false p = absent
 
--- the parts that a node by itself reads twice
-abbrev pub read_twice : Kind → Parts → List Part
-read_twice Kind.AssignmentExpression ps = cond (bytes_eq (string_of (at 0 ps)) (codes "=")) [] (private_object (at 1 ps) ∷ super_key (at 1 ps) ∷ [])
-read_twice Kind.UpdateExpression ps = private_object (at 1 ps) ∷ super_key (at 1 ps) ∷ []
-read_twice Kind.CallExpression ps = private_object (at 0 ps) ∷ []
-read_twice Kind.TaggedTemplateExpression ps = private_object (at 0 ps) ∷ []
-read_twice Kind.PrivateField ps = optional_object (is_true (at 3 ps)) (at 0 ps) ∷ []
-read_twice kind ps = []
+abbrev pub part_if : Bool → Part → Part
+part_if true p = p
+part_if false p = absent
+
+-- the parts that a node by itself reads twice, where private members are kept as properties, and in moved code, or not
+abbrev pub read_twice : Bool → Bool → Kind → Parts → List Part
+read_twice loose moved Kind.AssignmentExpression ps = cond (bytes_eq (string_of (at 0 ps)) (codes "=")) [] (part_if (not loose || is_logical (string_of (at 0 ps))) (private_object (at 1 ps)) ∷ part_if moved (super_key (at 1 ps)) ∷ [])
+read_twice loose moved Kind.UpdateExpression ps = part_if (not loose) (private_object (at 1 ps)) ∷ part_if moved (super_key (at 1 ps)) ∷ []
+read_twice loose moved Kind.CallExpression ps = part_if (not loose) (private_object (at 0 ps)) ∷ []
+read_twice loose moved Kind.TaggedTemplateExpression ps = part_if (not loose) (private_object (at 0 ps)) ∷ []
+read_twice loose moved Kind.PrivateField ps = optional_object (is_true (at 3 ps)) (at 0 ps) ∷ []
+read_twice loose moved kind ps = []
 
 abbrev pub any_written : List ℕ → List Reference → List Part → Bool
 any_written written references [] = false
 any_written written references (p ∷ ps) = is_written_name written references p || any_written written references ps
 
-abbrev pub reads_written_twice : List ℕ → List Reference → List Tree → Bool
-reads_written_twice written references [] = false
-reads_written_twice written references (Node kind m span semantic_id ps ∷ ts) = any_written written references (read_twice kind ps) || reads_written_twice written references ts
+-- whether code is moved in the i-th part of a node: the value of a static field, a static block that is lowered, and a
+-- private method, whose function this is or not
+abbrev pub moved_in : Options → Bool → Bool → Kind → Parts → ℕ → Bool
+moved_in o moved of_method Kind.FunctionDeclaration ps i = false
+moved_in o moved of_method Kind.FunctionExpression ps i = of_method
+moved_in o moved of_method Kind.PropertyDefinition ps i = cond (nat_eq i 1) (is_true (at 3 ps)) moved
+moved_in o moved of_method Kind.StaticBlock ps i = lowers_blocks o
+moved_in o moved of_method kind ps i = moved
+
+abbrev pub is_private_function : Kind → Parts → ℕ → Bool
+is_private_function Kind.MethodDefinition ps i = nat_eq i 1 && is_private_key (at 0 ps)
+is_private_function kind ps i = false
+
+module _ (o : Options) (written : List ℕ) (references : List Reference) where
+  abbrev mutual
+    pub reads_twice : Bool → Bool → Tree → Bool
+    reads_twice moved of_method (Node kind m span semantic_id ps) = any_written written references (read_twice (keeps_privates_as_properties o) moved kind ps) || reads_twice_in (moved_in o moved of_method kind ps) (is_private_function kind ps) ps
+
+    pub reads_twice_in : (ℕ → Bool) → (ℕ → Bool) → Parts → Bool
+    reads_twice_in moved of_method end = false
+    reads_twice_in moved of_method (more p ps) = reads_twice_at (moved 0) (of_method 0) p || reads_twice_in (λ i. moved (suc i)) (λ i. of_method (suc i)) ps
+
+    pub reads_twice_at : Bool → Bool → Part → Bool
+    reads_twice_at moved of_method (child t) = reads_twice moved of_method t
+    reads_twice_at moved of_method (list ps) = reads_twice_of moved ps
+    reads_twice_at moved of_method p = false
+
+    pub reads_twice_of : Bool → Parts → Bool
+    reads_twice_of moved end = false
+    reads_twice_of moved (more p ps) = reads_twice_at moved false p || reads_twice_of moved ps
 
 abbrev pub has_shape_4 : Options → Tree → Bool
-has_shape_4 o t = lowers_fields o && reads_written_twice (written t) (resolve t) (preorder t)
+has_shape_4 o t = lowers_fields o && reads_twice o (written t) (resolve t) false false t
 
 -- ---- 5: a private member without a writing side as a target in a pattern; 8: a private name behind `?.` in one chain
 
@@ -224,8 +258,13 @@ abbrev pub writes_any : List ℕ → List Reference → Bool
 writes_any names [] = false
 writes_any names (r ∷ rs) = (r.writes && refers_to names r.to) || writes_any names rs
 
-abbrev pub has_shape_6 : Tree → List ClassAt → Bool
-has_shape_6 t ks = writes_any (class_names ks) (resolve t)
+-- where static blocks alone are lowered, also classes that suspend and have a scope for names
+abbrev pub suspended_names : Options → List Tree → List ℕ
+suspended_names o [] = []
+suspended_names o (Node kind m span semantic_id ps ∷ ts) = cond (not (lowers_fields o) && (lowers_blocks o && is_suspended_scope kind ps)) (id_number (at 0 ps)) [] ++ suspended_names o ts
+
+abbrev pub has_shape_6 : Options → Tree → List ClassAt → Bool
+has_shape_6 o t ks = writes_any (class_names ks ++ suspended_names o (preorder t)) (resolve t)
 
 abbrev pub is_any_function : Kind → Bool
 is_any_function Kind.FunctionDeclaration = true
@@ -308,7 +347,7 @@ if_has false shape rest = rest
 abbrev pub shapes_of : Options → Tree → Code → List ClassAt → List Shape
 shapes_of o t c ks =
     if_has (has_shape_1 o t c ks) Shape.S1 (if_has (has_shape_2 o ks) Shape.S2 (if_has (has_shape_3 o ks) Shape.S3 (if_has (has_shape_4 o t) Shape.S4
-    (if_has (has_shape_5 o t) Shape.S5 (if_has (has_shape_6 t ks) Shape.S6 (if_has (has_shape_7 t ks) Shape.S7 (if_has (has_shape_8 o t) Shape.S8 [])))))))
+    (if_has (has_shape_5 o t) Shape.S5 (if_has (has_shape_6 o t ks) Shape.S6 (if_has (has_shape_7 t ks) Shape.S7 (if_has (has_shape_8 o t) Shape.S8 [])))))))
 
 abbrev pub shapes : Options → Tree → List Shape
 shapes o t = shapes_of o t (read (start (source_terms o t) t) t) (lowered_classes o (preorder t))

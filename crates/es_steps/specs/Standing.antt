@@ -4,11 +4,11 @@ use Rattle.es_base.specs.Numbered.{is_old}
 use Rattle.es_base.specs.declared.ledger.GeneratedKind.{GeneratedKind}
 use Rattle.es_base.specs.declared.ledger.LedgerEntry.{LedgerEntry}
 use Rattle.es_steps.specs.Entries.{Parameter, Identifier, RestIdentifier, Pattern, Method, Listed, Entry, FunctionEntry, ClassEntry}
-use Rattle.es_steps.specs.Events.{Event, ReadName, SetName, Get, Set, Define, Call, Construct, Operate, Update, PrivateGet, PrivateSet, PrivateInitialize, PrivateIn, AddBrand, SuperGet, SuperSet, SuperCall, SuperCallWithAll, Throw, Short, Held, Events, none, then}
+use Rattle.es_steps.specs.Events.{Event, ReadName, SetName, Get, Set, Define, Call, Construct, Operate, Update, PrivateGet, PrivateSet, PrivateInitialize, PrivateIn, AddBrand, SuperGet, SuperSet, SuperCall, SuperCallWithAll, InitializeClass, Throw, Short, Held, Events, none, then}
 use Rattle.es_steps.specs.Meaning.{Meaning, Terms, DeclarationKind, MemberEntry, IsField, FunctionIs}
 use Rattle.es_steps.specs.Modules.{Specifier, Imported, ImportedDefault, ImportedNamespace, Reexported, ReexportedAll, ModuleLink, Exported, ExportedClass, ExportedBinding, ExportedFree, ExportedValue}
 use Rattle.es_steps.specs.PrivateNames.{PrivateMember}
-use Rattle.es_steps.specs.Values.{String, Value, ConstantOf, Undefined, BindingOf, FunctionOf, ClassOf, ThisOf, ArgumentsOf, NewTargetOf, ResultOf, FormerOf, Referent, Bound, Free, Home, OfClass, OfPrototype, OfObject, PrivateTest, HasField, HasBrand, IsClass}
+use Rattle.es_steps.specs.Values.{String, Value, ConstantOf, Undefined, BindingOf, FunctionOf, ClassOf, ThisOf, ArgumentsOf, NewTargetOf, ResultOf, FormerOf, KeyOf, Referent, Bound, Free, Home, OfClass, OfPrototype, OfObject, PrivateTest, HasField, HasBrand, IsClass}
 
 abbrev pub value_numbers : Value → List ℕ
 value_numbers (ConstantOf c) = []
@@ -21,6 +21,7 @@ value_numbers (ArgumentsOf k) = k ∷ []
 value_numbers (NewTargetOf k) = k ∷ []
 value_numbers (ResultOf m) = m ∷ []
 value_numbers (FormerOf m) = m ∷ []
+value_numbers (KeyOf v) = value_numbers v
 
 abbrev pub values_numbers : List Value → List ℕ
 values_numbers [] = []
@@ -64,6 +65,7 @@ abbrev mutual
   event_numbers (SuperSet home k v this) = home_numbers home ++ value_numbers k ++ value_numbers v ++ value_numbers this
   event_numbers (SuperCall m n vs) = m ∷ n ∷ values_numbers vs
   event_numbers (SuperCallWithAll n) = n ∷ []
+  event_numbers (InitializeClass n) = n ∷ []
   event_numbers Throw = []
   event_numbers (Short v) = value_numbers v
   event_numbers (Held m place test l v) = m ∷ nullable_value_numbers test ++ events_numbers l ++ value_numbers v
@@ -100,8 +102,8 @@ abbrev pub numbered_entry_numbers : ℕ × Entry → List ℕ
 numbered_entry_numbers p = p.0 ∷ entry_numbers p.1
 
 abbrev pub member_numbers : MemberEntry → List ℕ
-member_numbers IsField = []
-member_numbers (FunctionIs f) = f ∷ []
+member_numbers (IsField is_static) = []
+member_numbers (FunctionIs is_static kind f) = f ∷ []
 
 abbrev pub numbered_member_numbers : ℕ × MemberEntry → List ℕ
 numbered_member_numbers p = p.0 ∷ member_numbers p.1
@@ -111,6 +113,9 @@ pair_numbers p = p.0 ∷ p.1 ∷ []
 
 abbrev pub binding_numbers : ℕ × DeclarationKind → List ℕ
 binding_numbers b = b.0 ∷ []
+
+abbrev pub name_numbers : ℕ × String → List ℕ
+name_numbers p = p.0 ∷ []
 
 abbrev pub specifier_numbers : Specifier → List ℕ
 specifier_numbers (Imported s b) = b ∷ []
@@ -135,7 +140,7 @@ named_export_numbers x = exported_numbers x.1
 abbrev pub meaning_numbers : Meaning → List ℕ
 meaning_numbers m =
     listed_numbers m.program ++ all_numbers numbered_entry_numbers m.entries ++ all_numbers numbered_member_numbers m.members ++ all_numbers pair_numbers m.functions
-    ++ all_numbers binding_numbers m.bindings ++ all_numbers link_numbers m.links ++ all_numbers named_export_numbers m.exports
+    ++ all_numbers binding_numbers m.bindings ++ all_numbers name_numbers m.globals ++ all_numbers pair_numbers m.places ++ all_numbers link_numbers m.links ++ all_numbers named_export_numbers m.exports
 
 -- ---- what a tree is read under
 

@@ -4,11 +4,13 @@ use Rattle.es_base.specs.declared.kind.Kind.{Kind}
 use Rattle.es_base.specs.declared.ledger.GeneratedKind.{GeneratedKind}
 use Rattle.es_steps.specs.Code.{Code, Codes, Target, FunctionForm, FieldForm, defines, sets, leaves_out, nothing, no_rule, value, spelled, private_name, binding, rest, assign, operation, pattern, takes, steps, gives_to, export_default, function, new_function, new_return, class_code, field, private_field, method, private_method, constructor, generated_element, give_function, give_class, to_name, to_member, to_private, to_super, to_setter, to_pattern, to_default, no_target, done, and, one, joined}
 use Rattle.es_steps.specs.Context.{Context, Generated, MeansClass, new_here, is_constructor, is_generated_private}
-use Rattle.es_steps.specs.Events.{Detail, Operand, Index, Rest, OfKind}
+use Rattle.es_steps.specs.Events.{Detail, Operand, Empty, Index, Rest, OfKind, Take}
 use Rattle.es_steps.specs.Expressions.{the_code, key_code, key_details, target_of}
 use Rattle.es_steps.specs.GeneratedForms.{given}
 use Rattle.es_steps.specs.Members.{Member, Members, code, absent, list, string, more, end, at, from, before, operands, details, codes_in, codes_of, word_of, flag_of}
 use Rattle.es_steps.specs.Options.{sets_fields, leaves_out_fields}
+use Rattle.es_steps.specs.PrivateNames.{PrivateMember, PrivateKind, a_method, a_getter, a_setter, method_kind, member_at}
+use Rattle.es_steps.specs.SameValues.{same_boolean}
 use Rattle.es_steps.specs.Values.{String, StringOf, ConstantOf, Undefined}
 use Rattle.es_steps.specs.declared.options.Options.{Options}
 
@@ -124,7 +126,7 @@ target_number no_target k = k
 abbrev pub taken : ℕ → List Detail → Target → Code
 taken m ds to = takes (target_number to m) ds done to
 
--- the elements of an array from the i-th on, each under the number of its target
+-- the elements of an array from the i-th on, each under the number of its target; a hole takes one too
 abbrev pub taken_element : ℕ → ℕ → Code → Code
 taken_element m i (rest to) = taken m (Index i ∷ Rest ∷ []) to
 taken_element m i c = taken m (Index i ∷ []) (target_of c)
@@ -132,7 +134,7 @@ taken_element m i c = taken m (Index i ∷ []) (target_of c)
 abbrev pub elements_from : ℕ → ℕ → Members → Codes
 elements_from m i end = done
 elements_from m i (more (code c) ps) = and (taken_element m i c) (elements_from m (suc i) ps)
-elements_from m i (more p ps) = elements_from m (suc i) ps
+elements_from m i (more p ps) = and (operation m (Take (Index i ∷ Empty ∷ [])) done done) (elements_from m (suc i) ps)
 
 abbrev pub members_of_list : Member → Members
 members_of_list (list ps) = ps
@@ -248,12 +250,23 @@ method_or_constructor true true whole f = constructor f
 method_or_constructor false false whole f = whole
 method_or_constructor is_kind is_key whole f = no_rule
 
-abbrev pub method_of : Members → Code → Code
-method_of ps (private_name d s r) = private_method (flag_of (at 4 ps)) d (the_code (at 1 ps))
-method_of ps key =
+-- a private method, getter or setter is as the source declares it
+abbrev pub same_form : PrivateKind → PrivateKind → Bool
+same_form a_method a_method = true
+same_form a_getter a_getter = true
+same_form a_setter a_setter = true
+same_form kind other = false
+
+abbrev pub is_declared_as : Option PrivateMember → Bool → String → Bool
+is_declared_as None is_static kind = false
+is_declared_as (Some x) is_static kind = same_boolean x.is_static is_static && same_form x.kind (method_kind kind)
+
+abbrev pub method_of : Context → Members → Code → Code
+method_of c ps (private_name d s r) = cond (is_declared_as (member_at d c.members) (flag_of (at 4 ps)) (word_of (at 2 ps))) (private_method (flag_of (at 4 ps)) d (the_code (at 1 ps))) no_rule
+method_of c ps key =
     let is_static : Bool = flag_of (at 4 ps) in
     method_or_constructor (is_constructor (word_of (at 2 ps))) (is_constructor_key key && not (is_static || flag_of (at 3 ps)))
     (method is_static (word_of (at 2 ps)) (key_code (flag_of (at 3 ps)) key) (the_code (at 1 ps))) (the_code (at 1 ps))
 
-abbrev pub method_code : Members → Code
-method_code ps = method_of ps (the_code (at 0 ps))
+abbrev pub method_code : Context → Members → Code
+method_code c ps = method_of c ps (the_code (at 0 ps))

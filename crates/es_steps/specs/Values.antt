@@ -33,6 +33,8 @@ pub data Value : Type 0 where
   -- the result of node m, and the former value of what update m writes
   ResultOf : (m : ℕ) → Value
   FormerOf : (m : ℕ) → Value
+  -- what a value is as the key of a property (ECMA-262, 7.1.19)
+  KeyOf : (v : Value) → Value
 
 -- What a name refers to: a binding, or, where no scope holds its spelling, that spelling.
 pub data Referent : Type 0 where
@@ -50,6 +52,11 @@ pub data PrivateTest : Type 0 where
   HasField : (d : ℕ) → PrivateTest
   HasBrand : (n : ℕ) → PrivateTest
   IsClass : (n : ℕ) → PrivateTest
+
+-- where a key is asked for, a value stands for itself and for its key
+abbrev pub as_key : Value → Value
+as_key (KeyOf v) = v
+as_key v = v
 
 abbrev pub is_class_value : ℕ → Value → Bool
 is_class_value n (ClassOf k) = nat_eq n k

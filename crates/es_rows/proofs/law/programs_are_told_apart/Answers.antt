@@ -10,8 +10,20 @@ returns-clause-caught_names_exchanged c = (refl, refl, refl)
 pub returns-clause-default_exports : goal.returns-clause-default_exports
 returns-clause-default_exports c = (refl, refl, refl)
 
+pub returns-clause-getter_or_method : goal.returns-clause-getter_or_method
+returns-clause-getter_or_method c = (refl, refl, refl)
+
+pub returns-clause-global_renamed : goal.returns-clause-global_renamed
+returns-clause-global_renamed c = (refl, refl, refl)
+
+pub returns-clause-hole_in_a_pattern : goal.returns-clause-hole_in_a_pattern
+returns-clause-hole_in_a_pattern c = (refl, refl, refl)
+
 pub returns-clause-imports_exchanged : goal.returns-clause-imports_exchanged
 returns-clause-imports_exchanged c = (refl, refl, refl)
+
+pub returns-clause-let_out_of_a_loop : goal.returns-clause-let_out_of_a_loop
+returns-clause-let_out_of_a_loop c = (refl, refl, refl)
 
 pub returns-clause-loop_heads_exchanged : goal.returns-clause-loop_heads_exchanged
 returns-clause-loop_heads_exchanged c = (refl, refl, refl)
@@ -30,6 +42,9 @@ returns-clause-rest_dropped c = (refl, refl, refl)
 
 pub returns-clause-statement_of_an_if : goal.returns-clause-statement_of_an_if
 returns-clause-statement_of_an_if c = (refl, refl, refl)
+
+pub returns-clause-static_getter_or_method : goal.returns-clause-static_getter_or_method
+returns-clause-static_getter_or_method c = (refl, refl, refl)
 
 pub returns-clause-template_key : goal.returns-clause-template_key
 returns-clause-template_key c = (refl, refl, refl)

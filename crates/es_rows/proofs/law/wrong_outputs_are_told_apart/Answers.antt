@@ -4,6 +4,12 @@ use Rattle.es_rows.proofs.law.wrong_outputs_are_told_apart.Goals as goal
 pub returns-clause-another_literal : goal.returns-clause-another_literal
 returns-clause-another_literal c = refl
 
+pub returns-clause-arguments_of_another : goal.returns-clause-arguments_of_another
+returns-clause-arguments_of_another c = refl
+
+pub returns-clause-arrow_out_of_a_loop : goal.returns-clause-arrow_out_of_a_loop
+returns-clause-arrow_out_of_a_loop c = refl
+
 pub returns-clause-binding_not_renamed : goal.returns-clause-binding_not_renamed
 returns-clause-binding_not_renamed c = refl
 
@@ -13,8 +19,20 @@ returns-clause-block_behind_fields c = refl
 pub returns-clause-body_dropped : goal.returns-clause-body_dropped
 returns-clause-body_dropped c = refl
 
+pub returns-clause-bound_before_its_test : goal.returns-clause-bound_before_its_test
+returns-clause-bound_before_its_test c = refl
+
+pub returns-clause-class_in_front_of_its_use : goal.returns-clause-class_in_front_of_its_use
+returns-clause-class_in_front_of_its_use c = refl
+
+pub returns-clause-class_renamed : goal.returns-clause-class_renamed
+returns-clause-class_renamed c = refl
+
 pub returns-clause-definitions_nested : goal.returns-clause-definitions_nested
 returns-clause-definitions_nested c = refl
+
+pub returns-clause-deleted_key : goal.returns-clause-deleted_key
+returns-clause-deleted_key c = refl
 
 pub returns-clause-field_before_super : goal.returns-clause-field_before_super
 returns-clause-field_before_super c = refl
@@ -25,14 +43,38 @@ returns-clause-field_doubled c = refl
 pub returns-clause-field_dropped : goal.returns-clause-field_dropped
 returns-clause-field_dropped c = refl
 
+pub returns-clause-field_key_read_late : goal.returns-clause-field_key_read_late
+returns-clause-field_key_read_late c = refl
+
 pub returns-clause-fields_exchanged : goal.returns-clause-fields_exchanged
 returns-clause-fields_exchanged c = refl
+
+pub returns-clause-getter_made_a_method : goal.returns-clause-getter_made_a_method
+returns-clause-getter_made_a_method c = refl
+
+pub returns-clause-heritage_read_late : goal.returns-clause-heritage_read_late
+returns-clause-heritage_read_late c = refl
+
+pub returns-clause-key_read_late : goal.returns-clause-key_read_late
+returns-clause-key_read_late c = refl
 
 pub returns-clause-key_read_twice : goal.returns-clause-key_read_twice
 returns-clause-key_read_twice c = refl
 
+pub returns-clause-maps_in_loose_mode : goal.returns-clause-maps_in_loose_mode
+returns-clause-maps_in_loose_mode c = refl
+
+pub returns-clause-member_of_an_object : goal.returns-clause-member_of_an_object
+returns-clause-member_of_an_object c = refl
+
 pub returns-clause-method_without_brand : goal.returns-clause-method_without_brand
 returns-clause-method_without_brand c = refl
+
+pub returns-clause-named_value : goal.returns-clause-named_value
+returns-clause-named_value c = refl
+
+pub returns-clause-new_import : goal.returns-clause-new_import
+returns-clause-new_import c = refl
 
 pub returns-clause-object_evaluated_twice : goal.returns-clause-object_evaluated_twice
 returns-clause-object_evaluated_twice c = refl
@@ -40,11 +82,35 @@ returns-clause-object_evaluated_twice c = refl
 pub returns-clause-odd_constructor : goal.returns-clause-odd_constructor
 returns-clause-odd_constructor c = refl
 
+pub returns-clause-parameter_in_front : goal.returns-clause-parameter_in_front
+returns-clause-parameter_in_front c = refl
+
+pub returns-clause-parameter_of_a_new_constructor : goal.returns-clause-parameter_of_a_new_constructor
+returns-clause-parameter_of_a_new_constructor c = refl
+
+pub returns-clause-parent_constructed_twice : goal.returns-clause-parent_constructed_twice
+returns-clause-parent_constructed_twice c = refl
+
+pub returns-clause-parent_never_constructed : goal.returns-clause-parent_never_constructed
+returns-clause-parent_never_constructed c = refl
+
+pub returns-clause-picked_by_an_async_arrow : goal.returns-clause-picked_by_an_async_arrow
+returns-clause-picked_by_an_async_arrow c = refl
+
 pub returns-clause-private_name_of_the_outer_class : goal.returns-clause-private_name_of_the_outer_class
 returns-clause-private_name_of_the_outer_class c = refl
 
 pub returns-clause-read_moved : goal.returns-clause-read_moved
 returns-clause-read_moved c = refl
+
+pub returns-clause-receiver_of_a_conditional : goal.returns-clause-receiver_of_a_conditional
+returns-clause-receiver_of_a_conditional c = refl
+
+pub returns-clause-receiver_of_a_private_call : goal.returns-clause-receiver_of_a_private_call
+returns-clause-receiver_of_a_private_call c = refl
+
+pub returns-clause-receiver_of_a_super_call : goal.returns-clause-receiver_of_a_super_call
+returns-clause-receiver_of_a_super_call c = refl
 
 pub returns-clause-result_of_the_setter : goal.returns-clause-result_of_the_setter
 returns-clause-result_of_the_setter c = refl
@@ -52,8 +118,23 @@ returns-clause-result_of_the_setter c = refl
 pub returns-clause-return_in_an_arrow : goal.returns-clause-return_in_an_arrow
 returns-clause-return_in_an_arrow c = refl
 
+pub returns-clause-script_in_an_arrow : goal.returns-clause-script_in_an_arrow
+returns-clause-script_in_an_arrow c = refl
+
 pub returns-clause-spread_for_a_parameter : goal.returns-clause-spread_for_a_parameter
 returns-clause-spread_for_a_parameter c = refl
+
+pub returns-clause-static_field_before_its_class : goal.returns-clause-static_field_before_its_class
+returns-clause-static_field_before_its_class c = refl
+
+pub returns-clause-static_key_read_late : goal.returns-clause-static_key_read_late
+returns-clause-static_key_read_late c = refl
+
+pub returns-clause-super_gives_zero : goal.returns-clause-super_gives_zero
+returns-clause-super_gives_zero c = refl
+
+pub returns-clause-suspending_constructor : goal.returns-clause-suspending_constructor
+returns-clause-suspending_constructor c = refl
 
 pub returns-clause-temporary_given_late : goal.returns-clause-temporary_given_late
 returns-clause-temporary_given_late c = refl
@@ -64,5 +145,11 @@ returns-clause-temporary_never_given c = refl
 pub returns-clause-test_of_another_object : goal.returns-clause-test_of_another_object
 returns-clause-test_of_another_object c = refl
 
+pub returns-clause-test_of_one_null : goal.returns-clause-test_of_one_null
+returns-clause-test_of_one_null c = refl
+
 pub returns-clause-two_constructors : goal.returns-clause-two_constructors
 returns-clause-two_constructors c = refl
+
+pub returns-clause-value_as_a_key : goal.returns-clause-value_as_a_key
+returns-clause-value_as_a_key c = refl

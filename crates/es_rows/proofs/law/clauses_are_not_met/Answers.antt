@@ -1,0 +1,44 @@
+use Rattle.std.specs.Prelude.{refl}
+use Rattle.es_rows.proofs.law.clauses_are_not_met.Goals as goal
+
+pub returns-clause-break_in_an_arrow : goal.returns-clause-break_in_an_arrow
+returns-clause-break_in_an_arrow c = refl
+
+pub returns-clause-class_behind_its_use : goal.returns-clause-class_behind_its_use
+returns-clause-class_behind_its_use c = refl
+
+pub returns-clause-class_in_a_constructor : goal.returns-clause-class_in_a_constructor
+returns-clause-class_in_a_constructor c = refl
+
+pub returns-clause-class_temporary_before_its_class : goal.returns-clause-class_temporary_before_its_class
+returns-clause-class_temporary_before_its_class c = refl
+
+pub returns-clause-closure_before_its_class : goal.returns-clause-closure_before_its_class
+returns-clause-closure_before_its_class c = refl
+
+pub returns-clause-constant_temporary : goal.returns-clause-constant_temporary
+returns-clause-constant_temporary c = refl
+
+pub returns-clause-dead_temporary : goal.returns-clause-dead_temporary
+returns-clause-dead_temporary c = refl
+
+pub returns-clause-hidden_body : goal.returns-clause-hidden_body
+returns-clause-hidden_body c = refl
+
+pub returns-clause-method_assigned_in_another_function : goal.returns-clause-method_assigned_in_another_function
+returns-clause-method_assigned_in_another_function c = refl
+
+pub returns-clause-name_of_no_member : goal.returns-clause-name_of_no_member
+returns-clause-name_of_no_member c = refl
+
+pub returns-clause-name_twice : goal.returns-clause-name_twice
+returns-clause-name_twice c = refl
+
+pub returns-clause-private_name_twice : goal.returns-clause-private_name_twice
+returns-clause-private_name_twice c = refl
+
+pub returns-clause-super_function_behind_its_calls : goal.returns-clause-super_function_behind_its_calls
+returns-clause-super_function_behind_its_calls c = refl
+
+pub returns-clause-weak_map_in_another_function : goal.returns-clause-weak_map_in_another_function
+returns-clause-weak_map_in_another_function c = refl

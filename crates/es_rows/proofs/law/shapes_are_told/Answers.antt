@@ -1,0 +1,11 @@
+use Rattle.std.specs.Prelude.{refl}
+use Rattle.es_rows.proofs.law.shapes_are_told.Goals as goal
+
+pub returns-clause-loose_member_read_once : goal.returns-clause-loose_member_read_once
+returns-clause-loose_member_read_once c = (refl, refl)
+
+pub returns-clause-super_key_that_stays : goal.returns-clause-super_key_that_stays
+returns-clause-super_key_that_stays c = (refl, refl)
+
+pub returns-clause-suspended_class_written : goal.returns-clause-suspended_class_written
+returns-clause-suspended_class_written c = (refl, refl)
