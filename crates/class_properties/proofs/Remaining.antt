@@ -15,7 +15,7 @@ use Rattle.es_steps.specs.PrivateNames.{is_class}
 use Rattle.class_properties.proofs.Declared.{two_ends}
 use Rattle.class_properties.proofs.Numbered.{statement_size, lowered_statements, lowered_from}
 use Rattle.class_properties.proofs.Shaped.{no_value, a_literal, a_reference, a_key, a_field, AreFields, a_body, a_name, a_class, AreClasses, IsProgram, a_program}
-use Rattle.class_properties.proofs.Standing.{both, here, later, in-left, in-right, Among, stands_as-in, stands-equal, within-more, within-both}
+use Rattle.class_properties.proofs.Standing.{both, here, later, in-left, in-right, Among, stands_as-in, stands-equal, within-more, within-both, all_within-append}
 
 -- ---- classes
 
@@ -56,15 +56,26 @@ numbers-within : (ps : Parts) → AreClasses ps → (k : ℕ) → is_within (fre
 numbers-within end h k = refl
 numbers-within (more p ps) (a_class n span semantic_id id body (a_name i ispan i_semantic_id s free) (a_body j bspan b_semantic_id end he), h) k =
     let next : ℕ = k + statement_size p in
-    within-both n (free_numbers class_properties_alone ps) (item_numbers (lowered_statements next ps)) (numbers-within ps h next)
+    let xs : List ℕ = free_numbers class_properties_alone ps in
+    let ys : List ℕ = item_numbers (lowered_statements next ps) in
+    within-both n (n ∷ xs) (n ∷ ys) (within-both n xs ys (numbers-within ps h next))
 numbers-within (more p ps) (a_class n span semantic_id id body (a_name i ispan i_semantic_id s free) (a_body j bspan b_semantic_id (more e es) (a_field m fspan f_semantic_id key v hk hv, he)), h) k =
     let next : ℕ = k + statement_size p in
-    within-more (free_numbers class_properties_alone ps) n (item_numbers (lowered_statements next ps)) (numbers-within ps h next)
+    let xs : List ℕ = free_numbers class_properties_alone ps in
+    let ys : List ℕ = item_numbers (lowered_statements next ps) in
+    within-more (n ∷ xs) n (n ∷ ys) (within-both n xs ys (numbers-within ps h next))
+
+fields-lists : (es : Parts) → AreFields es → (qs : List Tree) → all_within (free_lists_in class_properties_alone es) qs ≡ true
+fields-lists end h qs = refl
+fields-lists (more p es) (a_field m span semantic_id key v (a_key i ispan i_semantic_id s) no_value, h) qs = fields-lists es h qs
+fields-lists (more p es) (a_field m span semantic_id key v (a_key i ispan i_semantic_id s) (a_literal l lspan l_semantic_id w), h) qs = fields-lists es h qs
+fields-lists (more p es) (a_field m span semantic_id key v (a_key i ispan i_semantic_id s) (a_reference r rspan r_semantic_id x), h) qs = fields-lists es h qs
 
 lists-empty : (ps : Parts) → AreClasses ps → (qs : List Tree) → all_within (free_lists_in class_properties_alone ps) qs ≡ true
 lists-empty end h qs = refl
-lists-empty (more p ps) (a_class n span semantic_id id body (a_name i ispan i_semantic_id s free) (a_body j bspan b_semantic_id end he), h) qs = lists-empty ps h qs
-lists-empty (more p ps) (a_class n span semantic_id id body (a_name i ispan i_semantic_id s free) (a_body j bspan b_semantic_id (more e es) (a_field m fspan f_semantic_id key v hk hv, he)), h) qs = lists-empty ps h qs
+lists-empty (more p ps) (a_class n span semantic_id id body (a_name i ispan i_semantic_id s free) (a_body j bspan b_semantic_id es he), h) qs =
+    let of_fields : List (ℕ × List ℕ) = free_lists_in class_properties_alone es in
+    rw (append-nil of_fields, append-nil of_fields) (all_within-append of_fields (free_lists_in class_properties_alone ps) qs (fields-lists es he qs) (lists-empty ps h qs))
 
 -- ---- all elements are lowered
 
