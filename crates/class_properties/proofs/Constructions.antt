@@ -1,13 +1,16 @@
 -- A class of plain fields and the class whose constructor defines them evaluate alike and have the same entry, whatever
 -- stands for bodies that are opened.
-use Rattle.std.specs.Prelude.{◌≡◌, ℕ, [], ◌∷◌, ◌++◌, Bool, true, false, cond, Option, Some, None}
+use Rattle.std.specs.Prelude.{◌≡◌, ℕ, List, [], ◌∷◌, ◌++◌, Bool, true, false, cond, Option, Some, None}
 use Rattle.std.proofs.Common.{refl, sym, ap, ap₂, ◌∙◌}
 use Rattle.es_steps.proofs.PlainClasses.{IsPlain, a_value, a_name, fixed, changing, means_class}
+use Rattle.es_steps.proofs.Reflexive.{value-same}
 use Rattle.es_steps.specs.Code.{Code, Codes, Opened, defines, value, name, define, steps, new_function, class_code, field, constructor, done, and}
 use Rattle.es_steps.specs.Context.{Fixed, Changing, MeansClass}
-use Rattle.es_steps.specs.Entries.{Entries, ClassEntry, plain_form, constructor_form, constructor_parameters, methods_in, ev_construction, entries, all_entries, key_entries, static_entries, field_entries, function_entries}
-use Rattle.es_steps.specs.Evaluation.{Environment, Evaluation, Run, gives, has_instance_methods, ev, ev_all, ev_keys, ev_statics, ev_fields, ev_initializers}
-use Rattle.es_steps.specs.Events.{Events, none, then, ReadName, Define, throws, behind, value_behind}
+use Rattle.es_steps.specs.Entries.{Entries, ClassEntry, plain_form, constructor_form, constructor_parameters, methods_in, keys_stay, ev_construction, entries, all_entries, key_entries, static_entries, field_entries, function_entries}
+use Rattle.es_steps.specs.Evaluation.{Environment, Evaluation, Run, gives, bind, has_instance_methods, declared_first, ev, ev_all, ev_keys, ev_statics, ev_fields, ev_initializers}
+use Rattle.es_steps.specs.Events.{Events, none, then, ReadName, Define, InitializeClass, throws, behind, value_behind}
+use Rattle.es_steps.specs.Meaning.{private_function_by}
+use Rattle.es_steps.specs.Opening.{gather, gather_all}
 use Rattle.es_steps.specs.Values.{String, Value, ConstantOf, StringOf, Undefined, BindingOf, ClassOf, ThisOf, ResultOf}
 
 -- fields: the key and the code of the value of each
@@ -50,6 +53,15 @@ value_of c = Undefined
 abbrev events : ℕ → Fields → Events
 events n no_fields = none
 events n (with_field s v fs) = behind (value_events v) (then (Define (ThisOf n) (ConstantOf (StringOf s)) (value_of v)) (events n fs))
+
+-- a class that is declared gets its name
+abbrev pub class_events : Option ℕ → ℕ → Events
+class_events None n = none
+class_events (Some b) n = then (InitializeClass n) none
+
+abbrev keys : Fields → List Value
+keys no_fields = []
+keys (with_field s v fs) = ConstantOf (StringOf s) ∷ keys fs
 
 abbrev ran : Events → Value → Environment → Option Run
 ran l v env = Some (record { events = l; value = v; after = env })
@@ -100,20 +112,25 @@ module _ (opens : Opened → Evaluation) where
       step v (a_name i x kind (changing r)) ih = rw ih refl
       step v (a_name i x kind (means_class c b)) ih = rw ih refl
 
-  keys-run : (fs : Fields) → ev_keys opens (field_codes fs) [] ≡ ran none Undefined []
-  keys-run no_fields = refl
-  keys-run (with_field s v fs) = rw (keys-run fs) refl
+  keys-run : (fs : Fields) (f : List Value → Evaluation) (l : Events) (v : Value) → f (keys fs) [] ≡ ran l v [] → ev_keys opens (field_codes fs) f [] ≡ ran l v []
+  keys-run no_fields f l v h = h
+  keys-run (with_field s w fs) f l v h = rw (keys-run fs (λ ks. f (ConstantOf (StringOf s) ∷ ks)) l v h) refl
 
-  statics-run : (n : ℕ) (fs : Fields) → ev_statics opens n (field_codes fs) [] ≡ ran none Undefined []
-  statics-run n no_fields = refl
-  statics-run n (with_field s v fs) = rw (statics-run n fs) refl
+  statics-run : (n : ℕ) (fs : Fields) (ks : List Value) → ev_statics opens n ks (field_codes fs) [] ≡ ran none Undefined []
+  statics-run n no_fields [] = refl
+  statics-run n no_fields (k ∷ ks) = refl
+  statics-run n (with_field s v fs) [] = refl
+  statics-run n (with_field s v fs) (k ∷ ks) = rw (statics-run n fs ks) refl
 
-  class-runs : (n : ℕ) (declared : Option ℕ) (fs : Fields) → ev opens (class_code n declared done (field_codes fs)) [] ≡ ran none (ClassOf n) []
-  class-runs n declared fs = rw (keys-run fs, statics-run n fs) refl
+  class-runs : (n : ℕ) (declared : Option ℕ) (fs : Fields) → ev opens (class_code n declared done (field_codes fs)) [] ≡ ran (class_events declared n) (ClassOf n) []
+  class-runs n None fs = rw (keys-run fs (λ ks. bind (declared_first None n) (λ u. bind (ev_statics opens n ks (field_codes fs)) (λ w. gives (ClassOf n)))) none (ClassOf n) (rw (statics-run n fs (keys fs)) refl)) refl
+  class-runs n (Some b) fs = rw (keys-run fs (λ ks. bind (declared_first (Some b) n) (λ u. bind (ev_statics opens n ks (field_codes fs)) (λ w. gives (ClassOf n)))) (then (InitializeClass n) none) (ClassOf n) (rw (statics-run n fs (keys fs)) refl)) refl
 
-  lowered_class-runs : (n : ℕ) (declared : Option ℕ) (fs : Fields) (cs : Codes) → AreLowered n fs cs → ev opens (class_code n declared done cs) [] ≡ ran none (ClassOf n) []
-  lowered_class-runs n declared fs cs no_constructor = refl
-  lowered_class-runs n declared fs cs (one_constructor k d) = refl
+  lowered_class-runs : (n : ℕ) (declared : Option ℕ) (fs : Fields) (cs : Codes) → AreLowered n fs cs → ev opens (class_code n declared done cs) [] ≡ ran (class_events declared n) (ClassOf n) []
+  lowered_class-runs n None fs cs no_constructor = refl
+  lowered_class-runs n (Some b) fs cs no_constructor = refl
+  lowered_class-runs n None fs cs (one_constructor k d) = refl
+  lowered_class-runs n (Some b) fs cs (one_constructor k d) = refl
 
   module _ (first : ℕ) where
     source_construction : (n : ℕ) (all fs : Fields) → ev_construction opens first [] n done (field_codes all) (field_codes fs) ≡ ev_initializers opens n (field_codes all)
@@ -123,6 +140,10 @@ module _ (opens : Opened → Evaluation) where
     field-methods : (fs : Fields) → methods_in opens first [] [] (field_codes fs) ≡ Some []
     field-methods no_fields = refl
     field-methods (with_field s v fs) = field-methods fs
+
+    stays : (fs : Fields) → keys_stay opens first [] [] [] (field_codes fs) ≡ true
+    stays no_fields = refl
+    stays (with_field s v fs) = rw (value-same (ConstantOf (StringOf s))) (stays fs)
 
     -- ---- entries
 
@@ -156,7 +177,7 @@ module _ (opens : Opened → Evaluation) where
 
     source-entries : (n : ℕ) (declared : Option ℕ) (fs : Fields) → ArePlain fs → entries opens first [] [] [] (class_code n declared done (field_codes fs)) ≡ class_entries n declared fs
     source-entries n declared fs h =
-        rw (source_construction n fs fs, source-runs n fs [] h, field-methods fs, form-fields fs, parameters-fields fs, value_behind-undefined (events n fs), keys-run fs, keys-none [] fs [], statics-none n [] fs [], fields-none n [] fs h []) (ap (λ es. class_entries n declared fs ++ es) (functions-none _ _ [] fs))
+        rw (source_construction n fs fs, source-runs n fs [] h, field-methods fs, form-fields fs, parameters-fields fs, value_behind-undefined (events n fs), stays fs, keys-run fs (λ ks. gives Undefined) none Undefined refl, keys-none [] fs [], statics-none n [] fs [], fields-none n [] fs h []) (ap (λ es. class_entries n declared fs ++ es) (functions-none _ _ [] fs))
 
     lowered-entries : (n : ℕ) (declared : Option ℕ) (fs : Fields) (cs : Codes) → AreLowered n fs cs → ArePlain fs → entries opens first [] [] [] (class_code n declared done cs) ≡ class_entries n declared fs
     lowered-entries n declared fs cs no_constructor h = refl
@@ -174,20 +195,46 @@ ArePairs (and c cs) (and d ds) = IsPair c d × ArePairs cs ds
 ArePairs cs ds = ⊥
 
 pub record RunAlike (opens opened : Opened → Evaluation) (first : ℕ) (cs ds : Codes) : Type 0 where
-  pub source : ev_all opens cs (λ vs. gives Undefined) [] ≡ ran none Undefined []
-  pub lowered : ev_all opened ds (λ vs. gives Undefined) [] ≡ ran none Undefined []
+  pub listed : Events
+  pub source : ev_all opens cs (λ vs. gives Undefined) [] ≡ ran listed Undefined []
+  pub lowered : ev_all opened ds (λ vs. gives Undefined) [] ≡ ran listed Undefined []
   pub entries : all_entries opened first [] [] [] ds ≡ all_entries opens first [] [] [] cs
+  pub functions : gather_all private_function_by cs ≡ []
+  pub lowered_functions : gather_all private_function_by ds ≡ []
+
+no_functions : (fs : Fields) → ArePlain fs → gather_all private_function_by (field_codes fs) ≡ []
+no_functions no_fields h = refl
+no_functions (with_field s v fs) h = rw (plain v h.0) (no_functions fs h.1)
+  where
+    plain : (v : Code) → IsPlain v → gather private_function_by v ≡ []
+    plain v (a_value w) = refl
+    plain v (a_name m t kind k) = refl
+
+no_defined_functions : (n : ℕ) (fs : Fields) (cs : Codes) → Defines n fs cs → ArePlain fs → gather_all private_function_by cs ≡ []
+no_defined_functions n no_fields cs none_defined h = refl
+no_defined_functions n (with_field s v fs) cs (defined {cs = ds} m d) h = step v h.0 (no_defined_functions n fs ds d h.1)
+  where
+    step : (v : Code) → IsPlain v → gather_all private_function_by ds ≡ [] → gather_all private_function_by (and (steps (and (define m (ThisOf n) (value (ConstantOf (StringOf s))) v) done)) ds) ≡ []
+    step v (a_value w) ih = ih
+    step v (a_name i x kind k) ih = ih
+
+no_lowered_functions : (n : ℕ) (fs : Fields) (cs : Codes) → ArePlain fs → AreLowered n fs cs → gather_all private_function_by cs ≡ []
+no_lowered_functions n fs cs p no_constructor = refl
+no_lowered_functions n fs cs p (one_constructor {ds = ds} k d) = rw (no_defined_functions n fs ds d p) refl
 
 module _ (opens opened : Opened → Evaluation) (first : ℕ) where
   pair-runs : (c d : Code) (cs ds : Codes) → IsPair c d → RunAlike opens opened first cs ds → RunAlike opens opened first (and c cs) (and d ds)
   pair-runs c d cs ds (pair_of_classes n declared fs es p l) ih = record {
+    listed = behind (class_events declared n) ih.listed;
     source = rw (class-runs opens n declared fs, ih.source) refl;
     lowered = rw (lowered_class-runs opened n declared fs es l, ih.lowered) refl;
     entries = rw (class-runs opens n declared fs, lowered_class-runs opened n declared fs es l) (ap₂ (λ (xs ys : Entries). xs ++ ys) (lowered-entries opened first n declared fs es l p ∙ sym (source-entries opens first n declared fs p)) ih.entries);
+    functions = rw (no_functions fs p) ih.functions;
+    lowered_functions = rw (no_lowered_functions n fs es p l) ih.lowered_functions;
   }
 
   pub pairs-run : (cs ds : Codes) → ArePairs cs ds → RunAlike opens opened first cs ds
-  pairs-run done done h = record { source = refl; lowered = refl; entries = refl }
+  pairs-run done done h = record { listed = none; source = refl; lowered = refl; entries = refl; functions = refl; lowered_functions = refl }
   pairs-run done (and d ds) h = absurd h
   pairs-run (and c cs) done h = absurd h
   pairs-run (and c cs) (and d ds) h = pair-runs c d cs ds h.0 (pairs-run cs ds h.1)

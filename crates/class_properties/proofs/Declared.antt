@@ -1,19 +1,22 @@
 -- A program of the first form and what it is lowered to declare the same, and nothing of them is written.
-use Rattle.std.specs.Prelude.{◌≡◌, ℕ, ◌+◌, List, [], ◌∷◌, ◌++◌, Bool, true, false, ◌||◌, ◌&&◌, codes}
-use Rattle.std.proofs.Common.{refl, sym, ap, ◌∙◌, append_assoc}
+use Rattle.std.specs.Prelude.{◌≡◌, ℕ, ◌+◌, List, [], ◌∷◌, ◌++◌, Bool, true, false, ◌||◌, ◌&&◌, nat_le, codes}
+use Rattle.std.proofs.Common.{refl, sym, ap, ◌∙◌, append_assoc, ◌≤◌, arith}
+use Rattle.std.proofs.lemmas.Bool.{le-leb}
 use Rattle.std.proofs.lemmas.List.{append-nil}
 use Rattle.es_base.specs.Preorder.{preorder, preorder_of}
 use Rattle.es_base.specs.Tree.{Tree, Parts, end, more, trees}
 use Rattle.es_steps.proofs.FirstMeaning.{members_of_all-append}
 use Rattle.es_steps.specs.Context.{Context}
 use Rattle.es_steps.specs.Evaluation.{Environment}
-use Rattle.es_steps.specs.Meaning.{DeclarationKind, ClassDeclared, declaring, declaring_items, declared_function, declared_functions, body_of}
+use Rattle.es_steps.specs.Meaning.{DeclarationKind, ClassDeclared, declaring, declaring_items, declared_function, declared_functions, body_of, globals}
 use Rattle.es_steps.specs.Modules.{links_in, exports_in}
 use Rattle.es_steps.specs.PrivateNames.{private_members, members_of_all, elements_members}
 use Rattle.es_steps.specs.References.{Reference, if_bound, is_free, assigned, item_references, resolve, written_by, written_by_all, written, writes_free}
+use Rattle.es_steps.specs.Repeated.{Surroundings, places_of, all_places}
 use Rattle.es_steps.specs.Scopes.{Declaration, lexical_part, lexical_items, var_part, body_names}
 use Rattle.es_steps.specs.Values.{String}
 use Rattle.class_properties.proofs.Numbered.{definitions_from, lowered_elements, statement_size, lowered_statements, lowered_from}
+use Rattle.class_properties.proofs.Standing.{still_new}
 use Rattle.class_properties.proofs.Shaped.{no_value, a_literal, a_reference, a_key, a_field, AreFields, a_body, a_name, a_class, AreClasses, IsProgram, a_program}
 
 -- ---- names: none in a constructor
@@ -164,19 +167,53 @@ classes-declare first end h k d = refl
 classes-declare first (more p ps) (a_class n span semantic_id id body (a_name i ispan i_semantic_id s free) (a_body m bspan b_semantic_id es he), h) k d =
     rw (elements-declare first es he k ClassDeclared, fields-declare first es he ClassDeclared) (ap (λ ds. (i, ClassDeclared) ∷ ds) (classes-declare first ps h _ d))
 
+-- ---- where things stand: classes and their names alone, and these where they stood
+
+Unplaced : ℕ → Parts → Type 0
+Unplaced first ps = (s : Surroundings) → places_of first [] [] s ps ≡ []
+
+fields-placed : (first : ℕ) (es : Parts) → AreFields es → Unplaced first es
+fields-placed first end h s = refl
+fields-placed first (more p es) (a_field m span semantic_id key v (a_key i ispan i_semantic_id x) no_value, h) s = fields-placed first es h s
+fields-placed first (more p es) (a_field m span semantic_id key v (a_key i ispan i_semantic_id x) (a_literal l lspan l_semantic_id w), h) s = fields-placed first es h s
+fields-placed first (more p es) (a_field m span semantic_id key v (a_key i ispan i_semantic_id x) (a_reference r rspan r_semantic_id y), h) s = fields-placed first es h s
+
+definitions-placed : (first : ℕ) (es : Parts) → AreFields es → (k : ℕ) → Unplaced first (trees (definitions_from k es))
+definitions-placed first end h k s = refl
+definitions-placed first (more p es) (a_field m span semantic_id key v hk no_value, h) k s = definitions-placed first es h (k + 9) s
+definitions-placed first (more p es) (a_field m span semantic_id key v hk (a_literal l lspan l_semantic_id w), h) k s = definitions-placed first es h (k + 7) s
+definitions-placed first (more p es) (a_field m span semantic_id key v hk (a_reference r rspan r_semantic_id x), h) k s = definitions-placed first es h (k + 7) s
+
+elements-placed : (first : ℕ) (es : Parts) → AreFields es → (k : ℕ) → first ≤ k → Unplaced first (lowered_elements k es)
+elements-placed first end h k new s = refl
+elements-placed first (more p es) h k new s =
+    let later : nat_le first (k + 2) ≡ true = le-leb first (k + 2) (omega (arith, new)) in
+    rw later (four_ends _ ∙ definitions-placed first (more p es) h (k + 4) _)
+
+classes-placed : (first : ℕ) (ps : Parts) → AreClasses ps → (k : ℕ) → first ≤ k → (s : Surroundings) → places_of first [] [] s (lowered_statements k ps) ≡ places_of first [] [] s ps
+classes-placed first end h k new s = refl
+classes-placed first (more p ps) (a_class n span semantic_id id body (a_name i ispan i_semantic_id x free) (a_body m bspan b_semantic_id es he), h) k new s =
+    rw (elements-placed first es he k new _, fields-placed first es he _, classes-placed first ps h _ (still_new k _ new) s) refl
+
+pub places-lowered : (first : ℕ) (t : Tree) → IsProgram t → all_places first [] [] (lowered_from first t) ≡ all_places first [] [] t
+places-lowered first t (a_program m span semantic_id s all h) = ap (λ xs. xs ++ []) (classes-placed first all h first (omega arith) _)
+
+pub globals-lowered : (first k : ℕ) (t : Tree) → IsProgram t → globals first (lowered_from k t) ≡ globals first t
+globals-lowered first k t (a_program m span semantic_id s all h) = rw (names-lowered all h k) refl
+
 -- ---- nothing is imported or exported
 
-no_links : (first : ℕ) (ps : Parts) → AreClasses ps → links_in first ps ≡ []
-no_links first end h = refl
-no_links first (more p ps) (a_class n span semantic_id id body hid hbody, h) = no_links first ps h
+no_links : (ps : Parts) → AreClasses ps → links_in ps ≡ []
+no_links end h = refl
+no_links (more p ps) (a_class n span semantic_id id body hid hbody, h) = no_links ps h
 
 no_exports : (c : Context) (env : Environment) (ps : Parts) → AreClasses ps → exports_in c env ps ≡ []
 no_exports c env end h = refl
 no_exports c env (more p ps) (a_class n span semantic_id id body hid hbody, h) = no_exports c env ps h
 
-lowered-no_links : (first : ℕ) (ps : Parts) → AreClasses ps → (k : ℕ) → links_in first (lowered_statements k ps) ≡ []
-lowered-no_links first end h k = refl
-lowered-no_links first (more p ps) (a_class n span semantic_id id body hid hbody, h) k = lowered-no_links first ps h _
+lowered-no_links : (ps : Parts) → AreClasses ps → (k : ℕ) → links_in (lowered_statements k ps) ≡ []
+lowered-no_links end h k = refl
+lowered-no_links (more p ps) (a_class n span semantic_id id body hid hbody, h) k = lowered-no_links ps h _
 
 lowered-no_exports : (c : Context) (env : Environment) (ps : Parts) → AreClasses ps → (k : ℕ) → exports_in c env (lowered_statements k ps) ≡ []
 lowered-no_exports c env end h k = refl
@@ -199,7 +236,7 @@ pub record HasNone (t : Tree) : Type 0 where
   pub free : writes_free (codes "arguments") (resolve t) ≡ false
   pub functions : declared_functions [] (preorder t) ≡ []
   pub members : private_members t ≡ []
-  pub links : (first : ℕ) → links_in first (body_of t) ≡ []
+  pub links : links_in (body_of t) ≡ []
   pub exports : (c : Context) (env : Environment) → exports_in c env (body_of t) ≡ []
 
 pub source-none : (t : Tree) → IsProgram t → HasNone t
@@ -208,7 +245,7 @@ source-none t (a_program m span semantic_id s all h) =
       free = rw (append-nil (item_references (body_names all ++ []) false all)) (here.free (body_names all ++ []));
       functions = rw (append-nil (preorder_of all)) here.functions;
       members = rw (append-nil (preorder_of all)) here.members;
-      links = λ first. no_links first all h;
+      links = no_links all h;
       exports = λ c env. no_exports c env all h;
     }
 
@@ -219,6 +256,6 @@ lowered-none k t (a_program m span semantic_id s all h) =
       free = rw (append-nil (item_references (body_names ps ++ []) false ps)) (there.free (body_names ps ++ []));
       functions = rw (append-nil (preorder_of ps)) there.functions;
       members = rw (append-nil (preorder_of ps)) there.members;
-      links = λ first. lowered-no_links first all h k;
+      links = lowered-no_links all h k;
       exports = λ c env. lowered-no_exports c env all h k;
     }
