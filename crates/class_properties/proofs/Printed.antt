@@ -3,7 +3,7 @@ use Rattle.std.specs.Prelude.{◌≡◌, ℕ, ◌+◌, Bool, true, false, not, �
 use Rattle.std.proofs.Common.{refl}
 use Rattle.es_base.specs.Tree.{Tree, Part, Parts, Node, end, more, child, absent, list, trees}
 use Rattle.es_base.specs.declared.kind.Kind.{Kind}
-use Rattle.es_steps.specs.Printable.{any_optional, has_bad, bad_at, bad_in, is_printable}
+use Rattle.es_steps.specs.Printable.{any_optional, has_bad, bad_at, bad_in, Jumps, no_jumps, has_stray, stray_in, is_printable}
 use Rattle.class_properties.proofs.Numbered.{definitions_from, lowered_elements, statement_size, lowered_statements, lowered_from}
 use Rattle.class_properties.proofs.Shaped.{no_value, a_literal, a_reference, a_key, a_field, AreFields, a_body, a_name, a_class, AreClasses, IsProgram, a_program}
 use Rattle.class_properties.proofs.Standing.{none_of}
@@ -65,11 +65,29 @@ classes-good in_module (more p ps) (a_class n span semantic_id id body (a_name i
     lowered-good end h a b c = rw (a, c) refl
     lowered-good (more e es) h a b c = rw (a, b, c) refl
 
+-- ---- nothing is left by a jump
+
+definitions-stay : (j : Jumps) (es : Parts) → AreFields es → (k : ℕ) → stray_in j (trees (definitions_from k es)) ≡ false
+definitions-stay j end h k = refl
+definitions-stay j (more p es) (a_field m span semantic_id key v (a_key i ispan i_semantic_id s) no_value, h) k = definitions-stay j es h (k + 9)
+definitions-stay j (more p es) (a_field m span semantic_id key v (a_key i ispan i_semantic_id s) (a_literal l lspan l_semantic_id w), h) k = definitions-stay j es h (k + 7)
+definitions-stay j (more p es) (a_field m span semantic_id key v (a_key i ispan i_semantic_id s) (a_reference r rspan r_semantic_id x), h) k = definitions-stay j es h (k + 7)
+
+classes-stay : (j : Jumps) (ps : Parts) → AreClasses ps → (k : ℕ) → stray_in j (lowered_statements k ps) ≡ false
+classes-stay j end h k = refl
+classes-stay j (more p ps) (a_class n span semantic_id id body (a_name i ispan i_semantic_id s free) (a_body b bspan b_semantic_id end he), h) k = classes-stay j ps h _
+classes-stay j (more p ps) (a_class n span semantic_id id body (a_name i ispan i_semantic_id s free) (a_body b bspan b_semantic_id (more e es) he), h) k =
+    rw (definitions-stay (no_jumps true) (more e es) he (k + 4)) (classes-stay j ps h _)
+
+program-stays : (k : ℕ) (t : Tree) → IsProgram t → has_stray (no_jumps false) (lowered_from k t) ≡ false
+program-stays k t (a_program m span semantic_id s all h) = rw (classes-stay (no_jumps false) all h k) refl
+
 -- ---- programs
 
-printed : (a b : Bool) → (a ≡ false → b ≡ false) → (not (not a) || not b) ≡ true
-printed true b h = refl
-printed false b h = rw (h refl) refl
+printed : (a b c d : Bool) → (a ≡ false → b ≡ false) → d ≡ false → (not (not (a || c)) || not (b || d)) ≡ true
+printed true b c d h none = refl
+printed false b true d h none = refl
+printed false b false d h none = rw (h refl, none) refl
 
 program-good : (k : ℕ) (t : Tree) → IsProgram t → has_bad false false t ≡ false → has_bad false false (lowered_from k t) ≡ false
 program-good k t (a_program m span semantic_id s all h) g =
@@ -78,4 +96,4 @@ program-good k t (a_program m span semantic_id s all h) g =
     rw (lowered-plain all h k, classes-good (bytes_eq s (codes "module")) all h k good.0) refl
 
 pub printable-lowered : (k : ℕ) (t : Tree) → IsProgram t → (not (is_printable t) || is_printable (lowered_from k t)) ≡ true
-printable-lowered k t h = printed (has_bad false false t) (has_bad false false (lowered_from k t)) (program-good k t h)
+printable-lowered k t h = printed (has_bad false false t) (has_bad false false (lowered_from k t)) (has_stray (no_jumps false) t) (has_stray (no_jumps false) (lowered_from k t)) (program-good k t h) (program-stays k t h)
