@@ -20,7 +20,7 @@ use Rattle.es_steps.specs.PrivateNames.{PrivateMember, elements_members}
 use Rattle.es_steps.specs.Reading.{read}
 use Rattle.es_steps.specs.References.{Reference, item_references, resolve, written}
 use Rattle.es_steps.specs.Scopes.{Declaration, body_names}
-use Rattle.es_steps.specs.Shapes.{ClassAt, class_at, lowered_classes, any_class, heritage_by, heritage_at, heritage_has_events, moves_before_heritage, has_shape_1, initializes_instances, is_late_class, has_shape_2, keeps_block, has_shape_3, any_written, read_twice, reads_written_twice, has_shape_4, has_unwritable, unwritable_items, has_shape_5, class_names, refers_to, writes_any, has_shape_6, named_in_keys, names_stand_at, id_number, has_shape_7, private_behind_part, private_chains, has_shape_8, if_has, shapes_of, shapes}
+use Rattle.es_steps.specs.Shapes.{ClassAt, class_at, lowered_classes, any_class, heritage_by, heritage_at, heritage_has_events, moves_before_heritage, has_shape_1, initializes_instances, is_late_class, has_shape_2, keeps_block, has_shape_3, reads_twice, reads_twice_of, has_shape_4, has_unwritable, unwritable_items, has_shape_5, class_names, refers_to, writes_any, has_shape_6, named_in_keys, names_stand_at, id_number, suspended_names, has_shape_7, private_behind_part, private_chains, has_shape_8, if_has, shapes_of, shapes}
 use Rattle.es_steps.specs.declared.options.Options.{Options}
 use Rattle.class_properties.proofs.Declared.{two_ends}
 use Rattle.class_properties.proofs.Shaped.{no_value, a_literal, a_reference, a_key, a_field, AreFields, a_body, a_name, a_class, AreClasses, IsProgram, a_program, first_form-shaped}
@@ -104,20 +104,14 @@ names-none rs k (plain_at n j span semantic_id id es h) = no_keys (id_number id)
 or_none : (a b : Bool) → a ≡ false → b ≡ false → (a || b) ≡ false
 or_none a b h i = rw (h, i) refl
 
-twice-append : (ws : List ℕ) (rs : List Reference) (ts us : List Tree) → reads_written_twice ws rs ts ≡ false → reads_written_twice ws rs us ≡ false → reads_written_twice ws rs (ts ++ us) ≡ false
-twice-append ws rs [] us h i = i
-twice-append ws rs (Node kind m span semantic_id ps ∷ ts) us h i =
-    let parts = none_of (any_written ws rs (read_twice kind ps)) (reads_written_twice ws rs ts) h in
-    or_none (any_written ws rs (read_twice kind ps)) (reads_written_twice ws rs (ts ++ us)) parts.0 (twice-append ws rs ts us parts.1 i)
-
 -- what the nodes of these parts by themselves have none of
 record AreQuiet (ps : Parts) : Type 0 where
-  twice : (ws : List ℕ) (rs : List Reference) → reads_written_twice ws rs (preorder_of ps) ≡ false
+  twice : (o : Options) (ws : List ℕ) (rs : List Reference) (moved : Bool) → reads_twice_of o ws rs moved ps ≡ false
   writes : (names : List ℕ) (ds : List Declaration) → writes_any names (item_references ds false ps) ≡ false
   unwritable : (seen : List PrivateMember) → unwritable_items seen ps ≡ false
 
 quiet-end : AreQuiet end
-quiet-end = record { twice = λ ws rs. refl; writes = λ names ds. refl; unwritable = λ seen. refl }
+quiet-end = record { twice = λ o ws rs moved. refl; writes = λ names ds. refl; unwritable = λ seen. refl }
 
 fields-quiet : (es : Parts) → AreFields es → AreQuiet es
 fields-quiet end h = quiet-end
@@ -136,21 +130,21 @@ classes-quiet end h = quiet-end
 classes-quiet (more p ps) (a_class n span semantic_id id body (a_name i ispan i_semantic_id s free) (a_body j bspan b_semantic_id es he), h) =
     let here : AreQuiet es = fields-quiet es he in
     let there : AreQuiet ps = classes-quiet ps h in record {
-      twice = λ ws rs. rw (two_ends (preorder_of es) (preorder_of ps)) (twice-append ws rs (preorder_of es) (preorder_of ps) (here.twice ws rs) (there.twice ws rs));
+      twice = λ o ws rs moved. rw (here.twice o ws rs moved, there.twice o ws rs moved) refl;
       writes = λ names ds. rw (two_ends (item_references ds false es) (item_references ds false ps)) (writes-append names (item_references ds false es) (item_references ds false ps) (here.writes names ds) (there.writes names ds));
       unwritable = λ seen. rw (here.unwritable (elements_members n es ++ seen), there.unwritable seen) refl;
     }
 
 -- and of the nodes of a program
 record IsQuiet (t : Tree) : Type 0 where
-  twice : (ws : List ℕ) (rs : List Reference) → reads_written_twice ws rs (preorder t) ≡ false
+  twice : (o : Options) (ws : List ℕ) (rs : List Reference) → reads_twice o ws rs false false t ≡ false
   writes : (names : List ℕ) → writes_any names (resolve t) ≡ false
   unwritable : has_unwritable [] t ≡ false
 
 program-quiet : (t : Tree) → IsProgram t → IsQuiet t
 program-quiet t (a_program m span semantic_id s all h) =
     let q : AreQuiet all = classes-quiet all h in record {
-      twice = λ ws rs. rw (append-nil (preorder_of all)) (q.twice ws rs);
+      twice = λ o ws rs. rw (q.twice o ws rs false) refl;
       writes = λ names. rw (append-nil (item_references (body_names all ++ []) false all)) (q.writes names (body_names all ++ []));
       unwritable = rw (q.unwritable []) refl;
     }
@@ -196,13 +190,13 @@ program-shapes o t c p =
     no_class (λ k. heritage_has_events c (heritage_at k.number (gather heritage_by c)) && moves_before_heritage o (written t) (resolve t) k)
     (λ k h. rw (moves-none o (written t) (resolve t) k h) (and-false (heritage_has_events c (heritage_at k.number (gather heritage_by c))))) ks plain in
     let named : has_shape_7 t ks ≡ false = no_class (λ k. names_stand_at (id_number k.id) (resolve t) k.heritage || named_in_keys (id_number k.id) (resolve t) k.elements) (names-none (resolve t)) ks plain in
-    no_shapes (has_shape_1 o t c ks) (has_shape_2 o ks) (has_shape_3 o ks) (has_shape_4 o t) (has_shape_5 o t) (has_shape_6 t ks) (has_shape_7 t ks) (has_shape_8 o t)
+    no_shapes (has_shape_1 o t c ks) (has_shape_2 o ks) (has_shape_3 o ks) (has_shape_4 o t) (has_shape_5 o t) (has_shape_6 o t ks) (has_shape_7 t ks) (has_shape_8 o t)
     (rw moves (and-false (lowers_fields o)))
     (rw (no_class is_late_class late-none ks plain) (and-false (lowers_fields o)))
     (rw (no_class keeps_block block-none ks plain, and-false (not (lowers_blocks o))) (and-false (lowers_fields o)))
-    (rw (q.twice (written t) (resolve t)) (and-false (lowers_fields o)))
+    (rw (q.twice o (written t) (resolve t)) (and-false (lowers_fields o)))
     (rw q.unwritable (and-false (lowers_fields o)))
-    (q.writes (class_names ks))
+    (q.writes (class_names ks ++ suspended_names o (preorder t)))
     named
     (rw (program-no_chain t p) (and-false (lowers_fields o)))
 
