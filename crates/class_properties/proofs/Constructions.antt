@@ -66,7 +66,7 @@ keys (with_field s v fs) = ConstantOf (StringOf s) ∷ keys fs
 abbrev ran : Events → Value → Environment → Option Run
 ran l v env = Some (record { events = l; value = v; after = env })
 
-value_behind-undefined : (l : Events) → value_behind l Undefined ≡ Undefined
+pub value_behind-undefined : (l : Events) → value_behind l Undefined ≡ Undefined
 value_behind-undefined l = either (throws l)
   where
     either : (b : Bool) → cond b Undefined Undefined ≡ Undefined

@@ -169,7 +169,7 @@ classes-declare first (more p ps) (a_class n span semantic_id id body (a_name i 
 
 -- ---- where things stand: classes and their names alone, and these where they stood
 
-Unplaced : ℕ → Parts → Type 0
+abbrev Unplaced : ℕ → Parts → Type 0
 Unplaced first ps = (s : Surroundings) → places_of first [] [] s ps ≡ []
 
 fields-placed : (first : ℕ) (es : Parts) → AreFields es → Unplaced first es
@@ -193,7 +193,8 @@ elements-placed first (more p es) h k new s =
 classes-placed : (first : ℕ) (ps : Parts) → AreClasses ps → (k : ℕ) → first ≤ k → (s : Surroundings) → places_of first [] [] s (lowered_statements k ps) ≡ places_of first [] [] s ps
 classes-placed first end h k new s = refl
 classes-placed first (more p ps) (a_class n span semantic_id id body (a_name i ispan i_semantic_id x free) (a_body m bspan b_semantic_id es he), h) k new s =
-    rw (elements-placed first es he k new _, fields-placed first es he _, classes-placed first ps h _ (still_new k _ new) s) refl
+    let next : ℕ = k + statement_size p in
+    rw (elements-placed first es he k new _, fields-placed first es he _, classes-placed first ps h next (still_new k (statement_size p) new) s) refl
 
 pub places-lowered : (first : ℕ) (t : Tree) → IsProgram t → all_places first [] [] (lowered_from first t) ≡ all_places first [] [] t
 places-lowered first t (a_program m span semantic_id s all h) = ap (λ xs. xs ++ []) (classes-placed first all h first (omega arith) _)

@@ -14,7 +14,7 @@ use Rattle.es_steps.proofs.PlainClasses.{IsNotGenerated, fixed, changing, means_
 use Rattle.es_steps.specs.Code.{Code, Codes, value, spelled, field, define, steps, new_function, constructor, done, and}
 use Rattle.es_steps.specs.Context.{Context, NameKind, found_kind, name_kind, inside}
 use Rattle.es_steps.specs.Entries.{Entry, Listed, plain_form, entries}
-use Rattle.es_steps.specs.Events.{Events, value_behind}
+use Rattle.es_steps.specs.Events.{Events}
 use Rattle.es_steps.specs.Expressions.{constant_of, name_or_arguments, name_code}
 use Rattle.es_steps.specs.FirstForm.{is_first_form}
 use Rattle.es_steps.specs.Generated.{constructor_at, define_at}
@@ -30,7 +30,7 @@ use Rattle.es_steps.specs.Scopes.{body_names}
 use Rattle.es_steps.specs.Statements.{value_or_undefined, field_form}
 use Rattle.es_steps.specs.Values.{String, ConstantOf, StringOf, Undefined, ThisOf, ArgumentsOf, Bound, Free}
 use Rattle.es_steps.specs.declared.options.Options.{Options}
-use Rattle.class_properties.proofs.Constructions.{Fields, no_fields, with_field, ArePlain, field_codes, Defines, none_defined, defined, AreLowered, no_constructor, one_constructor, pair_of_classes, ArePairs, RunAlike, pairs-run}
+use Rattle.class_properties.proofs.Constructions.{Fields, no_fields, with_field, ArePlain, field_codes, Defines, none_defined, defined, AreLowered, no_constructor, one_constructor, pair_of_classes, ArePairs, RunAlike, value_behind-undefined, pairs-run}
 use Rattle.class_properties.proofs.Declared.{HasNone, source-none, lowered-none, names-definitions, names-lowered, written-lowered, declaring-lowered, globals-lowered, places-lowered}
 use Rattle.class_properties.proofs.Shaped.{IsValue, no_value, a_literal, a_reference, a_key, a_field, AreFields, a_body, a_name as a_class_name, a_class, AreClasses, IsProgram, a_program, first_form-shaped}
 use Rattle.class_properties.proofs.Numbered.{key_string, value_from, definitions_from, lowered_elements, lowered_statements}
@@ -204,7 +204,7 @@ abbrev terms : ℕ → Options → List PrivateMember → Terms
 terms first options members = record { first_new = first; options = options; ledger = []; members = members; late = [] }
 
 abbrev listed_alone : Events → Option Listed
-listed_alone l = Some (record { events = l; value = value_behind l Undefined })
+listed_alone l = Some (record { events = l; value = Undefined })
 
 pairs-mean : (first : ℕ) (options : Options) (members : List PrivateMember) (p q : Tree) (cs ds : Codes) → members ≡ [] → ArePairs cs ds → HasNone p → HasNone q
     → source_type_of q ≡ source_type_of p → declaring first ClassDeclared q ≡ declaring first ClassDeclared p → globals first q ≡ globals first p → all_places first [] [] q ≡ all_places first [] [] p → means_of (terms first options members) q (steps ds) ≡ means_of (terms first options members) p (steps cs)
@@ -212,8 +212,8 @@ pairs-mean first options members p q cs ds none_there h np nq source_type bindin
     let o : Terms = terms first options members in
     let run : RunAlike (opening (definitions (steps cs))) (opening (definitions (steps ds))) first cs ds = pairs-run (opening (definitions (steps cs))) (opening (definitions (steps ds))) first cs ds h in
     let es : Option (List (ℕ × Entry)) = whole (entries (opening (definitions (steps cs))) first [] [] [] (steps cs)) in
-    let here : means_of o p (steps cs) ≡ with_all o p [] (listed_alone run.listed) es (Some []) (Some []) = rw (run.source, run.functions, np.exports (in_body (start o p) p) [], none_there) refl in
-    let there : means_of o q (steps ds) ≡ with_all o q [] (listed_alone run.listed) es (Some []) (Some []) = rw (run.lowered, run.lowered_functions, nq.exports (in_body (start o q) q) [], run.entries, none_there) refl in
+    let here : means_of o p (steps cs) ≡ with_all o p [] (listed_alone run.listed) es (Some []) (Some []) = rw (run.source, value_behind-undefined run.listed, value_behind-undefined run.listed, run.functions, np.exports (in_body (start o p) p) [], none_there) refl in
+    let there : means_of o q (steps ds) ≡ with_all o q [] (listed_alone run.listed) es (Some []) (Some []) = rw (run.lowered, value_behind-undefined run.listed, value_behind-undefined run.listed, run.lowered_functions, nq.exports (in_body (start o q) q) [], run.entries, none_there) refl in
     there ∙ told (listed_alone run.listed) es ∙ sym here
   where
     told : (l : Option Listed) (es : Option (List (ℕ × Entry))) → with_all (terms first options members) q [] l es (Some []) (Some []) ≡ with_all (terms first options members) p [] l es (Some []) (Some [])
