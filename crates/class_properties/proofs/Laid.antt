@@ -2,22 +2,26 @@
 use Rattle.std.proofs.Common.{◌≡◌, refl, ◌∙◌, ℕ, ◌+◌, ◌<◌, ◌≤◌, ◌⊎◌, inl, inr, List, [], ◌∷◌, ◌++◌, map, Bool, true, false, arith}
 use Rattle.std.specs.Prelude.{◌&&◌, not, nat_eq, filter}
 use Rattle.std.specs.List.{IsDistinct, AllByRecursion}
-use Rattle.std.proofs.lemmas.Bool.{le-leb, lt-leb, and_parts, not-true}
+use Rattle.std.proofs.lemmas.Bool.{le-leb, lt-leb, and_parts, not-true, true≢false}
 use Rattle.std.proofs.Math.Bool.{and-false}
 use Rattle.es_base.specs.Numbered.{is_new, AreConsecutive, EachOnce}
 use Rattle.es_base.specs.Preorder.{number_of}
 use Rattle.es_base.specs.Tree.{Tree, Node}
 use Rattle.es_base.specs.declared.kind.Kind.{Kind}
-use Rattle.es_steps.specs.Lowered.{is_lowered_kind, kind_of, none_lowered, all_accounted}
+use Rattle.es_steps.specs.Lowered.{is_lowered_kind, kind_of, none_lowered, is_new_const, all_accounted}
 use Rattle.es_steps.specs.Options.{class_properties_alone}
 use Rattle.es_steps.specs.Scopes.{is_binding_identifier}
 
 -- kinds that stay, and kinds of new nodes
+abbrev pub declares_names : Kind → Bool
+declares_names Kind.VariableDeclaration = true
+declares_names kind = is_binding_identifier kind
+
 abbrev pub stays : Kind → Bool
 stays kind = not (is_lowered_kind class_properties_alone kind)
 
 abbrev pub may_be_new : Kind → Bool
-may_be_new kind = stays kind && not (is_binding_identifier kind)
+may_be_new kind = stays kind && not (declares_names kind)
 
 -- old nodes with numbers from lo to below hi, which ascend, and new ones with the numbers from n to below m, in turn
 pub data Laid (first hi m : ℕ) : ℕ → ℕ → List Tree → Type 0 where
@@ -80,11 +84,25 @@ laid-once {ts = t ∷ ts} l (generated e s rest) = (laid-apart (number_of t) (om
 pub laid-left : {first hi m lo n : ℕ} {ts : List Tree} → Laid first hi m lo n ts → none_lowered class_properties_alone ts ≡ true
 laid-left (none lh e) = refl
 laid-left (kept a b s rest) = rw (s, laid-left rest) refl
-laid-left {ts = t ∷ ts} (generated e s rest) = rw ((and_parts (stays (kind_of t)) (not (is_binding_identifier (kind_of t))) s).0, laid-left rest) refl
+laid-left {ts = t ∷ ts} (generated e s rest) = rw ((and_parts (stays (kind_of t)) (not (declares_names (kind_of t))) s).0, laid-left rest) refl
+
+-- an old node is no new constant, and neither is a node that declares no name
+pub old-no_const : (first : ℕ) (t : Tree) → is_new first (number_of t) ≡ false → is_new_const first t ≡ false
+old-no_const first (Node Kind.VariableDeclaration m span semantic_id ps) e = rw e refl
+old-no_const first t e = refl
+
+fresh-no_const : (first : ℕ) (t : Tree) → declares_names (kind_of t) ≡ false → is_new_const first t ≡ false
+fresh-no_const first (Node Kind.VariableDeclaration m span semantic_id ps) e = absurd (true≢false e)
+fresh-no_const first t e = refl
+
+fresh-no_binding : (kind : Kind) → declares_names kind ≡ false → is_binding_identifier kind ≡ false
+fresh-no_binding Kind.VariableDeclaration e = refl
+fresh-no_binding kind e = e
 
 pub laid-accounted : {first hi m lo n : ℕ} {ts : List Tree} (own : List ℕ) → Laid first hi m lo n ts → all_accounted first [] own ts ≡ true
 laid-accounted own (none lh e) = refl
-laid-accounted {first = first} {ts = Node kind b span semantic_id ps ∷ ts} own (kept a l s rest) = rw (lt-leb first b l, and-false (is_binding_identifier kind)) (laid-accounted own rest)
-laid-accounted {ts = Node kind b span semantic_id ps ∷ ts} own (generated e s rest) =
-    let fresh : is_binding_identifier kind ≡ false = not-true (is_binding_identifier kind) (and_parts (stays kind) (not (is_binding_identifier kind)) s).1 in
-    rw fresh (laid-accounted own rest)
+laid-accounted {first = first} {ts = Node kind b span semantic_id ps ∷ ts} own (kept a l s rest) =
+    rw (old-no_const first (Node kind b span semantic_id ps) (lt-leb first b l), lt-leb first b l, and-false (is_binding_identifier kind)) (laid-accounted own rest)
+laid-accounted {first = first} {ts = Node kind b span semantic_id ps ∷ ts} own (generated e s rest) =
+    let fresh : declares_names kind ≡ false = not-true (declares_names kind) (and_parts (stays kind) (not (declares_names kind)) s).1 in
+    rw (fresh-no_const first (Node kind b span semantic_id ps) fresh, fresh-no_binding kind fresh) (laid-accounted own rest)
