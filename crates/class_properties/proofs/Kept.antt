@@ -12,7 +12,7 @@ use Rattle.es_base.specs.Tree.{Tree, Part, Parts, Node, end, more, child, absent
 use Rattle.es_base.specs.declared.kind.Kind.{Kind}
 use Rattle.es_steps.proofs.Reflexive.{number-same}
 use Rattle.es_steps.specs.Definitions.{chosen, element_numbers, body_numbers, elements_kept}
-use Rattle.es_steps.specs.KeptNodes.{statement_list, item_numbers, free_numbers, free_lists, free_lists_at, free_lists_in, list_of, is_within, all_within, is_free_statement, free_statements, free_at, free_in}
+use Rattle.es_steps.specs.KeptNodes.{statement_list, declared_classes, carried_classes, item_number, item_numbers, free_number, free_numbers, is_static_block, free_lists, free_lists_at, free_lists_in, list_of, is_within, all_within, is_free_statement, free_statements, free_at, free_in}
 use Rattle.es_steps.specs.Lowered.{IsLowered, is_lowered_kind, kind_of, none_lowered, own_name_numbers, all_accounted}
 use Rattle.es_steps.specs.LoweredClasses.{Element, elements_of, is_lowered_element, any_element, is_lowered_class, holds_lowered, has_lowered_class}
 use Rattle.es_steps.specs.Meaning.{lowered_means, source_means}
@@ -21,7 +21,9 @@ use Rattle.es_steps.specs.Printable.{is_printable}
 use Rattle.es_steps.specs.PrivateNames.{is_class}
 use Rattle.es_steps.specs.Scopes.{is_binding_identifier}
 use Rattle.es_steps.specs.declared.options.Options.{Options}
-use Rattle.class_properties.proofs.Standing.{both, In, here, later, in-left, in-right, Among, among-append, all-equal, all-stand, within-more, within-both, within-same, all_within-append, apart-sym}
+use Rattle.class_properties.proofs.Laid.{old-no_const}
+use Rattle.class_properties.proofs.Standing.{both, In, here, later, in-left, in-right, Among, among-append, all-equal, all-stand, within-more, within-both, within-same, within-append, all_within-append, apart-sym}
+use Rattle.class_properties.proofs.Unmarked.{names-timely}
 
 -- ---- no number is new
 
@@ -61,7 +63,8 @@ below-none_new first (t ∷ ts) b = rw (lt-leb first (number_of t) b.0) (below-n
 -- so no new node declares a name
 below-accounted : (first : ℕ) (own : List ℕ) (ts : List Tree) → Below first ts → all_accounted first [] own ts ≡ true
 below-accounted first own [] b = refl
-below-accounted first own (Node kind m span semantic_id ps ∷ ts) b = rw (lt-leb first m b.0, and-false (is_binding_identifier kind)) (below-accounted first own ts b.1)
+below-accounted first own (Node kind m span semantic_id ps ∷ ts) b =
+    rw (old-no_const first (Node kind m span semantic_id ps) (lt-leb first m b.0), lt-leb first m b.0, and-false (is_binding_identifier kind)) (below-accounted first own ts b.1)
 
 -- ---- each number stands once
 
@@ -120,14 +123,23 @@ mutual
   free_in-among o end = λ u i. i
   free_in-among o (more p ps) = among-append (free_at o p) (free_in o ps) (preorder_of_part p) (preorder_of ps) (free_at-among o p) (free_in-among o ps)
 
--- the numbers of the statements of a list stand in it
+-- the numbers of the statements and classes of a list stand in it
+declared-carried : (t : Tree) → is_within (declared_classes (child t)) (carried_classes (child t)) ≡ true
+declared-carried (Node Kind.ClassDeclaration n span semantic_id ps) = within-same (n ∷ [])
+declared-carried (Node Kind.ExportNamedDeclaration m span semantic_id (more (child (Node Kind.ClassDeclaration n nspan n_semantic_id ps)) rest)) = within-same (n ∷ [])
+declared-carried (Node Kind.ExportDefaultDeclaration m span semantic_id (more (child (Node Kind.ClassDeclaration n nspan n_semantic_id ps)) rest)) = within-same (n ∷ [])
+declared-carried t = refl
+
+free_number-within : (o : Options) (t : Tree) → is_within (free_number o (child t)) (item_number (child t)) ≡ true
+free_number-within o t = either (is_free_statement o t)
+  where
+    either : (b : Bool) → is_within (cond b (number_of t ∷ []) [] ++ declared_classes (child t)) (number_of t ∷ carried_classes (child t)) ≡ true
+    either true = within-both (number_of t) (declared_classes (child t)) (carried_classes (child t)) (declared-carried t)
+    either false = within-more (declared_classes (child t)) (number_of t) (carried_classes (child t)) (declared-carried t)
+
 free_numbers-within : (o : Options) (ps : Parts) → is_within (free_numbers o ps) (item_numbers ps) ≡ true
 free_numbers-within o end = refl
-free_numbers-within o (more (child t) ps) = either (is_free_statement o t) (free_numbers-within o ps)
-  where
-    either : (b : Bool) → is_within (free_numbers o ps) (item_numbers ps) ≡ true → is_within (cond b (number_of t ∷ []) [] ++ free_numbers o ps) (number_of t ∷ item_numbers ps) ≡ true
-    either true h = within-both (number_of t) (free_numbers o ps) (item_numbers ps) h
-    either false h = within-more (free_numbers o ps) (number_of t) (item_numbers ps) h
+free_numbers-within o (more (child t) ps) = within-append (free_number o (child t)) (item_number (child t)) (free_numbers o ps) (item_numbers ps) (free_number-within o t) (free_numbers-within o ps)
 free_numbers-within o (more absent ps) = free_numbers-within o ps
 free_numbers-within o (more (list qs) ps) = free_numbers-within o ps
 free_numbers-within o (more (string s) ps) = free_numbers-within o ps
@@ -154,9 +166,9 @@ node-list kind n span semantic_id ps (q ∷ qs) once here = rw (number-same n) r
 node-list kind n span semantic_id ps (Node other k kspan k_semantic_id ks ∷ qs) once (later i) =
     rw (apart-sym k n (number-apart k (Node kind n span semantic_id ps) qs once.0 i)) (node-list kind n span semantic_id ps qs once.1 i)
 
-lists-either : (l : ℕ × List ℕ) (ls : List (ℕ × List ℕ)) (qs : List Tree) (b : Bool) → is_within l.1 (list_of l.0 qs) ≡ true → all_within ls qs ≡ true → all_within (cond b [] (l ∷ ls)) qs ≡ true
-lists-either l ls qs true h i = refl
-lists-either l ls qs false h i = both h i
+lists-either : (l : ℕ × List ℕ) (qs : List Tree) (b : Bool) → is_within l.1 (list_of l.0 qs) ≡ true → all_within (cond b [] (l ∷ [])) qs ≡ true
+lists-either l qs true h = refl
+lists-either l qs false h = both h refl
 
 among-first : (ts us qs : List Tree) → Among (ts ++ us) qs → Among ts qs
 among-first ts us qs h t i = h t (in-left t ts us i)
@@ -169,7 +181,10 @@ module _ (o : Options) (qs : List Tree) (once : EachOnce (map number_of qs)) whe
     lists-within : (t : Tree) → Among (preorder t) qs → all_within (free_lists o t) qs ≡ true
     lists-within (Node kind m span semantic_id ps) h =
         let stands : is_within (free_numbers o (statement_list kind ps)) (list_of m qs) ≡ true = rw (node-list kind m span semantic_id ps qs once (h (Node kind m span semantic_id ps) here)) (free_numbers-within o (statement_list kind ps)) in
-        lists-either (m, free_numbers o (statement_list kind ps)) (free_lists_in o ps) qs (is_lowered_class o kind ps) stands (lists_in-within ps (λ u i. h u (later i)))
+        let list : List (ℕ × List ℕ) = (m, free_numbers o (statement_list kind ps)) ∷ [] in
+        all_within-append (cond (is_static_block kind) [] list) (free_lists_in o ps) qs
+        (lists-either (m, free_numbers o (statement_list kind ps)) qs (is_static_block kind) stands)
+        (lists_in-within ps (λ u i. h u (later i)))
 
     lists_at-within : (p : Part) → Among (preorder_of_part p) qs → all_within (free_lists_at o p) qs ≡ true
     lists_at-within (child t) h = lists-within t h
@@ -231,6 +246,7 @@ source-owes t e =
         declared = refl;
         accounted = below-accounted (nodes t) (own_name_numbers t (preorder t)) (preorder t) turn.below;
         initialized = refl;
+        timely = names-timely (nodes t) t;
         keys = refl;
         nodes = all-stand (preorder t) (preorder t) (λ u i. i);
         statements = all-equal (free_statements no_options t) (preorder t) (free-among no_options t);

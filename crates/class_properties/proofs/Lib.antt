@@ -21,3 +21,4 @@ pub mod Shapeless
 pub mod Small
 pub mod Standing
 pub mod Steps
+pub mod Unmarked

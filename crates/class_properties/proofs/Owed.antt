@@ -19,6 +19,7 @@ use Rattle.class_properties.proofs.Renumbered.{lowered-numbered}
 use Rattle.class_properties.proofs.Printed.{printable-lowered}
 use Rattle.class_properties.proofs.Remaining.{Remains, remains}
 use Rattle.class_properties.proofs.Standing.{temporaries-none}
+use Rattle.class_properties.proofs.Unmarked.{names-timely}
 use Rattle.class_properties.specs.Lowering.{lowered}
 
 -- with no nodes behind
@@ -106,6 +107,7 @@ numbered-owes t p e =
         declared = refl;
         accounted = laid-accounted (own_name_numbers t (preorder q)) laid;
         initialized = refl;
+        timely = names-timely first q;
         keys = rw (temporaries-none first class_properties_alone (private_members t) q (preorder q)) refl;
         nodes = rest.nodes;
         statements = rest.statements;

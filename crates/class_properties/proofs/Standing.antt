@@ -177,6 +177,19 @@ pub within-same : (xs : List ℕ) → is_within xs xs ≡ true
 within-same [] = refl
 within-same (x ∷ xs) = within-both x xs xs (within-same xs)
 
+within-behind : (xs ys zs : List ℕ) → is_within xs zs ≡ true → is_within xs (ys ++ zs) ≡ true
+within-behind xs [] zs h = h
+within-behind xs (y ∷ ys) zs h = within-more xs y (ys ++ zs) (within-behind xs ys zs h)
+
+within_either-append : (b : Bool) {c d e f : Bool} → (c ≡ true → e ≡ true) → (d ≡ true → f ≡ true) → cond b c d ≡ true → cond b e f ≡ true
+within_either-append true g k h = g h
+within_either-append false g k h = k h
+
+pub within-append : (xs ys us vs : List ℕ) → is_within xs ys ≡ true → is_within us vs ≡ true → is_within (xs ++ us) (ys ++ vs) ≡ true
+within-append [] ys us vs h i = within-behind us ys vs i
+within-append (x ∷ xs) [] us vs h i = no_false h
+within-append (x ∷ xs) (y ∷ ys) us vs h i = within_either-append (nat_eq x y) (λ k. within-append xs ys us vs k i) (λ k. within-append (x ∷ xs) ys us vs k i) h
+
 pub all_within-append : (ls ks : List (ℕ × List ℕ)) (qs : List Tree) → all_within ls qs ≡ true → all_within ks qs ≡ true → all_within (ls ++ ks) qs ≡ true
 all_within-append [] ks qs h i = i
 all_within-append (l ∷ ls) ks qs h i =
