@@ -12,7 +12,7 @@ use Rattle.es_steps.specs.Lowered.{is_lowered_kind, kind_of, none_lowered, is_ne
 use Rattle.es_steps.specs.Options.{class_properties_alone}
 use Rattle.es_steps.specs.Scopes.{is_binding_identifier}
 
--- kinds that stay, and kinds of new nodes
+-- kinds of nodes that declare names, kinds that stay, and kinds of new nodes
 abbrev pub declares_names : Kind → Bool
 declares_names Kind.VariableDeclaration = true
 declares_names kind = is_binding_identifier kind
