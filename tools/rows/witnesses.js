@@ -35,7 +35,7 @@ const wrong = (name, says, row, change, generated, options) => ({ name, says, ki
 // the same, where a clause is not met
 const clause = wrong;
 // a row, or another output of it, that means what its source means
-const right = wrong;
+const right = (...given) => ({ ...wrong(...given), kind: 'right' });
 const rows = [...JSON.parse(fs.readFileSync(path.join(__dirname, 'rows.json'))), ...JSON.parse(fs.readFileSync(path.join(__dirname, 'forms.json')))];
 const row = name => rows.find(r => r.name === name);
 const nodes = (t, test) => preorder(t).filter(test);
@@ -91,7 +91,7 @@ const witnesses = [
   pair('own_name_of_a_class_behind_a_write', 'the own name of a class expression that is written', '(class C { m() { C = 1; g(C); } });', '(class C { m() { g(C); C = 1; } });', { 8: 12, 9: 13, 10: 14, 11: 15, 12: 8, 13: 9, 14: 10, 15: 11 }),
   pair('template_key', 'a static field with a template as key, where fields are set', 'class C { static ["name"] = 1; }', 'class C { static [`name`] = 1; }', { 6: 8, 7: 6, 8: 7 }, { options: ['--class-properties', '--loose'] }),
   pair('void_of_a_template', '`void` of a template', 'f(void "a");', 'f(void `a`);', {}),
-  pair('tail_of_a_template', 'which piece of a template is its last', 'f(`a${b}c`);', 'f(`a${b}c`);', {}, { alter: t => { nodes(t, n => n.type === 'TemplateElement')[0].tail = true; } }),
+  pair('tail_of_a_template', 'which piece of a template is its last', 'f(`a${b}c`);', 'f(`a${b}c`);', {}, { altered: 'where the first piece has the flag of the last', alter: t => { nodes(t, n => n.type === 'TemplateElement')[0].tail = true; } }),
   pair('pattern_keys', 'the keys of a pattern', 'let { x: a } = o;', 'let { y: a } = o;', {}),
   pair('key_of_a_method', 'a string and a template as the key of a method mean the same', 'class C { ["m"]() {} }', 'class C { [`m`]() {} }', { 6: 10, 7: 6, 8: 7, 9: 8, 10: 9 }),
   pair('default_exports', 'what a module exports', 'export { a as x, b as y }; let a = 1, b = 2;', 'export { a as y, b as x }; let a = 1, b = 2;', {}, { type: 'module' }),
@@ -242,7 +242,7 @@ function moduleOf(w) {
   if (w.kind === 'pair') {
     const first = numbered(tree(w.first, w.type)), second = numbered(tree(w.second, w.type), w.change);
     if (w.alter) w.alter(second);
-    body = [`-- ${w.says}: \`${w.first}\`\n${define('first', 'Tree', term(first))}`, `-- \`${w.second}\`, with numbers of the first\n${define('second', 'Tree', term(second))}`, define('options', 'Options', optionsTerm(optionsOf(w.options)))].join('\n');
+    body = [`-- ${w.says}: \`${w.first}\`\n${define('first', 'Tree', term(first))}`, `-- \`${w.second}\`, with numbers of the first${w.altered ? `, ${w.altered}` : ''}\n${define('second', 'Tree', term(second))}`, define('options', 'Options', optionsTerm(optionsOf(w.options)))].join('\n');
   } else if (w.kind === 'alone') {
     const t = numbered(tree(w.source, w.type));
     if (w.change) w.change(t);
@@ -251,7 +251,7 @@ function moduleOf(w) {
     const told = w.row, given = { words: told.options, input: told.source, out: told.output, type: told.type, outside: told.outside };
     const r = numberRow(given, { outside: told.outside || [], ...told, name: w.name });
     w.change(r.output, r.source);
-    body = [`-- \`${told.source}\`\n${define('source', 'Tree', term(r.source))}`, `-- ${w.says}, where \`${told.output}\` is right\n${define('output', 'Tree', (w.rewrite || (text => text))(term(r.output)))}`, define('generated', 'List LedgerEntry', [...(w.generated || []), ...r.ledger.filter(e => !w.generated || !w.generated.some(g => g.kind === e.kind))].map(entryTerm).join('') + '[]'), define('options', 'Options', optionsTerm(w.options ? optionsOf(w.options) : r.options))].join('\n');
+    body = [`-- \`${told.source}\`\n${define('source', 'Tree', term(r.source))}`, `-- ${w.says}, ${w.kind === 'right' ? 'as' : 'where'} \`${told.output}\` ${w.kind === 'right' ? 'means' : 'is right'}\n${define('output', 'Tree', (w.rewrite || (text => text))(term(r.output)))}`, define('generated', 'List LedgerEntry', [...(w.generated || []), ...r.ledger.filter(e => !w.generated || !w.generated.some(g => g.kind === e.kind))].map(entryTerm).join('') + '[]'), define('options', 'Options', optionsTerm(w.options ? optionsOf(w.options) : r.options))].join('\n');
   }
   return `-- Printed by tools/rows/witnesses.js.\n${imports(body)}\n\n${body}`;
 }

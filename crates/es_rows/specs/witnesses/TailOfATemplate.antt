@@ -10,7 +10,7 @@ use Rattle.es_steps.specs.declared.options.Options.{Options}
 abbrev pub first_tail_of_a_template : Tree
 first_tail_of_a_template = node Kind.Program 0 (more (string (codes "script")) (more (list (trees (node Kind.ExpressionStatement 1 (more (child (node Kind.CallExpression 2 (more (child (node Kind.IdentifierReference 3 (more (string (codes "f")) end))) (more (list (trees (node Kind.TemplateLiteral 4 (more (list (trees (node Kind.TemplateElement 5 (more (string (codes "a")) (more (string (codes "a")) (more (boolean false) end))) ∷ node Kind.TemplateElement 6 (more (string (codes "c")) (more (string (codes "c")) (more (boolean true) end))) ∷ []))) (more (list (trees (node Kind.IdentifierReference 7 (more (string (codes "b")) end) ∷ []))) end)) ∷ []))) (more (boolean false) end))))) (more no_string end)) ∷ []))) end))
 
--- `f(`a${b}c`);`, with numbers of the first
+-- `f(`a${b}c`);`, with numbers of the first, where the first piece has the flag of the last
 abbrev pub second_tail_of_a_template : Tree
 second_tail_of_a_template = node Kind.Program 0 (more (string (codes "script")) (more (list (trees (node Kind.ExpressionStatement 1 (more (child (node Kind.CallExpression 2 (more (child (node Kind.IdentifierReference 3 (more (string (codes "f")) end))) (more (list (trees (node Kind.TemplateLiteral 4 (more (list (trees (node Kind.TemplateElement 5 (more (string (codes "a")) (more (string (codes "a")) (more (boolean true) end))) ∷ node Kind.TemplateElement 6 (more (string (codes "c")) (more (string (codes "c")) (more (boolean true) end))) ∷ []))) (more (list (trees (node Kind.IdentifierReference 7 (more (string (codes "b")) end) ∷ []))) end)) ∷ []))) (more (boolean false) end))))) (more no_string end)) ∷ []))) end))
 
