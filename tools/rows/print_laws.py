@@ -74,8 +74,9 @@ for function in SAYS:
     functions.append(f'/// {SAYS[function]}\npub fn {function}()\n' + '\n'.join(lines) + '\n{}\n')
     answers(function, proofs)
 
-# witnesses whose output does not meet a clause, where the meanings are equal or are not asked
+# witnesses whose output does not meet a clause; where it is not that of the definitions, the meanings are equal or are not asked
 LISTS = 'lists_kept options_{n} source_{n} output_{n}'
+DEFINED = 'definitions_stand (nodes source_{n}) options_{n} generated_{n} (private_members source_{n}) source_{n} output_{n}'
 TIMELY = 'names_timely (nodes source_{n}) generated_{n} output_{n}'
 NOT_MET = {
     'class_in_a_constructor': LISTS,
@@ -86,6 +87,12 @@ NOT_MET = {
     'class_temporary_before_its_class': TIMELY,
     'closure_before_its_class': TIMELY,
     'dead_temporary': TIMELY,
+    'field_of_a_written_class_dropped': DEFINED,
+    'field_of_a_written_class_doubled': DEFINED,
+    'fields_of_a_written_class_exchanged': DEFINED,
+    'another_literal_of_a_written_class': DEFINED,
+    'elements_of_a_written_class_dropped': DEFINED,
+    'body_dropped': DEFINED,
     'break_in_an_arrow': 'is_printable output_{n}',
     'hidden_body': 'conforms Place.Program output_{n}',
     'constant_temporary': 'declarations_accounted (nodes source_{n}) generated_{n} source_{n} output_{n}',
@@ -95,7 +102,12 @@ NOT_MET = {
 }
 # the shapes of the two programs
 SHAPES = {'loose_member_read_once': ('[]', '4 ∷ []'), 'super_key_that_stays': ('[]', '4 ∷ []'), 'suspended_class_written': ('6 ∷ []', '[]')}
-pairs, wrong, kept, not_met, shaped = [], [], [], [], []
+# outputs that mean what their sources mean
+RIGHT = ('private_name_beside_a_name', 'branch_of_a_key')
+# wrong outputs that have a meaning, and those of programs whose parameters come before their fields
+OTHER = ('branch_of_a_key_of_another', 'elements_dropped', 'static_field_dropped', 'block_dropped', 'block_behind_a_kept_field', 'read_moved')
+AFTER = ('field_behind_parameters_dropped', 'field_behind_parameters_doubled', 'fields_behind_parameters_exchanged', 'another_literal_behind_parameters')
+pairs, wrong, kept, not_met, shaped, right, other, after = [], [], [], [], [], [], [], []
 folder = f'{CRATE}/specs/witnesses'
 for f in sorted(os.listdir(folder)):
     text = open(f'{folder}/{f}').read()
@@ -112,6 +124,14 @@ for f in sorted(os.listdir(folder)):
         uses.append(f'ghost use Rattle.es_rows.specs.witnesses.{f[:-5]}.{{source_{n}, output_{n}, generated_{n}, options_{n}}};')
         if n in NOT_MET:
             not_met.append((n, NOT_MET[n].format(n=n) + ' ≡ false'))
+            if NOT_MET[n] == DEFINED:
+                wrong.append((n, f'Refused options_{n} generated_{n} source_{n} output_{n}'))
+        elif n in RIGHT:
+            right.append((n, f'Means options_{n} generated_{n} source_{n} output_{n}'))
+        elif n in OTHER:
+            other.append((n, f'MeansOther options_{n} generated_{n} source_{n} output_{n}'))
+        elif n in AFTER:
+            after.append((n, f'RefusedAfter options_{n} generated_{n} source_{n} output_{n}'))
         else:
             wrong.append((n, f'Refused options_{n} generated_{n} source_{n} output_{n}'))
 
@@ -123,14 +143,18 @@ def listed(function, says, clauses, proof):
 
 listed('programs_are_told_apart', 'Pairs of programs that share their numbers and behave differently have meanings that differ.', pairs, '(refl, refl, refl)')
 listed('wrong_outputs_are_told_apart', 'Wrong outputs of worked rows do not mean what their sources mean.', wrong, 'refl')
+listed('wrong_outputs_mean_another_program', 'Wrong outputs of worked rows that have a meaning, which is not that of their sources.', other, '(refl, refl)')
+listed('wrong_outputs_behind_parameters_are_told_apart', 'Wrong outputs of a program whose parameters come before its fields do not mean what it then means.', after, '(refl, refl)')
 listed('clauses_are_not_met', 'Wrong outputs that a clause on lowered programs finds, though their meanings may be those of their sources.', not_met, 'refl')
+listed('outputs_mean_their_sources', 'Outputs that mean what their sources mean, though a name or a value in them looks like another one.', right, '(refl, refl)')
 listed('shapes_are_told', 'Pairs of programs that have different shapes.', shaped, '(refl, refl)')
 listed('the_same_in_other_words', 'A template and a string are one key; the own name of a class is no step.', kept, 'refl')
 
 text = '''// Worked rows and witnesses: functions that do nothing. Printed by tools/rows/print_laws.py.
 
 ghost use Rattle.std.specs.Prelude.{◌≡◌, [], ◌∷◌, false};
-ghost use Rattle.es_rows.specs.Owed.{Kept, KeptAfter, Owed, TellsApart, Refused, HaveShapes};
+ghost use Rattle.es_rows.specs.Owed.{Kept, KeptAfter, Owed, TellsApart, Refused, MeansOther, RefusedAfter, Means, HaveShapes};
+ghost use Rattle.es_steps.specs.Definitions.{definitions_stand};
 ghost use Rattle.es_base.specs.Conforms.{conforms};
 ghost use Rattle.es_base.specs.Preorder.{nodes};
 ghost use Rattle.es_base.specs.declared.table.Place.{Place};

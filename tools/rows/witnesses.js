@@ -25,7 +25,7 @@ function fresh(t, n) {
 const expression = text => tree(text).body[0].expression;
 const constructorOf = (t, i = 0) => t.body.find(s => s.type === 'ClassDeclaration').body.body.find(e => e.kind === 'constructor').value.body.body;
 
-// two programs, the second with some numbers exchanged
+// two programs, the second with some numbers exchanged (and changed by `alter`)
 const pair = (name, says, first, second, change, more = {}) => ({ name, says, kind: 'pair', first, second, change, options: [], ...more });
 // a program whose list or names are computed as they are
 const alone = (name, says, source, more = {}) => ({ name, says, kind: 'alone', source, options: [], ...more });
@@ -34,6 +34,8 @@ const alone = (name, says, source, more = {}) => ({ name, says, kind: 'alone', s
 const wrong = (name, says, row, change, generated, options) => ({ name, says, kind: 'wrong', row, change, generated, options });
 // the same, where a clause is not met
 const clause = wrong;
+// a row, or another output of it, that means what its source means
+const right = (...given) => ({ ...wrong(...given), kind: 'right' });
 const rows = [...JSON.parse(fs.readFileSync(path.join(__dirname, 'rows.json'))), ...JSON.parse(fs.readFileSync(path.join(__dirname, 'forms.json')))];
 const row = name => rows.find(r => r.name === name);
 const nodes = (t, test) => preorder(t).filter(test);
@@ -65,18 +67,31 @@ function late(t, take, name = '_t') {
   s.expression.right = take(body.find(n => n.type === 'ClassDeclaration'));
   body.splice(body.length - 1, 0, s);
 }
+// the first key of the inner class also gives the argument of `h`, which a branch of the second key reads
+function branchOfAKey(t, take) {
+  const body = nodes(t, n => n.type === 'MethodDefinition' && n.key.name === 'm')[0].value.body.body, [first, second] = body[0].body.body;
+  const call = nodes(second.key, n => n.type === 'CallExpression' && n.callee.name === 'h')[0], both = fresh(t, expression('(_t = 1, 2)'));
+  both.expressions[0].right = take(call.arguments[0]);
+  both.expressions[1] = first.key;
+  first.key = both;
+  call.arguments[0] = fresh(t, expression('_t'));
+  body.unshift(fresh(t, tree('let _t;').body[0]));
+}
 const swap = (list, i, j) => { [list[i], list[j]] = [list[j], list[i]]; };
 
 const witnesses = [
   pair('parameters_exchanged', 'the parameters of a constructor', 'class A { constructor(a, b) { f(a, b); } }', 'class A { constructor(b, a) { f(a, b); } }', { 7: 8, 8: 7 }),
   pair('rest_dropped', 'a rest parameter of a constructor', 'class A { constructor(a, b) { f(a, b); } }', 'class A { constructor(a, ...b) { f(a, b); } }', { 8: 17, 9: 8, 10: 9, 11: 10, 12: 11, 13: 12, 14: 13, 15: 14, 16: 15 }),
   pair('loop_heads_exchanged', 'the names in the heads of nested loops', 'for (const x of p) for (const y of q) f(x, y);', 'for (const y of p) for (const x of q) f(x, y);', { 4: 9, 9: 4 }),
+  pair('key_heads_exchanged', 'the names in the heads of nested loops over keys', 'for (const x in p) for (const y in q) f(x, y);', 'for (const y in p) for (const x in q) f(x, y);', { 4: 9, 9: 4 }),
   pair('caught_names_exchanged', 'the parameters of nested catches', 'try { g(); } catch (x) { try { h(); } catch (y) { f(x, y); } }', 'try { g(); } catch (y) { try { h(); } catch (x) { f(x, y); } }', { 7: 15, 15: 7 }),
   pair('tested_name', 'what a logical operator tests', 'function f(a, b) { a || g(); }', 'function f(a, b) { b || g(); }', {}),
   pair('own_names_exchanged', 'the own names of function expressions', '(function f() { return function g() { f(); }; });', '(function g() { return function f() { f(); }; });', { 3: 7, 7: 3 }),
   pair('arguments_behind_a_write', '`arguments` that is written', 'function f() { arguments = 1; g(arguments); }', 'function f() { g(arguments); arguments = 1; }', { 4: 8, 5: 9, 6: 10, 7: 11, 8: 4, 9: 5, 10: 6, 11: 7 }),
+  pair('own_name_of_a_class_behind_a_write', 'the own name of a class expression that is written', '(class C { m() { C = 1; g(C); } });', '(class C { m() { g(C); C = 1; } });', { 8: 12, 9: 13, 10: 14, 11: 15, 12: 8, 13: 9, 14: 10, 15: 11 }),
   pair('template_key', 'a static field with a template as key, where fields are set', 'class C { static ["name"] = 1; }', 'class C { static [`name`] = 1; }', { 6: 8, 7: 6, 8: 7 }, { options: ['--class-properties', '--loose'] }),
   pair('void_of_a_template', '`void` of a template', 'f(void "a");', 'f(void `a`);', {}),
+  pair('tail_of_a_template', 'which piece of a template is its last', 'f(`a${b}c`);', 'f(`a${b}c`);', {}, { altered: 'where the first piece has the flag of the last', alter: t => { nodes(t, n => n.type === 'TemplateElement')[0].tail = true; } }),
   pair('pattern_keys', 'the keys of a pattern', 'let { x: a } = o;', 'let { y: a } = o;', {}),
   pair('key_of_a_method', 'a string and a template as the key of a method mean the same', 'class C { ["m"]() {} }', 'class C { [`m`]() {} }', { 6: 10, 7: 6, 8: 7, 9: 8, 10: 9 }),
   pair('default_exports', 'what a module exports', 'export { a as x, b as y }; let a = 1, b = 2;', 'export { a as y, b as x }; let a = 1, b = 2;', {}, { type: 'module' }),
@@ -91,6 +106,10 @@ const witnesses = [
   wrong('definitions_nested', 'a definition as the value of another one', { options: ['--class-properties'], source: 'class C { x = 1; y; }', output: 'class C { constructor() { B.defineProperty(this, "x", 1); B.defineProperty(this, "y", void 0); } }' },
     q => { const body = constructorOf(q); body[1].expression.arguments[2] = body[0].expression; body.shift(); }),
   wrong('odd_constructor', 'a static async generator of the kind `constructor`', row('instance_field'), q => { const m = q.body[0].body.body[0]; m.static = true; m.value.async = true; m.value.generator = true; m.key.name = 'foo'; }),
+  wrong('static_constructor', 'a static method of the kind `constructor`', row('instance_field'), q => { q.body[0].body.body[0].static = true; }),
+  wrong('async_constructor', 'an async method of the kind `constructor`', row('instance_field'), q => { q.body[0].body.body[0].value.async = true; }),
+  wrong('generator_constructor', 'a generator of the kind `constructor`', row('instance_field'), q => { q.body[0].body.body[0].value.generator = true; }),
+  wrong('constructor_of_another_key', 'a method of the kind `constructor` with another key', row('instance_field'), q => { q.body[0].body.body[0].key.name = 'foo'; }),
   wrong('two_constructors', 'a second constructor', row('instance_field'), q => { const body = q.body[0].body.body; body.push(fresh(q, tree('class C { constructor() { evil(); } }').body[0].body.body[0])); }),
   wrong('read_moved', 'a read in front of the initializer of a `var` that a function of the same body declares again', { options: ['--class-properties'], source: 'function f() { var a = 1; g(a); function a() {} } class C { [k()] = 1; }', output: 'let _k; function f() { var a = 1; g(a); function a() {} } _k = k(); class C { constructor() { B.defineProperty(this, _k, 1); } }' },
     q => { const body = q.body[1].body.body, read = body[1].expression.arguments[0]; body[1].expression.arguments[0] = fresh(q, expression('_k')); const s = fresh(q, tree('_k = 1').body[0]); s.expression.right = read; body.unshift(s); }),
@@ -98,14 +117,36 @@ const witnesses = [
   wrong('field_doubled', 'a field that is defined twice', row('instance_field'), q => { const body = constructorOf(q); body.push(fresh(q, tree('B.defineProperty(this, "x", 1);').body[0])); }),
   wrong('fields_exchanged', 'fields in the other order', row('two_fields'), q => { swap(constructorOf(q), 0, 1); }),
   wrong('another_literal', 'another literal', row('instance_field'), q => { byNumber(q, 6).literal.raw = '2'; }),
-  wrong('body_dropped', 'a program without its statements', row('written_class_name'), q => { q.body = []; }),
+  wrong('elements_dropped', 'a class without its elements', row('two_fields'), q => { q.body[0].body.body = []; }),
+  wrong('private_method_dropped', 'a private method that is dropped', row('private_method_written'), q => { const f = q.body.findIndex(s => s.type === 'FunctionDeclaration'); q.body.splice(f, 1); }),
+  wrong('static_field_dropped', 'a static field that is not defined', { options: ['--class-properties'], source: 'class C { static x = 1; }', output: 'class C {} B.defineProperty(C, "x", 1);' }, q => { q.body.pop(); }),
+  wrong('block_dropped', 'a static block that is dropped', row('block_of_expression'), q => { const d = q.body[0].declarations[0]; d.init = d.init.expressions[1]; }),
+  wrong('private_field_dropped', 'a private field that no instance gets', row('private_compound_write'), q => { constructorOf(q).pop(); }),
+  wrong('field_behind_parameters_dropped', 'a field that is not defined, where parameters come first', { options: ['--class-properties'], outside: [2], source: 'class A { x = 1; z = 2; constructor(y = g()) {} }', output: 'class A { constructor(y = g()) { B.defineProperty(this, "x", 1); B.defineProperty(this, "z", 2); } }' }, q => { constructorOf(q).pop(); }),
+  wrong('field_behind_parameters_doubled', 'a field that is defined twice, where parameters come first', { options: ['--class-properties'], outside: [2], source: 'class A { x = 1; z = 2; constructor(y = g()) {} }', output: 'class A { constructor(y = g()) { B.defineProperty(this, "x", 1); B.defineProperty(this, "z", 2); } }' }, q => { constructorOf(q).push(fresh(q, tree('B.defineProperty(this, "z", 2);').body[0])); }),
+  wrong('fields_behind_parameters_exchanged', 'fields in the other order, where parameters come first', { options: ['--class-properties'], outside: [2], source: 'class A { x = 1; z = 2; constructor(y = g()) {} }', output: 'class A { constructor(y = g()) { B.defineProperty(this, "x", 1); B.defineProperty(this, "z", 2); } }' }, q => { swap(constructorOf(q), 0, 1); }),
+  wrong('another_literal_behind_parameters', 'another literal, where parameters come first', { options: ['--class-properties'], outside: [2], source: 'class A { x = 1; z = 2; constructor(y = g()) {} }', output: 'class A { constructor(y = g()) { B.defineProperty(this, "x", 1); B.defineProperty(this, "z", 2); } }' }, q => { constructorOf(q)[1].expression.arguments[2].literal.raw = '3'; }),
+  clause('field_of_a_written_class_dropped', 'a field that is not defined, of a class whose name is written', row('written_class_name'), q => { constructorOf(q).pop(); }),
+  clause('field_of_a_written_class_doubled', 'a field that is defined twice, of a class whose name is written', row('written_class_name'), q => { constructorOf(q).push(fresh(q, tree('B.defineProperty(this, "y", 2);').body[0])); }),
+  clause('fields_of_a_written_class_exchanged', 'fields in the other order, of a class whose name is written', row('written_class_name'), q => { swap(constructorOf(q), 0, 1); }),
+  clause('another_literal_of_a_written_class', 'another literal, of a class whose name is written', row('written_class_name'), q => { constructorOf(q)[1].expression.arguments[2].literal.raw = '3'; }),
+  clause('elements_of_a_written_class_dropped', 'a class without its elements, whose name is written', row('written_class_name'), q => { q.body[0].body.body = []; }),
+  clause('body_dropped', 'a program without its statements, with a class whose name is written', row('written_class_name'), q => { q.body = []; }),
   wrong('block_behind_fields', 'a static block behind all static fields', { options: ['--class-properties', '--static-block'], source: 'class C { static a = f(); static { g(); } static b = h(); }', output: 'class C {} B.defineProperty(C, "a", f()); g(); B.defineProperty(C, "b", h());' }, q => { swap(q.body, 2, 3); }),
+  wrong('block_behind_a_kept_field', 'a static block behind the field that follows it', row('block_before_field'),
+    q => { const body = q.body[0].body.body, x = body[0], last = fresh(q, tree('class C { static #_ = 1; }').body[0].body.body[0]); [last.value, x.value] = x.value.expressions; body.push(last); }, [{ name: '_', kind: 'Private', number: 1 }]),
   wrong('field_before_super', 'a field in front of `super()`', row('derived_class'), q => { swap(constructorOf(q), 0, 1); }),
   wrong('method_without_brand', 'a private method without the test of its brand', row('private_method_with_super'), q => { const g = q.body[2].body.body.find(e => e.key.name === 'g'); g.value.body.body[0].argument.callee.object = fresh(q, expression('_m')); }),
   wrong('object_evaluated_twice', 'the object of a private member evaluated twice', row('private_compound_write'), q => { const get = preorder(q).find(n => n.type === 'CallExpression' && n.callee.property && n.callee.property.name === 'classPrivateFieldGet2'); get.arguments[1] = fresh(q, expression('o()')); }),
   wrong('binding_not_renamed', 'a name of a field under a parameter of the constructor', row('clashing_parameter'), q => { for (const n of preorder(q)) if (n.name === '_y') n.name = 'y'; }),
   wrong('temporary_never_given', 'a key whose temporary is never given', row('two_keys'), q => { q.body.splice(2, 1); }),
   wrong('temporary_given_late', 'a key whose temporary is given behind its class', { options: ['--class-properties'], source: 'class C { static [k()] = 1; }', output: 'let _k; _k = k(); class C {} B.defineProperty(C, _k, 1);' }, q => { const [s] = q.body.splice(1, 1); q.body.push(s); }),
+  right('private_name_beside_a_name', 'a generated private name with the spelling of a free name, which it does not hide', { options: ['--static-block'], source: 'class C { static { _; } }', output: 'var _staticBlock; let C = (class C { static #_ = _staticBlock = () => (_, this); }, _staticBlock());' }, q => {}),
+  right('branch_of_a_key', 'a branch in a key reads what a key in front of it has given', { options: ['--class-properties'], source: 'class D { x = 1; m(a, b) { class C { [k()]() {} [c() ? h(a) : 0]() {} } return C; } }', output: 'class D { constructor() { B.defineProperty(this, "x", 1); } m(a, b) { class C { [k()]() {} [c() ? h(a) : 0]() {} } return C; } }' },
+    q => branchOfAKey(q, a => a), [{ name: '_t', kind: 'Temp' }]),
+  wrong('branch_of_a_key_of_another', 'a branch in a key reads another value that a key in front of it has given', { options: ['--class-properties'], source: 'class D { x = 1; m(a, b) { class C { [k()]() {} [c() ? h(a) : 0]() {} } return C; } }', output: 'class D { constructor() { B.defineProperty(this, "x", 1); } m(a, b) { class C { [k()]() {} [c() ? h(a) : 0]() {} } return C; } }' },
+    q => branchOfAKey(q, a => fresh(q, expression('b'))), [{ name: '_t', kind: 'Temp' }]),
+  wrong('key_given_behind_the_fields', 'a key whose temporary is given behind the static field', row('static_key_and_block'), q => { const [s] = q.body.splice(1, 1); q.body.splice(3, 0, s); }),
   wrong('private_name_of_the_outer_class', 'a generated private name that an outer class declares', row('private_name_taken'), q => { for (const n of preorder(q)) if (n.name === '_2') n.name = '_'; }),
   wrong('result_of_the_setter', 'the value of a write that is the result of the setter', row('private_accessors'), q => { const v = preorder(q).find(n => n.type === 'AssignmentExpression' && n.right.type === 'AssignmentExpression'); const sum = v.right.right; v.right = fresh(q, expression('_set_a.call(B.assertClassBrand(_C_brand, this), 0)')); v.right.arguments[1] = sum; }),
   wrong('class_in_a_constructor', 'a class declaration moved into a constructor', { options: ['--class-properties'], source: 'class C { x = 1; } class D {}', output: 'class C { constructor() { B.defineProperty(this, "x", 1); } } class D {}' }, q => { constructorOf(q).push(q.body.pop()); }),
@@ -200,7 +241,8 @@ function moduleOf(w) {
   let body;
   if (w.kind === 'pair') {
     const first = numbered(tree(w.first, w.type)), second = numbered(tree(w.second, w.type), w.change);
-    body = [`-- ${w.says}: \`${w.first}\`\n${define('first', 'Tree', term(first))}`, `-- \`${w.second}\`, with numbers of the first\n${define('second', 'Tree', term(second))}`, define('options', 'Options', optionsTerm(optionsOf(w.options)))].join('\n');
+    if (w.alter) w.alter(second);
+    body = [`-- ${w.says}: \`${w.first}\`\n${define('first', 'Tree', term(first))}`, `-- \`${w.second}\`, with numbers of the first${w.altered ? `, ${w.altered}` : ''}\n${define('second', 'Tree', term(second))}`, define('options', 'Options', optionsTerm(optionsOf(w.options)))].join('\n');
   } else if (w.kind === 'alone') {
     const t = numbered(tree(w.source, w.type));
     if (w.change) w.change(t);
@@ -209,7 +251,7 @@ function moduleOf(w) {
     const told = w.row, given = { words: told.options, input: told.source, out: told.output, type: told.type, outside: told.outside };
     const r = numberRow(given, { outside: told.outside || [], ...told, name: w.name });
     w.change(r.output, r.source);
-    body = [`-- \`${told.source}\`\n${define('source', 'Tree', term(r.source))}`, `-- ${w.says}, where \`${told.output}\` is right\n${define('output', 'Tree', (w.rewrite || (text => text))(term(r.output)))}`, define('generated', 'List LedgerEntry', [...(w.generated || []), ...r.ledger.filter(e => !w.generated || !w.generated.some(g => g.kind === e.kind))].map(entryTerm).join('') + '[]'), define('options', 'Options', optionsTerm(w.options ? optionsOf(w.options) : r.options))].join('\n');
+    body = [`-- \`${told.source}\`\n${define('source', 'Tree', term(r.source))}`, `-- ${w.says}, ${w.kind === 'right' ? 'as' : 'where'} \`${told.output}\` ${w.kind === 'right' ? 'means' : 'is right'}\n${define('output', 'Tree', (w.rewrite || (text => text))(term(r.output)))}`, define('generated', 'List LedgerEntry', [...(w.generated || []), ...r.ledger.filter(e => !w.generated || !w.generated.some(g => g.kind === e.kind))].map(entryTerm).join('') + '[]'), define('options', 'Options', optionsTerm(w.options ? optionsOf(w.options) : r.options))].join('\n');
   }
   return `-- Printed by tools/rows/witnesses.js.\n${imports(body)}\n\n${body}`;
 }

@@ -29,6 +29,18 @@ TellsApart o p q = (same_meanings (source_means o p) (source_means o q) ≡ fals
 abbrev pub Refused : Options → List LedgerEntry → Tree → Tree → Type 0
 Refused o ledger p q = same_meanings (source_means o p) (lowered_means o ledger p q) ≡ false
 
+-- a wrong output has a meaning, which is another one
+abbrev pub MeansOther : Options → List LedgerEntry → Tree → Tree → Type 0
+MeansOther o ledger p q = Refused o ledger p q × (has_meaning (lowered_means o ledger p q) ≡ true)
+
+-- a wrong output has a meaning, which is not that of its source where the parameters of a constructor come before its fields
+abbrev pub RefusedAfter : Options → List LedgerEntry → Tree → Tree → Type 0
+RefusedAfter o ledger p q = (same_meanings (source_means_after o p) (lowered_means o ledger p q) ≡ false) × (has_meaning (lowered_means o ledger p q) ≡ true)
+
+-- an output means what its source means, which is there
+abbrev pub Means : Options → List LedgerEntry → Tree → Tree → Type 0
+Means o ledger p q = (lowered_means o ledger p q ≡ source_means o p) × (has_meaning (source_means o p) ≡ true)
+
 -- two programs have these shapes
 abbrev pub HaveShapes : Options → Tree → List ℕ → Tree → List ℕ → Type 0
 HaveShapes o p ms q ns = (shape_numbers o p ≡ ms) × (shape_numbers o q ≡ ns)

@@ -1,7 +1,8 @@
 // Worked rows and witnesses: functions that do nothing. Printed by tools/rows/print_laws.py.
 
 ghost use Rattle.std.specs.Prelude.{◌≡◌, [], ◌∷◌, false};
-ghost use Rattle.es_rows.specs.Owed.{Kept, KeptAfter, Owed, TellsApart, Refused, HaveShapes};
+ghost use Rattle.es_rows.specs.Owed.{Kept, KeptAfter, Owed, TellsApart, Refused, MeansOther, RefusedAfter, Means, HaveShapes};
+ghost use Rattle.es_steps.specs.Definitions.{definitions_stand};
 ghost use Rattle.es_base.specs.Conforms.{conforms};
 ghost use Rattle.es_base.specs.Preorder.{nodes};
 ghost use Rattle.es_base.specs.declared.table.Place.{Place};
@@ -87,13 +88,20 @@ ghost use Rattle.es_rows.specs.rows.ClosureNameTaken.{source_closure_name_taken,
 ghost use Rattle.es_rows.specs.rows.PrivateNameTaken.{source_private_name_taken, output_private_name_taken, generated_private_name_taken, options_private_name_taken, outside_private_name_taken};
 ghost use Rattle.es_rows.specs.rows.BlockOfStatementsAlone.{source_block_of_statements_alone, output_block_of_statements_alone, generated_block_of_statements_alone, options_block_of_statements_alone, outside_block_of_statements_alone};
 ghost use Rattle.es_rows.specs.witnesses.AnotherLiteral.{source_another_literal, output_another_literal, generated_another_literal, options_another_literal};
+ghost use Rattle.es_rows.specs.witnesses.AnotherLiteralBehindParameters.{source_another_literal_behind_parameters, output_another_literal_behind_parameters, generated_another_literal_behind_parameters, options_another_literal_behind_parameters};
+ghost use Rattle.es_rows.specs.witnesses.AnotherLiteralOfAWrittenClass.{source_another_literal_of_a_written_class, output_another_literal_of_a_written_class, generated_another_literal_of_a_written_class, options_another_literal_of_a_written_class};
 ghost use Rattle.es_rows.specs.witnesses.ArgumentsBehindAWrite.{first_arguments_behind_a_write, second_arguments_behind_a_write, options_arguments_behind_a_write};
 ghost use Rattle.es_rows.specs.witnesses.ArgumentsOfAnother.{source_arguments_of_another, output_arguments_of_another, generated_arguments_of_another, options_arguments_of_another};
 ghost use Rattle.es_rows.specs.witnesses.ArrowOutOfALoop.{source_arrow_out_of_a_loop, output_arrow_out_of_a_loop, generated_arrow_out_of_a_loop, options_arrow_out_of_a_loop};
+ghost use Rattle.es_rows.specs.witnesses.AsyncConstructor.{source_async_constructor, output_async_constructor, generated_async_constructor, options_async_constructor};
 ghost use Rattle.es_rows.specs.witnesses.BindingNotRenamed.{source_binding_not_renamed, output_binding_not_renamed, generated_binding_not_renamed, options_binding_not_renamed};
+ghost use Rattle.es_rows.specs.witnesses.BlockBehindAKeptField.{source_block_behind_a_kept_field, output_block_behind_a_kept_field, generated_block_behind_a_kept_field, options_block_behind_a_kept_field};
 ghost use Rattle.es_rows.specs.witnesses.BlockBehindFields.{source_block_behind_fields, output_block_behind_fields, generated_block_behind_fields, options_block_behind_fields};
+ghost use Rattle.es_rows.specs.witnesses.BlockDropped.{source_block_dropped, output_block_dropped, generated_block_dropped, options_block_dropped};
 ghost use Rattle.es_rows.specs.witnesses.BodyDropped.{source_body_dropped, output_body_dropped, generated_body_dropped, options_body_dropped};
 ghost use Rattle.es_rows.specs.witnesses.BoundBeforeItsTest.{source_bound_before_its_test, output_bound_before_its_test, generated_bound_before_its_test, options_bound_before_its_test};
+ghost use Rattle.es_rows.specs.witnesses.BranchOfAKey.{source_branch_of_a_key, output_branch_of_a_key, generated_branch_of_a_key, options_branch_of_a_key};
+ghost use Rattle.es_rows.specs.witnesses.BranchOfAKeyOfAnother.{source_branch_of_a_key_of_another, output_branch_of_a_key_of_another, generated_branch_of_a_key_of_another, options_branch_of_a_key_of_another};
 ghost use Rattle.es_rows.specs.witnesses.BreakInAnArrow.{source_break_in_an_arrow, output_break_in_an_arrow, generated_break_in_an_arrow, options_break_in_an_arrow};
 ghost use Rattle.es_rows.specs.witnesses.CaughtNamesExchanged.{first_caught_names_exchanged, second_caught_names_exchanged, options_caught_names_exchanged};
 ghost use Rattle.es_rows.specs.witnesses.ClassBehindItsUse.{source_class_behind_its_use, output_class_behind_its_use, generated_class_behind_its_use, options_class_behind_its_use};
@@ -104,15 +112,25 @@ ghost use Rattle.es_rows.specs.witnesses.ClassRenamed.{source_class_renamed, out
 ghost use Rattle.es_rows.specs.witnesses.ClassTemporaryBeforeItsClass.{source_class_temporary_before_its_class, output_class_temporary_before_its_class, generated_class_temporary_before_its_class, options_class_temporary_before_its_class};
 ghost use Rattle.es_rows.specs.witnesses.ClosureBeforeItsClass.{source_closure_before_its_class, output_closure_before_its_class, generated_closure_before_its_class, options_closure_before_its_class};
 ghost use Rattle.es_rows.specs.witnesses.ConstantTemporary.{source_constant_temporary, output_constant_temporary, generated_constant_temporary, options_constant_temporary};
+ghost use Rattle.es_rows.specs.witnesses.ConstructorOfAnotherKey.{source_constructor_of_another_key, output_constructor_of_another_key, generated_constructor_of_another_key, options_constructor_of_another_key};
 ghost use Rattle.es_rows.specs.witnesses.DeadTemporary.{source_dead_temporary, output_dead_temporary, generated_dead_temporary, options_dead_temporary};
 ghost use Rattle.es_rows.specs.witnesses.DefaultExports.{first_default_exports, second_default_exports, options_default_exports};
 ghost use Rattle.es_rows.specs.witnesses.DefinitionsNested.{source_definitions_nested, output_definitions_nested, generated_definitions_nested, options_definitions_nested};
 ghost use Rattle.es_rows.specs.witnesses.DeletedKey.{source_deleted_key, output_deleted_key, generated_deleted_key, options_deleted_key};
+ghost use Rattle.es_rows.specs.witnesses.ElementsDropped.{source_elements_dropped, output_elements_dropped, generated_elements_dropped, options_elements_dropped};
+ghost use Rattle.es_rows.specs.witnesses.ElementsOfAWrittenClassDropped.{source_elements_of_a_written_class_dropped, output_elements_of_a_written_class_dropped, generated_elements_of_a_written_class_dropped, options_elements_of_a_written_class_dropped};
 ghost use Rattle.es_rows.specs.witnesses.FieldBeforeSuper.{source_field_before_super, output_field_before_super, generated_field_before_super, options_field_before_super};
+ghost use Rattle.es_rows.specs.witnesses.FieldBehindParametersDoubled.{source_field_behind_parameters_doubled, output_field_behind_parameters_doubled, generated_field_behind_parameters_doubled, options_field_behind_parameters_doubled};
+ghost use Rattle.es_rows.specs.witnesses.FieldBehindParametersDropped.{source_field_behind_parameters_dropped, output_field_behind_parameters_dropped, generated_field_behind_parameters_dropped, options_field_behind_parameters_dropped};
 ghost use Rattle.es_rows.specs.witnesses.FieldDoubled.{source_field_doubled, output_field_doubled, generated_field_doubled, options_field_doubled};
 ghost use Rattle.es_rows.specs.witnesses.FieldDropped.{source_field_dropped, output_field_dropped, generated_field_dropped, options_field_dropped};
 ghost use Rattle.es_rows.specs.witnesses.FieldKeyReadLate.{source_field_key_read_late, output_field_key_read_late, generated_field_key_read_late, options_field_key_read_late};
+ghost use Rattle.es_rows.specs.witnesses.FieldOfAWrittenClassDoubled.{source_field_of_a_written_class_doubled, output_field_of_a_written_class_doubled, generated_field_of_a_written_class_doubled, options_field_of_a_written_class_doubled};
+ghost use Rattle.es_rows.specs.witnesses.FieldOfAWrittenClassDropped.{source_field_of_a_written_class_dropped, output_field_of_a_written_class_dropped, generated_field_of_a_written_class_dropped, options_field_of_a_written_class_dropped};
+ghost use Rattle.es_rows.specs.witnesses.FieldsBehindParametersExchanged.{source_fields_behind_parameters_exchanged, output_fields_behind_parameters_exchanged, generated_fields_behind_parameters_exchanged, options_fields_behind_parameters_exchanged};
 ghost use Rattle.es_rows.specs.witnesses.FieldsExchanged.{source_fields_exchanged, output_fields_exchanged, generated_fields_exchanged, options_fields_exchanged};
+ghost use Rattle.es_rows.specs.witnesses.FieldsOfAWrittenClassExchanged.{source_fields_of_a_written_class_exchanged, output_fields_of_a_written_class_exchanged, generated_fields_of_a_written_class_exchanged, options_fields_of_a_written_class_exchanged};
+ghost use Rattle.es_rows.specs.witnesses.GeneratorConstructor.{source_generator_constructor, output_generator_constructor, generated_generator_constructor, options_generator_constructor};
 ghost use Rattle.es_rows.specs.witnesses.GetterMadeAMethod.{source_getter_made_a_method, output_getter_made_a_method, generated_getter_made_a_method, options_getter_made_a_method};
 ghost use Rattle.es_rows.specs.witnesses.GetterOrMethod.{first_getter_or_method, second_getter_or_method, options_getter_or_method};
 ghost use Rattle.es_rows.specs.witnesses.GlobalRenamed.{first_global_renamed, second_global_renamed, options_global_renamed};
@@ -120,6 +138,8 @@ ghost use Rattle.es_rows.specs.witnesses.HeritageReadLate.{source_heritage_read_
 ghost use Rattle.es_rows.specs.witnesses.HiddenBody.{source_hidden_body, output_hidden_body, generated_hidden_body, options_hidden_body};
 ghost use Rattle.es_rows.specs.witnesses.HoleInAPattern.{first_hole_in_a_pattern, second_hole_in_a_pattern, options_hole_in_a_pattern};
 ghost use Rattle.es_rows.specs.witnesses.ImportsExchanged.{first_imports_exchanged, second_imports_exchanged, options_imports_exchanged};
+ghost use Rattle.es_rows.specs.witnesses.KeyGivenBehindTheFields.{source_key_given_behind_the_fields, output_key_given_behind_the_fields, generated_key_given_behind_the_fields, options_key_given_behind_the_fields};
+ghost use Rattle.es_rows.specs.witnesses.KeyHeadsExchanged.{first_key_heads_exchanged, second_key_heads_exchanged, options_key_heads_exchanged};
 ghost use Rattle.es_rows.specs.witnesses.KeyOfAMethod.{first_key_of_a_method, second_key_of_a_method, options_key_of_a_method};
 ghost use Rattle.es_rows.specs.witnesses.KeyReadLate.{source_key_read_late, output_key_read_late, generated_key_read_late, options_key_read_late};
 ghost use Rattle.es_rows.specs.witnesses.KeyReadTwice.{source_key_read_twice, output_key_read_twice, generated_key_read_twice, options_key_read_twice};
@@ -136,6 +156,7 @@ ghost use Rattle.es_rows.specs.witnesses.NamedValue.{source_named_value, output_
 ghost use Rattle.es_rows.specs.witnesses.NewImport.{source_new_import, output_new_import, generated_new_import, options_new_import};
 ghost use Rattle.es_rows.specs.witnesses.ObjectEvaluatedTwice.{source_object_evaluated_twice, output_object_evaluated_twice, generated_object_evaluated_twice, options_object_evaluated_twice};
 ghost use Rattle.es_rows.specs.witnesses.OddConstructor.{source_odd_constructor, output_odd_constructor, generated_odd_constructor, options_odd_constructor};
+ghost use Rattle.es_rows.specs.witnesses.OwnNameOfAClassBehindAWrite.{first_own_name_of_a_class_behind_a_write, second_own_name_of_a_class_behind_a_write, options_own_name_of_a_class_behind_a_write};
 ghost use Rattle.es_rows.specs.witnesses.OwnNamesExchanged.{first_own_names_exchanged, second_own_names_exchanged, options_own_names_exchanged};
 ghost use Rattle.es_rows.specs.witnesses.ParameterInFront.{source_parameter_in_front, output_parameter_in_front, generated_parameter_in_front, options_parameter_in_front};
 ghost use Rattle.es_rows.specs.witnesses.ParameterOfANewConstructor.{source_parameter_of_a_new_constructor, output_parameter_of_a_new_constructor, generated_parameter_of_a_new_constructor, options_parameter_of_a_new_constructor};
@@ -144,6 +165,9 @@ ghost use Rattle.es_rows.specs.witnesses.ParentConstructedTwice.{source_parent_c
 ghost use Rattle.es_rows.specs.witnesses.ParentNeverConstructed.{source_parent_never_constructed, output_parent_never_constructed, generated_parent_never_constructed, options_parent_never_constructed};
 ghost use Rattle.es_rows.specs.witnesses.PatternKeys.{first_pattern_keys, second_pattern_keys, options_pattern_keys};
 ghost use Rattle.es_rows.specs.witnesses.PickedByAnAsyncArrow.{source_picked_by_an_async_arrow, output_picked_by_an_async_arrow, generated_picked_by_an_async_arrow, options_picked_by_an_async_arrow};
+ghost use Rattle.es_rows.specs.witnesses.PrivateFieldDropped.{source_private_field_dropped, output_private_field_dropped, generated_private_field_dropped, options_private_field_dropped};
+ghost use Rattle.es_rows.specs.witnesses.PrivateMethodDropped.{source_private_method_dropped, output_private_method_dropped, generated_private_method_dropped, options_private_method_dropped};
+ghost use Rattle.es_rows.specs.witnesses.PrivateNameBesideAName.{source_private_name_beside_a_name, output_private_name_beside_a_name, generated_private_name_beside_a_name, options_private_name_beside_a_name};
 ghost use Rattle.es_rows.specs.witnesses.PrivateNameOfTheOuterClass.{source_private_name_of_the_outer_class, output_private_name_of_the_outer_class, generated_private_name_of_the_outer_class, options_private_name_of_the_outer_class};
 ghost use Rattle.es_rows.specs.witnesses.PrivateNameTwice.{source_private_name_twice, output_private_name_twice, generated_private_name_twice, options_private_name_twice};
 ghost use Rattle.es_rows.specs.witnesses.ReadMoved.{source_read_moved, output_read_moved, generated_read_moved, options_read_moved};
@@ -156,7 +180,9 @@ ghost use Rattle.es_rows.specs.witnesses.ReturnInAnArrow.{source_return_in_an_ar
 ghost use Rattle.es_rows.specs.witnesses.ScriptInAnArrow.{source_script_in_an_arrow, output_script_in_an_arrow, generated_script_in_an_arrow, options_script_in_an_arrow};
 ghost use Rattle.es_rows.specs.witnesses.SpreadForAParameter.{source_spread_for_a_parameter, output_spread_for_a_parameter, generated_spread_for_a_parameter, options_spread_for_a_parameter};
 ghost use Rattle.es_rows.specs.witnesses.StatementOfAnIf.{first_statement_of_an_if, second_statement_of_an_if, options_statement_of_an_if};
+ghost use Rattle.es_rows.specs.witnesses.StaticConstructor.{source_static_constructor, output_static_constructor, generated_static_constructor, options_static_constructor};
 ghost use Rattle.es_rows.specs.witnesses.StaticFieldBeforeItsClass.{source_static_field_before_its_class, output_static_field_before_its_class, generated_static_field_before_its_class, options_static_field_before_its_class};
+ghost use Rattle.es_rows.specs.witnesses.StaticFieldDropped.{source_static_field_dropped, output_static_field_dropped, generated_static_field_dropped, options_static_field_dropped};
 ghost use Rattle.es_rows.specs.witnesses.StaticGetterOrMethod.{first_static_getter_or_method, second_static_getter_or_method, options_static_getter_or_method};
 ghost use Rattle.es_rows.specs.witnesses.StaticKeyReadLate.{source_static_key_read_late, output_static_key_read_late, generated_static_key_read_late, options_static_key_read_late};
 ghost use Rattle.es_rows.specs.witnesses.SuperFunctionBehindItsCalls.{source_super_function_behind_its_calls, output_super_function_behind_its_calls, generated_super_function_behind_its_calls, options_super_function_behind_its_calls};
@@ -164,6 +190,7 @@ ghost use Rattle.es_rows.specs.witnesses.SuperGivesZero.{source_super_gives_zero
 ghost use Rattle.es_rows.specs.witnesses.SuperKeyThatStays.{first_super_key_that_stays, second_super_key_that_stays, options_super_key_that_stays};
 ghost use Rattle.es_rows.specs.witnesses.SuspendedClassWritten.{first_suspended_class_written, second_suspended_class_written, options_suspended_class_written};
 ghost use Rattle.es_rows.specs.witnesses.SuspendingConstructor.{source_suspending_constructor, output_suspending_constructor, generated_suspending_constructor, options_suspending_constructor};
+ghost use Rattle.es_rows.specs.witnesses.TailOfATemplate.{first_tail_of_a_template, second_tail_of_a_template, options_tail_of_a_template};
 ghost use Rattle.es_rows.specs.witnesses.TemplateKey.{first_template_key, second_template_key, options_template_key};
 ghost use Rattle.es_rows.specs.witnesses.TemporaryGivenLate.{source_temporary_given_late, output_temporary_given_late, generated_temporary_given_late, options_temporary_given_late};
 ghost use Rattle.es_rows.specs.witnesses.TemporaryNeverGiven.{source_temporary_never_given, output_temporary_never_given, generated_temporary_never_given, options_temporary_never_given};
@@ -283,14 +310,17 @@ pub fn programs_are_told_apart()
     ensures global_renamed { TellsApart options_global_renamed first_global_renamed second_global_renamed }
     ensures hole_in_a_pattern { TellsApart options_hole_in_a_pattern first_hole_in_a_pattern second_hole_in_a_pattern }
     ensures imports_exchanged { TellsApart options_imports_exchanged first_imports_exchanged second_imports_exchanged }
+    ensures key_heads_exchanged { TellsApart options_key_heads_exchanged first_key_heads_exchanged second_key_heads_exchanged }
     ensures let_out_of_a_loop { TellsApart options_let_out_of_a_loop first_let_out_of_a_loop second_let_out_of_a_loop }
     ensures loop_heads_exchanged { TellsApart options_loop_heads_exchanged first_loop_heads_exchanged second_loop_heads_exchanged }
+    ensures own_name_of_a_class_behind_a_write { TellsApart options_own_name_of_a_class_behind_a_write first_own_name_of_a_class_behind_a_write second_own_name_of_a_class_behind_a_write }
     ensures own_names_exchanged { TellsApart options_own_names_exchanged first_own_names_exchanged second_own_names_exchanged }
     ensures parameters_exchanged { TellsApart options_parameters_exchanged first_parameters_exchanged second_parameters_exchanged }
     ensures pattern_keys { TellsApart options_pattern_keys first_pattern_keys second_pattern_keys }
     ensures rest_dropped { TellsApart options_rest_dropped first_rest_dropped second_rest_dropped }
     ensures statement_of_an_if { TellsApart options_statement_of_an_if first_statement_of_an_if second_statement_of_an_if }
     ensures static_getter_or_method { TellsApart options_static_getter_or_method first_static_getter_or_method second_static_getter_or_method }
+    ensures tail_of_a_template { TellsApart options_tail_of_a_template first_tail_of_a_template second_tail_of_a_template }
     ensures template_key { TellsApart options_template_key first_template_key second_template_key }
     ensures tested_name { TellsApart options_tested_name first_tested_name second_tested_name }
     ensures void_of_a_template { TellsApart options_void_of_a_template first_void_of_a_template second_void_of_a_template }
@@ -299,23 +329,32 @@ pub fn programs_are_told_apart()
 /// Wrong outputs of worked rows do not mean what their sources mean.
 pub fn wrong_outputs_are_told_apart()
     ensures another_literal { Refused options_another_literal generated_another_literal source_another_literal output_another_literal }
+    ensures another_literal_of_a_written_class { Refused options_another_literal_of_a_written_class generated_another_literal_of_a_written_class source_another_literal_of_a_written_class output_another_literal_of_a_written_class }
     ensures arguments_of_another { Refused options_arguments_of_another generated_arguments_of_another source_arguments_of_another output_arguments_of_another }
     ensures arrow_out_of_a_loop { Refused options_arrow_out_of_a_loop generated_arrow_out_of_a_loop source_arrow_out_of_a_loop output_arrow_out_of_a_loop }
+    ensures async_constructor { Refused options_async_constructor generated_async_constructor source_async_constructor output_async_constructor }
     ensures binding_not_renamed { Refused options_binding_not_renamed generated_binding_not_renamed source_binding_not_renamed output_binding_not_renamed }
     ensures block_behind_fields { Refused options_block_behind_fields generated_block_behind_fields source_block_behind_fields output_block_behind_fields }
     ensures body_dropped { Refused options_body_dropped generated_body_dropped source_body_dropped output_body_dropped }
     ensures bound_before_its_test { Refused options_bound_before_its_test generated_bound_before_its_test source_bound_before_its_test output_bound_before_its_test }
     ensures class_in_front_of_its_use { Refused options_class_in_front_of_its_use generated_class_in_front_of_its_use source_class_in_front_of_its_use output_class_in_front_of_its_use }
     ensures class_renamed { Refused options_class_renamed generated_class_renamed source_class_renamed output_class_renamed }
+    ensures constructor_of_another_key { Refused options_constructor_of_another_key generated_constructor_of_another_key source_constructor_of_another_key output_constructor_of_another_key }
     ensures definitions_nested { Refused options_definitions_nested generated_definitions_nested source_definitions_nested output_definitions_nested }
     ensures deleted_key { Refused options_deleted_key generated_deleted_key source_deleted_key output_deleted_key }
+    ensures elements_of_a_written_class_dropped { Refused options_elements_of_a_written_class_dropped generated_elements_of_a_written_class_dropped source_elements_of_a_written_class_dropped output_elements_of_a_written_class_dropped }
     ensures field_before_super { Refused options_field_before_super generated_field_before_super source_field_before_super output_field_before_super }
     ensures field_doubled { Refused options_field_doubled generated_field_doubled source_field_doubled output_field_doubled }
     ensures field_dropped { Refused options_field_dropped generated_field_dropped source_field_dropped output_field_dropped }
     ensures field_key_read_late { Refused options_field_key_read_late generated_field_key_read_late source_field_key_read_late output_field_key_read_late }
+    ensures field_of_a_written_class_doubled { Refused options_field_of_a_written_class_doubled generated_field_of_a_written_class_doubled source_field_of_a_written_class_doubled output_field_of_a_written_class_doubled }
+    ensures field_of_a_written_class_dropped { Refused options_field_of_a_written_class_dropped generated_field_of_a_written_class_dropped source_field_of_a_written_class_dropped output_field_of_a_written_class_dropped }
     ensures fields_exchanged { Refused options_fields_exchanged generated_fields_exchanged source_fields_exchanged output_fields_exchanged }
+    ensures fields_of_a_written_class_exchanged { Refused options_fields_of_a_written_class_exchanged generated_fields_of_a_written_class_exchanged source_fields_of_a_written_class_exchanged output_fields_of_a_written_class_exchanged }
+    ensures generator_constructor { Refused options_generator_constructor generated_generator_constructor source_generator_constructor output_generator_constructor }
     ensures getter_made_a_method { Refused options_getter_made_a_method generated_getter_made_a_method source_getter_made_a_method output_getter_made_a_method }
     ensures heritage_read_late { Refused options_heritage_read_late generated_heritage_read_late source_heritage_read_late output_heritage_read_late }
+    ensures key_given_behind_the_fields { Refused options_key_given_behind_the_fields generated_key_given_behind_the_fields source_key_given_behind_the_fields output_key_given_behind_the_fields }
     ensures key_read_late { Refused options_key_read_late generated_key_read_late source_key_read_late output_key_read_late }
     ensures key_read_twice { Refused options_key_read_twice generated_key_read_twice source_key_read_twice output_key_read_twice }
     ensures maps_in_loose_mode { Refused options_maps_in_loose_mode generated_maps_in_loose_mode source_maps_in_loose_mode output_maps_in_loose_mode }
@@ -330,8 +369,9 @@ pub fn wrong_outputs_are_told_apart()
     ensures parent_constructed_twice { Refused options_parent_constructed_twice generated_parent_constructed_twice source_parent_constructed_twice output_parent_constructed_twice }
     ensures parent_never_constructed { Refused options_parent_never_constructed generated_parent_never_constructed source_parent_never_constructed output_parent_never_constructed }
     ensures picked_by_an_async_arrow { Refused options_picked_by_an_async_arrow generated_picked_by_an_async_arrow source_picked_by_an_async_arrow output_picked_by_an_async_arrow }
+    ensures private_field_dropped { Refused options_private_field_dropped generated_private_field_dropped source_private_field_dropped output_private_field_dropped }
+    ensures private_method_dropped { Refused options_private_method_dropped generated_private_method_dropped source_private_method_dropped output_private_method_dropped }
     ensures private_name_of_the_outer_class { Refused options_private_name_of_the_outer_class generated_private_name_of_the_outer_class source_private_name_of_the_outer_class output_private_name_of_the_outer_class }
-    ensures read_moved { Refused options_read_moved generated_read_moved source_read_moved output_read_moved }
     ensures receiver_of_a_conditional { Refused options_receiver_of_a_conditional generated_receiver_of_a_conditional source_receiver_of_a_conditional output_receiver_of_a_conditional }
     ensures receiver_of_a_private_call { Refused options_receiver_of_a_private_call generated_receiver_of_a_private_call source_receiver_of_a_private_call output_receiver_of_a_private_call }
     ensures receiver_of_a_super_call { Refused options_receiver_of_a_super_call generated_receiver_of_a_super_call source_receiver_of_a_super_call output_receiver_of_a_super_call }
@@ -339,6 +379,7 @@ pub fn wrong_outputs_are_told_apart()
     ensures return_in_an_arrow { Refused options_return_in_an_arrow generated_return_in_an_arrow source_return_in_an_arrow output_return_in_an_arrow }
     ensures script_in_an_arrow { Refused options_script_in_an_arrow generated_script_in_an_arrow source_script_in_an_arrow output_script_in_an_arrow }
     ensures spread_for_a_parameter { Refused options_spread_for_a_parameter generated_spread_for_a_parameter source_spread_for_a_parameter output_spread_for_a_parameter }
+    ensures static_constructor { Refused options_static_constructor generated_static_constructor source_static_constructor output_static_constructor }
     ensures static_field_before_its_class { Refused options_static_field_before_its_class generated_static_field_before_its_class source_static_field_before_its_class output_static_field_before_its_class }
     ensures static_key_read_late { Refused options_static_key_read_late generated_static_key_read_late source_static_key_read_late output_static_key_read_late }
     ensures super_gives_zero { Refused options_super_gives_zero generated_super_gives_zero source_super_gives_zero output_super_gives_zero }
@@ -351,8 +392,28 @@ pub fn wrong_outputs_are_told_apart()
     ensures value_as_a_key { Refused options_value_as_a_key generated_value_as_a_key source_value_as_a_key output_value_as_a_key }
 {}
 
+/// Wrong outputs of worked rows that have a meaning, which is not that of their sources.
+pub fn wrong_outputs_mean_another_program()
+    ensures block_behind_a_kept_field { MeansOther options_block_behind_a_kept_field generated_block_behind_a_kept_field source_block_behind_a_kept_field output_block_behind_a_kept_field }
+    ensures block_dropped { MeansOther options_block_dropped generated_block_dropped source_block_dropped output_block_dropped }
+    ensures branch_of_a_key_of_another { MeansOther options_branch_of_a_key_of_another generated_branch_of_a_key_of_another source_branch_of_a_key_of_another output_branch_of_a_key_of_another }
+    ensures elements_dropped { MeansOther options_elements_dropped generated_elements_dropped source_elements_dropped output_elements_dropped }
+    ensures read_moved { MeansOther options_read_moved generated_read_moved source_read_moved output_read_moved }
+    ensures static_field_dropped { MeansOther options_static_field_dropped generated_static_field_dropped source_static_field_dropped output_static_field_dropped }
+{}
+
+/// Wrong outputs of a program whose parameters come before its fields do not mean what it then means.
+pub fn wrong_outputs_behind_parameters_are_told_apart()
+    ensures another_literal_behind_parameters { RefusedAfter options_another_literal_behind_parameters generated_another_literal_behind_parameters source_another_literal_behind_parameters output_another_literal_behind_parameters }
+    ensures field_behind_parameters_doubled { RefusedAfter options_field_behind_parameters_doubled generated_field_behind_parameters_doubled source_field_behind_parameters_doubled output_field_behind_parameters_doubled }
+    ensures field_behind_parameters_dropped { RefusedAfter options_field_behind_parameters_dropped generated_field_behind_parameters_dropped source_field_behind_parameters_dropped output_field_behind_parameters_dropped }
+    ensures fields_behind_parameters_exchanged { RefusedAfter options_fields_behind_parameters_exchanged generated_fields_behind_parameters_exchanged source_fields_behind_parameters_exchanged output_fields_behind_parameters_exchanged }
+{}
+
 /// Wrong outputs that a clause on lowered programs finds, though their meanings may be those of their sources.
 pub fn clauses_are_not_met()
+    ensures another_literal_of_a_written_class { definitions_stand (nodes source_another_literal_of_a_written_class) options_another_literal_of_a_written_class generated_another_literal_of_a_written_class (private_members source_another_literal_of_a_written_class) source_another_literal_of_a_written_class output_another_literal_of_a_written_class ≡ false }
+    ensures body_dropped { definitions_stand (nodes source_body_dropped) options_body_dropped generated_body_dropped (private_members source_body_dropped) source_body_dropped output_body_dropped ≡ false }
     ensures break_in_an_arrow { is_printable output_break_in_an_arrow ≡ false }
     ensures class_behind_its_use { lists_kept options_class_behind_its_use source_class_behind_its_use output_class_behind_its_use ≡ false }
     ensures class_in_a_constructor { lists_kept options_class_in_a_constructor source_class_in_a_constructor output_class_in_a_constructor ≡ false }
@@ -360,6 +421,10 @@ pub fn clauses_are_not_met()
     ensures closure_before_its_class { names_timely (nodes source_closure_before_its_class) generated_closure_before_its_class output_closure_before_its_class ≡ false }
     ensures constant_temporary { declarations_accounted (nodes source_constant_temporary) generated_constant_temporary source_constant_temporary output_constant_temporary ≡ false }
     ensures dead_temporary { names_timely (nodes source_dead_temporary) generated_dead_temporary output_dead_temporary ≡ false }
+    ensures elements_of_a_written_class_dropped { definitions_stand (nodes source_elements_of_a_written_class_dropped) options_elements_of_a_written_class_dropped generated_elements_of_a_written_class_dropped (private_members source_elements_of_a_written_class_dropped) source_elements_of_a_written_class_dropped output_elements_of_a_written_class_dropped ≡ false }
+    ensures field_of_a_written_class_doubled { definitions_stand (nodes source_field_of_a_written_class_doubled) options_field_of_a_written_class_doubled generated_field_of_a_written_class_doubled (private_members source_field_of_a_written_class_doubled) source_field_of_a_written_class_doubled output_field_of_a_written_class_doubled ≡ false }
+    ensures field_of_a_written_class_dropped { definitions_stand (nodes source_field_of_a_written_class_dropped) options_field_of_a_written_class_dropped generated_field_of_a_written_class_dropped (private_members source_field_of_a_written_class_dropped) source_field_of_a_written_class_dropped output_field_of_a_written_class_dropped ≡ false }
+    ensures fields_of_a_written_class_exchanged { definitions_stand (nodes source_fields_of_a_written_class_exchanged) options_fields_of_a_written_class_exchanged generated_fields_of_a_written_class_exchanged (private_members source_fields_of_a_written_class_exchanged) source_fields_of_a_written_class_exchanged output_fields_of_a_written_class_exchanged ≡ false }
     ensures hidden_body { conforms Place.Program output_hidden_body ≡ false }
     ensures method_assigned_in_another_function { names_timely (nodes source_method_assigned_in_another_function) generated_method_assigned_in_another_function output_method_assigned_in_another_function ≡ false }
     ensures name_of_no_member { initializations_stand (nodes source_name_of_no_member) generated_name_of_no_member (private_members source_name_of_no_member) output_name_of_no_member generated_name_of_no_member ≡ false }
@@ -367,6 +432,12 @@ pub fn clauses_are_not_met()
     ensures private_name_twice { names_declared (nodes source_private_name_twice) generated_private_name_twice output_private_name_twice ≡ false }
     ensures super_function_behind_its_calls { names_timely (nodes source_super_function_behind_its_calls) generated_super_function_behind_its_calls output_super_function_behind_its_calls ≡ false }
     ensures weak_map_in_another_function { names_timely (nodes source_weak_map_in_another_function) generated_weak_map_in_another_function output_weak_map_in_another_function ≡ false }
+{}
+
+/// Outputs that mean what their sources mean, though a name or a value in them looks like another one.
+pub fn outputs_mean_their_sources()
+    ensures branch_of_a_key { Means options_branch_of_a_key generated_branch_of_a_key source_branch_of_a_key output_branch_of_a_key }
+    ensures private_name_beside_a_name { Means options_private_name_beside_a_name generated_private_name_beside_a_name source_private_name_beside_a_name output_private_name_beside_a_name }
 {}
 
 /// Pairs of programs that have different shapes.

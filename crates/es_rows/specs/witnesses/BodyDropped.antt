@@ -12,7 +12,7 @@ use Rattle.es_steps.specs.declared.options.Options.{Options}
 abbrev pub source_body_dropped : Tree
 source_body_dropped = node Kind.Program 0 (more (string (codes "script")) (more (list (trees (node Kind.ClassDeclaration 1 (more (child (node Kind.BindingIdentifier 2 (more (string (codes "C")) end))) (more absent (more (child (node Kind.ClassBody 3 (more (list (trees (node Kind.PropertyDefinition 4 (more (child (node Kind.IdentifierName 5 (more (string (codes "x")) end))) (more (child (node Kind.Literal 6 (more (literal (literal_value.Number (codes "1"))) end))) (more (boolean false) (more (boolean false) end)))) ∷ node Kind.PropertyDefinition 7 (more (child (node Kind.IdentifierName 8 (more (string (codes "y")) end))) (more (child (node Kind.Literal 9 (more (literal (literal_value.Number (codes "2"))) end))) (more (boolean false) (more (boolean false) end)))) ∷ []))) end))) end))) ∷ node Kind.ExpressionStatement 10 (more (child (node Kind.AssignmentExpression 11 (more (string (codes "=")) (more (child (node Kind.IdentifierReference 12 (more (string (codes "C")) end))) (more (child (node Kind.Literal 13 (more (literal (literal_value.Number (codes "0"))) end))) end))))) (more no_string end)) ∷ []))) end))
 
--- a program without its statements, where `class C { constructor() { B.defineProperty(this, "x", 1); B.defineProperty(this, "y", 2); } } C = 0;` is right
+-- a program without its statements, with a class whose name is written, where `class C { constructor() { B.defineProperty(this, "x", 1); B.defineProperty(this, "y", 2); } } C = 0;` is right
 abbrev pub output_body_dropped : Tree
 output_body_dropped = node Kind.Program 0 (more (string (codes "script")) (more (list end) end))
 

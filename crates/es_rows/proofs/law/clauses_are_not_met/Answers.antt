@@ -1,6 +1,12 @@
 use Rattle.std.specs.Prelude.{refl}
 use Rattle.es_rows.proofs.law.clauses_are_not_met.Goals as goal
 
+pub returns-clause-another_literal_of_a_written_class : goal.returns-clause-another_literal_of_a_written_class
+returns-clause-another_literal_of_a_written_class c = refl
+
+pub returns-clause-body_dropped : goal.returns-clause-body_dropped
+returns-clause-body_dropped c = refl
+
 pub returns-clause-break_in_an_arrow : goal.returns-clause-break_in_an_arrow
 returns-clause-break_in_an_arrow c = refl
 
@@ -21,6 +27,18 @@ returns-clause-constant_temporary c = refl
 
 pub returns-clause-dead_temporary : goal.returns-clause-dead_temporary
 returns-clause-dead_temporary c = refl
+
+pub returns-clause-elements_of_a_written_class_dropped : goal.returns-clause-elements_of_a_written_class_dropped
+returns-clause-elements_of_a_written_class_dropped c = refl
+
+pub returns-clause-field_of_a_written_class_doubled : goal.returns-clause-field_of_a_written_class_doubled
+returns-clause-field_of_a_written_class_doubled c = refl
+
+pub returns-clause-field_of_a_written_class_dropped : goal.returns-clause-field_of_a_written_class_dropped
+returns-clause-field_of_a_written_class_dropped c = refl
+
+pub returns-clause-fields_of_a_written_class_exchanged : goal.returns-clause-fields_of_a_written_class_exchanged
+returns-clause-fields_of_a_written_class_exchanged c = refl
 
 pub returns-clause-hidden_body : goal.returns-clause-hidden_body
 returns-clause-hidden_body c = refl

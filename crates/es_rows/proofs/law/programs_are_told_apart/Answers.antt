@@ -22,11 +22,17 @@ returns-clause-hole_in_a_pattern c = (refl, refl, refl)
 pub returns-clause-imports_exchanged : goal.returns-clause-imports_exchanged
 returns-clause-imports_exchanged c = (refl, refl, refl)
 
+pub returns-clause-key_heads_exchanged : goal.returns-clause-key_heads_exchanged
+returns-clause-key_heads_exchanged c = (refl, refl, refl)
+
 pub returns-clause-let_out_of_a_loop : goal.returns-clause-let_out_of_a_loop
 returns-clause-let_out_of_a_loop c = (refl, refl, refl)
 
 pub returns-clause-loop_heads_exchanged : goal.returns-clause-loop_heads_exchanged
 returns-clause-loop_heads_exchanged c = (refl, refl, refl)
+
+pub returns-clause-own_name_of_a_class_behind_a_write : goal.returns-clause-own_name_of_a_class_behind_a_write
+returns-clause-own_name_of_a_class_behind_a_write c = (refl, refl, refl)
 
 pub returns-clause-own_names_exchanged : goal.returns-clause-own_names_exchanged
 returns-clause-own_names_exchanged c = (refl, refl, refl)
@@ -45,6 +51,9 @@ returns-clause-statement_of_an_if c = (refl, refl, refl)
 
 pub returns-clause-static_getter_or_method : goal.returns-clause-static_getter_or_method
 returns-clause-static_getter_or_method c = (refl, refl, refl)
+
+pub returns-clause-tail_of_a_template : goal.returns-clause-tail_of_a_template
+returns-clause-tail_of_a_template c = (refl, refl, refl)
 
 pub returns-clause-template_key : goal.returns-clause-template_key
 returns-clause-template_key c = (refl, refl, refl)

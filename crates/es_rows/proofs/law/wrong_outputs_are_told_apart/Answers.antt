@@ -4,11 +4,17 @@ use Rattle.es_rows.proofs.law.wrong_outputs_are_told_apart.Goals as goal
 pub returns-clause-another_literal : goal.returns-clause-another_literal
 returns-clause-another_literal c = refl
 
+pub returns-clause-another_literal_of_a_written_class : goal.returns-clause-another_literal_of_a_written_class
+returns-clause-another_literal_of_a_written_class c = refl
+
 pub returns-clause-arguments_of_another : goal.returns-clause-arguments_of_another
 returns-clause-arguments_of_another c = refl
 
 pub returns-clause-arrow_out_of_a_loop : goal.returns-clause-arrow_out_of_a_loop
 returns-clause-arrow_out_of_a_loop c = refl
+
+pub returns-clause-async_constructor : goal.returns-clause-async_constructor
+returns-clause-async_constructor c = refl
 
 pub returns-clause-binding_not_renamed : goal.returns-clause-binding_not_renamed
 returns-clause-binding_not_renamed c = refl
@@ -28,11 +34,17 @@ returns-clause-class_in_front_of_its_use c = refl
 pub returns-clause-class_renamed : goal.returns-clause-class_renamed
 returns-clause-class_renamed c = refl
 
+pub returns-clause-constructor_of_another_key : goal.returns-clause-constructor_of_another_key
+returns-clause-constructor_of_another_key c = refl
+
 pub returns-clause-definitions_nested : goal.returns-clause-definitions_nested
 returns-clause-definitions_nested c = refl
 
 pub returns-clause-deleted_key : goal.returns-clause-deleted_key
 returns-clause-deleted_key c = refl
+
+pub returns-clause-elements_of_a_written_class_dropped : goal.returns-clause-elements_of_a_written_class_dropped
+returns-clause-elements_of_a_written_class_dropped c = refl
 
 pub returns-clause-field_before_super : goal.returns-clause-field_before_super
 returns-clause-field_before_super c = refl
@@ -46,14 +58,29 @@ returns-clause-field_dropped c = refl
 pub returns-clause-field_key_read_late : goal.returns-clause-field_key_read_late
 returns-clause-field_key_read_late c = refl
 
+pub returns-clause-field_of_a_written_class_doubled : goal.returns-clause-field_of_a_written_class_doubled
+returns-clause-field_of_a_written_class_doubled c = refl
+
+pub returns-clause-field_of_a_written_class_dropped : goal.returns-clause-field_of_a_written_class_dropped
+returns-clause-field_of_a_written_class_dropped c = refl
+
 pub returns-clause-fields_exchanged : goal.returns-clause-fields_exchanged
 returns-clause-fields_exchanged c = refl
+
+pub returns-clause-fields_of_a_written_class_exchanged : goal.returns-clause-fields_of_a_written_class_exchanged
+returns-clause-fields_of_a_written_class_exchanged c = refl
+
+pub returns-clause-generator_constructor : goal.returns-clause-generator_constructor
+returns-clause-generator_constructor c = refl
 
 pub returns-clause-getter_made_a_method : goal.returns-clause-getter_made_a_method
 returns-clause-getter_made_a_method c = refl
 
 pub returns-clause-heritage_read_late : goal.returns-clause-heritage_read_late
 returns-clause-heritage_read_late c = refl
+
+pub returns-clause-key_given_behind_the_fields : goal.returns-clause-key_given_behind_the_fields
+returns-clause-key_given_behind_the_fields c = refl
 
 pub returns-clause-key_read_late : goal.returns-clause-key_read_late
 returns-clause-key_read_late c = refl
@@ -97,11 +124,14 @@ returns-clause-parent_never_constructed c = refl
 pub returns-clause-picked_by_an_async_arrow : goal.returns-clause-picked_by_an_async_arrow
 returns-clause-picked_by_an_async_arrow c = refl
 
+pub returns-clause-private_field_dropped : goal.returns-clause-private_field_dropped
+returns-clause-private_field_dropped c = refl
+
+pub returns-clause-private_method_dropped : goal.returns-clause-private_method_dropped
+returns-clause-private_method_dropped c = refl
+
 pub returns-clause-private_name_of_the_outer_class : goal.returns-clause-private_name_of_the_outer_class
 returns-clause-private_name_of_the_outer_class c = refl
-
-pub returns-clause-read_moved : goal.returns-clause-read_moved
-returns-clause-read_moved c = refl
 
 pub returns-clause-receiver_of_a_conditional : goal.returns-clause-receiver_of_a_conditional
 returns-clause-receiver_of_a_conditional c = refl
@@ -123,6 +153,9 @@ returns-clause-script_in_an_arrow c = refl
 
 pub returns-clause-spread_for_a_parameter : goal.returns-clause-spread_for_a_parameter
 returns-clause-spread_for_a_parameter c = refl
+
+pub returns-clause-static_constructor : goal.returns-clause-static_constructor
+returns-clause-static_constructor c = refl
 
 pub returns-clause-static_field_before_its_class : goal.returns-clause-static_field_before_its_class
 returns-clause-static_field_before_its_class c = refl

@@ -1,0 +1,8 @@
+use Rattle.std.specs.Prelude.{refl}
+use Rattle.es_rows.proofs.law.outputs_mean_their_sources.Goals as goal
+
+pub returns-clause-branch_of_a_key : goal.returns-clause-branch_of_a_key
+returns-clause-branch_of_a_key c = (refl, refl)
+
+pub returns-clause-private_name_beside_a_name : goal.returns-clause-private_name_beside_a_name
+returns-clause-private_name_beside_a_name c = (refl, refl)

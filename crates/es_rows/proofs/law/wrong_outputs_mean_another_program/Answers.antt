@@ -1,0 +1,20 @@
+use Rattle.std.specs.Prelude.{refl}
+use Rattle.es_rows.proofs.law.wrong_outputs_mean_another_program.Goals as goal
+
+pub returns-clause-block_behind_a_kept_field : goal.returns-clause-block_behind_a_kept_field
+returns-clause-block_behind_a_kept_field c = (refl, refl)
+
+pub returns-clause-block_dropped : goal.returns-clause-block_dropped
+returns-clause-block_dropped c = (refl, refl)
+
+pub returns-clause-branch_of_a_key_of_another : goal.returns-clause-branch_of_a_key_of_another
+returns-clause-branch_of_a_key_of_another c = (refl, refl)
+
+pub returns-clause-elements_dropped : goal.returns-clause-elements_dropped
+returns-clause-elements_dropped c = (refl, refl)
+
+pub returns-clause-read_moved : goal.returns-clause-read_moved
+returns-clause-read_moved c = (refl, refl)
+
+pub returns-clause-static_field_dropped : goal.returns-clause-static_field_dropped
+returns-clause-static_field_dropped c = (refl, refl)
