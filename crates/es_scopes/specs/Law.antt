@@ -1,0 +1,56 @@
+-- The laws of agreement, as the contracts of src/law.rt name them: after which calls a table agrees with a tree still.
+use Rattle.std.specs.Prelude.{◌≡◌, ℕ, List, Option, Some, slice_get, Contains}
+use Rattle.es_base.specs.Tree.{Tree}
+use Rattle.es_base.specs.declared.ids.ScopeId.{ScopeId}
+use Rattle.es_base.specs.declared.ids.SymbolId.{SymbolId}
+use Rattle.es_base.specs.declared.ids.ReferenceId.{ReferenceId}
+use Rattle.es_scopes.specs.Agreement.{Agrees, AreAlike, HasScopeOf, HasSymbolOf, HasReferenceOf, carried, target_number, meant_symbol}
+use Rattle.es_scopes.specs.References.{writes}
+use Rattle.es_scopes.specs.Table.{Table, IsTable, with_scope_flags, with_parent, with_new_scope, with_binding, with_name, with_symbol_flags, with_mark, with_reference_flags, with_target, with_new_reference, reference_flagged}
+use Rattle.es_scopes.specs.declared.flags.ScopeFlags.{ScopeFlags}
+use Rattle.es_scopes.specs.declared.flags.SymbolFlags.{SymbolFlags}
+use Rattle.es_scopes.specs.declared.flags.ReferenceFlags.{ReferenceFlags}
+use Rattle.es_scopes.specs.declared.table.Reference.{Reference}
+use Rattle.es_steps.specs.References as steps
+
+-- a table that is alike for a tree agrees with it still
+abbrev pub AlikeLaw : Type 0
+AlikeLaw = (generated : List (List ℕ)) (t : Tree) (before after : Table) → AreAlike t before after → Agrees generated before t → Agrees generated after t
+
+-- in a tree that agrees with a table, what a reference means is what its number says
+abbrev pub MeaningLaw : Type 0
+MeaningLaw = (generated : List (List ℕ)) (table : Table) (t : Tree) → Agrees generated table t → (r : steps.Reference) → Contains (steps.resolve t) r → (k : ReferenceId) → carried t r.number ≡ Some k.0 → target_number table k ≡ meant_symbol t r.to
+
+-- other flags of scopes and symbols
+abbrev pub ScopeFlagsLaw : Type 0
+ScopeFlagsLaw = (t : Tree) (table : Table) (s : ScopeId) (f : ScopeFlags) → AreAlike t table (with_scope_flags table s f)
+
+abbrev pub SymbolFlagsLaw : Type 0
+SymbolFlagsLaw = (t : Tree) (table : Table) (y : SymbolId) (f : SymbolFlags) → AreAlike t table (with_symbol_flags table y f)
+
+-- a new scope, and what is done to a scope that is no node's
+abbrev pub NewScopeLaw : Type 0
+NewScopeLaw = (t : Tree) (table : Table) (p : Option ScopeId) (f : ScopeFlags) → AreAlike t table (with_new_scope table p f)
+
+abbrev pub ParentLaw : Type 0
+ParentLaw = (t : Tree) (table : Table) (s : ScopeId) (p : Option ScopeId) → (HasScopeOf t s → ⊥) → AreAlike t table (with_parent table s p)
+
+abbrev pub BindingLaw : Type 0
+BindingLaw = (t : Tree) (table : Table) (s : ScopeId) (name : List ℕ) (f : SymbolFlags) → (HasScopeOf t s → ⊥) → AreAlike t table (with_binding table s name f)
+
+abbrev pub NameLaw : Type 0
+NameLaw = (t : Tree) (table : Table) (y : SymbolId) (s : ScopeId) (name : List ℕ) → (HasScopeOf t s → ⊥) → (HasSymbolOf t y → ⊥) → AreAlike t table (with_name table y s name)
+
+-- the mark of a symbol that is no identifier's
+abbrev pub MarkLaw : Type 0
+MarkLaw = (t : Tree) (table : Table) (y : SymbolId) → (HasSymbolOf t y → ⊥) → AreAlike t table (with_mark table y)
+
+-- flags of a reference that write where the old ones do, the target of a reference that is no node's, and a new reference
+abbrev pub ReferenceFlagsLaw : Type 0
+ReferenceFlagsLaw = (t : Tree) (table : Table) → IsTable table → (r : ReferenceId) (f : ReferenceFlags) → ((x : Reference) → slice_get table.references r.0 ≡ Some x → writes (Some (reference_flagged f x)) ≡ writes (Some x)) → AreAlike t table (with_reference_flags table r f)
+
+abbrev pub TargetLaw : Type 0
+TargetLaw = (t : Tree) (table : Table) → IsTable table → (r : ReferenceId) (y : SymbolId) → (HasReferenceOf t r → ⊥) → AreAlike t table (with_target table r y)
+
+abbrev pub NewReferenceLaw : Type 0
+NewReferenceLaw = (t : Tree) (table : Table) → IsTable table → (y : Option SymbolId) (f : ReferenceFlags) → AreAlike t table (with_new_reference table y f)
