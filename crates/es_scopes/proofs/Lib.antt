@@ -15,3 +15,5 @@ pub mod ReferenceOrder
 pub mod TableShown
 pub mod TableSteps
 pub mod BindSteps
+pub mod ScopeOrder
+pub mod HeldNames

@@ -242,14 +242,14 @@ entered-counts kind m ps s c h k = record {
 }
 
 mutual
-  more_scopes : (s : Surroundings) (c : Collected) (t : Tree) → c.next ≤ (collected s c t).next
+  pub more_scopes : (s : Surroundings) (c : Collected) (t : Tree) → c.next ≤ (collected s c t).next
   more_scopes s c (Node kind id span semantic_id ps) = omega (arith, after-le (opens kind (scope_place s)) c.next, more_in_parts (inside kind (record { 0 = c.next }) ps s) 0 (entered kind (record { 0 = id }) ps s c) ps)
 
-  more_in_parts : (inner : ℕ → Surroundings) (i : ℕ) (c : Collected) (ps : Parts) → c.next ≤ (collected_parts inner i c ps).next
+  pub more_in_parts : (inner : ℕ → Surroundings) (i : ℕ) (c : Collected) (ps : Parts) → c.next ≤ (collected_parts inner i c ps).next
   more_in_parts inner i c end = omega arith
   more_in_parts inner i c (more p ps) = omega (arith, more_in_part (inner i) c p, more_in_parts inner (i + 1) (collected_part (inner i) c p) ps)
 
-  more_in_part : (s : Surroundings) (c : Collected) (p : Part) → c.next ≤ (collected_part s c p).next
+  pub more_in_part : (s : Surroundings) (c : Collected) (p : Part) → c.next ≤ (collected_part s c p).next
   more_in_part s c (child t) = more_scopes s c t
   more_in_part s c absent = omega arith
   more_in_part s c (list ps) = more_in_items s c ps
@@ -258,7 +258,7 @@ mutual
   more_in_part s c (boolean b) = omega arith
   more_in_part s c (literal v) = omega arith
 
-  more_in_items : (s : Surroundings) (c : Collected) (ps : Parts) → c.next ≤ (collected_items s c ps).next
+  pub more_in_items : (s : Surroundings) (c : Collected) (ps : Parts) → c.next ≤ (collected_items s c ps).next
   more_in_items s c end = omega arith
   more_in_items s c (more p ps) = omega (arith, more_in_part s c p, more_in_items s (collected_part s c p) ps)
 

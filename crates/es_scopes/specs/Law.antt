@@ -1,11 +1,18 @@
--- The laws of agreement, as the contracts of src/law.rt name them: after which calls a table agrees with a tree still.
-use Rattle.std.specs.Prelude.{◌≡◌, ℕ, List, Option, Some, slice_get, Contains}
+-- The laws of agreement and of built tables, as the contracts of src/law.rt name them.
+use Rattle.std.specs.Prelude.{◌≡◌, ℕ, List, Option, Some, map, option_map, slice_get, Contains}
 use Rattle.es_base.specs.Tree.{Tree}
 use Rattle.es_base.specs.declared.ids.ScopeId.{ScopeId}
 use Rattle.es_base.specs.declared.ids.SymbolId.{SymbolId}
 use Rattle.es_base.specs.declared.ids.ReferenceId.{ReferenceId}
 use Rattle.es_scopes.specs.Agreement.{Agrees, AreAlike, HasScopeOf, HasSymbolOf, HasReferenceOf, carried, target_number, meant_symbol}
+use Rattle.es_scopes.specs.Built.{built_table}
+use Rattle.es_scopes.specs.Entries.{entries_of}
+use Rattle.es_scopes.specs.NodeBindings.{bindings_of}
+use Rattle.es_scopes.specs.NodeReferences.{references_of}
+use Rattle.es_scopes.specs.NodeScopes.{scopes_of}
 use Rattle.es_scopes.specs.References.{writes}
+use Rattle.es_scopes.specs.Shown.{bindings_in, references_in}
+use Rattle.es_scopes.specs.Tables.{AreOrdered}
 use Rattle.es_scopes.specs.Table.{Table, IsTable, with_scope_flags, with_parent, with_new_scope, with_binding, with_name, with_symbol_flags, with_mark, with_reference_flags, with_target, with_new_reference, reference_flagged}
 use Rattle.es_scopes.specs.declared.flags.ScopeFlags.{ScopeFlags}
 use Rattle.es_scopes.specs.declared.flags.SymbolFlags.{SymbolFlags}
@@ -54,3 +61,23 @@ TargetLaw = (t : Tree) (table : Table) → IsTable table → (r : ReferenceId) (
 
 abbrev pub NewReferenceLaw : Type 0
 NewReferenceLaw = (t : Tree) (table : Table) → IsTable table → (y : Option SymbolId) (f : ReferenceFlags) → AreAlike t table (with_new_reference table y f)
+
+-- ---- what a table is built from
+
+-- the entries of a tree have its identifiers that declare and its references, in order
+abbrev pub BindingsLaw : Type 0
+BindingsLaw = (t : Tree) → bindings_in (entries_of t) ≡ bindings_of t
+
+abbrev pub ReferencesLaw : Type 0
+ReferencesLaw = (t : Tree) → references_in (entries_of t) ≡ references_of t
+
+-- each names scopes that stand before it
+abbrev pub OrderLaw : Type 0
+OrderLaw = (t : Tree) → AreOrdered 0 (entries_of t)
+
+-- the scopes of a built table are those of the tree, by their flags, and so are its references
+abbrev pub BuiltScopesLaw : Type 0
+BuiltScopesLaw = (t : Tree) → map (option_map (λ x. x.flags)) (built_table t).scopes ≡ map (λ x. Some x.flags) (scopes_of t)
+
+abbrev pub BuiltReferencesLaw : Type 0
+BuiltReferencesLaw = (t : Tree) → map (λ r. r.flags) (built_table t).references ≡ map (λ r. r.flags) (references_of t)

@@ -1,6 +1,6 @@
-// The laws of agreement: functions that do nothing.
+// The laws of agreement and of built tables: functions that do nothing.
 
-ghost use Rattle.es_scopes.specs.Law.{AlikeLaw, MeaningLaw, ScopeFlagsLaw, SymbolFlagsLaw, NewScopeLaw, ParentLaw, BindingLaw, NameLaw, MarkLaw, ReferenceFlagsLaw, TargetLaw, NewReferenceLaw};
+ghost use Rattle.es_scopes.specs.Law.{AlikeLaw, MeaningLaw, ScopeFlagsLaw, SymbolFlagsLaw, NewScopeLaw, ParentLaw, BindingLaw, NameLaw, MarkLaw, ReferenceFlagsLaw, TargetLaw, NewReferenceLaw, BindingsLaw, ReferencesLaw, OrderLaw, BuiltScopesLaw, BuiltReferencesLaw};
 
 /// In a tree that agrees with a table, what a reference means is what its number says.
 pub fn references_mean_what_their_numbers_say()
@@ -32,4 +32,18 @@ pub fn references_stay_alike()
     ensures flags { ReferenceFlagsLaw }
     ensures target { TargetLaw }
     ensures added { NewReferenceLaw }
+{}
+
+/// The entries of a tree have its identifiers that declare and its references, in preorder, and each names
+/// scopes that stand before it.
+pub fn entries_are_those_of_the_tree()
+    ensures bindings { BindingsLaw }
+    ensures references { ReferencesLaw }
+    ensures order { OrderLaw }
+{}
+
+/// The scopes and the references of a built table are those of the tree, in preorder, with their flags.
+pub fn built_tables_have_the_flags_of_the_tree()
+    ensures scopes { BuiltScopesLaw }
+    ensures references { BuiltReferencesLaw }
 {}

@@ -1,7 +1,7 @@
 // What is known at a place of a tree from what stands around.
 
 ghost use Rattle.std.specs.Prelude.{◌≡◌};
-ghost use Rattle.es_scopes.specs.Surroundings.{nowhere};
+ghost use Rattle.es_scopes.specs.Surroundings.{lexical_scope, var_scope, nowhere};
 
 use es_base::ids::ScopeId;
 use crate::flags::{ReferenceFlags, ScopeFlags, SymbolFlags};
@@ -34,6 +34,28 @@ pub enum Declares {
         holder: Option<ScopeId>,
         declarer: Declarer,
     },
+}
+
+impl Declares {
+    /// The scope of the lexical names of a statement.
+    pub fn lexical_scope(self) -> Option<ScopeId>
+        ensures { result ≡ lexical_scope self }
+    {
+        match self {
+            Declares::Statement { lexical, .. } => lexical,
+            _ => None,
+        }
+    }
+
+    /// The scope of its `var`.
+    pub fn var_scope(self) -> Option<ScopeId>
+        ensures { result ≡ var_scope self }
+    {
+        match self {
+            Declares::Statement { var, .. } => var,
+            _ => None,
+        }
+    }
 }
 
 /// What is known at a place of a tree from what stands around.
