@@ -19,6 +19,7 @@ use Rattle.es_scopes.specs.NodeScopes.{opens, has_scope, is_strict, scope_flags}
 use Rattle.es_scopes.specs.Surroundings.{scope_place, inside, declares_in, lexical_scope, var_scope, in_scope, in_function, in_arrow, in_first, in_block, nested, is_pattern_part, passed_on}
 use Rattle.es_scopes.specs.declared.entry.Entry.{Entry}
 use Rattle.es_scopes.specs.declared.entry.Entry.TheVariants as entry
+use Rattle.es_scopes.specs.declared.flags.ScopeFlags.{ScopeFlags}
 use Rattle.es_scopes.specs.declared.surroundings.Declarer.{Declarer}
 use Rattle.es_scopes.specs.declared.surroundings.Declarer.TheVariants as declarer
 use Rattle.es_scopes.specs.declared.surroundings.Declares.{Declares}
@@ -710,6 +711,21 @@ module _ (w : ℕ → List ℕ → ℕ) (n : ℕ) where
   pattern-kinds Kind.BindingProperty holder who m ps is h = six-parts Kind.BindingProperty holder who m ps _ _ _ _ _ _ _ h (λ p q r s t u. omega (arith, bound-alone holder (bound_part no_class q)))
   pattern-kinds kind holder who m ps is h = absurd (true≢false (sym is))
 
+  -- such a node passes on what it declares
+  pattern-node : (kind : Kind) (holder : Option ScopeId) (who : Declarer) (m : ℕ) (ps : Parts) (own : ScopeId) → is_pattern_kind kind ≡ true → Parts_conform kind ps → own_held kind m ps (declares.Pattern holder who) + gives_parts (declares_in kind own ps (declares.Pattern holder who)) ps ≡ gives (declares.Pattern holder who) (child (Node kind m None None ps))
+  pattern-node Kind.BindingIdentifier holder who m ps own is h = pattern-kinds Kind.BindingIdentifier holder who m ps is h
+  pattern-node Kind.ObjectPattern holder who m ps own is h = pattern-kinds Kind.ObjectPattern holder who m ps is h
+  pattern-node Kind.ArrayPattern holder who m ps own is h = pattern-kinds Kind.ArrayPattern holder who m ps is h
+  pattern-node Kind.AssignmentPattern holder who m ps own is h = pattern-kinds Kind.AssignmentPattern holder who m ps is h
+  pattern-node Kind.RestElement holder who m ps own is h = pattern-kinds Kind.RestElement holder who m ps is h
+  pattern-node Kind.BindingProperty holder who m ps own is h = pattern-kinds Kind.BindingProperty holder who m ps is h
+  pattern-node Kind.VariableDeclarator holder who m ps own is h = pattern-kinds Kind.VariableDeclarator holder who m ps is h
+  pattern-node Kind.ImportSpecifier holder who m ps own is h = pattern-kinds Kind.ImportSpecifier holder who m ps is h
+  pattern-node Kind.ImportDefaultSpecifier holder who m ps own is h = pattern-kinds Kind.ImportDefaultSpecifier holder who m ps is h
+  pattern-node Kind.ImportNamespaceSpecifier holder who m ps own is h = pattern-kinds Kind.ImportNamespaceSpecifier holder who m ps is h
+  pattern-node Kind.Foreign holder who m ps own is h = pattern-kinds Kind.Foreign holder who m ps is h
+  pattern-node kind holder who m ps own is h = absurd (true≢false (sym is))
+
   -- a statement
   abbrev StatementGoal : Kind → ScopeId → ℕ → Parts → Option ScopeId → Option ScopeId → Type 0
   StatementGoal kind own m ps l v = own_held kind m ps (declares.Statement l v) + gives_parts (declares_in kind own ps (declares.Statement l v)) ps ≡ gives (declares.Statement l v) (child (Node kind m None None ps))
@@ -767,3 +783,175 @@ module _ (w : ℕ → List ℕ → ℕ) (n : ℕ) where
     nothing-kinds : (kind : Kind) (ps : Parts) → own_held kind m ps declares.Nothing + gives_parts (declares_in kind own ps declares.Nothing) ps ≡ 0
     nothing-kinds Kind.BindingIdentifier ps = omega (arith, quiet-parts (declares_in Kind.BindingIdentifier own ps declares.Nothing) ps (λ j. quiet-in own away Kind.BindingIdentifier ps declares.Nothing j tt))
     nothing-kinds kind ps = omega (arith, quiet-parts (declares_in kind own ps declares.Nothing) ps (λ j. quiet-in own away kind ps declares.Nothing j tt))
+
+  -- the body of a function
+  abbrev BodyGoal : Kind → ScopeId → ℕ → Parts → ScopeId → Type 0
+  BodyGoal kind own m ps q = own_held kind m ps (declares.Body q) + gives_parts (declares_in kind own ps (declares.Body q)) ps ≡ at_scope (Some q) (total (body_names (block_items (child (Node kind m None None ps)))))
+
+  both-zero : (xs : Parts) → (total (lexical_items xs) ≡ 0) × (total (var_items xs) ≡ 0) → total (body_names xs) ≡ 0
+  both-zero xs h = omega (arith, body-total xs, h.0, h.1)
+
+  mute-list : (computed : Bool) (place : Place) (p : Part) → IsSilentPlace place → part_conforms computed (Sort.List place) p ≡ true → total (body_names (items p)) ≡ 0
+  mute-list computed place (list ps) silent h = both-zero ps (mute-items false place ps silent h)
+  mute-list computed place (child t) silent h = refl
+  mute-list computed place absent silent h = refl
+  mute-list computed place (string s) silent h = refl
+  mute-list computed place no_string silent h = refl
+  mute-list computed place (boolean b) silent h = refl
+  mute-list computed place (literal v) silent h = refl
+
+  mute-some : (computed : Bool) (place : Place) (p : Part) → IsSilentPlace place → part_conforms computed (Sort.NonEmptyList place) p ≡ true → total (body_names (items p)) ≡ 0
+  mute-some computed place (list ps) silent h = both-zero ps (mute-items false place ps silent (and_parts _ _ h).1)
+  mute-some computed place (child t) silent h = refl
+  mute-some computed place absent silent h = refl
+  mute-some computed place (string s) silent h = refl
+  mute-some computed place no_string silent h = refl
+  mute-some computed place (boolean b) silent h = refl
+  mute-some computed place (literal v) silent h = refl
+
+  mute-holes : (computed : Bool) (place : Place) (p : Part) → IsSilentPlace place → part_conforms computed (Sort.ListWithHoles place) p ≡ true → total (body_names (items p)) ≡ 0
+  mute-holes computed place (list ps) silent h = both-zero ps (mute-items true place ps silent h)
+  mute-holes computed place (child t) silent h = refl
+  mute-holes computed place absent silent h = refl
+  mute-holes computed place (string s) silent h = refl
+  mute-holes computed place no_string silent h = refl
+  mute-holes computed place (boolean b) silent h = refl
+  mute-holes computed place (literal v) silent h = refl
+
+  block-body : (q : ScopeId) (computed : Bool) (p : Part) → part_conforms computed (Sort.List Place.Statement) p ≡ true → at_scope (Some q) (total (lexical_part p)) + at_scope (Some q) (total (var_part p)) ≡ at_scope (Some q) (total (body_names (items p)))
+  block-body q computed (list ps) h = omega (arith, at-plus (Some q) (total (lexical_items ps)) (total (var_items ps)), ap (at_scope (Some q)) (body-total ps))
+  block-body q computed (child t) h = absurd (true≢false (sym h))
+  block-body q computed absent h = omega (arith, at-zero (Some q))
+  block-body q computed (string s) h = omega (arith, at-zero (Some q))
+  block-body q computed no_string h = omega (arith, at-zero (Some q))
+  block-body q computed (boolean b) h = omega (arith, at-zero (Some q))
+  block-body q computed (literal v) h = omega (arith, at-zero (Some q))
+
+  -- a body whose first part declares nothing
+  silent-body : (kind : Kind) (own q : ScopeId) (m : ℕ) (ps : Parts) → own_held kind m ps (declares.Body q) + gives_parts (declares_in kind own ps (declares.Body q)) ps ≡ 0 → total (body_names (block_items (child (Node kind m None None ps)))) ≡ 0 → BodyGoal kind own m ps q
+  silent-body kind own q m ps left right = omega (arith, left, ap (at_scope (Some q)) right, at-zero (Some q))
+
+  module _ (own : ScopeId) (away : Away (Some own)) (m : ℕ) (q : ScopeId) where
+    first-mute : (kind : Kind) (ps : Parts) (computed : Bool) (f : Field) (fs : List Field) → parts_conform computed (f ∷ fs) ps ≡ true → ((p : Part) → part_conforms computed f.sort p ≡ true → total (body_names (items p)) ≡ 0) → total (body_names (block_items (child (Node kind m None None ps)))) ≡ 0
+    first-mute kind ps computed f fs h k =
+        let a = cons-of computed f fs ps h in
+        subst (λ (qs : Parts). total (body_names (block_items (child (Node kind m None None qs)))) ≡ 0) (sym a.is) (k a.first a.fits)
+
+    body-kinds : (kind : Kind) (ps : Parts) → is_block_or_expression kind ≡ true → Parts_conform kind ps → BodyGoal kind own m ps q
+    body-kinds Kind.BlockStatement ps is h =
+        let a = cons-of _ _ _ ps h in
+        let shape : ps ≡ more a.first end = a.is ∙ ap (more a.first) (nil-of _ a.rest a.others) in
+        subst (λ (qs : Parts). BodyGoal Kind.BlockStatement own m qs q) (sym shape) (omega (arith, block-body q _ a.first a.fits))
+    body-kinds Kind.ArrayExpression ps is h = silent-body Kind.ArrayExpression own q m ps (omega (arith, nothing-parts ps)) (first-mute Kind.ArrayExpression ps _ _ _ h (λ p fits. mute-holes _ Place.ExpressionOrSpread p silent-element fits))
+    body-kinds Kind.ObjectExpression ps is h = silent-body Kind.ObjectExpression own q m ps (omega (arith, nothing-parts ps)) (first-mute Kind.ObjectExpression ps _ _ _ h (λ p fits. mute-list _ Place.ObjectMember p silent-property fits))
+    body-kinds Kind.TemplateLiteral ps is h = silent-body Kind.TemplateLiteral own q m ps (omega (arith, nothing-parts ps)) (first-mute Kind.TemplateLiteral ps _ _ _ h (λ p fits. mute-list _ Place.TemplateElement p silent-quasi fits))
+    body-kinds Kind.SequenceExpression ps is h = silent-body Kind.SequenceExpression own q m ps (omega (arith, nothing-parts ps)) (first-mute Kind.SequenceExpression ps _ _ _ h (λ p fits. mute-some _ Place.Expression p silent-expression fits))
+    body-kinds Kind.ArrowFunctionExpression ps is h = silent-body Kind.ArrowFunctionExpression own q m ps (omega (arith, quiet-parts (in_arrow own) ps (λ j. quiet-in own away Kind.ArrowFunctionExpression ps declares.Nothing j tt))) (first-mute Kind.ArrowFunctionExpression ps _ _ _ h (λ p fits. mute-list _ Place.PatternOrRest p silent-parameter fits))
+    body-kinds kind ps is h =
+        silent-body kind own q m ps (omega (arith, quiet-parts (declares_in kind own ps (declares.Body q)) ps (λ j. quiet-in own away kind ps declares.Nothing j tt)))
+        (ap (λ (qs : Parts). total (body_names qs)) (first-empty kind m _ (members_of kind) ps (by_implies (is_expression kind) (first_no_list (members_of kind)) refl is) h))
+
+  -- ---- a tree
+
+  below-after : (b : Bool) (m : ℕ) → n < m → n < cond b (m + 1) m
+  below-after true m l = omega arith
+  below-after false m l = omega arith
+
+  below-more : (m k : ℕ) → n < m → m ≤ k → n < k
+  below-more m k l le = omega arith
+
+  own-away : (m : ℕ) → n < m → Away (Some (record { 0 = m }))
+  own-away m l x = ap (λ b. cond b x 0) (above_is_other m n l)
+
+  of-binding : (m : NodeId) (ps : Parts) (s : Surroundings) (d : Declares) → held (binding d m (string_of (at 0 ps)) s ∷ []) ≡ own_held Kind.BindingIdentifier m.0 ps d
+  of-binding m ps s declares.Nothing = refl
+  of-binding m ps s (declares.Statement lexical var) = refl
+  of-binding m ps s (declares.Body q) = refl
+  of-binding m ps s (declares.Pattern holder who) = omega arith
+
+  of-scope : (s : Surroundings) (a b : Bool) (f : ScopeFlags) → held (option_to_list (cond a (Some (cond b (entry.Scope s.scope s.in_parameters f) entry.Body)) None)) ≡ 0
+  of-scope s true true f = refl
+  of-scope s true false f = refl
+  of-scope s false b f = refl
+
+  entry-held : (kind : Kind) (m : NodeId) (ps : Parts) (s : Surroundings) → held (option_to_list (entry_of kind m ps s)) ≡ own_held kind m.0 ps s.declares
+  entry-held Kind.BindingIdentifier m ps s = of-binding m ps s s.declares
+  entry-held Kind.IdentifierReference m ps s = refl
+  entry-held kind m ps s = of-scope s (has_scope kind) (opens kind (scope_place s)) (scope_flags kind s.given.0 (is_strict kind ps (scope_place s)))
+
+  node-gives : (kind : Kind) (m next : ℕ) (ps : Parts) (place : Place) (d : Declares) → n < next → stands_in place kind ≡ true → fit_place d place ≡ true → Parts_conform kind ps → own_held kind m ps d + gives_parts (declares_in kind (record { 0 = next }) ps d) ps ≡ gives d (child (Node kind m None None ps))
+  node-gives kind m next ps place declares.Nothing l stands fit h = nothing-kinds (record { 0 = next }) (own-away next l) m None None kind ps
+  node-gives kind m next ps place (declares.Statement lexical var) l stands fit h = statement-kinds (record { 0 = next }) (own-away next l) m lexical var kind ps h
+  node-gives kind m next ps place (declares.Body q) l stands fit h = body-kinds (record { 0 = next }) (own-away next l) m q kind ps (by_implies (stands_in place kind) (is_block_or_expression kind) (body-place place fit kind) stands) h
+  node-gives kind m next ps place (declares.Pattern holder who) l stands fit h = pattern-node kind holder who m ps (record { 0 = next }) (by_implies (stands_in place kind) (is_pattern_kind kind) (binds-place place fit kind) stands) h
+
+  -- where it stands, and its semantic id, are no part of it
+  gives-anywhere : (d : Declares) (kind : Kind) (m : ℕ) (span : Option (ℕ × ℕ)) (id : Option ℕ) (ps : Parts) → gives d (child (Node kind m None None ps)) ≡ gives d (child (Node kind m span id ps))
+  gives-anywhere declares.Nothing kind m span id ps = refl
+  gives-anywhere (declares.Statement lexical var) kind m span id ps = refl
+  gives-anywhere (declares.Body q) kind m span id end = refl
+  gives-anywhere (declares.Body q) kind m span id (more p ps) = refl
+  gives-anywhere (declares.Pattern holder who) kind m span id ps = refl
+
+  joined : (x e o g t r : ℕ) → r ≡ e + g → e ≡ x + o → o + g ≡ t → r ≡ x + t
+  joined x e o g t r a b d = omega arith
+
+  mutual
+    pub held-tree : (place : Place) (s : Surroundings) (c : Collected) (t : Tree) → conforms place t ≡ true → fit_place s.declares place ≡ true → n < c.next → held (collected s c t).entries ≡ held c.entries + gives s.declares (child t)
+    held-tree place s c (Node kind m span id ps) h fit l =
+        let rules = and_parts (stands_in place kind) _ h in
+        let parts = (and_parts (kind_rule kind ps) _ (and_parts (place_rule place kind ps) _ rules.1).1).1 in
+        let own : ScopeId = record { 0 = c.next } in
+        joined (held c.entries) (held (entered kind (record { 0 = m }) ps s c).entries) (own_held kind m ps s.declares) (gives_parts (declares_in kind own ps s.declares) ps) (gives s.declares (child (Node kind m span id ps))) (held (collected s c (Node kind m span id ps)).entries)
+        (held-parts (inside kind own ps s) 0 (entered kind (record { 0 = m }) ps s c) _ (members_of kind) ps (declares_in kind own ps s.declares) (λ j. let same : 0 + j ≡ j = omega arith in ap (declares_in kind own ps s.declares) (sym same)) parts (fit-parts kind own ps s.declares) (below-after (opens kind (scope_place s)) c.next l))
+        (held-append c.entries (option_to_list (entry_of kind (record { 0 = m }) ps s)) ∙ ap (λ x. held c.entries + x) (entry-held kind (record { 0 = m }) ps s))
+        (node-gives kind m c.next ps place s.declares l rules.0 fit parts ∙ gives-anywhere s.declares kind m span id ps)
+
+    held-parts : (f : ℕ → Surroundings) (i : ℕ) (c : Collected) (computed : Bool) (fs : List Field) (ps : Parts) (ds : ℕ → Declares) → ((j : ℕ) → ds j ≡ (f (i + j)).declares) → parts_conform computed fs ps ≡ true → fit_all ds fs ≡ true → n < c.next → held (collected_parts f i c ps).entries ≡ held c.entries + gives_parts ds ps
+    held-parts f i c computed fs end ds same h fit l = omega arith
+    held-parts f i c computed [] (more p ps) ds same h fit l = absurd (true≢false (sym h))
+    held-parts f i c computed (g ∷ fs) (more p ps) ds same h fit l =
+        let both = and_parts (part_conforms computed g.sort p) (parts_conform computed fs ps) h in
+        let fits = and_parts (fit_sort (ds 0) g.sort) (fit_all (λ j. ds (suc j)) fs) fit in
+        let zero_th : i + 0 ≡ i = omega arith in
+        let here : ds 0 ≡ (f i).declares = same 0 ∙ ap (λ (k : ℕ). (f k).declares) zero_th in
+        omega (
+          arith,
+          held-part (f i) c computed g.sort p both.0 (ap (λ d. fit_sort d g.sort) (sym here) ∙ fits.0) l,
+          ap (λ d. gives d p) here,
+          held-parts f (i + 1) (collected_part (f i) c p) computed fs ps (λ j. ds (suc j)) (λ j. same (suc j) ∙ (let next : i + suc j ≡ (i + 1) + j = omega arith in ap (λ (k : ℕ). (f k).declares) next)) both.1 fits.1 (below-more c.next (collected_part (f i) c p).next l (more_in_part (f i) c p)),
+        )
+
+    held-part : (s : Surroundings) (c : Collected) (computed : Bool) (sort : Sort) (p : Part) → part_conforms computed sort p ≡ true → fit_sort s.declares sort ≡ true → n < c.next → held (collected_part s c p).entries ≡ held c.entries + gives s.declares p
+    held-part s c computed (Sort.Child place) (child t) h fit l = held-tree place s c t h fit l
+    held-part s c computed (Sort.Nullable place) (child t) h fit l = held-tree place s c t h fit l
+    held-part s c computed (Sort.Key place) (child t) h fit l = held-tree (key_place computed place) s c t h (key-fits s.declares (key_place computed place) fit) l
+    held-part s c computed sort (child t) h fit l = absurd (true≢false (sym h))
+    held-part s c computed (Sort.List place) (list ps) h fit l = omega (arith, held-items s c false place ps h fit l, gives-list s.declares ps place fit)
+    held-part s c computed (Sort.NonEmptyList place) (list ps) h fit l = omega (arith, held-items s c false place ps (and_parts _ _ h).1 fit l, gives-list s.declares ps place fit)
+    held-part s c computed (Sort.ListWithHoles place) (list ps) h fit l = omega (arith, held-items s c true place ps h fit l, gives-list s.declares ps place fit)
+    held-part s c computed sort (list ps) h fit l = absurd (true≢false (sym h))
+    held-part s c computed sort absent h fit l = omega (arith, gives-absent s.declares)
+    held-part s c computed sort (string b) h fit l = omega (arith, gives-string s.declares b)
+    held-part s c computed sort no_string h fit l = omega (arith, gives-no_string s.declares)
+    held-part s c computed sort (boolean b) h fit l = omega (arith, gives-boolean s.declares b)
+    held-part s c computed sort (literal v) h fit l = omega (arith, gives-literal s.declares v)
+
+    held-items : (s : Surroundings) (c : Collected) (holes : Bool) (place : Place) (ps : Parts) → items_conform holes place ps ≡ true → fit_list s.declares place ≡ true → n < c.next → held (collected_items s c ps).entries ≡ held c.entries + gives_items s.declares ps
+    held-items s c holes place end h fit l = omega arith
+    held-items s c holes place (more p ps) h fit l =
+        let both = and_parts (item_conforms holes place p) _ h in
+        omega (
+          arith,
+          held-item s c holes place p both.0 (list-fits s.declares place fit) l,
+          held-items s (collected_part s c p) holes place ps (and_parts _ _ both.1).1 fit (below-more c.next (collected_part s c p).next l (more_in_part s c p)),
+        )
+
+    held-item : (s : Surroundings) (c : Collected) (holes : Bool) (place : Place) (p : Part) → item_conforms holes place p ≡ true → fit_place s.declares place ≡ true → n < c.next → held (collected_part s c p).entries ≡ held c.entries + gives s.declares p
+    held-item s c holes place (child t) h fit l = held-tree place s c t h fit l
+    held-item s c holes place absent h fit l = omega (arith, gives-absent s.declares)
+    held-item s c holes place (list ps) h fit l = absurd (true≢false (sym h))
+    held-item s c holes place (string b) h fit l = absurd (true≢false (sym h))
+    held-item s c holes place no_string h fit l = absurd (true≢false (sym h))
+    held-item s c holes place (boolean b) h fit l = absurd (true≢false (sym h))
+    held-item s c holes place (literal v) h fit l = absurd (true≢false (sym h))
