@@ -3,7 +3,7 @@
 use Rattle.std.proofs.Common.{◌≡◌, refl, sym, ap, subst, ◌∙◌, ℕ, zero, suc, ◌+◌, ◌<◌, ◌≤◌, List, [], ◌∷◌, ◌++◌, Bool, true, false, true≢false, cond, ◌&&◌, not, nat_eq, Option, Some, None, arith}
 use Rattle.std.specs.Prelude.{option_to_list, codes, bytes_eq}
 use Rattle.std.proofs.lemmas.Bool.{and_parts}
-use Rattle.std.proofs.lemmas.Bool.Decides.{nat_tests}
+use Rattle.std.proofs.lemmas.Bool.Decides.{nat_tests, Decides-eqb}
 use Rattle.es_base.specs.Conforms.{conforms, parts_conform, part_conforms, items_conform, item_conforms, key_place, is_rest, is_end, place_rule, kind_rule, boolean_at}
 use Rattle.es_base.specs.Table.{Field, members_of, stands_in, is_expression}
 use Rattle.es_base.specs.Tree.{Tree, Part, Parts, Node, end, more, child, absent, list, string, no_string, boolean, literal}
@@ -14,6 +14,7 @@ use Rattle.es_base.specs.declared.literal.LiteralValue.{LiteralValue}
 use Rattle.es_base.specs.declared.table.Place.{Place}
 use Rattle.es_base.specs.declared.table.Sort.{Sort}
 use Rattle.es_base.specs.declared.table.Words.{Words}
+use Rattle.es_scopes.specs.Agreement.{names_of_node}
 use Rattle.es_scopes.specs.Entries.{Collected, binding, scope_entry, entry_of, entered, collected, collected_parts, collected_part, collected_items}
 use Rattle.es_scopes.specs.NodeScopes.{opens, has_scope, is_strict, scope_flags}
 use Rattle.es_scopes.specs.Surroundings.{scope_place, inside, declares_in, lexical_scope, var_scope, in_scope, in_function, in_arrow, in_first, in_block, nested, is_pattern_part, passed_on}
@@ -27,7 +28,7 @@ use Rattle.es_scopes.specs.declared.surroundings.Declares.TheVariants as declare
 use Rattle.es_scopes.specs.declared.surroundings.Surroundings.{Surroundings}
 use Rattle.es_scopes.proofs.OrderLemmas.{more_in_part}
 use Rattle.es_steps.specs.Parts.{at, items, block_items, string_of}
-use Rattle.es_steps.specs.Scopes.{Declaration, ClassName, no_class, declaration, is_binding_identifier, is_binding_place, binds, bound_names, bound_members, bound_part, bound_items, declarator_names, declarators_names, lexical_names, lexical_part, lexical_items, lexical_by, var_by, statement_form, other_statement, var_names, var_part, var_items, body_names, is_var, is_let, declares as class_declares}
+use Rattle.es_steps.specs.Scopes.{Declaration, ClassName, no_class, declaration, is_binding_identifier, is_binding_place, binds, bound_names, bound_members, bound_part, bound_items, declarator_names, declarators_names, lexical_names, lexical_part, lexical_items, lexical_by, var_by, statement_form, other_statement, var_names, var_part, var_items, body_names, is_var, is_let, declares as class_declares, own_name as class_own}
 
 -- ---- what a place asks of what is declared there
 
@@ -955,3 +956,174 @@ module _ (w : ℕ → List ℕ → ℕ) (n : ℕ) where
     held-item s c holes place no_string h fit l = absurd (true≢false (sym h))
     held-item s c holes place (boolean b) h fit l = absurd (true≢false (sym h))
     held-item s c holes place (literal v) h fit l = absurd (true≢false (sym h))
+
+  -- ---- the scope of a node itself
+
+  at-own : (x : ℕ) → at_scope (Some (record { 0 = n })) x ≡ x
+  at-own x = ap (λ b. cond b x 0) ((Decides-eqb n n).1 refl)
+
+  total-alone : (xs : List Declaration) → total (xs ++ []) ≡ total xs
+  total-alone xs = omega (arith, total-append xs [])
+
+  plain-mute : (p : Part) → IsPlain p → Mute p
+  plain-mute (child t) h = absurd h
+  plain-mute absent h = (refl, refl)
+  plain-mute (list ps) h = absurd h
+  plain-mute (string s) h = (refl, refl)
+  plain-mute no_string h = (refl, refl)
+  plain-mute (boolean b) h = (refl, refl)
+  plain-mute (literal v) h = (refl, refl)
+
+  plain-body : (p : Part) → IsPlain p → total (body_names (block_items p)) ≡ 0
+  plain-body (child t) h = absurd h
+  plain-body absent h = refl
+  plain-body (list ps) h = absurd h
+  plain-body (string s) h = refl
+  plain-body no_string h = refl
+  plain-body (boolean b) h = refl
+  plain-body (literal v) h = refl
+
+  list-lexical : (computed : Bool) (place : Place) (p : Part) → part_conforms computed (Sort.List place) p ≡ true → total (lexical_part p) ≡ total (lexical_items (items p))
+  list-lexical computed place (list ps) h = refl
+  list-lexical computed place (child t) h = absurd (true≢false (sym h))
+  list-lexical computed place absent h = refl
+  list-lexical computed place (string s) h = refl
+  list-lexical computed place no_string h = refl
+  list-lexical computed place (boolean b) h = refl
+  list-lexical computed place (literal v) h = refl
+
+  -- what the scope of a node holds, and what its parts declare there
+  abbrev OwnGoal : Kind → ℕ → Parts → Declares → Type 0
+  OwnGoal kind m ps d = gives_parts (declares_in kind (record { 0 = n }) ps d) ps ≡ total (names_of_node (Node kind m None None ps))
+
+  abbrev mine : Option ScopeId
+  mine = Some (record { 0 = n })
+
+  program-own : (m : ℕ) (d : Declares) (computed : Bool) (a b : Part) → IsPlain a → part_conforms computed (Sort.List Place.Statement) b ≡ true → OwnGoal Kind.Program m (more a (more b end)) d
+  program-own m d computed a b plain h = omega (arith, ap (at_scope mine) (plain-mute a plain).0, ap (at_scope mine) (plain-mute a plain).1, at-zero mine, block-body (record { 0 = n }) computed b h, at-own (total (body_names (items b))), total-alone (body_names (items b)))
+
+  static-own : (m : ℕ) (d : Declares) (computed : Bool) (a : Part) → part_conforms computed (Sort.List Place.Statement) a ≡ true → OwnGoal Kind.StaticBlock m (more a end) d
+  static-own m d computed a h = omega (arith, block-body (record { 0 = n }) computed a h, at-own (total (body_names (items a))), total-alone (body_names (items a)))
+
+  declaration-own : (m : ℕ) (d : Declares) (a b c e f : Part) → Quiet d → IsPlain e → IsPlain f → OwnGoal Kind.FunctionDeclaration m (more a (more b (more c (more e (more f end))))) d
+  declaration-own m d a b c e f quiet is_e is_f = omega (
+    arith, quiet-lexical d quiet (total (bound_part no_class a)), at-own (total (bound_part no_class b)), at-own (total (body_names (block_items c))), at-own (total (body_names (block_items e))), plain-body e is_e,
+    at-own (total (body_names (block_items f))), plain-body f is_f, total-append (bound_part no_class b) (body_names (block_items c)), total-alone (bound_part no_class b ++ body_names (block_items c)),
+  )
+
+  expression-own : (m : ℕ) (d : Declares) (a b c e f : Part) → IsPlain e → IsPlain f → OwnGoal Kind.FunctionExpression m (more a (more b (more c (more e (more f end))))) d
+  expression-own m d a b c e f is_e is_f = omega (
+    arith, at-own (total (bound_part no_class a)), at-own (total (bound_part no_class b)), at-own (total (body_names (block_items c))), at-own (total (body_names (block_items e))), plain-body e is_e,
+    at-own (total (body_names (block_items f))), plain-body f is_f, total-append (bound_part no_class b) (body_names (block_items c)), total-append (bound_part no_class b ++ body_names (block_items c)) (bound_part no_class a),
+  )
+
+  arrow-own : (m : ℕ) (d : Declares) (a b c : Part) → IsPlain c → OwnGoal Kind.ArrowFunctionExpression m (more a (more b (more c end))) d
+  arrow-own m d a b c is_c = omega (
+    arith, at-own (total (bound_part no_class a)), at-own (total (body_names (block_items b))), at-own (total (body_names (block_items c))), plain-body c is_c,
+    total-append (bound_part no_class a) (body_names (block_items b)), total-alone (bound_part no_class a ++ body_names (block_items b)),
+  )
+
+  away-later : (j : ℕ) → Away (cond (nat_eq (suc j) 0) mine None)
+  away-later j = subst (λ (b : Bool). Away (cond b mine None)) (sym (suc_not_zero j)) away-none
+
+  loop-own : (v : Option ScopeId) (ps : Parts) → Away v → gives_parts (λ j. declares.Statement (cond (nat_eq j 0) mine None) v) ps ≡ total (lexical_part (at 0 ps) ++ [])
+  loop-own v end away = refl
+  loop-own v (more p ps) away = omega (arith, at-own (total (lexical_part p)), away (total (var_part p)), quiet-parts (λ j. declares.Statement (cond (nat_eq (suc j) 0) mine None) v) ps (λ j. (away-later j, away)), total-alone (lexical_part p))
+
+  switch-own : (v : Option ScopeId) (a b : Part) → Away v → gives_parts (λ j. declares.Statement (cond (nat_eq j 1) mine None) v) (more a (more b end)) ≡ total (lexical_part b ++ [])
+  switch-own v a b away = omega (arith, away (total (var_part a)), at-own (total (lexical_part b)), away (total (var_part b)), total-alone (lexical_part b))
+
+  block-own : (v : Option ScopeId) (computed : Bool) (a : Part) → Away v → part_conforms computed (Sort.List Place.Statement) a ≡ true → gives_parts (λ j. declares.Statement mine v) (more a end) ≡ total (lexical_items (items a) ++ [])
+  block-own v computed a away h = omega (arith, at-own (total (lexical_part a)), away (total (var_part a)), list-lexical computed Place.Statement a h, total-alone (lexical_items (items a)))
+
+  catch-own : (v : Option ScopeId) (a b : Part) → Away v → gives_parts (λ j. cond (nat_eq j 0) (in_scope mine) (declares.Statement None v)) (more a (more b end)) ≡ total (bound_part no_class a ++ [])
+  catch-own v a b away = omega (arith, at-own (total (bound_part no_class a)), away (total (var_part b)), total-alone (bound_part no_class a))
+
+  boolean-plain : (computed : Bool) (p : Part) → part_conforms computed Sort.Boolean p ≡ true → IsPlain p
+  boolean-plain computed (child t) h = true≢false (sym h)
+  boolean-plain computed absent h = tt
+  boolean-plain computed (list ps) h = true≢false (sym h)
+  boolean-plain computed (string s) h = tt
+  boolean-plain computed no_string h = tt
+  boolean-plain computed (boolean b) h = tt
+  boolean-plain computed (literal v) h = tt
+
+  abbrev NoBody : Declares → Type 0
+  NoBody (declares.Body s) = ⊥
+  NoBody d = Unit
+
+  block-kinds : (m : ℕ) (d : Declares) (computed : Bool) (a : Part) → Quiet d → NoBody d → part_conforms computed (Sort.List Place.Statement) a ≡ true → OwnGoal Kind.BlockStatement m (more a end) d
+  block-kinds m declares.Nothing computed a quiet none h = block-own None computed a away-none h
+  block-kinds m (declares.Statement lexical var) computed a quiet none h = block-own var computed a quiet.1 h
+  block-kinds m (declares.Body s) computed a quiet none h = absurd none
+  block-kinds m (declares.Pattern holder who) computed a quiet none h = block-own None computed a away-none h
+
+  own-kinds : (kind : Kind) (m : ℕ) (ps : Parts) (d : Declares) → has_scope kind ≡ true → Quiet d → (kind ≡ Kind.BlockStatement → NoBody d) → Parts_conform kind ps → OwnGoal kind m ps d
+  own-kinds Kind.Program m ps d is quiet none h =
+      let a = cons-of _ _ _ ps h in
+      let b = cons-of _ _ _ a.rest a.others in
+      let shape : ps ≡ more a.first (more b.first end) = a.is ∙ ap (more a.first) (b.is ∙ ap (more b.first) (nil-of _ b.rest b.others)) in
+      subst (λ (qs : Parts). OwnGoal Kind.Program m qs d) (sym shape) (program-own m d _ a.first b.first (word-plain _ _ a.first a.fits) b.fits)
+  own-kinds Kind.StaticBlock m ps d is quiet none h =
+      let a = cons-of _ _ _ ps h in
+      let shape : ps ≡ more a.first end = a.is ∙ ap (more a.first) (nil-of _ a.rest a.others) in
+      subst (λ (qs : Parts). OwnGoal Kind.StaticBlock m qs d) (sym shape) (static-own m d _ a.first a.fits)
+  own-kinds Kind.FunctionDeclaration m ps d is quiet none h =
+      let a = cons-of _ _ _ ps h in
+      let b = cons-of _ _ _ a.rest a.others in
+      let c = cons-of _ _ _ b.rest b.others in
+      let e = cons-of _ _ _ c.rest c.others in
+      let f = cons-of _ _ _ e.rest e.others in
+      let shape : ps ≡ more a.first (more b.first (more c.first (more e.first (more f.first end)))) = a.is ∙ ap (more a.first) (b.is ∙ ap (more b.first) (c.is ∙ ap (more c.first) (e.is ∙ ap (more e.first) (f.is ∙ ap (more f.first) (nil-of _ f.rest f.others))))) in
+      subst (λ (qs : Parts). OwnGoal Kind.FunctionDeclaration m qs d) (sym shape) (declaration-own m d a.first b.first c.first e.first f.first quiet (boolean-plain _ e.first e.fits) (boolean-plain _ f.first f.fits))
+  own-kinds Kind.FunctionExpression m ps d is quiet none h =
+      let a = cons-of _ _ _ ps h in
+      let b = cons-of _ _ _ a.rest a.others in
+      let c = cons-of _ _ _ b.rest b.others in
+      let e = cons-of _ _ _ c.rest c.others in
+      let f = cons-of _ _ _ e.rest e.others in
+      let shape : ps ≡ more a.first (more b.first (more c.first (more e.first (more f.first end)))) = a.is ∙ ap (more a.first) (b.is ∙ ap (more b.first) (c.is ∙ ap (more c.first) (e.is ∙ ap (more e.first) (f.is ∙ ap (more f.first) (nil-of _ f.rest f.others))))) in
+      subst (λ (qs : Parts). OwnGoal Kind.FunctionExpression m qs d) (sym shape) (expression-own m d a.first b.first c.first e.first f.first (boolean-plain _ e.first e.fits) (boolean-plain _ f.first f.fits))
+  own-kinds Kind.ArrowFunctionExpression m ps d is quiet none h =
+      let a = cons-of _ _ _ ps h in
+      let b = cons-of _ _ _ a.rest a.others in
+      let c = cons-of _ _ _ b.rest b.others in
+      let shape : ps ≡ more a.first (more b.first (more c.first end)) = a.is ∙ ap (more a.first) (b.is ∙ ap (more b.first) (c.is ∙ ap (more c.first) (nil-of _ c.rest c.others))) in
+      subst (λ (qs : Parts). OwnGoal Kind.ArrowFunctionExpression m qs d) (sym shape) (arrow-own m d a.first b.first c.first (boolean-plain _ c.first c.fits))
+  own-kinds Kind.ClassDeclaration m ps d is quiet none h = quiet-parts (in_first (in_scope (lexical_scope d))) ps (λ j. quiet-cond (nat_eq j 0) _ _ (quiet-lexical d quiet) tt)
+  own-kinds Kind.ClassExpression m ps d is quiet none h = omega (arith, first-parts (in_first (in_scope mine)) mine ps refl (λ j. quiet-after _ _ j tt), at-own (total (bound_part no_class (at 0 ps))), total-part (class_own m) (at 0 ps), total-alone (bound_part (class_own m) (at 0 ps)))
+  own-kinds Kind.BlockStatement m ps d is quiet none h =
+      let a = cons-of _ _ _ ps h in
+      let shape : ps ≡ more a.first end = a.is ∙ ap (more a.first) (nil-of _ a.rest a.others) in
+      subst (λ (qs : Parts). OwnGoal Kind.BlockStatement m qs d) (sym shape) (block-kinds m d _ a.first quiet (none refl) a.fits)
+  own-kinds Kind.ForStatement m ps d is quiet none h = loop-own (var_scope d) ps (quiet-var d quiet)
+  own-kinds Kind.ForInStatement m ps d is quiet none h = loop-own (var_scope d) ps (quiet-var d quiet)
+  own-kinds Kind.ForOfStatement m ps d is quiet none h = loop-own (var_scope d) ps (quiet-var d quiet)
+  own-kinds Kind.SwitchStatement m ps d is quiet none h =
+      let a = cons-of _ _ _ ps h in
+      let b = cons-of _ _ _ a.rest a.others in
+      let shape : ps ≡ more a.first (more b.first end) = a.is ∙ ap (more a.first) (b.is ∙ ap (more b.first) (nil-of _ b.rest b.others)) in
+      subst (λ (qs : Parts). OwnGoal Kind.SwitchStatement m qs d) (sym shape) (switch-own (var_scope d) a.first b.first (quiet-var d quiet))
+  own-kinds Kind.CatchClause m ps d is quiet none h =
+      let a = cons-of _ _ _ ps h in
+      let b = cons-of _ _ _ a.rest a.others in
+      let shape : ps ≡ more a.first (more b.first end) = a.is ∙ ap (more a.first) (b.is ∙ ap (more b.first) (nil-of _ b.rest b.others)) in
+      subst (λ (qs : Parts). OwnGoal Kind.CatchClause m qs d) (sym shape) (catch-own (var_scope d) a.first b.first (quiet-var d quiet))
+  own-kinds kind m ps d is quiet none h = absurd (true≢false (sym is))
+
+  -- a node with a scope is no identifier
+  own-plus : (kind : Kind) (m : ℕ) (ps : Parts) (d : Declares) (x y : ℕ) → has_scope kind ≡ true → x ≡ y → own_held kind m ps d + x ≡ y
+  own-plus Kind.BindingIdentifier m ps d x y is e = absurd (true≢false (sym is))
+  own-plus kind m ps d x y is e = omega arith
+
+  -- the scope of a node gets the names that `es_steps` collects for it
+  pub own-tree : (place : Place) (s : Surroundings) (c : Collected) (kind : Kind) (m : ℕ) (span : Option (ℕ × ℕ)) (id : Option ℕ) (ps : Parts) → conforms place (Node kind m span id ps) ≡ true → has_scope kind ≡ true → opens kind (scope_place s) ≡ true → c.next ≡ n → Quiet s.declares → (kind ≡ Kind.BlockStatement → NoBody s.declares) → held (collected s c (Node kind m span id ps)).entries ≡ held c.entries + total (names_of_node (Node kind m span id ps))
+  own-tree place s c kind m span id ps h has is_open next quiet none =
+      let rules = and_parts (stands_in place kind) _ h in
+      let parts = (and_parts (kind_rule kind ps) _ (and_parts (place_rule place kind ps) _ rules.1).1).1 in
+      let own : ScopeId = record { 0 = c.next } in
+      let after : n < cond (opens kind (scope_place s)) (c.next + 1) c.next = subst (λ (b : Bool). n < cond b (c.next + 1) c.next) (sym is_open) (omega (arith, next)) in
+      joined (held c.entries) (held (entered kind (record { 0 = m }) ps s c).entries) (own_held kind m ps s.declares) (gives_parts (declares_in kind own ps s.declares) ps) (total (names_of_node (Node kind m span id ps))) (held (collected s c (Node kind m span id ps)).entries)
+      (held-parts (inside kind own ps s) 0 (entered kind (record { 0 = m }) ps s c) _ (members_of kind) ps (declares_in kind own ps s.declares) (λ j. let same : 0 + j ≡ j = omega arith in ap (declares_in kind own ps s.declares) (sym same)) parts (fit-parts kind own ps s.declares) after)
+      (held-append c.entries (option_to_list (entry_of kind (record { 0 = m }) ps s)) ∙ ap (λ x. held c.entries + x) (entry-held kind (record { 0 = m }) ps s))
+      (own-plus kind m ps s.declares _ _ has (ap (λ (q : ℕ). gives_parts (declares_in kind (record { 0 = q }) ps s.declares) ps) next ∙ own-kinds kind m ps s.declares has quiet none parts))
