@@ -15,9 +15,10 @@ use Rattle.es_base.specs.declared.table.Place.{Place}
 use Rattle.es_base.specs.declared.table.Sort.{Sort}
 use Rattle.es_base.specs.declared.table.Words.{Words}
 use Rattle.es_scopes.specs.Agreement.{names_of_node}
-use Rattle.es_scopes.specs.Entries.{Collected, binding, scope_entry, entry_of, entered, collected, collected_parts, collected_part, collected_items}
+use Rattle.es_scopes.specs.Entries.{Collected, binding, scope_entry, entry_of, entered, collected, collected_parts, collected_part, collected_items, nothing_yet, entries_of}
+use Rattle.es_scopes.specs.Held.{weight, scope_gets, held_weight, given_weight, IsElsewhere, IsNoBody}
 use Rattle.es_scopes.specs.NodeScopes.{opens, has_scope, is_strict, scope_flags}
-use Rattle.es_scopes.specs.Surroundings.{scope_place, inside, declares_in, lexical_scope, var_scope, in_scope, in_function, in_arrow, in_first, in_block, nested, is_pattern_part, passed_on}
+use Rattle.es_scopes.specs.Surroundings.{scope_place, inside, declares_in, lexical_scope, var_scope, in_scope, in_function, in_arrow, in_first, in_block, nested, is_pattern_part, passed_on, nowhere}
 use Rattle.es_scopes.specs.declared.entry.Entry.{Entry}
 use Rattle.es_scopes.specs.declared.entry.Entry.TheVariants as entry
 use Rattle.es_scopes.specs.declared.flags.ScopeFlags.{ScopeFlags}
@@ -312,31 +313,24 @@ tree_kind (Node kind m span id ps) = kind
 -- ---- weights
 
 module _ (w : ℕ → List ℕ → ℕ) (n : ℕ) where
-  abbrev pub total : List Declaration → ℕ
-  total [] = 0
-  total (d ∷ ds) = w d.number d.spelling + total ds
+  abbrev total : List Declaration → ℕ
+  total ds = weight w ds
 
   -- what scope n gets of it
-  abbrev pub at_scope : Option ScopeId → ℕ → ℕ
-  at_scope None x = 0
-  at_scope (Some s) x = cond (nat_eq s.0 n) x 0
+  abbrev at_scope : Option ScopeId → ℕ → ℕ
+  at_scope o x = scope_gets n o x
 
-  abbrev pub held : List Entry → ℕ
-  held [] = 0
-  held (entry.Binding node holder who name flags head ∷ es) = at_scope holder (w node.0 name) + held es
-  held (e ∷ es) = held es
+  abbrev held : List Entry → ℕ
+  held es = held_weight w n es
 
-  abbrev pub gives : Declares → Part → ℕ
-  gives declares.Nothing p = 0
-  gives (declares.Statement lexical var) p = at_scope lexical (total (lexical_part p)) + at_scope var (total (var_part p))
-  gives (declares.Body s) p = at_scope (Some s) (total (body_names (block_items p)))
-  gives (declares.Pattern holder who) p = at_scope holder (total (bound_part no_class p))
+  abbrev gives : Declares → Part → ℕ
+  gives d p = given_weight w n d p
 
-  abbrev pub gives_parts : (ℕ → Declares) → Parts → ℕ
+  abbrev gives_parts : (ℕ → Declares) → Parts → ℕ
   gives_parts ds end = 0
   gives_parts ds (more p ps) = gives (ds 0) p + gives_parts (λ j. ds (suc j)) ps
 
-  abbrev pub gives_items : Declares → Parts → ℕ
+  abbrev gives_items : Declares → Parts → ℕ
   gives_items d end = 0
   gives_items d (more p ps) = gives d p + gives_items d ps
 
@@ -359,7 +353,7 @@ module _ (w : ℕ → List ℕ → ℕ) (n : ℕ) where
   cond-plus true x y = refl
   cond-plus false x y = omega arith
 
-  pub at-zero : (o : Option ScopeId) → at_scope o 0 ≡ 0
+  at-zero : (o : Option ScopeId) → at_scope o 0 ≡ 0
   at-zero None = refl
   at-zero (Some s) = cond-zero (nat_eq s.0 n)
 
@@ -376,10 +370,7 @@ module _ (w : ℕ → List ℕ → ℕ) (n : ℕ) where
   Away o = (x : ℕ) → at_scope o x ≡ 0
 
   abbrev Quiet : Declares → Type 0
-  Quiet declares.Nothing = Unit
-  Quiet (declares.Statement lexical var) = Away lexical × Away var
-  Quiet (declares.Body s) = Away (Some s)
-  Quiet (declares.Pattern holder who) = Away holder
+  Quiet d = IsElsewhere n d
 
   away-none : Away None
   away-none x = refl
@@ -1049,8 +1040,7 @@ module _ (w : ℕ → List ℕ → ℕ) (n : ℕ) where
   boolean-plain computed (literal v) h = tt
 
   abbrev NoBody : Declares → Type 0
-  NoBody (declares.Body s) = ⊥
-  NoBody d = Unit
+  NoBody d = IsNoBody d
 
   block-kinds : (m : ℕ) (d : Declares) (computed : Bool) (a : Part) → Quiet d → NoBody d → part_conforms computed (Sort.List Place.Statement) a ≡ true → OwnGoal Kind.BlockStatement m (more a end) d
   block-kinds m declares.Nothing computed a quiet none h = block-own None computed a away-none h
@@ -1127,3 +1117,12 @@ module _ (w : ℕ → List ℕ → ℕ) (n : ℕ) where
       (held-parts (inside kind own ps s) 0 (entered kind (record { 0 = m }) ps s c) _ (members_of kind) ps (declares_in kind own ps s.declares) (λ j. let same : 0 + j ≡ j = omega arith in ap (declares_in kind own ps s.declares) (sym same)) parts (fit-parts kind own ps s.declares) after)
       (held-append c.entries (option_to_list (entry_of kind (record { 0 = m }) ps s)) ∙ ap (λ x. held c.entries + x) (entry-held kind (record { 0 = m }) ps s))
       (own-plus kind m ps s.declares _ _ has (ap (λ (q : ℕ). gives_parts (declares_in kind (record { 0 = q }) ps s.declares) ps) next ∙ own-kinds kind m ps s.declares has quiet none parts))
+
+pub program-names : (w : ℕ → List ℕ → ℕ) (m : ℕ) (span : Option (ℕ × ℕ)) (id : Option ℕ) (ps : Parts) → conforms Place.Program (Node Kind.Program m span id ps) ≡ true → held_weight w 0 (entries_of (Node Kind.Program m span id ps)) ≡ weight w (names_of_node (Node Kind.Program m span id ps))
+program-names w m span id ps h = own-tree w 0 Place.Program nowhere nothing_yet Kind.Program m span id ps h refl refl refl tt (λ e. tt) ∙ omega arith
+
+statement-given : (w : ℕ → List ℕ → ℕ) (n : ℕ) (d : Declares) (lexical var : Option ScopeId) (t : Tree) → d ≡ declares.Statement lexical var → given_weight w n d (child t) ≡ scope_gets n lexical (weight w (lexical_names t)) + scope_gets n var (weight w (var_names t))
+statement-given w n d lexical var t is = ap (λ e. given_weight w n e (child t)) is
+
+pub statement-names : (w : ℕ → List ℕ → ℕ) (n : ℕ) (s : Surroundings) (c : Collected) (lexical var : Option ScopeId) (t : Tree) → conforms Place.Statement t ≡ true → s.declares ≡ declares.Statement lexical var → n < c.next → held_weight w n (collected s c t).entries ≡ held_weight w n c.entries + (scope_gets n lexical (weight w (lexical_names t)) + scope_gets n var (weight w (var_names t)))
+statement-names w n s c lexical var t h is l = held-tree w n Place.Statement s c t h (ap (λ d. fit_place d Place.Statement) is) l ∙ ap (λ x. held_weight w n c.entries + x) (statement-given w n s.declares lexical var t is)

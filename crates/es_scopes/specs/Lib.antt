@@ -2,6 +2,7 @@ pub mod Agreement
 pub mod Bindings
 pub mod Built
 pub mod Entries
+pub mod Held
 pub mod Law
 pub mod NodeBindings
 pub mod NodeReferences

@@ -1,6 +1,6 @@
 // The laws of agreement and of built tables: functions that do nothing.
 
-ghost use Rattle.es_scopes.specs.Law.{AlikeLaw, MeaningLaw, ScopeFlagsLaw, SymbolFlagsLaw, NewScopeLaw, ParentLaw, BindingLaw, NameLaw, MarkLaw, ReferenceFlagsLaw, TargetLaw, NewReferenceLaw, BindingsLaw, ReferencesLaw, OrderLaw, BuiltScopesLaw, BuiltReferencesLaw};
+ghost use Rattle.es_scopes.specs.Law.{AlikeLaw, MeaningLaw, ScopeFlagsLaw, SymbolFlagsLaw, NewScopeLaw, ParentLaw, BindingLaw, NameLaw, MarkLaw, ReferenceFlagsLaw, TargetLaw, NewReferenceLaw, BindingsLaw, ReferencesLaw, OrderLaw, BuiltScopesLaw, BuiltReferencesLaw, OwnNamesLaw, ProgramNamesLaw, StatementNamesLaw};
 
 /// In a tree that agrees with a table, what a reference means is what its number says.
 pub fn references_mean_what_their_numbers_say()
@@ -46,4 +46,13 @@ pub fn entries_are_those_of_the_tree()
 pub fn built_tables_have_the_flags_of_the_tree()
     ensures scopes { BuiltScopesLaw }
     ensures references { BuiltReferencesLaw }
+{}
+
+/// The names that a scope gets among the entries of a tree that conforms are those that the definitions of
+/// `es_steps` collect: for the scope of a node, for that of a program, and for the scopes around a
+/// statement.
+pub fn scopes_get_the_names_collected_for_them()
+    ensures own { OwnNamesLaw }
+    ensures program { ProgramNamesLaw }
+    ensures statement { StatementNamesLaw }
 {}

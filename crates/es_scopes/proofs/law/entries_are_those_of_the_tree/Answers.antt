@@ -1,7 +1,6 @@
 use Rattle.es_scopes.proofs.BindingOrder.{bindings-entries}
 use Rattle.es_scopes.proofs.OrderLemmas.{entries-ordered}
 use Rattle.es_scopes.proofs.ReferenceOrder.{references-entries}
-use Rattle.es_scopes.proofs.HeldNames.{at-zero}
 use Rattle.es_scopes.proofs.law.entries_are_those_of_the_tree.Goals as goal
 
 pub returns-clause-bindings : goal.returns-clause-bindings
