@@ -1,16 +1,14 @@
 -- A table that is changed where a tree does not look agrees with it still.
-use Rattle.std.proofs.Common.{◌≡◌, refl, sym, ap, subst, ◌∙◌, ℕ, List, Option, Some, None, false}
-use Rattle.std.specs.Prelude.{is_some, Contains, ◌↔◌}
+use Rattle.std.proofs.Common.{◌≡◌, sym, ap, subst, ◌∙◌, ℕ, List, Some}
+use Rattle.std.specs.Prelude.{is_some, Contains}
 use Rattle.es_base.specs.Carried.{scope_number, symbol_number}
 use Rattle.es_base.specs.Conforms.{is_among}
 use Rattle.es_base.specs.Tree.{Tree}
 use Rattle.es_base.specs.declared.ids.ScopeId.{ScopeId}
-use Rattle.es_base.specs.declared.ids.SymbolId.{SymbolId}
 use Rattle.es_base.specs.declared.ids.ReferenceId.{ReferenceId}
 use Rattle.es_scopes.specs.Agreement.{Agrees, AreAlike, CarriesScope, CarriesReference, carried, HasScopeOf, HasSymbolOf, HasReferenceOf, target_number, meant_symbol}
-use Rattle.es_scopes.specs.NodeBindings.{NodeBinding, bindings_of}
 use Rattle.es_scopes.specs.NodeScopes.{NodeScope, scopes_of}
-use Rattle.es_scopes.specs.Table.{Table, name_of, IsMutated}
+use Rattle.es_scopes.specs.Table.{Table}
 use Rattle.es_steps.specs.References.{Reference, resolve}
 
 module _ (t : Tree) (before after : Table) (alike : AreAlike t before after) where

@@ -1,18 +1,17 @@
 -- After which calls a table is as it was for a tree.
-use Rattle.std.proofs.Common.{◌≡◌, ◌≢◌, refl, sym, ap, subst, ◌∙◌, ℕ, ◌<◌, List, [], ◌∷◌, ◌++◌, length, Bool, true, false, true≢false, Option, Some, None, ◌⊎◌, inl, inr, arith}
-use Rattle.std.specs.Prelude.{is_some, option_map, slice_get, unwrap_or, MatchOption, Contains, ◌↔◌}
-use Rattle.std.specs.FinSet as set
+use Rattle.std.proofs.Common.{◌≡◌, ◌≢◌, refl, sym, ap, subst, ◌∙◌, ℕ, ◌<◌, List, [], ◌∷◌, ◌++◌, length, Bool, true, true≢false, Option, Some, None, ◌⊎◌, inl, inr}
+use Rattle.std.specs.Prelude.{is_some, option_map, slice_get, unwrap_or, MatchOption}
 use Rattle.std.specs.Option.{option_and_then}
 use Rattle.es_base.specs.Carried.{symbol_number}
 use Rattle.es_base.specs.Tree.{Tree}
 use Rattle.es_base.specs.declared.ids.ScopeId.{ScopeId}
 use Rattle.es_base.specs.declared.ids.SymbolId.{SymbolId}
 use Rattle.es_base.specs.declared.ids.ReferenceId.{ReferenceId}
-use Rattle.es_scopes.specs.Agreement.{AreAlike, HasScopeOf, HasSymbolOf, HasReferenceOf, target_number, carried}
-use Rattle.es_scopes.specs.Bindings.{Names, lookup, renamed}
+use Rattle.es_scopes.specs.Agreement.{AreAlike, HasScopeOf, HasSymbolOf, HasReferenceOf}
+use Rattle.es_scopes.specs.Bindings.{Names, lookup}
 use Rattle.es_scopes.specs.ReferenceNumbers.{ReferenceNumbers}
 use Rattle.es_scopes.specs.References.{HoldsWrite, writes}
-use Rattle.es_scopes.specs.Table.{Table, IsTable, HasScope, HasSymbol, HasReference, IsMutated, row_at, names_of_row, changed_at, listed, scope_at, symbol_at, parent_of, scope_flagged, below, holding, renaming, called, symbol_flagged, marked, reference_flagged, targeted, new_scope, new_symbol, with_scope_flags, with_parent, with_new_scope, with_binding, with_name, with_symbol_flags, with_reference_flags, with_target, with_new_reference, name_of}
+use Rattle.es_scopes.specs.Table.{Table, IsTable, HasScope, HasSymbol, HasReference, row_at, names_of_row, changed_at, listed, scope_flagged, below, holding, renaming, called, symbol_flagged, reference_flagged, targeted, new_scope, new_symbol, with_scope_flags, with_parent, with_new_scope, with_binding, with_name, with_symbol_flags, with_reference_flags, with_target, with_new_reference, name_of}
 use Rattle.es_scopes.specs.declared.flags.ScopeFlags.{ScopeFlags}
 use Rattle.es_scopes.specs.declared.flags.SymbolFlags.{SymbolFlags}
 use Rattle.es_scopes.specs.declared.flags.ReferenceFlags.{ReferenceFlags}

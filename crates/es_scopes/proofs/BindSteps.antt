@@ -1,6 +1,6 @@
 -- An identifier that declares a name again, and a name that is seen.
-use Rattle.std.proofs.Common.{◌≡◌, refl, sym, ap, subst, ◌∙◌, ℕ, List, [], ◌∷◌, ◌++◌, length, take, drop, Bool, true, false, cond, Option, Some, None}
-use Rattle.std.specs.Prelude.{is_some, slice_get, option_map}
+use Rattle.std.proofs.Common.{◌≡◌, sym, ap, ◌∙◌, ℕ, List, ◌∷◌, ◌++◌, length, take, drop, Bool, cond, Some, None}
+use Rattle.std.specs.Prelude.{is_some, slice_get}
 use Rattle.es_base.specs.declared.ids.ScopeId.{ScopeId}
 use Rattle.es_base.specs.declared.ids.SymbolId.{SymbolId}
 use Rattle.es_scopes.specs.Table.{Table, HasSymbol, changed_at, get_binding, or_else, symbol_flagged, with_symbol_flags}

@@ -1,10 +1,10 @@
 -- The names that are handed down to a scope around a tree are those that `es_steps` collects for it: lexical names, `var`,
 -- the names of a pattern. They are weighed, each by its number and its spelling.
-use Rattle.std.proofs.Common.{◌≡◌, refl, sym, ap, subst, ◌∙◌, ℕ, zero, suc, ◌+◌, ◌<◌, ◌≤◌, List, [], ◌∷◌, ◌++◌, Bool, true, false, true≢false, cond, ◌&&◌, not, nat_eq, Option, Some, None, arith}
-use Rattle.std.specs.Prelude.{option_to_list, codes, bytes_eq}
+use Rattle.std.proofs.Common.{◌≡◌, refl, sym, ap, subst, ◌∙◌, ℕ, suc, ◌+◌, ◌<◌, ◌≤◌, List, [], ◌∷◌, ◌++◌, Bool, true, false, true≢false, cond, ◌&&◌, nat_eq, Option, Some, None, arith}
+use Rattle.std.specs.Prelude.{option_to_list, codes}
 use Rattle.std.proofs.lemmas.Bool.{and_parts}
 use Rattle.std.proofs.lemmas.Bool.Decides.{nat_tests, Decides-eqb}
-use Rattle.es_base.specs.Conforms.{conforms, parts_conform, part_conforms, items_conform, item_conforms, key_place, is_rest, is_end, place_rule, kind_rule, boolean_at}
+use Rattle.es_base.specs.Conforms.{conforms, parts_conform, part_conforms, items_conform, item_conforms, key_place, place_rule, kind_rule, boolean_at}
 use Rattle.es_base.specs.Table.{Field, members_of, stands_in, is_expression}
 use Rattle.es_base.specs.Tree.{Tree, Part, Parts, Node, end, more, child, absent, list, string, no_string, boolean, literal}
 use Rattle.es_base.specs.declared.ids.NodeId.{NodeId}
@@ -15,7 +15,7 @@ use Rattle.es_base.specs.declared.table.Place.{Place}
 use Rattle.es_base.specs.declared.table.Sort.{Sort}
 use Rattle.es_base.specs.declared.table.Words.{Words}
 use Rattle.es_scopes.specs.Agreement.{names_of_node}
-use Rattle.es_scopes.specs.Entries.{Collected, binding, scope_entry, entry_of, entered, collected, collected_parts, collected_part, collected_items, nothing_yet, entries_of}
+use Rattle.es_scopes.specs.Entries.{Collected, binding, entry_of, entered, collected, collected_parts, collected_part, collected_items, nothing_yet, entries_of}
 use Rattle.es_scopes.specs.Held.{weight, scope_gets, held_weight, given_weight, IsElsewhere, IsNoBody}
 use Rattle.es_scopes.specs.NodeScopes.{opens, has_scope, is_strict, scope_flags}
 use Rattle.es_scopes.specs.Surroundings.{scope_place, inside, declares_in, lexical_scope, var_scope, in_scope, in_function, in_arrow, in_first, in_block, nested, is_pattern_part, passed_on, nowhere}
@@ -23,7 +23,6 @@ use Rattle.es_scopes.specs.declared.entry.Entry.{Entry}
 use Rattle.es_scopes.specs.declared.entry.Entry.TheVariants as entry
 use Rattle.es_scopes.specs.declared.flags.ScopeFlags.{ScopeFlags}
 use Rattle.es_scopes.specs.declared.surroundings.Declarer.{Declarer}
-use Rattle.es_scopes.specs.declared.surroundings.Declarer.TheVariants as declarer
 use Rattle.es_scopes.specs.declared.surroundings.Declares.{Declares}
 use Rattle.es_scopes.specs.declared.surroundings.Declares.TheVariants as declares
 use Rattle.es_scopes.specs.declared.surroundings.Surroundings.{Surroundings}
@@ -998,20 +997,41 @@ module _ (w : ℕ → List ℕ → ℕ) (n : ℕ) where
 
   declaration-own : (m : ℕ) (d : Declares) (a b c e f : Part) → Quiet d → IsPlain e → IsPlain f → OwnGoal Kind.FunctionDeclaration m (more a (more b (more c (more e (more f end))))) d
   declaration-own m d a b c e f quiet is_e is_f = omega (
-    arith, quiet-lexical d quiet (total (bound_part no_class a)), at-own (total (bound_part no_class b)), at-own (total (body_names (block_items c))), at-own (total (body_names (block_items e))), plain-body e is_e,
-    at-own (total (body_names (block_items f))), plain-body f is_f, total-append (bound_part no_class b) (body_names (block_items c)), total-alone (bound_part no_class b ++ body_names (block_items c)),
+    arith,
+    quiet-lexical d quiet (total (bound_part no_class a)),
+    at-own (total (bound_part no_class b)),
+    at-own (total (body_names (block_items c))),
+    at-own (total (body_names (block_items e))),
+    plain-body e is_e,
+    at-own (total (body_names (block_items f))),
+    plain-body f is_f,
+    total-append (bound_part no_class b) (body_names (block_items c)),
+    total-alone (bound_part no_class b ++ body_names (block_items c)),
   )
 
   expression-own : (m : ℕ) (d : Declares) (a b c e f : Part) → IsPlain e → IsPlain f → OwnGoal Kind.FunctionExpression m (more a (more b (more c (more e (more f end))))) d
   expression-own m d a b c e f is_e is_f = omega (
-    arith, at-own (total (bound_part no_class a)), at-own (total (bound_part no_class b)), at-own (total (body_names (block_items c))), at-own (total (body_names (block_items e))), plain-body e is_e,
-    at-own (total (body_names (block_items f))), plain-body f is_f, total-append (bound_part no_class b) (body_names (block_items c)), total-append (bound_part no_class b ++ body_names (block_items c)) (bound_part no_class a),
+    arith,
+    at-own (total (bound_part no_class a)),
+    at-own (total (bound_part no_class b)),
+    at-own (total (body_names (block_items c))),
+    at-own (total (body_names (block_items e))),
+    plain-body e is_e,
+    at-own (total (body_names (block_items f))),
+    plain-body f is_f,
+    total-append (bound_part no_class b) (body_names (block_items c)),
+    total-append (bound_part no_class b ++ body_names (block_items c)) (bound_part no_class a),
   )
 
   arrow-own : (m : ℕ) (d : Declares) (a b c : Part) → IsPlain c → OwnGoal Kind.ArrowFunctionExpression m (more a (more b (more c end))) d
   arrow-own m d a b c is_c = omega (
-    arith, at-own (total (bound_part no_class a)), at-own (total (body_names (block_items b))), at-own (total (body_names (block_items c))), plain-body c is_c,
-    total-append (bound_part no_class a) (body_names (block_items b)), total-alone (bound_part no_class a ++ body_names (block_items b)),
+    arith,
+    at-own (total (bound_part no_class a)),
+    at-own (total (body_names (block_items b))),
+    at-own (total (body_names (block_items c))),
+    plain-body c is_c,
+    total-append (bound_part no_class a) (body_names (block_items b)),
+    total-alone (bound_part no_class a ++ body_names (block_items b)),
   )
 
   away-later : (j : ℕ) → Away (cond (nat_eq (suc j) 0) mine None)

@@ -1,14 +1,13 @@
 -- The references among the entries of a tree are those of `references_of`.
-use Rattle.std.proofs.Common.{◌≡◌, refl, sym, ap, ◌∙◌, ℕ, suc, ◌+◌, List, [], ◌∷◌, ◌++◌, append_assoc, Bool, true, false, cond, not, Option, Some, None, arith}
+use Rattle.std.proofs.Common.{◌≡◌, refl, sym, ap, ◌∙◌, ℕ, suc, ◌+◌, List, [], ◌∷◌, ◌++◌, append_assoc, Bool, true, false, cond, Some, None, arith}
 use Rattle.std.specs.Prelude.{option_to_list}
 use Rattle.std.proofs.lemmas.List.{append-nil}
 use Rattle.es_base.specs.Tree.{Tree, Part, Parts, Node, end, more, child, absent, list, string, no_string, boolean, literal}
 use Rattle.es_base.specs.declared.kind.Kind.{Kind}
 use Rattle.es_scopes.specs.NodeReferences.{NodeReference, own_reference, node_references, references_of_parts, references_of_part, references_of_items, references_of, use_in}
 use Rattle.es_scopes.specs.NodeScopes.{opens, has_scope, is_strict, scope_flags}
-use Rattle.es_scopes.specs.declared.flags.ReferenceFlags.{ReferenceFlags}
 use Rattle.es_steps.specs.Parts.{at, string_of}
-use Rattle.es_scopes.specs.Entries.{Collected, binding, scope_entry, entry_of, entered, collected, collected_parts, collected_part, collected_items, nothing_yet, entries_of}
+use Rattle.es_scopes.specs.Entries.{Collected, binding, entry_of, entered, collected, collected_parts, collected_part, collected_items, nothing_yet, entries_of}
 use Rattle.es_scopes.specs.Surroundings.{scope_place, inside, nowhere}
 use Rattle.es_scopes.specs.Shown.{references_in}
 use Rattle.es_scopes.specs.declared.entry.Entry.{Entry}

@@ -1,10 +1,10 @@
 -- The scopes among the entries of a tree are those of `scopes_of`, by their flags.
-use Rattle.std.proofs.Common.{◌≡◌, refl, sym, ap, subst, ◌∙◌, ℕ, suc, ◌+◌, List, [], ◌∷◌, ◌++◌, append_assoc, map, Bool, true, false, cond, not, ◌||◌, Option, Some, None, arith}
+use Rattle.std.proofs.Common.{◌≡◌, refl, sym, ap, subst, ◌∙◌, ℕ, suc, ◌+◌, List, [], ◌∷◌, ◌++◌, append_assoc, map, Bool, true, false, cond, not, ◌||◌, Some, None, arith}
 use Rattle.std.specs.Prelude.{option_to_list}
 use Rattle.std.proofs.lemmas.List.{map-append, append-nil}
 use Rattle.es_base.specs.Tree.{Tree, Part, Parts, Node, end, more, child, absent, list, string, no_string, boolean, literal}
 use Rattle.es_base.specs.declared.kind.Kind.{Kind}
-use Rattle.es_scopes.specs.Entries.{Collected, binding, scope_entry, entry_of, entered, collected, collected_parts, collected_part, collected_items, nothing_yet, entries_of}
+use Rattle.es_scopes.specs.Entries.{Collected, binding, entry_of, entered, collected, collected_parts, collected_part, collected_items, nothing_yet, entries_of}
 use Rattle.es_scopes.specs.NodeScopes as scopes
 use Rattle.es_scopes.specs.NodeScopes.{NodeScope, own_scope, node_scopes, scopes_of_parts, scopes_of_part, scopes_of_items, scopes_of, outermost, opens, has_scope, is_strict, makes_strict, scope_flags}
 use Rattle.es_scopes.specs.Shown.{scope_flags_in}

@@ -6,7 +6,7 @@ use Rattle.es_base.specs.Tree.{Tree}
 use Rattle.es_base.specs.declared.ids.ScopeId.{ScopeId}
 use Rattle.es_base.specs.declared.ids.SymbolId.{SymbolId}
 use Rattle.es_scopes.specs.NodeReferences.{NodeReference, references_of}
-use Rattle.es_scopes.specs.Table.{Table, changed_at, get_binding, holding, new_scope, with_binding, with_created_reference}
+use Rattle.es_scopes.specs.Table.{Table, changed_at, get_binding, holding, new_scope, with_created_reference}
 use Rattle.es_scopes.specs.declared.flags.ReferenceFlags.{ReferenceFlags}
 use Rattle.es_scopes.specs.declared.flags.ScopeFlags.{ScopeFlags}
 use Rattle.es_scopes.specs.declared.flags.SymbolFlags.{SymbolFlags}
@@ -15,7 +15,7 @@ use Rattle.es_scopes.specs.declared.table.Scope.{Scope}
 use Rattle.es_scopes.specs.Built.{built_table}
 use Rattle.es_scopes.specs.Entries.{entries_of}
 use Rattle.es_scopes.specs.Shown.{references_in, scope_flags_in}
-use Rattle.es_scopes.specs.Tables.{marked_if, bound_first, bound_over, bound_more, bound_where, declare, declared, none_declared, meant, referred, number, numbered, numbering_of, is_own_name, declarer_at}
+use Rattle.es_scopes.specs.Tables.{marked_if, bound_over, bound_more, bound_where, declare, declared, none_declared, meant, number, numbered, is_own_name, declarer_at}
 use Rattle.es_scopes.specs.declared.declare.Declarations.{Declarations}
 use Rattle.es_scopes.specs.declared.entry.Entry.{Entry}
 use Rattle.es_scopes.specs.declared.entry.Entry.TheVariants as entry
@@ -26,7 +26,6 @@ use Rattle.es_scopes.proofs.ReferenceOrder.{references-entries}
 use Rattle.es_scopes.proofs.ScopeOrder.{scopes-entries}
 
 -- ---- references
-
 
 marked-references : (b : Bool) (y : SymbolId) (t : Table) → (marked_if b y t).references ≡ t.references
 marked-references true y t = refl

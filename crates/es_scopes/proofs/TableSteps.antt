@@ -1,19 +1,18 @@
 -- What each entry does to the sizes of a table, where no scope is removed.
 use Rattle.std.proofs.Common.{◌≡◌, refl, sym, ap, subst, ◌∙◌, ℕ, ◌+◌, ◌<◌, ◌≤◌, List, [], ◌∷◌, ◌++◌, length, drop, get_or, Bool, true, false, cond, Option, Some, None, ◌⊎◌, inl, inr, arith}
 use Rattle.std.specs.Prelude.{option_map, is_some, slice_get, bit_or}
-use Rattle.std.specs.Option.{ForSome, option_and_then}
+use Rattle.std.specs.Option.{option_and_then}
 use Rattle.std.proofs.lemmas.List.{length-append, drop_more}
 use Rattle.es_base.specs.declared.ids.ScopeId.{ScopeId}
 use Rattle.es_base.specs.declared.ids.SymbolId.{SymbolId}
-use Rattle.es_scopes.specs.Table.{Table, row_at, changed_at, get_binding, holding, new_scope, new_symbol, marked, symbol_flagged, with_binding, with_new_scope, with_created_reference}
-use Rattle.es_scopes.specs.declared.flags.ScopeFlags.{ScopeFlags}
+use Rattle.es_scopes.specs.Table.{Table, row_at, changed_at, get_binding, holding, new_scope, new_symbol, marked, symbol_flagged, with_binding, with_created_reference}
 use Rattle.es_scopes.specs.declared.flags.SymbolFlags.{SymbolFlags}
 use Rattle.es_scopes.specs.declared.flags.ReferenceFlags.{ReferenceFlags}
 use Rattle.es_scopes.specs.declared.table.Scope.{Scope}
 use Rattle.es_scopes.proofs.RowLemmas.{length-changed_at, slice_get-push_within, slice_get-push_last, is_some-option_map}
 use Rattle.es_scopes.proofs.TableLemmas.{part-changed}
 use Rattle.es_scopes.proofs.TableShown.{declared-references}
-use Rattle.es_scopes.specs.Tables.{marked_if, bound_first, bound_over, bound_more, bound_again, bound_where, bound, opened, declare, declared, none_declared, meant, referred, number, numbered, Fits, AreOrdered, IsWhole, scope_count, scopes_in, flags_of, is_own_name, declarer_at}
+use Rattle.es_scopes.specs.Tables.{marked_if, bound_first, bound_over, bound_more, bound_where, declare, declared, none_declared, meant, referred, number, numbered, Fits, AreOrdered, IsWhole, scope_count, scopes_in, flags_of, is_own_name, declarer_at}
 use Rattle.es_scopes.specs.declared.declare.Declarations.{Declarations}
 use Rattle.es_scopes.specs.declared.refer.Numbering.{Numbering}
 use Rattle.es_scopes.specs.declared.entry.Entry.{Entry}

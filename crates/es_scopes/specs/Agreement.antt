@@ -1,6 +1,6 @@
 -- The agreement of a scope table with a tree: what the numbers on the nodes say is what the definitions of `es_steps` say.
 -- Flags and the order of names and numbers are no part of it.
-use Rattle.std.specs.Prelude.{◌≡◌, ℕ, List, [], ◌∷◌, ◌++◌, Bool, true, false, cond, nat_eq, bytes_eq, Option, Some, None, is_some, option_map, option_and_then, Contains, ◌↔◌, ◌||◌}
+use Rattle.std.specs.Prelude.{◌≡◌, ℕ, List, [], ◌∷◌, ◌++◌, true, false, cond, nat_eq, Option, Some, None, is_some, option_and_then, Contains, ◌↔◌}
 use Rattle.es_base.specs.Carried.{scope_number, symbol_number}
 use Rattle.es_base.specs.Conforms.{is_among}
 use Rattle.es_base.specs.Preorder.{preorder, number_of}

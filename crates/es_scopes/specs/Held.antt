@@ -1,8 +1,8 @@
 -- What scopes get of what is declared in a tree, where each identifier that declares weighs something by its number and its
 -- spelling: by the entries of the tree, and by the definitions of `es_steps`. Equal weights, whatever they are, mean the same
 -- identifiers, each as often.
-use Rattle.std.specs.Prelude.{◌≡◌, ℕ, ◌+◌, List, [], ◌∷◌, Bool, true, false, cond, nat_eq, Option, Some, None}
-use Rattle.es_base.specs.Tree.{Part, child}
+use Rattle.std.specs.Prelude.{◌≡◌, ℕ, ◌+◌, List, [], ◌∷◌, cond, nat_eq, Option, Some, None}
+use Rattle.es_base.specs.Tree.{Part}
 use Rattle.es_base.specs.declared.ids.ScopeId.{ScopeId}
 use Rattle.es_scopes.specs.declared.entry.Entry.{Entry}
 use Rattle.es_scopes.specs.declared.entry.Entry.TheVariants as entry

@@ -1,7 +1,7 @@
 -- What is known at a place of a tree from what stands around: in which scope it is, which scopes hold what is declared
 -- there, and how names are declared and used there. (ECMA-262, 8.2 and 9.1; `Scopes` of `es_steps` has the same by
 -- collecting the names of each scope.)
-use Rattle.std.specs.Prelude.{ℕ, Bool, true, false, cond, ◌&&◌, ◌||◌, not, nat_eq, Option, Some, None}
+use Rattle.std.specs.Prelude.{ℕ, Bool, true, false, cond, ◌&&◌, not, nat_eq, Option, Some, None}
 use Rattle.es_base.specs.Carried.{scope_number}
 use Rattle.es_base.specs.Tree.{Parts}
 use Rattle.es_base.specs.declared.ids.ScopeId.{ScopeId}
@@ -11,7 +11,6 @@ use Rattle.es_scopes.specs.NodeBindings.{flags_in, in_head}
 use Rattle.es_scopes.specs.NodeReferences.{use_in}
 use Rattle.es_scopes.specs.declared.flags.TheConstants.ReferenceFlags as reference_flag
 use Rattle.es_steps.specs.Scopes.{is_var}
-use Rattle.es_scopes.specs.declared.surroundings.Declarer.{Declarer}
 use Rattle.es_scopes.specs.declared.surroundings.Declarer.TheVariants as declarer
 use Rattle.es_scopes.specs.declared.surroundings.Declares.{Declares}
 use Rattle.es_scopes.specs.declared.surroundings.Declares.TheVariants as declares

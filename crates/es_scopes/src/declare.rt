@@ -6,11 +6,11 @@ ghost use Rattle.es_scopes.specs.Table.{HasScope, HasScopeIfAny, HasSymbol, HasR
 ghost use Rattle.es_scopes.specs.Tables.{declare, declared, opened, none_declared, bound, bound_first, bound_again, marked_if, declarer_at, Fits, AreOrdered, IsWhole};
 
 use crate::entry::Entry;
+use crate::flags::{ScopeFlags, SymbolFlags};
+use crate::scoping::Scoping;
 use crate::surroundings::Declarer;
 use es_base::ids::{ScopeId, SymbolId};
 use es_base::list::List;
-use crate::flags::{ScopeFlags, SymbolFlags};
-use crate::scoping::Scoping;
 use std::alloc::{AllocError, Global};
 
 /// The scopes of a program with their names, and what is known of these while it is built.

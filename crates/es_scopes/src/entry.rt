@@ -1,9 +1,9 @@
 // What each node that may bear a semantic id has to do with scopes.
 
+use crate::flags::{ReferenceFlags, ScopeFlags, SymbolFlags};
 use crate::surroundings::Declarer;
 use es_base::ids::{NodeId, ScopeId};
 use es_base::name::Name;
-use crate::flags::{ReferenceFlags, ScopeFlags, SymbolFlags};
 
 /// What a node that may bear a semantic id has to do with scopes.
 #[derive(Drop)]

@@ -113,7 +113,9 @@ impl Numbering {
                 flags,
                 ..
             } => {
-                let symbol = self.declarations.meant(*scope, *in_parameters, name.as_str());
+                let symbol = self
+                    .declarations
+                    .meant(*scope, *in_parameters, name.as_str());
                 let reference = self.declarations.scoping.create_reference(symbol, *flags)?;
                 Ok(Some(reference.0))
             }

@@ -3,8 +3,8 @@
 ghost use Rattle.std.specs.Prelude.{◌≡◌};
 ghost use Rattle.es_scopes.specs.Surroundings.{lexical_scope, var_scope, nowhere};
 
-use es_base::ids::ScopeId;
 use crate::flags::{ReferenceFlags, ScopeFlags, SymbolFlags};
+use es_base::ids::ScopeId;
 
 /// As what an identifier declares.
 #[derive(Debug, Clone, Copy, PartialEq, Eq)]
@@ -28,7 +28,9 @@ pub enum Declares {
         var: Option<ScopeId>,
     },
     /// The body of the function of this scope.
-    Body { scope: ScopeId },
+    Body {
+        scope: ScopeId,
+    },
     /// A name or a pattern that declares in this scope.
     Pattern {
         holder: Option<ScopeId>,

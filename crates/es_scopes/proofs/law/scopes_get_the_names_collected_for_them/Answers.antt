@@ -1,10 +1,5 @@
-use Rattle.std.proofs.Common.{refl, sym, ap, subst, ◌∙◌, true≢false}
-use Rattle.es_base.specs.Tree.{child}
-use Rattle.es_base.specs.declared.kind.Kind.{Kind}
-use Rattle.es_base.specs.declared.table.Place.{Place}
-use Rattle.es_scopes.specs.Entries.{nothing_yet}
-use Rattle.es_scopes.specs.Surroundings.{nowhere}
-use Rattle.es_scopes.proofs.HeldNames.{held-tree, own-tree, program-names, statement-names}
+use Rattle.std.proofs.Common.{refl}
+use Rattle.es_scopes.proofs.HeldNames.{own-tree, program-names, statement-names}
 use Rattle.es_scopes.proofs.law.scopes_get_the_names_collected_for_them.Goals as goal
 
 pub returns-clause-own : goal.returns-clause-own
