@@ -5,6 +5,8 @@
 #[cfg(test)]
 mod base;
 #[cfg(test)]
+mod build;
+#[cfg(test)]
 mod json;
 #[cfg(test)]
 mod layer;
@@ -14,3 +16,5 @@ mod programs;
 mod readme;
 #[cfg(test)]
 mod scopes;
+#[cfg(test)]
+mod sources;
