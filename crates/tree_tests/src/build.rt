@@ -37,7 +37,11 @@ fn symbols(alloc: Global, scoping: &Scoping) -> Result<String, AllocError> {
             let name = scoping.symbol_name(symbol);
             let scope = scoping.symbol_scope_id(symbol).0;
             let flags = scoping.symbol_flags(symbol).bits();
-            let mutated = if scoping.symbol_is_mutated(symbol) { " mutated" } else { "" };
+            let mutated = if scoping.symbol_is_mutated(symbol) {
+                " mutated"
+            } else {
+                ""
+            };
             write!(text, "{name} in {scope} {flags}{mutated}\n")?;
         }
     }
