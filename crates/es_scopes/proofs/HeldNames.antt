@@ -32,28 +32,28 @@ use Rattle.es_steps.specs.Scopes.{Declaration, ClassName, no_class, declaration,
 
 -- ---- what a place asks of what is declared there
 
-abbrev is_body_of : Place → Bool
+abbrev pub is_body_of : Place → Bool
 is_body_of Place.Block = true
 is_body_of Place.ArrowBody = true
 is_body_of place = false
 
 -- a pattern stands where names are bound, and the body of a function where its block does
-abbrev fit_place : Declares → Place → Bool
+abbrev pub fit_place : Declares → Place → Bool
 fit_place (declares.Pattern holder who) place = is_binding_place place
 fit_place (declares.Body s) place = is_body_of place
 fit_place d place = true
 
-abbrev fit_list : Declares → Place → Bool
+abbrev pub fit_list : Declares → Place → Bool
 fit_list (declares.Pattern holder who) place = is_binding_place place
 fit_list (declares.Body s) place = false
 fit_list d place = true
 
-abbrev fit_key : Declares → Bool
+abbrev pub fit_key : Declares → Bool
 fit_key (declares.Pattern holder who) = false
 fit_key (declares.Body s) = false
 fit_key d = true
 
-abbrev fit_sort : Declares → Sort → Bool
+abbrev pub fit_sort : Declares → Sort → Bool
 fit_sort d (Sort.Child place) = fit_place d place
 fit_sort d (Sort.Nullable place) = fit_place d place
 fit_sort d (Sort.Key place) = fit_key d
@@ -62,7 +62,7 @@ fit_sort d (Sort.NonEmptyList place) = fit_list d place
 fit_sort d (Sort.ListWithHoles place) = fit_list d place
 fit_sort d sort = true
 
-abbrev fit_all : (ℕ → Declares) → List Field → Bool
+abbrev pub fit_all : (ℕ → Declares) → List Field → Bool
 fit_all ds [] = true
 fit_all ds (f ∷ fs) = fit_sort (ds 0) f.sort && fit_all (λ j. ds (suc j)) fs
 
@@ -71,20 +71,20 @@ fit-variables : (b : Bool) (x y : Option ScopeId) → fit_all (λ j. in_scope (c
 fit-variables true x y = refl
 fit-variables false x y = refl
 
-fit-parts : (kind : Kind) (own : ScopeId) (ps : Parts) (d : Declares) → fit_all (declares_in kind own ps d) (members_of kind) ≡ true
+pub fit-parts : (kind : Kind) (own : ScopeId) (ps : Parts) (d : Declares) → fit_all (declares_in kind own ps d) (members_of kind) ≡ true
 fit-parts Kind.VariableDeclaration own ps d = fit-variables (is_var ps) (var_scope d) (lexical_scope d)
 fit-parts kind own ps declares.Nothing = refl
 fit-parts kind own ps (declares.Statement lexical var) = refl
 fit-parts kind own ps (declares.Body s) = refl
 fit-parts kind own ps (declares.Pattern holder who) = refl
 
-key-fits : (d : Declares) (place : Place) → fit_key d ≡ true → fit_place d place ≡ true
+pub key-fits : (d : Declares) (place : Place) → fit_key d ≡ true → fit_place d place ≡ true
 key-fits declares.Nothing place h = refl
 key-fits (declares.Statement lexical var) place h = refl
 key-fits (declares.Body s) place h = absurd (true≢false (sym h))
 key-fits (declares.Pattern holder who) place h = absurd (true≢false (sym h))
 
-list-fits : (d : Declares) (place : Place) → fit_list d place ≡ true → fit_place d place ≡ true
+pub list-fits : (d : Declares) (place : Place) → fit_list d place ≡ true → fit_place d place ≡ true
 list-fits declares.Nothing place h = refl
 list-fits (declares.Statement lexical var) place h = refl
 list-fits (declares.Body s) place h = absurd (true≢false (sym h))
@@ -325,11 +325,11 @@ module _ (w : ℕ → List ℕ → ℕ) (n : ℕ) where
   abbrev gives : Declares → Part → ℕ
   gives d p = given_weight w n d p
 
-  abbrev gives_parts : (ℕ → Declares) → Parts → ℕ
+  abbrev pub gives_parts : (ℕ → Declares) → Parts → ℕ
   gives_parts ds end = 0
   gives_parts ds (more p ps) = gives (ds 0) p + gives_parts (λ j. ds (suc j)) ps
 
-  abbrev gives_items : Declares → Parts → ℕ
+  abbrev pub gives_items : Declares → Parts → ℕ
   gives_items d end = 0
   gives_items d (more p ps) = gives d p + gives_items d ps
 
@@ -382,13 +382,13 @@ module _ (w : ℕ → List ℕ → ℕ) (n : ℕ) where
   quiet-cond true d e h k = h
   quiet-cond false d e h k = k
 
-  quiet-gives : (d : Declares) (p : Part) → Quiet d → gives d p ≡ 0
+  pub quiet-gives : (d : Declares) (p : Part) → Quiet d → gives d p ≡ 0
   quiet-gives declares.Nothing p h = refl
   quiet-gives (declares.Statement lexical var) p h = omega (arith, h.0 (total (lexical_part p)), h.1 (total (var_part p)))
   quiet-gives (declares.Body s) p h = h (total (body_names (block_items p)))
   quiet-gives (declares.Pattern holder who) p h = h (total (bound_part no_class p))
 
-  quiet-parts : (ds : ℕ → Declares) (ps : Parts) → ((j : ℕ) → Quiet (ds j)) → gives_parts ds ps ≡ 0
+  pub quiet-parts : (ds : ℕ → Declares) (ps : Parts) → ((j : ℕ) → Quiet (ds j)) → gives_parts ds ps ≡ 0
   quiet-parts ds end h = refl
   quiet-parts ds (more p ps) h = omega (arith, quiet-gives (ds 0) p (h 0), quiet-parts (λ j. ds (suc j)) ps (λ j. h (suc j)))
 
@@ -898,7 +898,7 @@ module _ (w : ℕ → List ℕ → ℕ) (n : ℕ) where
         (held-append c.entries (option_to_list (entry_of kind (record { 0 = m }) ps s)) ∙ ap (λ x. held c.entries + x) (entry-held kind (record { 0 = m }) ps s))
         (node-gives kind m c.next ps place s.declares l rules.0 fit parts ∙ gives-anywhere s.declares kind m span id ps)
 
-    held-parts : (f : ℕ → Surroundings) (i : ℕ) (c : Collected) (computed : Bool) (fs : List Field) (ps : Parts) (ds : ℕ → Declares) → ((j : ℕ) → ds j ≡ (f (i + j)).declares) → parts_conform computed fs ps ≡ true → fit_all ds fs ≡ true → n < c.next → held (collected_parts f i c ps).entries ≡ held c.entries + gives_parts ds ps
+    pub held-parts : (f : ℕ → Surroundings) (i : ℕ) (c : Collected) (computed : Bool) (fs : List Field) (ps : Parts) (ds : ℕ → Declares) → ((j : ℕ) → ds j ≡ (f (i + j)).declares) → parts_conform computed fs ps ≡ true → fit_all ds fs ≡ true → n < c.next → held (collected_parts f i c ps).entries ≡ held c.entries + gives_parts ds ps
     held-parts f i c computed fs end ds same h fit l = omega arith
     held-parts f i c computed [] (more p ps) ds same h fit l = absurd (true≢false (sym h))
     held-parts f i c computed (g ∷ fs) (more p ps) ds same h fit l =
@@ -913,7 +913,7 @@ module _ (w : ℕ → List ℕ → ℕ) (n : ℕ) where
           held-parts f (i + 1) (collected_part (f i) c p) computed fs ps (λ j. ds (suc j)) (λ j. same (suc j) ∙ (let next : i + suc j ≡ (i + 1) + j = omega arith in ap (λ (k : ℕ). (f k).declares) next)) both.1 fits.1 (below-more c.next (collected_part (f i) c p).next l (more_in_part (f i) c p)),
         )
 
-    held-part : (s : Surroundings) (c : Collected) (computed : Bool) (sort : Sort) (p : Part) → part_conforms computed sort p ≡ true → fit_sort s.declares sort ≡ true → n < c.next → held (collected_part s c p).entries ≡ held c.entries + gives s.declares p
+    pub held-part : (s : Surroundings) (c : Collected) (computed : Bool) (sort : Sort) (p : Part) → part_conforms computed sort p ≡ true → fit_sort s.declares sort ≡ true → n < c.next → held (collected_part s c p).entries ≡ held c.entries + gives s.declares p
     held-part s c computed (Sort.Child place) (child t) h fit l = held-tree place s c t h fit l
     held-part s c computed (Sort.Nullable place) (child t) h fit l = held-tree place s c t h fit l
     held-part s c computed (Sort.Key place) (child t) h fit l = held-tree (key_place computed place) s c t h (key-fits s.declares (key_place computed place) fit) l
@@ -928,7 +928,7 @@ module _ (w : ℕ → List ℕ → ℕ) (n : ℕ) where
     held-part s c computed sort (boolean b) h fit l = omega (arith, gives-boolean s.declares b)
     held-part s c computed sort (literal v) h fit l = omega (arith, gives-literal s.declares v)
 
-    held-items : (s : Surroundings) (c : Collected) (holes : Bool) (place : Place) (ps : Parts) → items_conform holes place ps ≡ true → fit_list s.declares place ≡ true → n < c.next → held (collected_items s c ps).entries ≡ held c.entries + gives_items s.declares ps
+    pub held-items : (s : Surroundings) (c : Collected) (holes : Bool) (place : Place) (ps : Parts) → items_conform holes place ps ≡ true → fit_list s.declares place ≡ true → n < c.next → held (collected_items s c ps).entries ≡ held c.entries + gives_items s.declares ps
     held-items s c holes place end h fit l = omega arith
     held-items s c holes place (more p ps) h fit l =
         let both = and_parts (item_conforms holes place p) _ h in

@@ -16,4 +16,5 @@ pub mod TableShown
 pub mod TableSteps
 pub mod BindSteps
 pub mod ScopeOrder
+pub mod EachScope
 pub mod HeldNames

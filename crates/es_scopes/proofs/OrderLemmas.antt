@@ -20,7 +20,7 @@ use Rattle.es_scopes.specs.declared.surroundings.Declares.TheVariants as declare
 use Rattle.es_scopes.specs.declared.surroundings.Surroundings.{Surroundings}
 
 -- a scope that is known is among the first n
-abbrev Known : ℕ → Option ScopeId → Type 0
+abbrev pub Known : ℕ → Option ScopeId → Type 0
 Known n o = (s : ScopeId) → o ≡ Some s → s.0 < n
 
 known-le : (n m : ℕ) (o : Option ScopeId) → n ≤ m → Known n o → Known m o
@@ -38,13 +38,13 @@ known-cond n false x y h k = k
 
 -- ---- what stands around names scopes that are known
 
-abbrev Holds : ℕ → Declares → Type 0
+abbrev pub Holds : ℕ → Declares → Type 0
 Holds n declares.Nothing = Unit
 Holds n (declares.Statement lexical var) = Known n lexical × Known n var
 Holds n (declares.Body s) = s.0 < n
 Holds n (declares.Pattern holder who) = Known n holder
 
-abbrev IsBody : Declares → Type 0
+abbrev pub IsBody : Declares → Type 0
 IsBody (declares.Body s) = Unit
 IsBody d = ⊥
 
@@ -157,7 +157,7 @@ opens-needed Kind.BlockStatement s body k = of_block s.declares s.is_body body k
 opens-needed kind s body k = k
 
 -- after a node that has a scope or not
-abbrev after : Kind → Surroundings → ℕ → ℕ
+abbrev pub after : Kind → Surroundings → ℕ → ℕ
 after kind s n = cond (opens kind (scope_place s)) (n + 1) n
 
 after-le : (b : Bool) (n : ℕ) → n ≤ cond b (n + 1) n
@@ -168,7 +168,7 @@ after-opens : (b : Bool) (n : ℕ) → b ≡ true → n < cond b (n + 1) n
 after-opens true n e = omega arith
 after-opens false n e = absurd (true≢false (sym e))
 
-inside-within : (kind : Kind) (n : ℕ) (ps : Parts) (s : Surroundings) (i : ℕ) → Within n s → Within (after kind s n) (inside kind (record { 0 = n }) ps s i)
+pub inside-within : (kind : Kind) (n : ℕ) (ps : Parts) (s : Surroundings) (i : ℕ) → Within n s → Within (after kind s n) (inside kind (record { 0 = n }) ps s i)
 inside-within kind n ps s i h =
     let le : n ≤ after kind s n = after-le (opens kind (scope_place s)) n in
     record {
@@ -179,7 +179,7 @@ inside-within kind n ps s i h =
 
 -- ---- the entries
 
-within-le : (n m : ℕ) (s : Surroundings) → n ≤ m → Within n s → Within m s
+pub within-le : (n m : ℕ) (s : Surroundings) → n ≤ m → Within n s → Within m s
 within-le n m s le h = record { scope = known-le n m _ le h.scope; holders = holds-le n m _ le h.holders; body = h.body }
 
 -- the entries so far are in order, and their scopes are counted
@@ -235,7 +235,7 @@ entry-count kind m ps n s = of_scope (has_scope kind) (is_strict kind ps (scope_
     of_scope true strict = omega arith
     of_scope false strict = omega arith
 
-entered-counts : (kind : Kind) (m : NodeId) (ps : Parts) (s : Surroundings) (c : Collected) → Counts c → Within c.next s → Counts (entered kind m ps s c)
+pub entered-counts : (kind : Kind) (m : NodeId) (ps : Parts) (s : Surroundings) (c : Collected) → Counts c → Within c.next s → Counts (entered kind m ps s c)
 entered-counts kind m ps s c h k = record {
   ordered = ordered-append 0 c.entries (option_to_list (entry_of kind m ps s)) h.ordered (let same : c.next ≡ 0 + scopes_in c.entries = omega (arith, h.count) in subst (λ (q : ℕ). AreOrdered q (option_to_list (entry_of kind m ps s))) same (entry-fits kind m ps c.next s k));
   count = omega (arith, scopes-append c.entries (option_to_list (entry_of kind m ps s)), h.count, entry-count kind m ps c.next s);
@@ -270,7 +270,7 @@ mutual
   parts-count inner i c end h k = h
   parts-count inner i c (more p ps) h k = parts-count inner (i + 1) (collected_part (inner i) c p) ps (part-counts (inner i) c p h (k i)) (λ j. within-le c.next _ (inner j) (more_in_part (inner i) c p) (k j))
 
-  part-counts : (s : Surroundings) (c : Collected) (p : Part) → Counts c → Within c.next s → Counts (collected_part s c p)
+  pub part-counts : (s : Surroundings) (c : Collected) (p : Part) → Counts c → Within c.next s → Counts (collected_part s c p)
   part-counts s c (child t) h k = collected-counts s c t h k
   part-counts s c absent h k = h
   part-counts s c (list ps) h k = items-count s c ps h k

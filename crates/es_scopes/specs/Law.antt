@@ -1,5 +1,5 @@
 -- The laws of agreement and of built tables, as the contracts of src/law.rt name them.
-use Rattle.std.specs.Prelude.{◌≡◌, ℕ, List, ◌+◌, ◌<◌, true, Option, Some, map, option_map, slice_get, Contains}
+use Rattle.std.specs.Prelude.{◌≡◌, ℕ, List, ◌+◌, ◌<◌, length, true, false, Option, Some, map, option_map, slice_get, Contains}
 use Rattle.es_base.specs.Conforms.{conforms}
 use Rattle.es_base.specs.Tree.{Tree, Parts, Node}
 use Rattle.es_base.specs.declared.ids.ScopeId.{ScopeId}
@@ -14,10 +14,11 @@ use Rattle.es_scopes.specs.Held.{weight, scope_gets, held_weight, IsElsewhere, I
 use Rattle.es_scopes.specs.NodeBindings.{bindings_of}
 use Rattle.es_scopes.specs.NodeReferences.{references_of}
 use Rattle.es_scopes.specs.NodeScopes.{scopes_of, has_scope, opens}
+use Rattle.es_scopes.specs.Opened.{opened}
 use Rattle.es_scopes.specs.References.{writes}
 use Rattle.es_scopes.specs.Shown.{bindings_in, references_in}
 use Rattle.es_scopes.specs.Surroundings.{scope_place}
-use Rattle.es_scopes.specs.Tables.{AreOrdered}
+use Rattle.es_scopes.specs.Tables.{AreOrdered, scopes_in}
 use Rattle.es_scopes.specs.declared.surroundings.Declares.TheVariants as declares
 use Rattle.es_scopes.specs.declared.surroundings.Surroundings.{Surroundings}
 use Rattle.es_scopes.specs.Table.{Table, IsTable, with_scope_flags, with_parent, with_new_scope, with_binding, with_name, with_symbol_flags, with_mark, with_reference_flags, with_target, with_new_reference, reference_flagged}
@@ -101,6 +102,14 @@ OwnNamesLaw = (w : ℕ → List ℕ → ℕ) (place : Place) (s : Surroundings) 
 -- so the scope of a program holds the names of the program
 abbrev pub ProgramNamesLaw : Type 0
 ProgramNamesLaw = (w : ℕ → List ℕ → ℕ) (m : ℕ) (span : Option (ℕ × ℕ)) (id : Option ℕ) (ps : Parts) → conforms Place.Program (Node Kind.Program m span id ps) ≡ true → held_weight w 0 (entries_of (Node Kind.Program m span id ps)) ≡ weight w (names_of_node (Node Kind.Program m span id ps))
+
+-- and the scope of each node with one, in preorder, gets the names of that node, and no others
+abbrev pub EachNamesLaw : Type 0
+EachNamesLaw = (w : ℕ → List ℕ → ℕ) (t x : Tree) (j : ℕ) → conforms Place.Program t ≡ true → slice_get (opened false t) j ≡ Some x → held_weight w j (entries_of t) ≡ weight w (names_of_node x)
+
+-- as many scopes are counted as nodes have one
+abbrev pub ScopeCountLaw : Type 0
+ScopeCountLaw = (t : Tree) → scopes_in (entries_of t) ≡ length (opened false t)
 
 -- a scope around a statement gets the lexical names or the `var` that `es_steps` collects of it, or both
 abbrev pub StatementNamesLaw : Type 0

@@ -8,6 +8,7 @@ pub mod NodeBindings
 pub mod NodeReferences
 pub mod NodeScopes
 pub mod ReferenceNumbers
+pub mod Opened
 pub mod References
 pub mod Row
 pub mod Shown

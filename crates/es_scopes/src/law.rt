@@ -1,6 +1,6 @@
 // The laws of agreement and of built tables: functions that do nothing.
 
-ghost use Rattle.es_scopes.specs.Law.{AlikeLaw, MeaningLaw, ScopeFlagsLaw, SymbolFlagsLaw, NewScopeLaw, ParentLaw, BindingLaw, NameLaw, MarkLaw, ReferenceFlagsLaw, TargetLaw, NewReferenceLaw, BindingsLaw, ReferencesLaw, OrderLaw, BuiltScopesLaw, BuiltReferencesLaw, OwnNamesLaw, ProgramNamesLaw, StatementNamesLaw};
+ghost use Rattle.es_scopes.specs.Law.{AlikeLaw, MeaningLaw, ScopeFlagsLaw, SymbolFlagsLaw, NewScopeLaw, ParentLaw, BindingLaw, NameLaw, MarkLaw, ReferenceFlagsLaw, TargetLaw, NewReferenceLaw, BindingsLaw, ReferencesLaw, OrderLaw, BuiltScopesLaw, BuiltReferencesLaw, OwnNamesLaw, ProgramNamesLaw, EachNamesLaw, ScopeCountLaw, StatementNamesLaw};
 
 /// In a tree that agrees with a table, what a reference means is what its number says.
 pub fn references_mean_what_their_numbers_say()
@@ -49,10 +49,12 @@ pub fn built_tables_have_the_flags_of_the_tree()
 {}
 
 /// The names that a scope gets among the entries of a tree that conforms are those that the definitions of
-/// `es_steps` collect: for the scope of a node, for that of a program, and for the scopes around a
-/// statement.
+/// `es_steps` collect: for the scope of a node, for that of a program, for each scope of a program, and for
+/// the scopes around a statement.
 pub fn scopes_get_the_names_collected_for_them()
     ensures own { OwnNamesLaw }
     ensures program { ProgramNamesLaw }
+    ensures each { EachNamesLaw }
+    ensures count { ScopeCountLaw }
     ensures statement { StatementNamesLaw }
 {}

@@ -1,5 +1,6 @@
 use Rattle.std.proofs.Common.{refl}
 use Rattle.es_scopes.proofs.HeldNames.{own-tree, program-names, statement-names}
+use Rattle.es_scopes.proofs.EachScope.{each-program, count-program}
 use Rattle.es_scopes.proofs.law.scopes_get_the_names_collected_for_them.Goals as goal
 
 pub returns-clause-own : goal.returns-clause-own
@@ -10,3 +11,9 @@ returns-clause-program c = program-names
 
 pub returns-clause-statement : goal.returns-clause-statement
 returns-clause-statement c = statement-names
+
+pub returns-clause-each : goal.returns-clause-each
+returns-clause-each c = each-program
+
+pub returns-clause-count : goal.returns-clause-count
+returns-clause-count c = count-program
