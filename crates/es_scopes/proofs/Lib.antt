@@ -18,3 +18,4 @@ pub mod BindSteps
 pub mod ScopeOrder
 pub mod EachScope
 pub mod HeldNames
+pub mod HeldTable

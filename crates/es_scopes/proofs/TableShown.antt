@@ -83,11 +83,11 @@ flags-changed name y zero (None ∷ rows) = refl
 flags-changed name y zero (Some x ∷ rows) = refl
 flags-changed name y (suc i) (row ∷ rows) = ap (λ l. option_map (λ x. x.flags) row ∷ l) (flags-changed name y i rows)
 
-marked-rows : (b : Bool) (y : SymbolId) (t : Table) → (marked_if b y t).scopes ≡ t.scopes
+pub marked-rows : (b : Bool) (y : SymbolId) (t : Table) → (marked_if b y t).scopes ≡ t.scopes
 marked-rows true y t = refl
 marked-rows false y t = refl
 
-again-rows : (d : Declarations) (y : SymbolId) (flags : SymbolFlags) (head b : Bool) → (cond b (bound_over d y flags head) (bound_more d y flags)).scoping.scopes ≡ d.scoping.scopes
+pub again-rows : (d : Declarations) (y : SymbolId) (flags : SymbolFlags) (head b : Bool) → (cond b (bound_over d y flags head) (bound_more d y flags)).scoping.scopes ≡ d.scoping.scopes
 again-rows d y flags head true = marked-rows head y _
 again-rows d y flags head false = refl
 
@@ -112,7 +112,7 @@ created-rows : (t : Table) (y : Option SymbolId) (f : ReferenceFlags) → (with_
 created-rows t None f = refl
 created-rows t (Some y) f = refl
 
-numbered-rows : (n : Numbering) (es : List Entry) → (numbered n es).declarations.scoping.scopes ≡ n.declarations.scoping.scopes
+pub numbered-rows : (n : Numbering) (es : List Entry) → (numbered n es).declarations.scoping.scopes ≡ n.declarations.scoping.scopes
 numbered-rows n [] = refl
 numbered-rows n (entry.Scope parent in_parameters flags ∷ es) = numbered-rows (number n (entry.Scope parent in_parameters flags)) es
 numbered-rows n (entry.Body ∷ es) = numbered-rows (number n entry.Body) es

@@ -1,5 +1,5 @@
 -- The laws of agreement and of built tables, as the contracts of src/law.rt name them.
-use Rattle.std.specs.Prelude.{◌≡◌, ℕ, List, ◌+◌, ◌<◌, length, true, false, Option, Some, map, option_map, slice_get, Contains}
+use Rattle.std.specs.Prelude.{◌≡◌, ℕ, List, ◌+◌, ◌<◌, length, is_some, true, false, Option, Some, map, option_map, slice_get, Contains}
 use Rattle.es_base.specs.Conforms.{conforms}
 use Rattle.es_base.specs.Tree.{Tree, Parts, Node}
 use Rattle.es_base.specs.declared.ids.ScopeId.{ScopeId}
@@ -21,12 +21,13 @@ use Rattle.es_scopes.specs.Surroundings.{scope_place}
 use Rattle.es_scopes.specs.Tables.{AreOrdered, scopes_in}
 use Rattle.es_scopes.specs.declared.surroundings.Declares.TheVariants as declares
 use Rattle.es_scopes.specs.declared.surroundings.Surroundings.{Surroundings}
-use Rattle.es_scopes.specs.Table.{Table, IsTable, with_scope_flags, with_parent, with_new_scope, with_binding, with_name, with_symbol_flags, with_mark, with_reference_flags, with_target, with_new_reference, reference_flagged}
+use Rattle.es_scopes.specs.Table.{Table, IsTable, get_binding, with_scope_flags, with_parent, with_new_scope, with_binding, with_name, with_symbol_flags, with_mark, with_reference_flags, with_target, with_new_reference, reference_flagged}
 use Rattle.es_scopes.specs.declared.flags.ScopeFlags.{ScopeFlags}
 use Rattle.es_scopes.specs.declared.flags.SymbolFlags.{SymbolFlags}
 use Rattle.es_scopes.specs.declared.flags.ReferenceFlags.{ReferenceFlags}
 use Rattle.es_scopes.specs.declared.table.Reference.{Reference}
 use Rattle.es_steps.specs.References as steps
+use Rattle.es_steps.specs.References.{is_declared}
 use Rattle.es_steps.specs.Scopes.{lexical_names, var_names}
 
 -- a table that is alike for a tree agrees with it still
@@ -106,6 +107,10 @@ ProgramNamesLaw = (w : ℕ → List ℕ → ℕ) (m : ℕ) (span : Option (ℕ �
 -- and the scope of each node with one, in preorder, gets the names of that node, and no others
 abbrev pub EachNamesLaw : Type 0
 EachNamesLaw = (w : ℕ → List ℕ → ℕ) (t x : Tree) (j : ℕ) → conforms Place.Program t ≡ true → slice_get (opened false t) j ≡ Some x → held_weight w j (entries_of t) ≡ weight w (names_of_node x)
+
+-- so each scope of a built table holds just the names of its node
+abbrev pub BuiltNamesLaw : Type 0
+BuiltNamesLaw = (t node : Tree) (j : ℕ) (name : List ℕ) → conforms Place.Program t ≡ true → slice_get (opened false t) j ≡ Some node → is_some (get_binding (built_table t) (record { 0 = j }) name) ≡ is_declared name (names_of_node node)
 
 -- as many scopes are counted as nodes have one
 abbrev pub ScopeCountLaw : Type 0

@@ -1,6 +1,6 @@
 // The laws of agreement and of built tables: functions that do nothing.
 
-ghost use Rattle.es_scopes.specs.Law.{AlikeLaw, MeaningLaw, ScopeFlagsLaw, SymbolFlagsLaw, NewScopeLaw, ParentLaw, BindingLaw, NameLaw, MarkLaw, ReferenceFlagsLaw, TargetLaw, NewReferenceLaw, BindingsLaw, ReferencesLaw, OrderLaw, BuiltScopesLaw, BuiltReferencesLaw, OwnNamesLaw, ProgramNamesLaw, EachNamesLaw, ScopeCountLaw, StatementNamesLaw};
+ghost use Rattle.es_scopes.specs.Law.{AlikeLaw, MeaningLaw, ScopeFlagsLaw, SymbolFlagsLaw, NewScopeLaw, ParentLaw, BindingLaw, NameLaw, MarkLaw, ReferenceFlagsLaw, TargetLaw, NewReferenceLaw, BindingsLaw, ReferencesLaw, OrderLaw, BuiltScopesLaw, BuiltReferencesLaw, OwnNamesLaw, ProgramNamesLaw, EachNamesLaw, BuiltNamesLaw, ScopeCountLaw, StatementNamesLaw};
 
 /// In a tree that agrees with a table, what a reference means is what its number says.
 pub fn references_mean_what_their_numbers_say()
@@ -55,6 +55,7 @@ pub fn scopes_get_the_names_collected_for_them()
     ensures own { OwnNamesLaw }
     ensures program { ProgramNamesLaw }
     ensures each { EachNamesLaw }
+    ensures built { BuiltNamesLaw }
     ensures count { ScopeCountLaw }
     ensures statement { StatementNamesLaw }
 {}

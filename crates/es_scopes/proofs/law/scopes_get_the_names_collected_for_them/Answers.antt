@@ -1,6 +1,7 @@
 use Rattle.std.proofs.Common.{refl}
 use Rattle.es_scopes.proofs.HeldNames.{own-tree, program-names, statement-names}
 use Rattle.es_scopes.proofs.EachScope.{each-program, count-program}
+use Rattle.es_scopes.proofs.HeldTable.{names-built}
 use Rattle.es_scopes.proofs.law.scopes_get_the_names_collected_for_them.Goals as goal
 
 pub returns-clause-own : goal.returns-clause-own
@@ -17,3 +18,6 @@ returns-clause-each c = each-program
 
 pub returns-clause-count : goal.returns-clause-count
 returns-clause-count c = count-program
+
+pub returns-clause-built : goal.returns-clause-built
+returns-clause-built c = names-built
