@@ -10,6 +10,7 @@ pub mod WrittenLemmas
 pub mod AgreementLemmas
 pub mod AlikeLemmas
 pub mod BindingOrder
+pub mod NumberShown
 pub mod OrderLemmas
 pub mod ReferenceOrder
 pub mod TableShown

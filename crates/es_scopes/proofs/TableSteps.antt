@@ -118,7 +118,7 @@ created-scopes : (t : Table) (y : Option SymbolId) (f : ReferenceFlags) → (wit
 created-scopes t None f = refl
 created-scopes t (Some y) f = refl
 
-created-references : (t : Table) (y : Option SymbolId) (f : ReferenceFlags) → length (with_created_reference t y f).references ≡ length t.references + 1
+pub created-references : (t : Table) (y : Option SymbolId) (f : ReferenceFlags) → length (with_created_reference t y f).references ≡ length t.references + 1
 created-references t None f = length-append t.references (record { symbol_id = None; flags = f } ∷ [])
 created-references t (Some y) f = length-append t.references (record { symbol_id = Some y; flags = f } ∷ [])
 

@@ -16,9 +16,9 @@ use Rattle.es_scopes.specs.NodeReferences.{references_of}
 use Rattle.es_scopes.specs.NodeScopes.{scopes_of, has_scope, opens}
 use Rattle.es_scopes.specs.Opened.{opened}
 use Rattle.es_scopes.specs.References.{writes}
-use Rattle.es_scopes.specs.Shown.{bindings_in, references_in}
+use Rattle.es_scopes.specs.Shown.{bindings_in, references_in, ids_from, targets_from}
 use Rattle.es_scopes.specs.Surroundings.{scope_place}
-use Rattle.es_scopes.specs.Tables.{AreOrdered, scopes_in}
+use Rattle.es_scopes.specs.Tables.{AreOrdered, scopes_in, numbering_of, declared, none_declared}
 use Rattle.es_scopes.specs.declared.surroundings.Declares.TheVariants as declares
 use Rattle.es_scopes.specs.declared.surroundings.Surroundings.{Surroundings}
 use Rattle.es_scopes.specs.Table.{Table, IsTable, get_binding, with_scope_flags, with_parent, with_new_scope, with_binding, with_name, with_symbol_flags, with_mark, with_reference_flags, with_target, with_new_reference, reference_flagged}
@@ -91,6 +91,14 @@ BuiltScopesLaw = (t : Tree) → map (option_map (λ x. x.flags)) (built_table t)
 
 abbrev pub BuiltReferencesLaw : Type 0
 BuiltReferencesLaw = (t : Tree) → map (λ r. r.flags) (built_table t).references ≡ map (λ r. r.flags) (references_of t)
+
+-- the numbers that are written on the nodes: on an identifier that declares, the symbol that its scope holds for its name
+abbrev pub BuiltIdsLaw : Type 0
+BuiltIdsLaw = (t : Tree) → (numbering_of (entries_of t)).ids ≡ ids_from (built_table t) 0 0 (entries_of t)
+
+-- a reference means the symbol of the nearest scope where its name is seen, whatever is declared before it or behind
+abbrev pub BuiltTargetsLaw : Type 0
+BuiltTargetsLaw = (t : Tree) → map (λ r. r.symbol_id) (built_table t).references ≡ targets_from (declared none_declared (entries_of t)) (entries_of t)
 
 -- ---- the names of scopes
 

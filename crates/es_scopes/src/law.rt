@@ -1,6 +1,6 @@
 // The laws of agreement and of built tables: functions that do nothing.
 
-ghost use Rattle.es_scopes.specs.Law.{AlikeLaw, MeaningLaw, ScopeFlagsLaw, SymbolFlagsLaw, NewScopeLaw, ParentLaw, BindingLaw, NameLaw, MarkLaw, ReferenceFlagsLaw, TargetLaw, NewReferenceLaw, BindingsLaw, ReferencesLaw, OrderLaw, BuiltScopesLaw, BuiltReferencesLaw, OwnNamesLaw, ProgramNamesLaw, EachNamesLaw, BuiltNamesLaw, ScopeCountLaw, StatementNamesLaw};
+ghost use Rattle.es_scopes.specs.Law.{AlikeLaw, MeaningLaw, ScopeFlagsLaw, SymbolFlagsLaw, NewScopeLaw, ParentLaw, BindingLaw, NameLaw, MarkLaw, ReferenceFlagsLaw, TargetLaw, NewReferenceLaw, BindingsLaw, ReferencesLaw, OrderLaw, BuiltScopesLaw, BuiltReferencesLaw, BuiltIdsLaw, BuiltTargetsLaw, OwnNamesLaw, ProgramNamesLaw, EachNamesLaw, BuiltNamesLaw, ScopeCountLaw, StatementNamesLaw};
 
 /// In a tree that agrees with a table, what a reference means is what its number says.
 pub fn references_mean_what_their_numbers_say()
@@ -58,4 +58,11 @@ pub fn scopes_get_the_names_collected_for_them()
     ensures built { BuiltNamesLaw }
     ensures count { ScopeCountLaw }
     ensures statement { StatementNamesLaw }
+{}
+
+/// The numbers on the nodes are those of a built table, and its references mean the nearest scope where
+/// their names are seen.
+pub fn built_tables_have_their_numbers_on_the_nodes()
+    ensures ids { BuiltIdsLaw }
+    ensures targets { BuiltTargetsLaw }
 {}
