@@ -1,0 +1,4 @@
+pub mod Standing
+pub mod Unchanged
+pub mod Unlowered
+pub mod Unmarked

@@ -1,0 +1,4 @@
+//! Programs that have nothing to lower, and come back as they are.
+#![tactic(auto)]
+
+pub mod law;
