@@ -1,3 +1,5 @@
+pub mod Quiet
+pub mod Shapeless
 pub mod Standing
 pub mod Unchanged
 pub mod Unlowered

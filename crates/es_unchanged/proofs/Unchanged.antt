@@ -2,7 +2,7 @@
 use Rattle.std.proofs.Common.{◌≡◌, refl, sym, ap, subst, ℕ, zero, suc, ◌+◌, ◌<◌, ◌≤◌, List, [], ◌∷◌, ◌++◌, map, Bool, true, false, cond, Option, arith}
 use Rattle.std.specs.Prelude.{filter, not, ◌||◌, ◌&&◌, nat_eq}
 use Rattle.std.specs.List.{IsDistinct, AllByRecursion}
-use Rattle.std.proofs.lemmas.Bool.{lt-leb, true≢false}
+use Rattle.std.proofs.lemmas.Bool.{and_parts, lt-leb, true≢false}
 use Rattle.std.proofs.Math.Bool.{and-false}
 use Rattle.es_base.proofs.NumberedLemmas.{IsNumbered-renumbered, EachOnce-old_zero}
 use Rattle.es_base.proofs.PreorderLemmas.{renumbered-zero}
@@ -13,7 +13,7 @@ use Rattle.es_base.specs.declared.kind.Kind.{Kind}
 use Rattle.es_steps.proofs.Reflexive.{number-same}
 use Rattle.es_steps.specs.Context.{is_constructor}
 use Rattle.es_steps.specs.Definitions.{FieldDefinition, chosen, element_numbers, body_numbers, elements_kept, call_definition, definition_at, definitions_in, definitions_at, definitions_of, function_definitions, super_definitions, constructor_definitions, all_definitions, instance_definitions, static_definitions, is_instance_method, any_of, defined_fields, class_fits, classes_fit, definitions_stand}
-use Rattle.es_steps.specs.KeptNodes.{statement_list, declared_classes, carried_classes, item_number, item_numbers, free_number, free_numbers, is_static_block, free_lists, free_lists_at, free_lists_in, list_of, is_within, all_within, is_free_statement, free_statements, free_at, free_in}
+use Rattle.es_steps.specs.KeptNodes.{statement_list, declared_classes, carried_classes, item_number, item_numbers, free_number, free_numbers, is_static_block, free_lists, free_lists_at, free_lists_in, list_of, is_within, all_within, is_free_statement, is_function_declaration, free_statements, free_at, free_in, all_homes, pair_stands, all_pairs_stand}
 use Rattle.es_steps.specs.Lowered.{IsLowered, nothing_left, own_name_numbers, is_new_const, all_accounted}
 use Rattle.es_steps.specs.LoweredClasses.{Element, elements_of, is_lowered_element, any_element, is_lowered_class, holds_lowered, has_lowered_class, constructor_function, constructor_in}
 use Rattle.es_steps.specs.Options.{lowers_fields, lowers_blocks}
@@ -22,7 +22,7 @@ use Rattle.es_steps.specs.Printable.{is_printable}
 use Rattle.es_steps.specs.PrivateNames.{private_members, is_class}
 use Rattle.es_steps.specs.Scopes.{is_binding_identifier}
 use Rattle.es_steps.specs.declared.options.Options.{Options}
-use Rattle.es_unchanged.proofs.Standing.{both, none_of, In, here, later, in-left, in-right, Among, among-append, all-equal, all-stand, within-more, within-both, within-same, within-append, all_within-append, apart-sym, temporaries-none}
+use Rattle.es_unchanged.proofs.Standing.{both, or_left, or_right, none_of, In, here, later, in-left, in-right, Among, among-append, all-equal, all-stand, within-more, within-both, within-same, within-append, all_within-append, apart-sym, temporaries-none}
 use Rattle.es_unchanged.proofs.Unmarked.{names-timely}
 
 -- ---- no number is new
@@ -279,7 +279,7 @@ declared-carried (Node Kind.ExportDefaultDeclaration m span semantic_id (more (c
 declared-carried t = refl
 
 free_number-within : (o : Options) (t : Tree) → is_within (free_number o (child t)) (item_number (child t)) ≡ true
-free_number-within o t = either (is_free_statement o t)
+free_number-within o t = either (is_free_statement o t || is_function_declaration t)
   where
     either : (b : Bool) → is_within (cond b (number_of t ∷ []) [] ++ declared_classes (child t)) (number_of t ∷ carried_classes (child t)) ≡ true
     either true = within-both (number_of t) (declared_classes (child t)) (carried_classes (child t)) (declared-carried t)
@@ -398,6 +398,16 @@ definitions-stand o p below h = either (lowers_fields o) refl
     either false f = refl
     either true f = classes-fit o p p (preorder p) f instances statics h
 
+homes-grow : (xs ys : List (ℕ × ℕ)) (y : ℕ × ℕ) → all_pairs_stand xs ys ≡ true → all_pairs_stand xs (y ∷ ys) ≡ true
+homes-grow [] ys y h = refl
+homes-grow (x ∷ xs) ys y h =
+    let parts = and_parts (pair_stands x ys) (all_pairs_stand xs ys) h in
+    both (or_right (nat_eq x.0 y.0 && nat_eq x.1 y.1) (pair_stands x ys) parts.0) (homes-grow xs ys y parts.1)
+
+homes-kept : (xs : List (ℕ × ℕ)) → all_pairs_stand xs xs ≡ true
+homes-kept [] = refl
+homes-kept (x ∷ xs) = both (or_left (nat_eq x.0 x.0 && nat_eq x.1 x.1) (pair_stands x xs) (both (number-same x.0) (number-same x.1))) (homes-grow xs xs x (homes-kept xs))
+
 keys-stand : (b : Bool) → (not b || true) ≡ true
 keys-stand true = refl
 keys-stand false = refl
@@ -413,10 +423,12 @@ unchanged-owes o t e h left =
         accounted = below-accounted (nodes t) (own_name_numbers t (preorder t)) (preorder t) turn.below;
         initialized = refl;
         timely = names-timely (nodes t) t;
+        temporaries = refl;
         keys = rw (temporaries-none (nodes t) o (private_members t) t (preorder t)) (keys-stand (lowers_fields o));
         nodes = all-stand (preorder t) (preorder t) (λ u i. i);
         statements = all-equal (free_statements o t) (preorder t) (free-among o t);
         lists = lists-within o (preorder t) turn.once t (λ u i. i);
+        homes = homes-kept (all_homes o t);
         definitions = definitions-stand o t turn.below h;
         elements = elements-stand o (preorder t) (preorder t) h (λ u i. i) turn.once;
         printable = same_or (is_printable t);

@@ -21,30 +21,30 @@ neither false h f = f h
 module _ (o : Options) where
   -- ---- nothing that is lowered stands in what stands in a tree
 
-  none-first : (ts us : List Tree) → none_lowered o (ts ++ us) ≡ true → none_lowered o ts ≡ true
+  pub none-first : (ts us : List Tree) → none_lowered o (ts ++ us) ≡ true → none_lowered o ts ≡ true
   none-first [] us h = refl
   none-first (t ∷ ts) us h =
       let parts = and_parts (not (is_lowered_kind o (kind_of t))) (none_lowered o (ts ++ us)) h in
       both parts.0 (none-first ts us parts.1)
 
-  none-second : (ts us : List Tree) → none_lowered o (ts ++ us) ≡ true → none_lowered o us ≡ true
+  pub none-second : (ts us : List Tree) → none_lowered o (ts ++ us) ≡ true → none_lowered o us ≡ true
   none-second [] us h = h
   none-second (t ∷ ts) us h = none-second ts us (and_parts (not (is_lowered_kind o (kind_of t))) (none_lowered o (ts ++ us)) h).1
 
-  none-at : (i : ℕ) (ps : Parts) → none_lowered o (preorder_of ps) ≡ true → none_lowered o (preorder_of_part (at i ps)) ≡ true
+  pub none-at : (i : ℕ) (ps : Parts) → none_lowered o (preorder_of ps) ≡ true → none_lowered o (preorder_of_part (at i ps)) ≡ true
   none-at i end h = refl
   none-at zero (more p ps) h = none-first (preorder_of_part p) (preorder_of ps) h
   none-at (suc i) (more p ps) h = none-at i ps (none-second (preorder_of_part p) (preorder_of ps) h)
 
-  none-items : (p : Part) → none_lowered o (preorder_of_part p) ≡ true → none_lowered o (preorder_of (items p)) ≡ true
+  pub none-items : (p : Part) → none_lowered o (preorder_of_part p) ≡ true → none_lowered o (preorder_of (items p)) ≡ true
   none-items (list ps) h = h
   none-items p h = refl
 
   -- the kind of a node that stands
-  none-kind : (t : Tree) (ts : List Tree) → none_lowered o (t ∷ ts) ≡ true → is_lowered_kind o (kind_of t) ≡ false
+  pub none-kind : (t : Tree) (ts : List Tree) → none_lowered o (t ∷ ts) ≡ true → is_lowered_kind o (kind_of t) ≡ false
   none-kind t ts h = not-true (is_lowered_kind o (kind_of t)) (and_parts (not (is_lowered_kind o (kind_of t))) (none_lowered o ts) h).0
 
-  none-below : (t : Tree) (ts : List Tree) → none_lowered o (t ∷ ts) ≡ true → none_lowered o ts ≡ true
+  pub none-below : (t : Tree) (ts : List Tree) → none_lowered o (t ∷ ts) ≡ true → none_lowered o ts ≡ true
   none-below t ts h = (and_parts (not (is_lowered_kind o (kind_of t))) (none_lowered o ts) h).1
 
   -- ---- so no element is lowered
