@@ -3,7 +3,6 @@ pub mod Conforming
 pub mod Constructions
 pub mod Declared
 pub mod Fitting
-pub mod Kept
 pub mod OfKinds
 pub mod Laid
 pub mod Leasts
@@ -19,6 +18,4 @@ pub mod SameNames
 pub mod Shaped
 pub mod Shapeless
 pub mod Small
-pub mod Standing
 pub mod Steps
-pub mod Unmarked

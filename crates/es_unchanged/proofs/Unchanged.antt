@@ -22,7 +22,7 @@ use Rattle.es_steps.specs.Printable.{is_printable}
 use Rattle.es_steps.specs.PrivateNames.{private_members, is_class}
 use Rattle.es_steps.specs.Scopes.{is_binding_identifier}
 use Rattle.es_steps.specs.declared.options.Options.{Options}
-use Rattle.es_unchanged.proofs.Standing.{both, or_left, or_right, none_of, In, here, later, in-left, in-right, Among, among-append, all-equal, all-stand, within-more, within-both, within-same, within-append, all_within-append, apart-sym, temporaries-none}
+use Rattle.es_unchanged.proofs.Standing.{both, none_of, In, here, later, in-left, in-right, Among, among-append, all-equal, all-stand, within-more, within-both, within-same, within-append, all_within-append, apart-sym, pairs-same, temporaries-none}
 use Rattle.es_unchanged.proofs.Unmarked.{names-timely}
 
 -- ---- no number is new
@@ -61,7 +61,7 @@ below-none_new first [] b = refl
 below-none_new first (t ∷ ts) b = rw (lt-leb first (number_of t) b.0) (below-none_new first ts b.1)
 
 -- an old node is no new constant
-old-no_const : (first : ℕ) (t : Tree) → is_new first (number_of t) ≡ false → is_new_const first t ≡ false
+pub old-no_const : (first : ℕ) (t : Tree) → is_new first (number_of t) ≡ false → is_new_const first t ≡ false
 old-no_const first (Node Kind.VariableDeclaration m span semantic_id ps) e = rw e refl
 old-no_const first t e = refl
 
@@ -398,16 +398,6 @@ definitions-stand o p below h = either (lowers_fields o) refl
     either false f = refl
     either true f = classes-fit o p p (preorder p) f instances statics h
 
-homes-grow : (xs ys : List (ℕ × ℕ)) (y : ℕ × ℕ) → all_pairs_stand xs ys ≡ true → all_pairs_stand xs (y ∷ ys) ≡ true
-homes-grow [] ys y h = refl
-homes-grow (x ∷ xs) ys y h =
-    let parts = and_parts (pair_stands x ys) (all_pairs_stand xs ys) h in
-    both (or_right (nat_eq x.0 y.0 && nat_eq x.1 y.1) (pair_stands x ys) parts.0) (homes-grow xs ys y parts.1)
-
-homes-kept : (xs : List (ℕ × ℕ)) → all_pairs_stand xs xs ≡ true
-homes-kept [] = refl
-homes-kept (x ∷ xs) = both (or_left (nat_eq x.0 x.0 && nat_eq x.1 x.1) (pair_stands x xs) (both (number-same x.0) (number-same x.1))) (homes-grow xs xs x (homes-kept xs))
-
 keys-stand : (b : Bool) → (not b || true) ≡ true
 keys-stand true = refl
 keys-stand false = refl
@@ -428,7 +418,7 @@ unchanged-owes o t e h left =
         nodes = all-stand (preorder t) (preorder t) (λ u i. i);
         statements = all-equal (free_statements o t) (preorder t) (free-among o t);
         lists = lists-within o (preorder t) turn.once t (λ u i. i);
-        homes = homes-kept (all_homes o t);
+        homes = pairs-same (all_homes o t);
         definitions = definitions-stand o t turn.below h;
         elements = elements-stand o (preorder t) (preorder t) h (λ u i. i) turn.once;
         printable = same_or (is_printable t);

@@ -8,7 +8,7 @@ use Rattle.es_base.specs.Tree.{Tree, Part, Parts, Node, end, more, child, absent
 use Rattle.es_base.specs.declared.kind.Kind.{Kind}
 use Rattle.es_steps.specs.Lowered.{is_lowered_kind, kind_of, none_lowered, nothing_left}
 use Rattle.es_steps.specs.LoweredClasses.{Element, element_of, elements_in, body_elements, is_private_key, is_lowered_element, any_element, is_lowered_class, holds_lowered, has_lowered_class}
-use Rattle.es_steps.specs.Options.{lowers_fields, lowers_blocks}
+use Rattle.es_steps.specs.Options.{lowers_fields, lowers_blocks, no_options}
 use Rattle.es_steps.specs.Parts.{at, items}
 use Rattle.es_steps.specs.PrivateNames.{is_class}
 use Rattle.es_steps.specs.declared.options.Options.{Options}
@@ -104,3 +104,18 @@ module _ (o : Options) where
 
 pub no_lowered_class : (o : Options) (t : Tree) → nothing_left o t ≡ true → has_lowered_class o t ≡ false
 no_lowered_class o t h = tree-unlowered o t h
+
+-- where nothing is asked, nothing is to be lowered
+not_asked : (kind : Kind) → is_lowered_kind no_options kind ≡ false
+not_asked Kind.PropertyDefinition = refl
+not_asked Kind.PrivateIdentifier = refl
+not_asked Kind.PrivateIn = refl
+not_asked Kind.StaticBlock = refl
+not_asked kind = refl
+
+none_asked : (ts : List Tree) → none_lowered no_options ts ≡ true
+none_asked [] = refl
+none_asked (t ∷ ts) = rw (not_asked (kind_of t)) (none_asked ts)
+
+pub nothing_asked : (t : Tree) → nothing_left no_options t ≡ true
+nothing_asked t = none_asked (preorder t)
