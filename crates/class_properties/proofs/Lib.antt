@@ -7,7 +7,6 @@ pub mod OfKinds
 pub mod Laid
 pub mod Leasts
 pub mod Mapped
-pub mod NameSets
 pub mod Numbered
 pub mod Owed
 pub mod Printed

@@ -1,9 +1,10 @@
-// A set of names.
+//! A set of names.
+#![tactic(auto)]
 
 ghost use Rattle.std.specs.Prelude.{◌≡◌, [], ◌∷◌, OnOk, OnErr};
 ghost use Rattle.std.specs.Str.{chars};
 ghost use Rattle.es_base.specs.Conforms.{is_among};
-ghost use Rattle.class_properties.specs.Names.{HaveSame};
+ghost use Rattle.es_name_set.specs.Names.{HaveSame};
 
 use std::alloc::{AllocError, Global};
 use std::collections::BTreeSet;

@@ -1,5 +1,5 @@
 -- A set of names holds what was inserted, by characters.
-use Rattle.std.proofs.Common.{◌≡◌, refl, sym, ap, ◌∙◌, ℕ, List, [], ◌∷◌, map, Bool, true, false, ◌||◌, Bor}
+use Rattle.std.proofs.Common.{◌≡◌, refl, sym, ap, ◌∙◌, ℕ, List, [], ◌∷◌, ◌++◌, map, Bool, true, false, ◌||◌, Bor}
 use Rattle.std.specs.Prelude.{bytes_eq}
 use Rattle.std.specs.BTreeMap.{is_at}
 use Rattle.std.specs.BTreeSet.{insert_key}
@@ -15,6 +15,7 @@ use Rattle.std.proofs.lemmas.Map.Views.{All-insert_key}
 use Rattle.std.proofs.lemmas.Slice.Eq.{bytes_eq-Decides}
 use Rattle.es_base.specs.Conforms.{is_among}
 use Rattle.es_base.proofs.Spelling.{bytes_eq_chars}
+use Rattle.es_name_set.specs.Names.{HaveSame}
 
 abbrev Keys : Type 0
 Keys = List (Bor (List ℕ))
@@ -65,3 +66,16 @@ inserted k (x ∷ ks) s = insert_step (order k x) k x ks (insert_key order ks k)
 -- keys stay strings
 pub all_strings : (k : Bor (List ℕ)) (ks : Keys) → All (λ (x : Bor (List ℕ)). IsUtf8 x.now) ks → IsUtf8 k.now → All (λ (x : Bor (List ℕ)). IsUtf8 x.now) (insert_key order ks k)
 all_strings k ks us u = All-insert_key order k (λ x. IsUtf8 x.now) ks us u
+
+-- ---- lists of names
+
+or_regrouped : (a b c : Bool) → ((a || b) || c) ≡ (a || (b || c))
+or_regrouped true b c = refl
+or_regrouped false b c = refl
+
+pub is_among-append : (s : List ℕ) (xs ys : List (List ℕ)) → is_among s (xs ++ ys) ≡ (is_among s xs || is_among s ys)
+is_among-append s [] ys = refl
+is_among-append s (x ∷ xs) ys = ap (λ b. bytes_eq x s || b) (is_among-append s xs ys) ∙ sym (or_regrouped (bytes_eq x s) (is_among s xs) (is_among s ys))
+
+pub HaveSame-append : (front xs ys : List (List ℕ)) → HaveSame xs ys → HaveSame (front ++ xs) (front ++ ys)
+HaveSame-append front xs ys same = λ s. is_among-append s front xs ∙ ap (λ b. is_among s front || b) (same s) ∙ sym (is_among-append s front ys)

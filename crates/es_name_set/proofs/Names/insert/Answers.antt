@@ -2,8 +2,8 @@ use Rattle.std.proofs.Common.{◌∙◌, ap}
 use Rattle.std.specs.Prelude.{bytes_eq, ◌||◌}
 use Rattle.std.specs.Str.{chars}
 use Rattle.es_base.specs.Conforms.{is_among}
-use Rattle.class_properties.proofs.NameSets.{all_strings, inserted, names_of}
-use Rattle.class_properties.proofs.not_yet.names.Names.insert.Goals as goal
+use Rattle.es_name_set.proofs.NameSets.{all_strings, inserted, names_of}
+use Rattle.es_name_set.proofs.Names.insert.Goals as goal
 
 pub invariant_of-self : goal.invariant_of-self
 invariant_of-self c = rw c.in_err-insert.ensures.err c.self.invariant
