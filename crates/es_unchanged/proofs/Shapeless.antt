@@ -15,8 +15,8 @@ use Rattle.es_steps.specs.LoweredClasses.{is_private_key, is_lowered_class, hold
 use Rattle.es_steps.specs.Options.{lowers_fields, lowers_blocks, keeps_privates_as_properties}
 use Rattle.es_steps.specs.Parts.{at, items, string_of}
 use Rattle.es_steps.specs.PrivateNames.{PrivateMember, seen_members}
-use Rattle.es_steps.specs.References.{Reference, resolve, imported, varying}
-use Rattle.es_steps.specs.Shapes.{lowered_classes, shapes, private_object, part_if, read_twice, any_written, moved_in, is_private_function, reads_twice, reads_twice_in, reads_twice_at, reads_twice_of, is_imported_key, any_imported_key, is_unwritable_target, any_unwritable, holds_unwritable, has_unwritable, unwritable_in, unwritable_part, unwritable_items, refers_to, writes_any, suspended_names, is_private_field, is_optional, is_spine, private_behind, private_behind_first, private_behind_part, private_chains, has_shape_4, has_shape_5, has_shape_6, has_shape_8, if_has}
+use Rattle.es_steps.specs.References.{Reference, resolve, varying}
+use Rattle.es_steps.specs.Shapes.{lowered_classes, shapes, private_object, part_if, read_twice, any_written, moved_in, is_private_function, reads_twice, reads_twice_in, reads_twice_at, reads_twice_of, is_unwritable_target, any_unwritable, holds_unwritable, has_unwritable, unwritable_in, unwritable_part, unwritable_items, refers_to, writes_any, suspended_names, is_private_field, is_optional, is_spine, private_behind, private_behind_first, private_behind_part, private_chains, has_shape_4, has_shape_5, has_shape_6, has_shape_8, if_has}
 use Rattle.es_steps.specs.Values.{Referent, Bound, Free}
 use Rattle.es_steps.specs.declared.options.Options.{Options}
 use Rattle.es_unchanged.proofs.Quiet.{no_privates, quiet-first, quiet-second, program-quiet}
@@ -230,14 +230,6 @@ module _ (o : Options) (ws : List ℕ) (rs : List Reference) (fields : lowers_fi
         rw (reads_at-none p (none-first o (preorder_of_part p) (preorder_of ps) none) (quiet-first (preorder_of_part p) (preorder_of ps) quiet))
         (reads_of-none ps (none-second o (preorder_of_part p) (preorder_of ps) none) (quiet-second (preorder_of_part p) (preorder_of ps) quiet))
 
-  imported_key-none : (t : Tree) → is_lowered_kind o (kind_of t) ≡ false → is_imported_key ws rs t ≡ false
-  imported_key-none (Node Kind.PropertyDefinition m span semantic_id ps) h = no_true (sym fields ∙ h)
-  imported_key-none t h = refl
-
-  imported_keys-none : (ts : List Tree) → none_lowered o ts ≡ true → any_imported_key ws rs ts ≡ false
-  imported_keys-none [] h = refl
-  imported_keys-none (t ∷ ts) h = rw (imported_key-none t (none-kind o t ts h)) (imported_keys-none ts (none-below o t ts h))
-
 -- ---- all shapes
 
 or-none : (a b : Bool) → a ≡ false → b ≡ false → (a || b) ≡ false
@@ -253,8 +245,8 @@ none-if a b c d s t u v h i j k = rw (h, i, j, k) refl
 pub no_shapes : (o : Options) (t : Tree) → conforms Place.Program t ≡ true → lowers_blocks o ≡ false → nothing_left o t ≡ true → shapes o t ≡ []
 no_shapes o t h b left =
     rw (classes-none o (preorder t) (no_lowered_class o t left), and-false (lowers_fields o), and-false (not (lowers_blocks o)), and-false (lowers_fields o))
-    (none-if (has_shape_4 o t) (has_shape_5 o t) (has_shape_6 o t []) (has_shape_8 o t) Shape.S4 Shape.S5 Shape.S6 Shape.S8
-    (asked-none (lowers_fields o) _ (λ f. or-none _ _ (reads-none o (varying t) (resolve t) f b t left (program-quiet o t f h left)) (imported_keys-none o (imported t) (resolve t) f b (preorder t) left)))
+    (none-if (has_shape_4 o t []) (has_shape_5 o t) (has_shape_6 o t []) (has_shape_8 o t) Shape.S4 Shape.S5 Shape.S6 Shape.S8
+    (asked-none (lowers_fields o) _ (λ f. or-none _ _ (reads-none o (varying t) (resolve t) f b t left (program-quiet o t f h left)) refl))
     (asked-none (lowers_fields o) _ (λ f. unwritable-none [] t (program-quiet o t f h left)))
     (rw (suspended-none o (preorder t) b) (writes-none (resolve t)))
     (asked-none (lowers_fields o) _ (λ f. chains-none t (program-quiet o t f h left))))
