@@ -14,3 +14,5 @@ mod programs;
 mod readme;
 #[cfg(test)]
 mod scopes;
+#[cfg(test)]
+mod shapes;
