@@ -18,4 +18,5 @@ mod readme;
 mod scopes;
 #[cfg(test)]
 mod shapes;
+#[cfg(test)]
 mod sources;
