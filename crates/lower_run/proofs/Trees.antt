@@ -11,12 +11,14 @@ use Rattle.es_steps.proofs.FirstMeaning.{first_form_law}
 use Rattle.es_steps.specs.FirstForm.{is_first_form}
 use Rattle.es_steps.specs.Lowered.{IsLowered, IsUnchanged}
 use Rattle.es_steps.specs.Meaning.{Meaning, has_meaning, lowered_means, source_means}
+use Rattle.es_steps.specs.Options.{no_options}
 use Rattle.es_steps.specs.Told.{warnings_of}
 use Rattle.class_properties.proofs.Conforming.{lowered-conforms, lowered-unchanged}
-use Rattle.class_properties.proofs.Kept.{source-owes}
 use Rattle.class_properties.proofs.Owed.{lowered-owes}
 use Rattle.class_properties.proofs.Same.{lowered-means}
 use Rattle.class_properties.proofs.Shapeless.{first_form-shapes}
+use Rattle.es_unchanged.proofs.Unchanged.{unchanged-owes}
+use Rattle.es_unchanged.proofs.Unlowered.{no_lowered_class, nothing_asked}
 use Rattle.lower_run.specs.Lines.{line}
 use Rattle.lower_run.specs.Outcome.{IsLoweredTree}
 use Rattle.lower_run.specs.Arguments.{options_for, lowered_by}
@@ -33,7 +35,7 @@ module _ (t : Tree) (fits : conforms Place.Program t ≡ true) (turn : t ≡ num
   lowered-program Lowering.ClassProperties = lowered-conforms t fits form turn
 
   lowered-owed : (l : Lowering) → IsLowered (nodes t) (options_for l) [] t (lowered_by l t)
-  lowered-owed Lowering.Nothing = source-owes t turn
+  lowered-owed Lowering.Nothing = unchanged-owes no_options t turn (no_lowered_class no_options t (nothing_asked t)) (nothing_asked t)
   lowered-owed Lowering.ClassProperties = lowered-owes t fits form turn
 
   lowered-same : (l : Lowering) → lowered_means (options_for l) [] t (lowered_by l t) ≡ source_means (options_for l) t
