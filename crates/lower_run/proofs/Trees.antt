@@ -4,7 +4,9 @@ use Rattle.serde_json.specs.Written.{compact_text}
 use Rattle.es_base.specs.Conforms.{conforms}
 use Rattle.es_base.specs.Preorder.{nodes, numbered_from}
 use Rattle.es_base.specs.Tree.{Tree}
+use Rattle.es_base.specs.declared.kind.Kind.{Kind}
 use Rattle.es_base.specs.declared.table.Place.{Place}
+use Rattle.es_node.specs.View.{kind_of}
 use Rattle.es_writing.specs.Kept.{IsKept}
 use Rattle.es_writing.specs.Lowered.{write_lowered}
 use Rattle.es_steps.proofs.FirstMeaning.{first_form_law}
@@ -14,6 +16,7 @@ use Rattle.es_steps.specs.Meaning.{Meaning, has_meaning, lowered_means, source_m
 use Rattle.es_steps.specs.Told.{warnings_of}
 use Rattle.class_properties.proofs.Conforming.{lowered-conforms, lowered-unchanged}
 use Rattle.class_properties.proofs.Kept.{source-owes}
+use Rattle.class_properties.proofs.OfKinds.{program_kind}
 use Rattle.class_properties.proofs.Owed.{lowered-owes}
 use Rattle.class_properties.proofs.Same.{lowered-means}
 use Rattle.class_properties.proofs.Shapeless.{first_form-shapes}
@@ -70,3 +73,7 @@ pub lowered-text : (l : Lowering) (t r : Tree) (text : List ℕ) → conforms Pl
     → r ≡ lowered_by l t → IsKept r → text ≡ line (compact_text (write_lowered r [] [] [])) → IsLoweredTree (options_for l) t [] text
 lowered-text l t r text fits turn form is kept written =
     lowered-tree t fits turn form l text (subst IsKept is kept) (written ∙ ap (λ u. line (compact_text (write_lowered u [] [] []))) is)
+
+-- it is a program
+pub lowered-kind : (l : Lowering) (t r : Tree) → conforms Place.Program t ≡ true → t ≡ numbered_from 0 t → is_first_form t [] ≡ true → r ≡ lowered_by l t → kind_of r ≡ Kind.Program
+lowered-kind l t r fits turn form is = ap kind_of is ∙ program_kind (lowered_by l t) (lowered-program t fits turn form l)
