@@ -3,8 +3,10 @@ use Rattle.std.proofs.Common.{◌≡◌, refl, sym, ap, ◌∙◌, subst, ℕ, L
 use Rattle.serde_json.specs.Written.{compact_text}
 use Rattle.es_base.specs.Conforms.{conforms}
 use Rattle.es_base.specs.Preorder.{nodes, numbered_from}
-use Rattle.es_base.specs.Tree.{Tree}
+use Rattle.es_base.specs.Tree.{Tree, Node}
+use Rattle.es_base.specs.declared.kind.Kind.{Kind}
 use Rattle.es_base.specs.declared.table.Place.{Place}
+use Rattle.es_node.specs.View.{kind_of}
 use Rattle.es_writing.specs.Kept.{IsKept}
 use Rattle.es_writing.specs.Lowered.{write_lowered}
 use Rattle.es_steps.proofs.FirstMeaning.{first_form_law}
@@ -72,3 +74,11 @@ pub lowered-text : (l : Lowering) (t r : Tree) (text : List ℕ) → conforms Pl
     → r ≡ lowered_by l t → IsKept r → text ≡ line (compact_text (write_lowered r [] [] [])) → IsLoweredTree (options_for l) t [] text
 lowered-text l t r text fits turn form is kept written =
     lowered-tree t fits turn form l text (subst IsKept is kept) (written ∙ ap (λ u. line (compact_text (write_lowered u [] [] []))) is)
+
+-- it is a program
+program_kind : (t : Tree) → conforms Place.Program t ≡ true → kind_of t ≡ Kind.Program
+program_kind (Node Kind.Program m span semantic_id ps) f = refl
+program_kind (Node kind m span semantic_id ps) f = absurd (true≢false (sym f))
+
+pub lowered-kind : (l : Lowering) (t r : Tree) → conforms Place.Program t ≡ true → t ≡ numbered_from 0 t → is_first_form t [] ≡ true → r ≡ lowered_by l t → kind_of r ≡ Kind.Program
+lowered-kind l t r fits turn form is = ap kind_of is ∙ program_kind (lowered_by l t) (lowered-program t fits turn form l)
