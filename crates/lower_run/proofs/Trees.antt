@@ -75,10 +75,11 @@ pub lowered-text : (l : Lowering) (t r : Tree) (text : List ℕ) → conforms Pl
 lowered-text l t r text fits turn form is kept written =
     lowered-tree t fits turn form l text (subst IsKept is kept) (written ∙ ap (λ u. line (compact_text (write_lowered u [] [] []))) is)
 
--- it is a program
+-- what stands as a program is one
 program_kind : (t : Tree) → conforms Place.Program t ≡ true → kind_of t ≡ Kind.Program
 program_kind (Node Kind.Program m span semantic_id ps) f = refl
 program_kind (Node kind m span semantic_id ps) f = absurd (true≢false (sym f))
 
+-- what is written is a program
 pub lowered-kind : (l : Lowering) (t r : Tree) → conforms Place.Program t ≡ true → t ≡ numbered_from 0 t → is_first_form t [] ≡ true → r ≡ lowered_by l t → kind_of r ≡ Kind.Program
 lowered-kind l t r fits turn form is = ap kind_of is ∙ program_kind (lowered_by l t) (lowered-program t fits turn form l)
