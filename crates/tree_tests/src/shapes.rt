@@ -27,9 +27,18 @@ fn assumptions_are_read(rt: HostRuntime) -> Result<(), Fail> {
     };
     let cases = [
         (r#"{"setPublicClassFields":true}"#, Ok(set)),
-        (r#"{"setPublicClassFields":false,"noDocumentAll":true}"#, Ok(no_document)),
-        (r#"{"setPublicClassFields":false,"setPublicClassFields":true}"#, Ok(set)),
-        (r#"{"setPublicClassFields":true,"setPublicClassFields":false}"#, Ok(none)),
+        (
+            r#"{"setPublicClassFields":false,"noDocumentAll":true}"#,
+            Ok(no_document),
+        ),
+        (
+            r#"{"setPublicClassFields":false,"setPublicClassFields":true}"#,
+            Ok(set),
+        ),
+        (
+            r#"{"setPublicClassFields":true,"setPublicClassFields":false}"#,
+            Ok(none),
+        ),
         ("{}", Ok(none)),
         (r#"{"setPublicClassFields":1}"#, Err(BadAssumptions)),
         (r#"{"foo":true}"#, Err(BadAssumptions)),
