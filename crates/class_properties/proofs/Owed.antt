@@ -18,8 +18,8 @@ use Rattle.class_properties.proofs.Numbered as numbered
 use Rattle.class_properties.proofs.Renumbered.{lowered-numbered}
 use Rattle.class_properties.proofs.Printed.{printable-lowered}
 use Rattle.class_properties.proofs.Remaining.{Remains, remains}
-use Rattle.class_properties.proofs.Standing.{temporaries-none}
-use Rattle.class_properties.proofs.Unmarked.{names-timely}
+use Rattle.es_unchanged.proofs.Standing.{temporaries-none}
+use Rattle.es_unchanged.proofs.Unmarked.{names-timely}
 use Rattle.class_properties.specs.Lowering.{lowered}
 
 -- with no nodes behind
@@ -108,10 +108,12 @@ numbered-owes t p e =
         accounted = laid-accounted (own_name_numbers t (preorder q)) laid;
         initialized = refl;
         timely = names-timely first q;
+        temporaries = refl;
         keys = rw (temporaries-none first class_properties_alone (private_members t) q (preorder q)) refl;
         nodes = rest.nodes;
         statements = rest.statements;
         lists = rest.lists;
+        homes = rest.homes;
         definitions = definitions-fit first (private_members t) t p e;
         elements = rest.elements;
         printable = printable-lowered first t p;

@@ -17,4 +17,6 @@ mod readme;
 #[cfg(test)]
 mod scopes;
 #[cfg(test)]
+mod shapes;
+#[cfg(test)]
 mod sources;

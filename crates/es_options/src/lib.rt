@@ -1,0 +1,4 @@
+//! Options of a lowering that are read from JSON.
+#![tactic(auto)]
+
+pub mod assumptions;

@@ -1,0 +1,234 @@
+-- What stands where: trees among the nodes of a program, one list within another, and that a tree is itself.
+use Rattle.std.specs.Prelude.{◌≡◌, ℕ, List, [], ◌∷◌, ◌++◌, Bool, true, false, cond, not, ◌&&◌, ◌||◌, nat_eq, Option, Some, None}
+use Rattle.std.proofs.Common.{refl, ◌+◌, ◌≤◌, arith}
+use Rattle.std.proofs.lemmas.Bool.{and_from, and_parts, true≢false}
+use Rattle.es_base.specs.Tree.{Tree, Part, Parts, Node, end, more, child, absent, list, string, no_string, boolean, literal}
+use Rattle.es_base.specs.declared.literal.LiteralValue.{LiteralValue}
+use Rattle.es_base.specs.declared.literal.LiteralValue.TheVariants as literal_value
+use Rattle.es_steps.proofs.FirstMeaning.{no_false}
+use Rattle.es_steps.proofs.Reflexive.{number-same, string-same}
+use Rattle.es_steps.specs.Definitions.{DefinedKey, BrandKey, PrivateKey, PublicKey, FieldDefinition, key_temporary, key_temporaries, all_temporaries}
+use Rattle.es_steps.specs.KeptNodes.{NodeSort, a_class, a_function, a_call, a_construction, another, sort_of, is_kept_sort, same_sort, stands_as, all_stand, stands_equal, all_equal, list_of, is_within, all_within, pair_stands, all_pairs_stand}
+use Rattle.es_steps.specs.PrivateNames.{PrivateMember, is_class}
+use Rattle.es_steps.specs.SameTrees.{same_tree, same_part, same_parts, same_literal, kind_number}
+use Rattle.es_steps.specs.SameValues.{same_boolean, same_nullable_string}
+use Rattle.es_steps.specs.Values.{String}
+use Rattle.es_steps.specs.declared.options.Options.{Options}
+
+pub both : {a b : Bool} → a ≡ true → b ≡ true → a && b ≡ true
+both {a = a} {b = b} p q = and_from a b p q
+
+pub or_left : (a b : Bool) → a ≡ true → a || b ≡ true
+or_left a b h = rw h refl
+
+pub or_right : (a b : Bool) → b ≡ true → a || b ≡ true
+or_right true b h = refl
+or_right false b h = h
+
+pub none_of : (a b : Bool) → (a || b) ≡ false → (a ≡ false) × (b ≡ false)
+none_of true b h = absurd (true≢false h)
+none_of false b h = (refl, h)
+
+pub still_new : {first : ℕ} (k j : ℕ) → first ≤ k → first ≤ k + j
+still_new k j new = omega (arith, new)
+
+-- ---- trees in lists
+
+pub data In (t : Tree) : List Tree → Type 0 where
+  here : {ts : List Tree} → In t (t ∷ ts)
+  later : {u : Tree} {ts : List Tree} → In t ts → In t (u ∷ ts)
+
+abbrev pub Among : List Tree → List Tree → Type 0
+Among ts us = (t : Tree) → In t ts → In t us
+
+pub in-left : (t : Tree) (ts us : List Tree) → In t ts → In t (ts ++ us)
+in-left t [] us h = elim h [ ]
+in-left t (u ∷ ts) us here = here
+in-left t (u ∷ ts) us (later h) = later (in-left t ts us h)
+
+pub in-right : (t : Tree) (ts us : List Tree) → In t us → In t (ts ++ us)
+in-right t [] us h = h
+in-right t (u ∷ ts) us h = later (in-right t ts us h)
+
+in-append : (t : Tree) (ts us : List Tree) (P : Type 0) → (In t ts → P) → (In t us → P) → In t (ts ++ us) → P
+in-append t [] us P f g h = g h
+in-append t (u ∷ ts) us P f g here = f here
+in-append t (u ∷ ts) us P f g (later h) = in-append t ts us P (λ i. f (later i)) g h
+
+pub among-append : (ts us vs ws : List Tree) → Among ts vs → Among us ws → Among (ts ++ us) (vs ++ ws)
+among-append ts us vs ws a b t h = in-append t ts us (In t (vs ++ ws)) (λ i. in-left t vs ws (a t i)) (λ i. in-right t vs ws (b t i)) h
+
+-- ---- a tree is itself
+
+pub apart-sym : (m n : ℕ) → nat_eq m n ≡ false → nat_eq n m ≡ false
+apart-sym m n h = grind arith
+
+boolean-same : (b : Bool) → same_boolean b b ≡ true
+boolean-same true = refl
+boolean-same false = refl
+
+nullable_string-same : (x : Option String) → same_nullable_string x x ≡ true
+nullable_string-same None = refl
+nullable_string-same (Some s) = string-same s
+
+literal-same : (v : LiteralValue) → same_literal v v ≡ true
+literal-same (literal_value.String s raw) = both (string-same s) (nullable_string-same raw)
+literal-same (literal_value.Number s) = string-same s
+literal-same (literal_value.BigInt s) = string-same s
+literal-same (literal_value.RegExp p f) = both (string-same p) (string-same f)
+literal-same (literal_value.Boolean b) = boolean-same b
+literal-same literal_value.Null = refl
+
+mutual
+  pub tree-same : (t : Tree) → same_tree t t ≡ true
+  tree-same (Node kind m span semantic_id ps) = both (number-same (kind_number kind)) (both (number-same m) (parts-same ps))
+
+  part-same : (p : Part) → same_part p p ≡ true
+  part-same (child t) = tree-same t
+  part-same absent = refl
+  part-same (list ps) = parts-same ps
+  part-same (string s) = string-same s
+  part-same no_string = refl
+  part-same (boolean b) = boolean-same b
+  part-same (literal v) = literal-same v
+
+  parts-same : (ps : Parts) → same_parts ps ps ≡ true
+  parts-same end = refl
+  parts-same (more p ps) = both (part-same p) (parts-same ps)
+
+-- ---- nodes that stand
+
+pub stands-equal : (t : Tree) (ts : List Tree) → In t ts → stands_equal t ts ≡ true
+stands-equal t [] h = elim h [ ]
+stands-equal t (u ∷ ts) here = or_left (same_tree t t) (stands_equal t ts) (tree-same t)
+stands-equal t (u ∷ ts) (later h) = or_right (same_tree t u) (stands_equal t ts) (stands-equal t ts h)
+
+pub all-equal : (ts us : List Tree) → Among ts us → all_equal ts us ≡ true
+all-equal [] us h = refl
+all-equal (t ∷ ts) us h = both (stands-equal t us (h t here)) (all-equal ts us (λ u i. h u (later i)))
+
+sort-same : (sort : NodeSort) → is_kept_sort sort ≡ true → same_sort sort sort ≡ true
+sort-same a_class h = refl
+sort-same a_function h = refl
+sort-same a_call h = refl
+sort-same a_construction h = refl
+sort-same another h = h
+
+-- a node of this number and sort
+abbrev stands_by : ℕ → NodeSort → Tree → Bool
+stands_by m sort (Node kind k span semantic_id ps) = nat_eq m k && same_sort sort (sort_of kind)
+
+stands_as-here : (m : ℕ) (sort : NodeSort) (t : Tree) (ts : List Tree) → stands_by m sort t ≡ true → stands_as m sort (t ∷ ts) ≡ true
+stands_as-here m sort (Node kind k span semantic_id ps) ts h = or_left (nat_eq m k && same_sort sort (sort_of kind)) (stands_as m sort ts) h
+
+stands_as-later : (m : ℕ) (sort : NodeSort) (t : Tree) (ts : List Tree) → stands_as m sort ts ≡ true → stands_as m sort (t ∷ ts) ≡ true
+stands_as-later m sort (Node kind k span semantic_id ps) ts h = or_right (nat_eq m k && same_sort sort (sort_of kind)) (stands_as m sort ts) h
+
+pub stands_as-in : (m : ℕ) (sort : NodeSort) (t : Tree) (ts : List Tree) → stands_by m sort t ≡ true → In t ts → stands_as m sort ts ≡ true
+stands_as-in m sort t [] e h = elim h [ ]
+stands_as-in m sort t (u ∷ ts) e here = stands_as-here m sort t ts e
+stands_as-in m sort t (u ∷ ts) e (later h) = stands_as-later m sort u ts (stands_as-in m sort t ts e h)
+
+kept-or : (sort : NodeSort) (b : Bool) → (is_kept_sort sort ≡ true → b ≡ true) → (not (is_kept_sort sort) || b) ≡ true
+kept-or a_class b h = h refl
+kept-or a_function b h = h refl
+kept-or a_call b h = h refl
+kept-or a_construction b h = h refl
+kept-or another b h = refl
+
+pub all-stand : (ts us : List Tree) → Among ts us → all_stand ts us ≡ true
+all-stand [] us h = refl
+all-stand (Node kind m span semantic_id ps ∷ ts) us h =
+    both (kept-or (sort_of kind) (stands_as m (sort_of kind) us) (λ k. stands_as-in m (sort_of kind) (Node kind m span semantic_id ps) us (both (number-same m) (sort-same (sort_of kind) k)) (h (Node kind m span semantic_id ps) here)))
+    (all-stand ts us (λ u i. h u (later i)))
+
+-- ---- one list within another
+
+record Within (ys : List ℕ) : Type 0 where
+  drops : (x : ℕ) (xs : List ℕ) → is_within (x ∷ xs) ys ≡ true → is_within xs ys ≡ true
+  grows : (xs : List ℕ) (y : ℕ) → is_within xs ys ≡ true → is_within xs (y ∷ ys) ≡ true
+
+grows-by : (ys : List ℕ) → ((x : ℕ) (xs : List ℕ) → is_within (x ∷ xs) ys ≡ true → is_within xs ys ≡ true) → (xs : List ℕ) (y : ℕ) → is_within xs ys ≡ true → is_within xs (y ∷ ys) ≡ true
+grows-by ys drops [] y h = refl
+grows-by ys drops (x ∷ xs) y h = either (nat_eq x y)
+  where
+    either : (b : Bool) → cond b (is_within xs ys) (is_within (x ∷ xs) ys) ≡ true
+    either true = drops x xs h
+    either false = h
+
+drops-by : (y : ℕ) (ys : List ℕ) → Within ys → (x : ℕ) (xs : List ℕ) → is_within (x ∷ xs) (y ∷ ys) ≡ true → is_within xs (y ∷ ys) ≡ true
+drops-by y ys w x xs h = w.grows xs y (either (nat_eq x y) h)
+  where
+    either : (b : Bool) → cond b (is_within xs ys) (is_within (x ∷ xs) ys) ≡ true → is_within xs ys ≡ true
+    either true k = k
+    either false k = w.drops x xs k
+
+within : (ys : List ℕ) → Within ys
+within [] = record { drops = λ x xs h. no_false h; grows = grows-by [] (λ x xs h. no_false h) }
+within (y ∷ ys) = let w : Within ys = within ys in record { drops = drops-by y ys w; grows = grows-by (y ∷ ys) (drops-by y ys w) }
+
+pub within-more : (xs : List ℕ) (y : ℕ) (ys : List ℕ) → is_within xs ys ≡ true → is_within xs (y ∷ ys) ≡ true
+within-more xs y ys h = (within ys).grows xs y h
+
+pub within-both : (x : ℕ) (xs ys : List ℕ) → is_within xs ys ≡ true → is_within (x ∷ xs) (x ∷ ys) ≡ true
+within-both x xs ys h = rw (number-same x) h
+
+pub within-same : (xs : List ℕ) → is_within xs xs ≡ true
+within-same [] = refl
+within-same (x ∷ xs) = within-both x xs xs (within-same xs)
+
+within-behind : (xs ys zs : List ℕ) → is_within xs zs ≡ true → is_within xs (ys ++ zs) ≡ true
+within-behind xs [] zs h = h
+within-behind xs (y ∷ ys) zs h = within-more xs y (ys ++ zs) (within-behind xs ys zs h)
+
+within_either-append : (b : Bool) {c d e f : Bool} → (c ≡ true → e ≡ true) → (d ≡ true → f ≡ true) → cond b c d ≡ true → cond b e f ≡ true
+within_either-append true g k h = g h
+within_either-append false g k h = k h
+
+pub within-append : (xs ys us vs : List ℕ) → is_within xs ys ≡ true → is_within us vs ≡ true → is_within (xs ++ us) (ys ++ vs) ≡ true
+within-append [] ys us vs h i = within-behind us ys vs i
+within-append (x ∷ xs) [] us vs h i = no_false h
+within-append (x ∷ xs) (y ∷ ys) us vs h i = within_either-append (nat_eq x y) (λ k. within-append xs ys us vs k i) (λ k. within-append (x ∷ xs) ys us vs k i) h
+
+-- pairs in lists
+pub pairs-more : (q : ℕ × ℕ) (ps qs : List (ℕ × ℕ)) → all_pairs_stand ps qs ≡ true → all_pairs_stand ps (q ∷ qs) ≡ true
+pairs-more q [] qs h = refl
+pairs-more q (p ∷ ps) qs h =
+    let parts = and_parts (pair_stands p qs) (all_pairs_stand ps qs) h in
+    both (or_right (nat_eq p.0 q.0 && nat_eq p.1 q.1) (pair_stands p qs) parts.0) (pairs-more q ps qs parts.1)
+
+pub pairs-behind : (xs ps qs : List (ℕ × ℕ)) → all_pairs_stand ps qs ≡ true → all_pairs_stand ps (xs ++ qs) ≡ true
+pairs-behind [] ps qs h = h
+pairs-behind (x ∷ xs) ps qs h = pairs-more x ps (xs ++ qs) (pairs-behind xs ps qs h)
+
+pub pairs-both : (p : ℕ × ℕ) (ps qs : List (ℕ × ℕ)) → all_pairs_stand ps qs ≡ true → all_pairs_stand (p ∷ ps) (p ∷ qs) ≡ true
+pairs-both p ps qs h = both (or_left (nat_eq p.0 p.0 && nat_eq p.1 p.1) (pair_stands p qs) (both (number-same p.0) (number-same p.1))) (pairs-more p ps qs h)
+
+pub pairs-same : (ps : List (ℕ × ℕ)) → all_pairs_stand ps ps ≡ true
+pairs-same [] = refl
+pairs-same (p ∷ ps) = pairs-both p ps ps (pairs-same ps)
+
+pub all_within-append : (ls ks : List (ℕ × List ℕ)) (qs : List Tree) → all_within ls qs ≡ true → all_within ks qs ≡ true → all_within (ls ++ ks) qs ≡ true
+all_within-append [] ks qs h i = i
+all_within-append (l ∷ ls) ks qs h i =
+    let parts = and_parts (is_within l.1 (list_of l.0 qs)) (all_within ls qs) h in
+    both parts.0 (all_within-append ls ks qs parts.1 i)
+
+-- ---- without generated names no key is a temporary
+
+key-none : (k : DefinedKey) → key_temporary [] k ≡ []
+key-none (BrandKey s) = refl
+key-none (PrivateKey s) = refl
+key-none (PublicKey k is_name) = refl
+
+keys-none : (ds : List FieldDefinition) → key_temporaries [] ds ≡ []
+keys-none [] = refl
+keys-none (d ∷ ds) = rw (key-none d.key) (keys-none ds)
+
+pub temporaries-none : (first : ℕ) (o : Options) (members : List PrivateMember) (q : Tree) (ts : List Tree) → all_temporaries first o [] members q ts ≡ []
+temporaries-none first o members q [] = refl
+temporaries-none first o members q (Node kind n span semantic_id ps ∷ ts) = rw (keys-none _) (either (is_class kind) (temporaries-none first o members q ts))
+  where
+    either : (b : Bool) → all_temporaries first o [] members q ts ≡ [] → (cond b [] [] ++ all_temporaries first o [] members q ts) ≡ []
+    either true h = h
+    either false h = h
