@@ -35,7 +35,9 @@ class Log {
     return this.seen.get(value);
   }
 
+  // A run that logs without end is cut off, in the source as in the output.
   line(text) {
+    if (this.lines.length >= 2000) throw new RangeError('too many lines');
     this.lines.push(text);
   }
 

@@ -5,8 +5,6 @@
 #[cfg(test)]
 mod base;
 #[cfg(test)]
-mod build;
-#[cfg(test)]
 mod json;
 #[cfg(test)]
 mod layer;
@@ -18,5 +16,3 @@ mod readme;
 mod scopes;
 #[cfg(test)]
 mod shapes;
-#[cfg(test)]
-mod sources;
