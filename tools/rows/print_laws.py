@@ -89,7 +89,7 @@ NOT_MET = {
     'method_given_behind_its_calls': INITIALIZED,
     'super_function_behind_a_call': TIMELY,
     'class_temporary_of_another_case': TIMELY,
-    'body_in_an_arrow': 'homes_kept options_{n} source_{n} output_{n}',
+    'body_in_an_arrow': 'homes_kept (nodes source_{n}) options_{n} source_{n} output_{n}',
     'function_out_of_its_block': LISTS,
     'class_in_a_constructor': LISTS,
     'class_behind_its_use': LISTS,

@@ -10,8 +10,8 @@ use Rattle.es_base.specs.declared.ledger.GeneratedKind.{GeneratedKind}
 use Rattle.es_base.specs.declared.ledger.LedgerEntry.{LedgerEntry}
 use Rattle.es_steps.specs.Context.{generated_as}
 use Rattle.es_steps.specs.Definitions.{spelling, field_part, names_class, class_identifiers, all_different, is_among_first}
-use Rattle.es_steps.specs.KeptNodes.{statement_list, is_function_declaration}
-use Rattle.es_steps.specs.Lowered.{kind_of, none_lowered, nothing_left, declaring_number, declaring_numbers, is_bound_to, all_mean, is_one_new, private_key, private_keys, keys_of_body, keys_of_class, keys_in, is_one, declared_by_kind, same_space, is_named_again, names_declared, is_new_const, is_there, has_branded, belongs, class_name_at, declares_class, own_name_number, own_name_numbers, is_generated, is_accounted, all_accounted, declarations_accounted, spelled_as, is_helper_callee, is_new_of, is_key_call, is_function_part, class_number_in, assignment_number, paired, pairs_behind, all_behind, has_pair, is_class_or_name, is_class_value, is_initial, is_class_kind, is_method_kind, initialization_at, initializations, comes_before, class_of_member, class_before, is_declared_function, all_before, needs_none, is_one_initialization, initializations_stand, any_before, keys_before, keys_stand}
+use Rattle.es_steps.specs.KeptNodes.{statement_list, is_function_declaration, is_underscored}
+use Rattle.es_steps.specs.Lowered.{kind_of, none_lowered, nothing_left, declaring_number, declaring_numbers, is_bound_to, all_mean, is_one_new, private_key, private_keys, keys_of_body, keys_of_class, keys_in, is_one, declared_by_kind, same_space, is_named_again, names_declared, is_new_const, is_there, has_branded, belongs, class_name_at, declares_class, own_name_number, own_name_numbers, is_generated, is_accounted, all_accounted, declarations_accounted, spelled_as, is_new_of, is_key_call, is_function_part, class_number_in, assignment_number, paired, pairs_behind, all_behind, has_pair, is_class_or_name, is_class_value, is_initial, is_class_kind, is_method_kind, initialization_at, initializations, comes_before, class_of_member, class_before, is_declared_function, all_before, needs_none, is_one_initialization, initializations_stand, any_before, keys_before, keys_stand}
 use Rattle.es_steps.specs.Options.{lowers_fields}
 use Rattle.es_steps.specs.Parts.{at, items, string_of, is_present}
 use Rattle.es_steps.specs.GeneratedForms.{if_member, is_instance_field, is_static_field, is_function_member}
@@ -23,6 +23,7 @@ use Rattle.es_steps.specs.declared.options.Options.{Options}
 use Rattle.es_steps.proofs.ContextMapped.{generated_as-mapped}
 use Rattle.es_steps.proofs.DefinitionsMapped.{mapped_temporary, spelling-mapped, field_part-mapped, class_identifiers-mapped, names_class-mapped}
 use Rattle.es_steps.proofs.FormsMapped.{if_member-mapped}
+use Rattle.es_steps.proofs.HelperCallsMapped.{is_helper_callee-mapped}
 use Rattle.es_steps.proofs.KeptNodesMapped.{statement_list-mapped, is_function_declaration-mapped}
 use Rattle.es_steps.proofs.Mapped.{Renames, mapped, mapped_part, mapped_parts, mapped_option, mapped_generated, mapped_ledger, mapped_ledger_entry, mapped_privates, mapped_private, mapped_pair, mapped_referent, mapped_reference}
 use Rattle.es_steps.proofs.PartsMapped.{cond-mapped, append-mapped, at-mapped, items_at-mapped, string_at-mapped, is_present-mapped, is_present_at-mapped, number_of-mapped, preorder-mapped}
@@ -186,7 +187,7 @@ module _ {first : ℕ} {f : ℕ → ℕ} (r : Renames first f) where
 
   pub names_declared-mapped : (ledger : List LedgerEntry) (q : Tree) → names_declared first (mapped_ledger f ledger) (mapped f q) ≡ names_declared first ledger q
   names_declared-mapped [] q = refl
-  names_declared-mapped (e ∷ es) q = ap₂ (λ a b. not a && b) (is_named_again-mapped e es) (ap₂ (λ a b. a && b) (declared_by_kind-mapped q e.name e.kind) (names_declared-mapped es q))
+  names_declared-mapped (e ∷ es) q = ap₂ (λ a b. (is_underscored e.name && not a) && b) (is_named_again-mapped e es) (ap₂ (λ a b. a && b) (declared_by_kind-mapped q e.name e.kind) (names_declared-mapped es q))
 
   -- ---- new declarations
 
@@ -223,12 +224,8 @@ module _ {first : ℕ} {f : ℕ → ℕ} (r : Renames first f) where
 
   -- ---- initializations
 
-  is_helper_callee-mapped : (h : String) (p : Part) → is_helper_callee first h (mapped_part f p) ≡ is_helper_callee first h p
-  is_helper_callee-mapped h (child (Node Kind.MemberExpression m span semantic_id (more (child (Node Kind.IdentifierReference b bspan b_semantic_id (more (string s) end))) (more (child (Node Kind.IdentifierName k kspan k_semantic_id (more (string t) end))) rest)))) = rw (r.new b) refl
-  is_helper_callee-mapped h p = refl
-
   is_key_call-mapped : (p : Part) → is_key_call first (mapped_part f p) ≡ is_key_call first p
-  is_key_call-mapped (child (Node Kind.CallExpression m span semantic_id (more g (more (list (more s end)) rest)))) = is_helper_callee-mapped (codes "classPrivateFieldLooseKey") g
+  is_key_call-mapped (child (Node Kind.CallExpression m span semantic_id (more g (more (list (more s end)) rest)))) = is_helper_callee-mapped r (codes "classPrivateFieldLooseKey") g
   is_key_call-mapped p = refl
 
   has_pair-mapped : (m n : ℕ) (ps : List (ℕ × ℕ)) → has_pair (f m) (f n) (map (mapped_pair f) ps) ≡ has_pair m n ps

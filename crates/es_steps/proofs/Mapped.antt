@@ -411,6 +411,7 @@ module _ (f : ℕ → ℕ) where
     functions = map mapped_pair m.functions;
     bindings = map mapped_binding m.bindings;
     globals = map mapped_name m.globals;
+    shared = map mapped_pair m.shared;
     places = map mapped_pair m.places;
     links = map mapped_link m.links;
     exports = map mapped_named_export m.exports;

@@ -11,7 +11,8 @@ use Rattle.es_steps.specs.Context.{generated_as, is_constructor, is_function, na
 use Rattle.es_steps.specs.Parts.{at, items, string_of, is_true, has_pattern}
 use Rattle.es_steps.specs.PrivateNames.{is_class}
 use Rattle.es_steps.specs.References.{has_number}
-use Rattle.es_steps.specs.Repeated.{Surroundings, is_loop, is_arrow, super_function, if_here, constructs_at, function_place, is_parameters_part, first_number, parameters_place, place_in, around_program, surroundings_in, is_placed, place_of, places, places_in, places_at, places_of, all_places}
+use Rattle.es_steps.specs.Scopes.{is_binding_identifier}
+use Rattle.es_steps.specs.Repeated.{Surroundings, is_loop, is_arrow, super_function, if_here, constructs_at, function_place, is_parameters_part, first_number, parameters_place, place_in, around_program, takes_vars, hoisted_in, in_var_at, surroundings_in, is_placed, own_place, place_of, places, places_in, places_at, places_of, all_places}
 use Rattle.es_steps.proofs.ContextMapped.{generated_as-mapped, name_in-mapped}
 use Rattle.es_steps.proofs.Mapped.{Renames, mapped, mapped_part, mapped_parts, mapped_option, mapped_generated, mapped_ledger, mapped_pair}
 use Rattle.es_steps.proofs.PartsMapped.{cond-mapped, append-mapped, at-mapped, items_at-mapped, string_at-mapped, is_true_at-mapped, has_pattern-mapped, number_of-mapped}
@@ -19,7 +20,7 @@ use Rattle.es_steps.proofs.ReferencesMapped.{has_number-mapped}
 
 module _ (f : ℕ → ℕ) where
   abbrev pub mapped_surroundings : Surroundings → Surroundings
-  mapped_surroundings s = record { place = f s.place; class = f s.class; constructs = mapped_option f s.constructs }
+  mapped_surroundings s = record { place = f s.place; hoisted = f s.hoisted; in_var = s.in_var; class = f s.class; constructs = mapped_option f s.constructs }
 
   super_function-mapped : (g : Option GeneratedKind) → super_function (mapped_option (mapped_generated f) g) ≡ mapped_option f (super_function g)
   super_function-mapped None = refl
@@ -76,12 +77,21 @@ module _ {first : ℕ} {f : ℕ → ℕ} (r : Renames first f) (ledger : List Le
   place_in-mapped s Kind.PropertyDefinition m ps i = rw (is_true_at-mapped f 3 ps) (class_or-mapped f (nat_eq i 1 && not (is_true (at 3 ps))) s.class s.place)
   place_in-mapped s kind m ps i = of_kind-mapped s kind m ps i
 
+  hoisted_in-mapped : (s : Surroundings) (kind : Kind) (m : ℕ) (ps : Parts) (i : ℕ) → hoisted_in first (there s) kind (f m) (mapped_parts f ps) i ≡ f (hoisted_in first s kind m ps i)
+  hoisted_in-mapped s kind m ps i = cond-mapped f (takes_vars kind) (place_in first s kind m ps i) s.hoisted (place_in-mapped s kind m ps i) refl
+
+  in_var_at-mapped : (in_var : Bool) (kind : Kind) (ps : Parts) → in_var_at in_var kind (mapped_parts f ps) ≡ in_var_at in_var kind ps
+  in_var_at-mapped in_var Kind.VariableDeclaration ps = rw (string_at-mapped f 0 ps) refl
+  in_var_at-mapped in_var kind ps = refl
+
   pub surroundings_in-mapped : (s : Surroundings) (kind : Kind) (m : ℕ) (ps : Parts) (i : ℕ) → surroundings_in first (mapped_ledger f ledger) (there s) kind (f m) (mapped_parts f ps) i ≡ there (surroundings_in first ledger s kind m ps i)
-  surroundings_in-mapped s kind m ps i = rw (place_in-mapped s kind m ps i, constructs_at-mapped f ledger s.class kind ps i, class_or-mapped f (is_class kind && nat_eq i 2) m s.class) refl
+  surroundings_in-mapped s kind m ps i = rw (hoisted_in-mapped s kind m ps i, place_in-mapped s kind m ps i, in_var_at-mapped s.in_var kind ps, constructs_at-mapped f ledger s.class kind ps i, class_or-mapped f (is_class kind && nat_eq i 2) m s.class) refl
 
   module _ (functions : List ℕ) where
     place_of-mapped : (s : Surroundings) (kind : Kind) (m : ℕ) → place_of first (mapped_ledger f ledger) (map f functions) (there s) kind (f m) ≡ map (mapped_pair f) (place_of first ledger functions s kind m)
-    place_of-mapped s kind m = rw (r.new m, has_number-mapped r m functions) (cond-mapped (map (mapped_pair f)) (is_placed kind && not (is_new first m || has_number m functions)) ((m, s.place) ∷ []) [] refl refl)
+    place_of-mapped s kind m =
+        rw (r.new m, has_number-mapped r m functions, class_or-mapped f (is_binding_identifier kind && s.in_var) s.hoisted s.place)
+        (cond-mapped (map (mapped_pair f)) (is_placed kind && not (is_new first m || has_number m functions)) ((m, own_place s kind) ∷ []) [] refl refl)
 
     mutual
       places-mapped : (s : Surroundings) (t : Tree) → places first (mapped_ledger f ledger) (map f functions) (there s) (mapped f t) ≡ map (mapped_pair f) (places first ledger functions s t)

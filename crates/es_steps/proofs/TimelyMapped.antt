@@ -8,10 +8,11 @@ use Rattle.es_base.specs.declared.ledger.GeneratedKind.{GeneratedKind}
 use Rattle.es_base.specs.declared.ledger.LedgerEntry.{LedgerEntry}
 use Rattle.es_steps.specs.Context.{generated_as}
 use Rattle.es_steps.specs.Definitions.{spelling}
+use Rattle.es_steps.specs.Expressions.{is_logical}
 use Rattle.es_steps.specs.KeptNodes.{pair_stands, all_pairs_stand}
 use Rattle.es_steps.specs.Parts.{at, string_of}
 use Rattle.es_steps.specs.References.{has_number}
-use Rattle.es_steps.specs.Timely.{MarkForm, declares, initializes, hoists, uses, Around, Mark, is_held, is_held_arrow, is_callee_of_call, is_instance_value, runs_later, around_in, mark_by, mark, declared_mark, initialized_mark, marks_before, marks_behind, is_given, is_let_declaration, marks, marks_in, marks_at, marks_of, is_later, gives_by, gives_in_time, any_gives, is_dead_by, is_dead, is_followed, is_use, comes_first, asks, in_time, names_timely}
+use Rattle.es_steps.specs.Timely.{MarkForm, declares, initializes, hoists, uses, Around, Mark, is_held, is_held_arrow, is_callee_of_call, is_instance_value, runs_later, around_in, mark_by, mark, declared_mark, initialized_mark, marks_before, marks_behind, is_given, is_let_declaration, marks, marks_in, marks_at, marks_of, is_later, gives_by, gives_in_time, any_gives, is_dead_by, is_dead, is_skipped_by, is_skipped, is_followed, is_use, comes_first, asks, in_time, names_timely}
 use Rattle.es_steps.specs.Values.{String}
 use Rattle.es_steps.proofs.ContextMapped.{generated_as-mapped}
 use Rattle.es_steps.proofs.DefinitionsMapped.{spelling-mapped}
@@ -64,10 +65,14 @@ module _ {first : ℕ} {f : ℕ → ℕ} (r : Renames first f) where
   is_held_arrow-mapped : (x : Around) (kind : Kind) (m : ℕ) → is_held_arrow first (mapped_around f x) kind (f m) ≡ is_held_arrow first x kind m
   is_held_arrow-mapped x kind m = rw (r.new m) refl
 
-  held_in-mapped : (x : Around) (kind : Kind) (m : ℕ) (ps : Parts) (i : ℕ) → cond (is_held kind i || (is_held_arrow first (mapped_around f x) kind (f m) || is_instance_value kind (mapped_parts f ps) i)) ((f m, i) ∷ map (mapped_held f) x.held) (map (mapped_held f) x.held) ≡ map (mapped_held f) (cond (is_held kind i || (is_held_arrow first x kind m || is_instance_value kind ps i)) ((m, i) ∷ x.held) x.held)
+  is_held-mapped : (kind : Kind) (ps : Parts) (i : ℕ) → is_held kind (mapped_parts f ps) i ≡ is_held kind ps i
+  is_held-mapped Kind.AssignmentExpression ps i = ap (λ s. nat_eq i 2 && is_logical s) (string_at-mapped f 0 ps)
+  is_held-mapped kind ps i = refl
+
+  held_in-mapped : (x : Around) (kind : Kind) (m : ℕ) (ps : Parts) (i : ℕ) → cond (is_held kind (mapped_parts f ps) i || (is_held_arrow first (mapped_around f x) kind (f m) || is_instance_value kind (mapped_parts f ps) i)) ((f m, i) ∷ map (mapped_held f) x.held) (map (mapped_held f) x.held) ≡ map (mapped_held f) (cond (is_held kind ps i || (is_held_arrow first x kind m || is_instance_value kind ps i)) ((m, i) ∷ x.held) x.held)
   held_in-mapped x kind m ps i =
-      rw (is_held_arrow-mapped x kind m, is_instance_value-mapped f kind ps i)
-      (cond-mapped (map (mapped_held f)) (is_held kind i || (is_held_arrow first x kind m || is_instance_value kind ps i)) ((m, i) ∷ x.held) x.held refl refl)
+      rw (is_held-mapped kind ps i, is_held_arrow-mapped x kind m, is_instance_value-mapped f kind ps i)
+      (cond-mapped (map (mapped_held f)) (is_held kind ps i || (is_held_arrow first x kind m || is_instance_value kind ps i)) ((m, i) ∷ x.held) x.held refl refl)
 
   later_in-mapped : (x : Around) (kind : Kind) (m : ℕ) (ps : Parts) (i : ℕ) → cond (runs_later first kind (f m) (mapped_parts f ps) i) (f m ∷ map f x.later) (map f x.later) ≡ map f (cond (runs_later first kind m ps i) (m ∷ x.later) x.later)
   later_in-mapped x kind m ps i = rw (runs_later-mapped kind m ps i) (cond-mapped (map f) (runs_later first kind m ps i) (m ∷ x.later) x.later refl refl)
@@ -157,6 +162,10 @@ module _ {first : ℕ} {f : ℕ → ℕ} (r : Renames first f) where
   is_dead-mapped m [] = refl
   is_dead-mapped m (d ∷ ds) = ap₂ (λ a b. (bytes_eq m.name d.name && is_dead_by d.form a) || b) (is_later-mapped m.around.later d.around.later) (is_dead-mapped m ds)
 
+  is_skipped-mapped : (m : Mark) (ds : List Mark) → is_skipped (mapped_mark f m) (map (mapped_mark f) ds) ≡ is_skipped m ds
+  is_skipped-mapped m [] = refl
+  is_skipped-mapped m (d ∷ ds) = ap₂ (λ a b. (bytes_eq m.name d.name && is_skipped_by d.form a) || b) (all_pairs_stand-mapped d.around.held m.around.held) (is_skipped-mapped m ds)
+
   asks-mapped : (ledger : List LedgerEntry) (m : Mark) → asks (mapped_ledger f ledger) (mapped_mark f m) ≡ asks ledger m
   asks-mapped ledger m = ap (λ b. is_use m.form && b) (ap is_followed (generated_as-mapped f m.name ledger) ∙ is_followed-mapped f (generated_as m.name ledger))
 
@@ -166,7 +175,7 @@ module _ {first : ℕ} {f : ℕ → ℕ} (r : Renames first f) where
   in_time-mapped : (ledger : List LedgerEntry) (front ms : List Mark) → in_time (mapped_ledger f ledger) (map (mapped_mark f) front) (map (mapped_mark f) ms) ≡ in_time ledger front ms
   in_time-mapped ledger front [] = refl
   in_time-mapped ledger front (m ∷ ms) =
-      ap₂ (λ a b. not a && b) (is_dead-mapped m ms)
+      ap₂ (λ a b. not a && b) (ap₂ (λ a b. a || b) (is_dead-mapped m ms) (is_skipped-mapped m front))
       (ap₂ (λ a b. a && b) (ap₂ (λ a b. not a || b) (asks-mapped ledger m) (ap₂ (λ a b. a || b) (any_gives-mapped true m front) (ap₂ (λ a b. not a && b) (comes_first_at-mapped ledger m) (any_gives-mapped false m ms)))) (in_time-mapped ledger (m ∷ front) ms))
 
   pub names_timely-mapped : (ledger : List LedgerEntry) (q : Tree) → names_timely first (mapped_ledger f ledger) (mapped f q) ≡ names_timely first ledger q

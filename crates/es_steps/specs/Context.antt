@@ -10,7 +10,7 @@ use Rattle.es_base.specs.declared.ledger.LedgerEntry.{LedgerEntry}
 use Rattle.es_steps.specs.Parts.{at, items, block_items, string_of, is_true, is_present}
 use Rattle.es_steps.specs.PrivateNames.{PrivateMember, seen_members}
 use Rattle.es_steps.specs.References.{declared, has_number}
-use Rattle.es_steps.specs.Scopes.{ClassName, no_class, declares, own_name, let_names, Declaration, names_at, is_body_part, class_in}
+use Rattle.es_steps.specs.Scopes.{ClassName, no_class, declares, own_name, let_names, Declaration, bound_part, names_at, is_body_part, class_in}
 use Rattle.es_steps.specs.Values.{String, Value, Undefined, ClassOf, ThisOf, ArgumentsOf, NewTargetOf, Referent, Bound, Free, Home, OfClass, OfPrototype, OfObject}
 use Rattle.es_steps.specs.declared.options.Options.{Options}
 
@@ -243,6 +243,11 @@ role_in assignment_frame ps i c = cond (nat_eq i 2) (role_of_generated (generate
 role_in declarator_frame ps i c = cond (nat_eq i 1) (role_of_generated (generated_as (name_in (at 0 ps)) c.ledger)) a_function
 role_in frame ps i c = a_function
 
+-- inside a class declaration its name means the class, also where it is written (15.7.14)
+abbrev pub inner_name : Kind → ℕ → Parts → ℕ → List Declaration
+inner_name Kind.ClassDeclaration m ps i = cond (nat_eq i 0) [] (bound_part (own_name m) (at 0 ps))
+inner_name kind m ps i = []
+
 -- the context of the i-th part of a node
 abbrev pub inside : Context → Kind → ℕ → Parts → ℕ → Context
-inside c kind m ps i = record (framed (frame_of kind) m ps i c) { names = names_at c.is_body kind m ps i ++ c.names; privates = seen_members kind m ps i ++ c.privates; role = role_in (frame_of kind) ps i c; is_body = is_body_part kind i }
+inside c kind m ps i = record (framed (frame_of kind) m ps i c) { names = inner_name kind m ps i ++ names_at c.is_body kind m ps i ++ c.names; privates = seen_members kind m ps i ++ c.privates; role = role_in (frame_of kind) ps i c; is_body = is_body_part kind i }

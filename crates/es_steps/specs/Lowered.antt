@@ -12,7 +12,8 @@ use Rattle.es_base.specs.declared.ledger.LedgerEntry.{LedgerEntry}
 use Rattle.es_steps.specs.Context.{generated_as}
 use Rattle.es_steps.specs.Definitions.{spelling, field_part, names_class, class_identifiers, definitions_stand, all_temporaries, all_different, elements_kept}
 use Rattle.es_steps.specs.GeneratedForms.{if_member, is_instance_field, is_static_field, is_function_member}
-use Rattle.es_steps.specs.KeptNodes.{statement_list, is_function_declaration, nodes_kept, statements_kept, lists_kept, homes_kept}
+use Rattle.es_steps.specs.HelperCalls.{is_helper_callee, computed_keys, helper_calls_fit}
+use Rattle.es_steps.specs.KeptNodes.{statement_list, is_function_declaration, is_underscored, nodes_kept, statements_kept, lists_kept, homes_kept}
 use Rattle.es_steps.specs.LoweredClasses.{has_lowered_class}
 use Rattle.es_steps.specs.Options.{lowers_fields, lowers_blocks}
 use Rattle.es_steps.specs.Parts.{at, items, string_of, is_present}
@@ -48,7 +49,7 @@ none_lowered o (t ∷ ts) = not (is_lowered_kind o (kind_of t)) && none_lowered 
 abbrev pub nothing_left : Options → Tree → Bool
 nothing_left o q = none_lowered o (preorder q)
 
--- ---- each generated name has one declaration, which is new, and all its references mean it
+-- ---- each generated name begins with `_`, and has one declaration, which is new, and all its references mean it
 
 -- the declaring identifiers of this spelling
 abbrev pub declaring_number : String → Tree → List ℕ
@@ -113,7 +114,7 @@ is_named_again e (x ∷ xs) = (same_space e.kind x.kind && bytes_eq e.name x.nam
 
 abbrev pub names_declared : ℕ → List LedgerEntry → Tree → Bool
 names_declared first [] q = true
-names_declared first (e ∷ es) q = not (is_named_again e es) && (declared_by_kind first q e.name e.kind && names_declared first es q)
+names_declared first (e ∷ es) q = (is_underscored e.name && not (is_named_again e es)) && (declared_by_kind first q e.name e.kind && names_declared first es q)
 
 -- ---- each new declaration is accounted for
 
@@ -160,10 +161,6 @@ declarations_accounted first ledger p q = all_accounted first ledger (own_name_n
 -- what gives a name a value: an assignment, a declarator with an initializer, a declaration of a function or a class
 abbrev pub spelled_as : String → Part → Bool
 spelled_as s p = bytes_eq s (spelling p)
-
-abbrev pub is_helper_callee : ℕ → String → Part → Bool
-is_helper_callee first h (child (Node Kind.MemberExpression m span semantic_id (more (child (Node Kind.IdentifierReference b bspan b_semantic_id (more (string s) end))) (more (child (Node Kind.IdentifierName k kspan k_semantic_id (more (string t) end))) rest)))) = is_new first b && (bytes_eq s (codes "babelHelpers") && bytes_eq h t)
-is_helper_callee first h p = false
 
 abbrev pub is_new_of : String → Part → Bool
 is_new_of s (child (Node Kind.NewExpression m span semantic_id (more (child (Node Kind.IdentifierReference b bspan b_semantic_id (more (string t) end))) (more (list end) end)))) = bytes_eq s t
@@ -332,9 +329,10 @@ pub record MeetsClauses (first : ℕ) (o : Options) (ledger : List LedgerEntry) 
   pub nodes : nodes_kept p q ≡ true
   pub statements : statements_kept o p q ≡ true
   pub lists : lists_kept o p q ≡ true
-  pub homes : homes_kept o p q ≡ true
+  pub homes : homes_kept first o p q ≡ true
   pub definitions : definitions_stand first o ledger (private_members p) p q ≡ true
   pub elements : elements_kept o (preorder p) (preorder q) ≡ true
+  pub calls : helper_calls_fit first ledger (computed_keys (preorder p)) q ≡ true
   pub printable : (not (is_printable p) || is_printable q) ≡ true
 
 -- what a lowered program owes

@@ -18,8 +18,9 @@ use Rattle.es_steps.specs.PrivateNames.{PrivateMember, PrivateKind, a_field, pri
 use Rattle.es_steps.specs.Reading.{read}
 use Rattle.es_steps.specs.References.{resolve, varying, writes_free}
 use Rattle.es_steps.specs.Repeated.{all_places}
+use Rattle.es_steps.specs.Shared.{shared}
 use Rattle.es_steps.specs.Scopes.{Declaration, is_binding_identifier, class_in, body_names}
-use Rattle.es_steps.specs.Values.{String, ThisOf, ArgumentsOf, NewTargetOf}
+use Rattle.es_steps.specs.Values.{String, Undefined, ThisOf, NewTargetOf}
 use Rattle.es_steps.specs.declared.options.Options.{Options}
 
 -- ---- what declaring identifiers declare
@@ -181,6 +182,8 @@ pub record Meaning : Type 0 where
   pub functions : List (ℕ × ℕ)
   pub bindings : List (ℕ × DeclarationKind)
   pub globals : List (ℕ × String)
+  -- declaring identifiers of one binding
+  pub shared : List (ℕ × ℕ)
   -- where functions, classes and declaring identifiers stand
   pub places : List (ℕ × ℕ)
   pub links : List ModuleLink
@@ -207,7 +210,7 @@ start o t = record {
   privates = [];
   this = ThisOf (number_of t);
   new_target = NewTargetOf (number_of t);
-  arguments = ArgumentsOf (number_of t);
+  arguments = Undefined;
   home = None;
   constructs = None;
   initializing = None;
@@ -245,6 +248,7 @@ with_all o t d (Some l) (Some es) (Some ms) (Some xs) = Some (record {
   functions = by_number (declared_functions o.ledger (preorder t));
   bindings = by_number (old_bindings o.first_new (declaring o.first_new ClassDeclared t));
   globals = by_number (globals o.first_new t);
+  shared = by_number (shared false t);
   places = by_number (all_places o.first_new o.ledger (second_numbers d) t);
   links = links_in (body_of t);
   exports = xs;

@@ -8,6 +8,7 @@ use Rattle.es_base.specs.declared.ledger.GeneratedKind.{GeneratedKind}
 use Rattle.es_base.specs.declared.ledger.LedgerEntry.{LedgerEntry}
 use Rattle.es_steps.specs.Context.{generated_as, is_function}
 use Rattle.es_steps.specs.Definitions.{spelling}
+use Rattle.es_steps.specs.Expressions.{is_logical}
 use Rattle.es_steps.specs.KeptNodes.{all_pairs_stand}
 use Rattle.es_steps.specs.Parts.{at, string_of, is_true, is_present}
 use Rattle.es_steps.specs.PrivateNames.{is_class}
@@ -39,21 +40,22 @@ pub record Mark : Type 0 where
 -- ---- the marks of a program in the order of evaluation: an initialization stands behind its value
 
 -- the parts of a node that may run or not, or again
-abbrev pub is_held : Kind → ℕ → Bool
-is_held Kind.LogicalExpression i = nat_eq i 2
-is_held Kind.ConditionalExpression i = nat_le 1 i
-is_held Kind.IfStatement i = nat_le 1 i
-is_held Kind.SwitchStatement i = nat_eq i 1
-is_held Kind.SwitchCase i = true
-is_held Kind.TryStatement i = true
-is_held Kind.LabeledStatement i = true
-is_held Kind.ForStatement i = nat_le 1 i
-is_held Kind.ForInStatement i = not (nat_eq i 1)
-is_held Kind.ForOfStatement i = not (nat_eq i 1)
-is_held Kind.AssignmentPattern i = nat_eq i 1
-is_held Kind.AssignmentTargetWithDefault i = nat_eq i 1
-is_held Kind.ChainExpression i = true
-is_held kind i = is_loop kind || is_function kind
+abbrev pub is_held : Kind → Parts → ℕ → Bool
+is_held Kind.LogicalExpression ps i = nat_eq i 2
+is_held Kind.AssignmentExpression ps i = nat_eq i 2 && is_logical (string_of (at 0 ps))
+is_held Kind.ConditionalExpression ps i = nat_le 1 i
+is_held Kind.IfStatement ps i = nat_le 1 i
+is_held Kind.SwitchStatement ps i = nat_eq i 1
+is_held Kind.SwitchCase ps i = true
+is_held Kind.TryStatement ps i = true
+is_held Kind.LabeledStatement ps i = true
+is_held Kind.ForStatement ps i = nat_le 1 i
+is_held Kind.ForInStatement ps i = not (nat_eq i 1)
+is_held Kind.ForOfStatement ps i = not (nat_eq i 1)
+is_held Kind.AssignmentPattern ps i = nat_eq i 1
+is_held Kind.AssignmentTargetWithDefault ps i = nat_eq i 1
+is_held Kind.ChainExpression ps i = true
+is_held kind ps i = is_loop kind || is_function kind
 
 -- an arrow, unless it is new and called where it stands
 abbrev pub is_held_arrow : ℕ → Around → Kind → ℕ → Bool
@@ -72,7 +74,7 @@ abbrev pub runs_later : ℕ → Kind → ℕ → Parts → ℕ → Bool
 runs_later first kind m ps i = is_function kind || ((is_arrow kind && not (is_new first m)) || is_instance_value kind ps i)
 
 abbrev pub around_in : ℕ → Around → Kind → ℕ → Parts → ℕ → Around
-around_in first x kind m ps i = record { is_called = is_callee_of_call kind i; held = cond (is_held kind i || (is_held_arrow first x kind m || is_instance_value kind ps i)) ((m, i) ∷ x.held) x.held; later = cond (runs_later first kind m ps i) (m ∷ x.later) x.later }
+around_in first x kind m ps i = record { is_called = is_callee_of_call kind i; held = cond (is_held kind ps i || (is_held_arrow first x kind m || is_instance_value kind ps i)) ((m, i) ∷ x.held) x.held; later = cond (runs_later first kind m ps i) (m ∷ x.later) x.later }
 
 abbrev pub is_spelled : String → Bool
 is_spelled [] = false
@@ -163,6 +165,15 @@ abbrev pub is_dead : Mark → List Mark → Bool
 is_dead m [] = false
 is_dead m (d ∷ ds) = (bytes_eq m.name d.name && is_dead_by d.form (is_later m.around.later d.around.later)) || is_dead m ds
 
+-- a `let` in front that may not have run, as in another case
+abbrev pub is_skipped_by : MarkForm → Bool → Bool
+is_skipped_by declares around = not around
+is_skipped_by form around = false
+
+abbrev pub is_skipped : Mark → List Mark → Bool
+is_skipped m [] = false
+is_skipped m (d ∷ ds) = (bytes_eq m.name d.name && is_skipped_by d.form (all_pairs_stand d.around.held m.around.held)) || is_skipped m ds
+
 abbrev pub is_followed : Option GeneratedKind → Bool
 is_followed (Some GeneratedKind.Temp) = false
 is_followed (Some GeneratedKind.Param) = false
@@ -186,7 +197,7 @@ module _ (ledger : List LedgerEntry) where
   -- the marks in front, the nearest first, and those from here on
   abbrev pub in_time : List Mark → List Mark → Bool
   in_time front [] = true
-  in_time front (m ∷ ms) = not (is_dead m ms) && ((not (asks m) || (any_gives true m front || (not (comes_first (generated_as m.name ledger)) && any_gives false m ms))) && in_time (m ∷ front) ms)
+  in_time front (m ∷ ms) = not (is_dead m ms || is_skipped m front) && ((not (asks m) || (any_gives true m front || (not (comes_first (generated_as m.name ledger)) && any_gives false m ms))) && in_time (m ∷ front) ms)
 
 abbrev pub names_timely : ℕ → List LedgerEntry → Tree → Bool
 names_timely first ledger q = in_time ledger [] (marks first ledger (record { held = []; later = []; is_called = false }) false q)
