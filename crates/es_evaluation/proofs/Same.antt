@@ -1,5 +1,5 @@
 -- Evaluation over a state is the evaluation of the definitions.
-use Rattle.std.proofs.Common.{◌≡◌, refl, sym, ap, ap₂, ◌∙◌, subst, ℕ, suc, List, [], ◌∷◌, ◌++◌, append_assoc, Bool, true, false, ◌||◌, ◌&&◌, cond, Option, Some, None, option_map}
+use Rattle.std.proofs.Common.{◌≡◌, refl, sym, ap, ap₂, ◌∙◌, subst, ℕ, suc, List, [], ◌∷◌, ◌++◌, append_assoc, Bool, true, false, ◌||◌, cond, Option, Some, None, option_map}
 use Rattle.std.proofs.lemmas.List.{append-nil}
 use Rattle.es_base.specs.declared.kind.Kind.{Kind}
 use Rattle.es_base.specs.declared.ledger.GeneratedKind.{GeneratedKind}
@@ -9,12 +9,11 @@ use Rattle.es_steps.specs.Evaluation.{Environment, Run, Evaluation, bind, settle
 use Rattle.es_steps.specs.Evaluation as of
 use Rattle.es_steps.specs.Events.{Detail, Operation, OfKind, Take, Place, RightOf, Default, Part, Event, Events, none, then, value_behind, ReadName, SetName, Get, Set, Define, Call, Construct, Operate, Update, PrivateGet, PrivateSet, PrivateInitialize, PrivateIn, AddBrand, SuperGet, SuperSet, SuperCall, SuperCallWithAll, InitializeClass, Throw, Short, Held}
 use Rattle.es_steps.specs.Events as of_events
-use Rattle.es_steps.specs.Values.{String, Value, ConstantOf, Undefined, BindingOf, FunctionOf, ClassOf, ThisOf, ArgumentsOf, NewTargetOf, ResultOf, FormerOf, KeyOf, Constant, TagString, Bound, as_key, is_class_value}
-use Rattle.es_steps.specs.PrivateNames.{PrivateReference}
-use Rattle.es_evaluation.specs.Flat.{Token, single, begin, ends}
+use Rattle.es_steps.specs.Values.{String, Value, ConstantOf, Undefined, BindingOf, FunctionOf, ClassOf, ThisOf, ArgumentsOf, NewTargetOf, ResultOf, FormerOf, KeyOf, TagString, Bound, as_key, is_class_value}
+use Rattle.es_evaluation.specs.Flat.{single, ends}
 use Rattle.es_evaluation.specs.Direct.{State, Step, next, and_then, emit, settled, settle_with, unless_thrown, entered, left, Operands, no_operand, one_operand, two_operands, form, operands, read, write, taken, take, callee, test_with, once_more, all, parts, keys, key, statics, static_element, fields, instance_field, construction, close_callee, opened, closed}
 use Rattle.es_evaluation.specs.Direct as direct
-use Rattle.es_evaluation.specs.Agreement.{Follows, IsFine, Fine, onto, behind_state}
+use Rattle.es_evaluation.specs.Agreement.{Follows, IsFine, onto, behind_state}
 use Rattle.es_evaluation.proofs.Follows.{held_state, bind_at, fine_held, fine_on, follows_as, follows_by, follows_bind, follows_none, follows_gives, follows_event, follows_throw, follows_settle, follows_held, follows_quiet, follows_stays, follows_class, follows_this, follows_given, follows_stands}
 
 -- ---- steps in steps

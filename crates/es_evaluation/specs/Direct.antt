@@ -3,13 +3,13 @@
 use Rattle.std.specs.Prelude.{ℕ, zero, suc, List, [], ◌∷◌, ◌++◌, ◌-◌, Bool, true, false, cond, ◌||◌, ◌&&◌, length, drop, Option, Some, None, option_map}
 use Rattle.es_base.specs.declared.kind.Kind.{Kind}
 use Rattle.es_base.specs.declared.ledger.GeneratedKind.{GeneratedKind}
-use Rattle.es_steps.specs.Code.{Code, Codes, Target, Callee, FieldForm, defines, sets, leaves_out, TemplateString, Opened, InitializersOf, BodyOf, CalledBodyOf, nothing, no_rule, value, spelled, private_name, binding, rest, name, super, member, private_member, super_member, private_in, assign, compound, logical, logical_assign, update, call, tag, construct, super_call, super_call_with_all, sequence, template_string, template, operation, piece, chain, short, tested, pattern, takes, steps, gives_to, export_default, function, new_function, new_return, class_code, field, private_field, method, private_method, constructor, static_block, generated_element, from_call, from_member, key_of, helper, helper_call, throw, define, private_initialize, add_brand, bound, setter, private_value, call_arrow, call_closure, initializers, give_function, give_class, to_name, to_member, to_private, to_super, to_setter, to_pattern, to_default, no_target, plain, on_member, on_private, on_super, with_receiver, checked, on_chain, behind_test, done, and}
+use Rattle.es_steps.specs.Code.{Code, Codes, Target, Callee, FieldForm, defines, sets, leaves_out, TemplateString, Opened, InitializersOf, BodyOf, nothing, no_rule, value, spelled, private_name, binding, rest, name, super, member, private_member, super_member, private_in, assign, compound, logical, logical_assign, update, call, tag, construct, super_call, super_call_with_all, sequence, template_string, template, operation, piece, chain, short, tested, pattern, takes, steps, gives_to, export_default, function, new_function, new_return, class_code, field, private_field, method, private_method, constructor, static_block, generated_element, from_call, from_member, key_of, helper, helper_call, throw, define, private_initialize, add_brand, bound, setter, private_value, call_arrow, call_closure, initializers, give_function, give_class, to_name, to_member, to_private, to_super, to_setter, to_pattern, to_default, no_target, plain, on_member, on_private, on_super, with_receiver, checked, on_chain, behind_test, done, and}
 use Rattle.es_steps.specs.Context.{NameKind, Fixed, Changing, MeansClass, Generated, StaticMethod}
-use Rattle.es_steps.specs.Evaluation.{Environment, found, private_key, default_key, last_of, binary, new_or_former, is_binding_value, has_receiver, template_details, template_constant, tag_values, has_instance_methods}
-use Rattle.es_steps.specs.Events.{Detail, Operation, OfKind, Take, Place, RightOf, Default, Part, ReadName, SetName, Get, Set, Define, Call, Construct, Operate, Update, PrivateGet, PrivateSet, PrivateInitialize, PrivateIn, AddBrand, SuperGet, SuperSet, SuperCall, SuperCallWithAll, InitializeClass, Throw, Short}
+use Rattle.es_steps.specs.Evaluation.{Environment, found, private_key, default_key, last_of, binary, new_or_former, is_binding_value, template_details, template_constant, tag_values, has_instance_methods}
+use Rattle.es_steps.specs.Events.{OfKind, Take, Place, RightOf, Default, Part, ReadName, SetName, Get, Set, Define, Call, Construct, Operate, Update, PrivateGet, PrivateSet, PrivateInitialize, PrivateIn, AddBrand, SuperGet, SuperSet, SuperCall, SuperCallWithAll, InitializeClass, Throw, Short}
 use Rattle.es_steps.specs.Opening.{Definition, of_class, of_name, of_called, definition_of, without_definition}
 use Rattle.es_steps.specs.SameValues.{same_value}
-use Rattle.es_steps.specs.Values.{String, Value, ConstantOf, Undefined, BindingOf, FunctionOf, ClassOf, ThisOf, ResultOf, FormerOf, KeyOf, Constant, TagString, Bound, as_key, is_class_value}
+use Rattle.es_steps.specs.Values.{String, Value, ConstantOf, Undefined, BindingOf, FunctionOf, ClassOf, ThisOf, ResultOf, KeyOf, TagString, Bound, as_key, is_class_value}
 use Rattle.es_evaluation.specs.Flat.{Token, single, begin, ends}
 
 -- The temporaries, the last given first; the tokens so far; whether a throw stands in this list, behind which tokens are

@@ -14,7 +14,7 @@ use Rattle.es_base.specs.declared.kind.Kind.{Kind}
 use Rattle.es_base.specs.declared.table.Place.{Place}
 use Rattle.es_base.specs.declared.table.Sort.{Sort}
 use Rattle.es_base.specs.declared.table.Words.{Words}
-use Rattle.es_steps.specs.Code.{Code, Codes, Opened, value, spelled, name, steps, done, and, joined}
+use Rattle.es_steps.specs.Code.{Code, Codes, Opened, spelled, name, steps, done, and, joined}
 use Rattle.es_steps.specs.Context.{Context, NameKind, Fixed, Changing, MeansClass, found_kind, declared_kind, unless_varying, inside}
 use Rattle.es_steps.specs.Expressions.{constant_of, is_arguments, arguments_of, name_or_arguments, name_code}
 use Rattle.es_steps.specs.FirstForm.{is_plain_value, is_plain_key, is_plain_field, is_new_name, unless, element_breaches, elements_breaches, body_breaches, statement_breaches, statements_breaches, class_names, breaches, no_numbers, most_nodes}

@@ -1,5 +1,5 @@
 -- Classes that are lowered, and nodes that are kept, under a change of numbers.
-use Rattle.std.specs.Prelude.{◌≡◌, ℕ, suc, List, [], ◌∷◌, ◌++◌, map, Bool, true, false, cond, not, ◌&&◌, ◌||◌, nat_eq, Option, Some, None}
+use Rattle.std.specs.Prelude.{◌≡◌, ℕ, suc, List, [], ◌∷◌, map, false, cond, not, ◌&&◌, ◌||◌, nat_eq, Option, Some, None}
 use Rattle.std.proofs.Common.{refl, ap, ap₂, ◌∙◌}
 use Rattle.es_base.specs.Preorder.{preorder, number_of}
 use Rattle.es_base.specs.Table.{is_statement}
@@ -11,12 +11,12 @@ use Rattle.es_steps.specs.LoweredClasses.{Element, is_private_key, element_of, e
 use Rattle.es_steps.specs.Options.{lowers_blocks}
 use Rattle.es_steps.specs.Parts.{at, items, string_of}
 use Rattle.es_steps.specs.PrivateNames.{is_class}
-use Rattle.es_steps.specs.References.{Reference, has_number}
+use Rattle.es_steps.specs.References.{Reference}
 use Rattle.es_steps.specs.SameTrees.{same_kind, same_tree, same_part, same_parts}
 use Rattle.es_steps.specs.Scopes.{class_in}
 use Rattle.es_steps.specs.Values.{Referent, Bound, Free}
 use Rattle.es_steps.specs.declared.options.Options.{Options}
-use Rattle.es_steps.proofs.Mapped.{Renames, mapped, mapped_part, mapped_parts, mapped_option, mapped_pair, mapped_referent, mapped_reference}
+use Rattle.es_steps.proofs.Mapped.{Renames, mapped, mapped_part, mapped_parts, mapped_option, mapped_referent, mapped_reference}
 use Rattle.es_steps.proofs.PartsMapped.{cond-mapped, append-mapped, at-mapped, items_at-mapped, string_at-mapped, is_true_at-mapped, is_present-mapped, number_of-mapped, preorder-mapped}
 use Rattle.es_steps.proofs.ReferencesMapped.{has_number-mapped}
 use Rattle.es_steps.proofs.ScopesMapped.{class_in-mapped}

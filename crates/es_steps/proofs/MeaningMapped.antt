@@ -11,7 +11,7 @@ use Rattle.es_steps.specs.Code.{Code, Opened, private_method, give_function, fun
 use Rattle.es_steps.specs.Context.{Context, generated_as}
 use Rattle.es_steps.specs.Entries.{Entry, Entries, Listed, listed, after_run, entries}
 use Rattle.es_steps.specs.Evaluation.{Environment, Evaluation, Run, ev}
-use Rattle.es_steps.specs.Meaning.{Meaning, Terms, DeclarationKind, ClassDeclared, MemberEntry, IsField, FunctionIs, declarator_kind, declares_at, declared_as, declaring, declaring_parts, declaring_part, declaring_items, old_names, globals, second_numbers, old_bindings, names_class, unless_generated, declared_function, declared_functions, function_of, private_function_by, private_functions, function_at, member_entry, with_member, member_entries, inserted, by_number, with_entry, whole, with_export, all_exports, source_type_of, body_of, in_body, start, with_all, means_by, means_of, means}
+use Rattle.es_steps.specs.Meaning.{Meaning, Terms, DeclarationKind, ClassDeclared, MemberEntry, FunctionIs, declarator_kind, declares_at, declared_as, declaring, declaring_parts, declaring_part, declaring_items, old_names, globals, second_numbers, old_bindings, names_class, unless_generated, declared_function, declared_functions, function_of, private_function_by, private_functions, function_at, member_entry, with_member, member_entries, inserted, by_number, with_entry, whole, with_export, all_exports, source_type_of, body_of, in_body, start, with_all, means_by, means_of, means}
 use Rattle.es_steps.specs.Modules.{Export, Exported, links_in, exports_in}
 use Rattle.es_steps.specs.Opening.{Definition, definitions, opening}
 use Rattle.es_steps.specs.Parts.{at, items, string_of}
@@ -24,7 +24,7 @@ use Rattle.es_steps.specs.Values.{String}
 use Rattle.es_steps.proofs.ContextMapped.{generated_as-mapped, inside-mapped, inside-first, start-mapped}
 use Rattle.es_steps.proofs.EntriesMapped.{entries-mapped, listed-mapped, after_run-mapped}
 use Rattle.es_steps.proofs.EvaluationMapped.{Follows, ev-follows}
-use Rattle.es_steps.proofs.Mapped.{Renames, mapped, mapped_part, mapped_parts, mapped_option, mapped_generated, mapped_ledger, mapped_privates, mapped_context, mapped_code, mapped_codes, mapped_opened, mapped_definition, mapped_environment, mapped_runs, mapped_listed, mapped_entry, mapped_entries, mapped_numbered_entry, mapped_member_entry, mapped_numbered_member, mapped_pair, mapped_binding, mapped_link, mapped_exported, mapped_export, mapped_named_export, mapped_declaration, mapped_declarations, mapped_meaning, mapped_terms}
+use Rattle.es_steps.proofs.Mapped.{Renames, mapped, mapped_part, mapped_parts, mapped_option, mapped_generated, mapped_ledger, mapped_privates, mapped_context, mapped_code, mapped_opened, mapped_definition, mapped_environment, mapped_listed, mapped_entry, mapped_entries, mapped_numbered_entry, mapped_member_entry, mapped_numbered_member, mapped_pair, mapped_binding, mapped_exported, mapped_export, mapped_named_export, mapped_declaration, mapped_declarations, mapped_meaning, mapped_terms}
 use Rattle.es_steps.proofs.ModulesMapped.{links_in-mapped, exports_in-mapped}
 use Rattle.es_steps.proofs.OpeningMapped.{gather-mapped, definitions-mapped, opening-follows}
 use Rattle.es_steps.proofs.PartsMapped.{cond-mapped, append-mapped, at-mapped, items_at-mapped, string_at-mapped, preorder-mapped}

@@ -1,6 +1,6 @@
 -- Which declaring identifiers share one binding follows a change of numbers.
-use Rattle.std.specs.Prelude.{◌≡◌, ℕ, suc, List, [], ◌∷◌, ◌++◌, map, Bool, false, Option, Some, None}
-use Rattle.std.proofs.Common.{refl, ap, ap₂, ◌∙◌}
+use Rattle.std.specs.Prelude.{◌≡◌, ℕ, suc, List, [], ◌∷◌, map, Bool, false, Option, Some, None}
+use Rattle.std.proofs.Common.{refl, ap, ◌∙◌}
 use Rattle.es_base.specs.Tree.{Tree, Part, Parts, Node, end, more, child, list}
 use Rattle.es_steps.specs.References.{declared}
 use Rattle.es_steps.specs.Scopes.{Declaration, scope_of, scope_names, is_body_part}

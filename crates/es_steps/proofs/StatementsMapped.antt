@@ -4,19 +4,18 @@ use Rattle.std.proofs.Common.{refl, ap, ap₂, ◌∙◌}
 use Rattle.es_base.specs.Numbered.{is_new}
 use Rattle.es_base.specs.declared.kind.Kind.{Kind}
 use Rattle.es_base.specs.declared.ledger.GeneratedKind.{GeneratedKind}
-use Rattle.es_steps.specs.Code.{Code, Codes, Target, FunctionForm, FieldForm, nothing, no_rule, value, spelled, private_name, binding, rest, assign, operation, pattern, takes, steps, gives_to, export_default, function, new_function, new_return, class_code, field, private_field, method, private_method, constructor, generated_element, give_function, give_class, to_name, to_pattern, to_default, no_target, done, and, one, joined}
-use Rattle.es_steps.specs.Context.{Context, NameKind, Generated, MeansClass, new_here, is_constructor, is_generated_private}
+use Rattle.es_steps.specs.Code.{Code, Codes, Target, FunctionForm, no_rule, value, spelled, private_name, binding, rest, assign, operation, pattern, takes, steps, gives_to, new_return, field, private_field, method, private_method, generated_element, no_target, done, and, one, joined}
+use Rattle.es_steps.specs.Context.{Context, Generated, MeansClass, is_constructor, is_generated_private}
 use Rattle.es_steps.specs.Events.{Detail, Operand, Empty, Index, Rest, OfKind, Take}
 use Rattle.es_steps.specs.Expressions.{the_code, key_code, key_details, target_of}
 use Rattle.es_steps.specs.Members.{Member, Members, code, absent, list, string, more, end, at, from, before, operands, details, codes_in, codes_of, word_of, flag_of}
-use Rattle.es_steps.specs.Options.{sets_fields, leaves_out_fields}
 use Rattle.es_steps.specs.PrivateNames.{PrivateMember, member_at}
-use Rattle.es_steps.specs.Statements.{held_from, case_code, given_codes, catch_code, is_initialized, initialized_first, head_initializers, declared_target, given_targets, head_targets, for_each_code, is_directive, expression_code, declarator_of, declarator_code, return_code, suspension_code, default_export_code, default_code, rest_code, pattern_property_code, target_number, taken, taken_element, elements_from, members_of_list, array_pattern_code, taken_properties, object_pattern_code, form_of, function_or_new, own_name_of, function_code, function_expression_code, declared_function, function_declaration_code, arrow_code, declared_by, declared_by_let, elements_of, class_of, value_or_undefined, is_name_string, is_name_or_length, is_absent, field_form, private_element, field_of, field_code, is_constructor_key, method_or_constructor, is_declared_as, method_of, method_code}
-use Rattle.es_steps.specs.Values.{String, StringOf, ConstantOf, Undefined}
+use Rattle.es_steps.specs.Statements.{held_from, case_code, given_codes, catch_code, is_initialized, initialized_first, head_initializers, declared_target, given_targets, head_targets, for_each_code, is_directive, expression_code, declarator_of, declarator_code, return_code, suspension_code, default_export_code, default_code, rest_code, pattern_property_code, target_number, taken, taken_element, elements_from, members_of_list, array_pattern_code, taken_properties, object_pattern_code, form_of, function_or_new, own_name_of, function_code, function_expression_code, declared_function, function_declaration_code, arrow_code, declared_by, declared_by_let, elements_of, class_of, value_or_undefined, is_name_or_length, is_absent, field_form, private_element, field_of, field_code, is_constructor_key, method_or_constructor, is_declared_as, method_of, method_code}
+use Rattle.es_steps.specs.Values.{String, StringOf, ConstantOf}
 use Rattle.es_steps.proofs.ContextMapped.{is_generated_private-mapped}
 use Rattle.es_steps.proofs.ExpressionsMapped.{the_code_at-mapped, key_code-mapped, key_details-mapped, target_of-mapped, target_at-mapped}
 use Rattle.es_steps.proofs.FormsMapped.{code-cond, cond-code, here, given-mapped}
-use Rattle.es_steps.proofs.Mapped.{Renames, mapped_option, mapped_generated, mapped_name_kind, mapped_private, mapped_pair, mapped_context, mapped_code, mapped_codes, mapped_target, mapped_member, mapped_members}
+use Rattle.es_steps.proofs.Mapped.{Renames, mapped_option, mapped_generated, mapped_private, mapped_pair, mapped_context, mapped_code, mapped_codes, mapped_target, mapped_member, mapped_members}
 use Rattle.es_steps.proofs.PrivatesMapped.{member_at-mapped}
 use Rattle.es_steps.proofs.MembersMapped.{at-mapped, from-mapped, before-mapped, joined-mapped, operands-mapped, details-mapped, codes_in-mapped, word_at-mapped, flag_at-mapped, codes_at-mapped}
 use Rattle.es_steps.proofs.PartsMapped.{cond-mapped}

@@ -2,7 +2,7 @@
 -- left to the environment of specs/Evaluation.antt.)
 use Rattle.std.specs.Prelude.{ℕ, suc, List, [], ◌∷◌, ◌++◌, Bool, true, false, cond, not, ◌&&◌, ◌||◌, nat_eq, nat_le, bytes_eq, codes, Option, Some, None}
 use Rattle.es_base.specs.Numbered.{is_new}
-use Rattle.es_base.specs.Tree.{Tree, Part, Parts, Node, end, more, child, list, string}
+use Rattle.es_base.specs.Tree.{Tree, Part, Parts, Node, end, more, child, list}
 use Rattle.es_base.specs.declared.kind.Kind.{Kind}
 use Rattle.es_base.specs.declared.ledger.GeneratedKind.{GeneratedKind}
 use Rattle.es_base.specs.declared.ledger.LedgerEntry.{LedgerEntry}
@@ -10,8 +10,7 @@ use Rattle.es_steps.specs.Context.{generated_as, is_function}
 use Rattle.es_steps.specs.Definitions.{spelling}
 use Rattle.es_steps.specs.Expressions.{is_logical}
 use Rattle.es_steps.specs.KeptNodes.{all_pairs_stand}
-use Rattle.es_steps.specs.Parts.{at, string_of, is_true, is_present}
-use Rattle.es_steps.specs.PrivateNames.{is_class}
+use Rattle.es_steps.specs.Parts.{at, string_of, is_true}
 use Rattle.es_steps.specs.References.{has_number}
 use Rattle.es_steps.specs.Repeated.{is_loop, is_arrow}
 use Rattle.es_steps.specs.Scopes.{is_let}

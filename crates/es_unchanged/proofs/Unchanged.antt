@@ -2,7 +2,7 @@
 use Rattle.std.proofs.Common.{◌≡◌, refl, sym, ap, subst, ℕ, zero, suc, ◌+◌, ◌<◌, ◌≤◌, List, [], ◌∷◌, ◌++◌, map, Bool, true, false, cond, Option, arith}
 use Rattle.std.specs.Prelude.{filter, not, ◌||◌, ◌&&◌, nat_eq, codes}
 use Rattle.std.specs.List.{IsDistinct, AllByRecursion}
-use Rattle.std.proofs.lemmas.Bool.{and_parts, lt-leb, true≢false}
+use Rattle.std.proofs.lemmas.Bool.{lt-leb, true≢false}
 use Rattle.std.proofs.Math.Bool.{and-false}
 use Rattle.es_base.proofs.NumberedLemmas.{IsNumbered-renumbered, EachOnce-old_zero}
 use Rattle.es_base.proofs.PreorderLemmas.{renumbered-zero}
