@@ -1,7 +1,7 @@
 -- What calls of helpers have to be, under a change of numbers.
 use Rattle.std.specs.Prelude.{◌≡◌, ℕ, suc, List, [], ◌∷◌, ◌++◌, map, Bool, true, false, cond, not, ◌&&◌, ◌||◌, bytes_eq, codes, Option, Some, None}
 use Rattle.std.proofs.Common.{refl, ap, ap₂, ◌∙◌}
-use Rattle.es_base.specs.Preorder.{preorder}
+use Rattle.es_base.specs.Preorder.{preorder, preorder_of, number_of}
 use Rattle.es_base.specs.Tree.{Tree, Part, Parts, Node, end, more, child, list, string, literal}
 use Rattle.es_base.specs.declared.kind.Kind.{Kind}
 use Rattle.es_base.specs.declared.ledger.GeneratedKind.{GeneratedKind}
@@ -9,13 +9,14 @@ use Rattle.es_base.specs.declared.ledger.LedgerEntry.{LedgerEntry}
 use Rattle.es_base.specs.declared.literal.LiteralValue.TheVariants as literal_value
 use Rattle.es_steps.specs.Context.{generated_as}
 use Rattle.es_steps.specs.Definitions.{spelling}
-use Rattle.es_steps.specs.HelperCalls.{is_helper_callee, part_number, computed_key, computed_keys, StaticKey, is_name, computed_static_key, static_key, method_key, field_key, method_keys, field_keys, body_keys, Naming, is_name_literal, tests_of, tests_at, naming_in, naming_of_element, is_class_body, is_without_name, is_class_key, is_class_name, is_class_name_last, is_source_key, call_fits, calls_fit, calls_in, calls_at, calls_of, calls_of_body, helper_calls_fit}
+use Rattle.es_steps.specs.HelperCalls.{is_helper_callee, part_number, computed_key, computed_keys, StaticKey, is_name, computed_static_key, static_key, method_key, field_key, method_keys, field_keys, body_keys, Naming, is_name_literal, tests_of, tests_at, naming_in, naming_of_element, is_class_body, is_without_name, is_there, is_any_helper, holds_key, is_generated_name, ends_with_name, stands_for_key, form_for_key, part_for_key, last_for_key, any_for_key, call_fits, calls_fit, calls_in, calls_at, calls_of, calls_of_body, helper_calls_fit}
 use Rattle.es_steps.specs.Parts.{at, items, string_of, is_true}
+use Rattle.es_steps.specs.References.{has_number}
 use Rattle.es_steps.specs.Values.{String}
 use Rattle.es_steps.proofs.ContextMapped.{generated_as-mapped}
 use Rattle.es_steps.proofs.DefinitionsMapped.{spelling-mapped}
 use Rattle.es_steps.proofs.Mapped.{Renames, mapped, mapped_part, mapped_parts, mapped_option, mapped_generated, mapped_ledger}
-use Rattle.es_steps.proofs.PartsMapped.{cond-mapped, append-mapped, at-mapped, items_at-mapped, string_at-mapped, is_true_at-mapped, number_of-mapped, preorder-mapped}
+use Rattle.es_steps.proofs.PartsMapped.{cond-mapped, append-mapped, at-mapped, items_at-mapped, string_at-mapped, is_true_at-mapped, number_of-mapped, preorder-mapped, preorder_of-mapped}
 use Rattle.es_steps.proofs.PrintableMapped.{is_spelled-mapped}
 use Rattle.es_steps.proofs.ReferencesMapped.{has_number-mapped}
 
@@ -111,32 +112,60 @@ module _ {first : ℕ} {f : ℕ → ℕ} (r : Renames first f) where
   is_helper_callee-mapped h (child (Node Kind.MemberExpression m span semantic_id (more (child (Node Kind.IdentifierReference b bspan b_semantic_id (more (string s) end))) (more (child (Node Kind.IdentifierName k kspan k_semantic_id (more (string t) end))) rest)))) = rw (r.new b) refl
   is_helper_callee-mapped h p = refl
 
-  is_class_key-mapped : (keys : List ℕ) (g : Option GeneratedKind) → is_class_key (map f keys) (mapped_option (mapped_generated f) g) ≡ is_class_key keys g
-  is_class_key-mapped keys (Some (GeneratedKind.ClassTemp n)) = has_number-mapped r n.0 keys
-  is_class_key-mapped keys (Some g) = refl
-  is_class_key-mapped keys None = refl
+  holds_key-mapped : (ledger there : List LedgerEntry) (keys : List ℕ) (ts : List Tree) → holds_key first there (map f keys) (map (mapped f) ts) ≡ holds_key first ledger keys ts
+  holds_key-mapped ledger there keys [] = refl
+  holds_key-mapped ledger there keys (t ∷ ts) = ap₂ (λ a b. a || b) (ap (λ n. has_number n (map f keys)) (number_of-mapped f t) ∙ has_number-mapped r (number_of t) keys) (holds_key-mapped ledger there keys ts)
 
   module _ (ledger : List LedgerEntry) (keys : List ℕ) where
     abbrev there : List LedgerEntry
     there = mapped_ledger f ledger
 
-    is_class_name-mapped : (p : Part) → is_class_name first there (map f keys) (mapped_part f p) ≡ is_class_name first ledger keys p
-    is_class_name-mapped (child (Node Kind.IdentifierReference m span semantic_id ps)) = rw (string_at-mapped f 0 ps, generated_as-mapped f (string_of (at 0 ps)) ledger) (is_class_key-mapped keys (generated_as (string_of (at 0 ps)) ledger))
-    is_class_name-mapped p = refl
+    is_there-mapped : (g : Option GeneratedKind) → is_there (mapped_option (mapped_generated f) g) ≡ is_there g
+    is_there-mapped None = refl
+    is_there-mapped (Some g) = refl
 
-    is_class_name_last-mapped : (ps : Parts) → is_class_name_last first there (map f keys) (mapped_parts f ps) ≡ is_class_name_last first ledger keys ps
-    is_class_name_last-mapped end = refl
-    is_class_name_last-mapped (more p end) = is_class_name-mapped p
-    is_class_name_last-mapped (more p (more q rest)) = is_class_name_last-mapped (more q rest)
+    is_any_helper-mapped : (p : Part) → is_any_helper first there (map f keys) (mapped_part f p) ≡ is_any_helper first ledger keys p
+    is_any_helper-mapped (child (Node Kind.MemberExpression m span semantic_id (more (child (Node Kind.IdentifierReference b bspan b_semantic_id (more (string s) end))) rest))) = rw (r.new b) refl
+    is_any_helper-mapped p = refl
 
-    is_source_key-mapped : (p : Part) → is_source_key first there (map f keys) (mapped_part f p) ≡ is_source_key first ledger keys p
-    is_source_key-mapped (child (Node Kind.SequenceExpression m span semantic_id ps)) = rw (items_at-mapped f 0 ps) (ap₂ (λ a b. a || b) (has_number-mapped r m keys) (is_class_name_last-mapped (items (at 0 ps))))
-    is_source_key-mapped (child (Node kind m span semantic_id ps)) = has_number-mapped r m keys
-    is_source_key-mapped p = refl
+    is_generated_name-mapped : (p : Part) → is_generated_name first there (map f keys) (mapped_part f p) ≡ is_generated_name first ledger keys p
+    is_generated_name-mapped (child (Node Kind.IdentifierReference m span semantic_id ps)) = rw (string_at-mapped f 0 ps, generated_as-mapped f (string_of (at 0 ps)) ledger) (is_there-mapped (generated_as (string_of (at 0 ps)) ledger))
+    is_generated_name-mapped p = refl
+
+    ends_with_name-mapped : (ps : Parts) → ends_with_name first there (map f keys) (mapped_parts f ps) ≡ ends_with_name first ledger keys ps
+    ends_with_name-mapped end = refl
+    ends_with_name-mapped (more p end) = is_generated_name-mapped p
+    ends_with_name-mapped (more p (more q rest)) = ends_with_name-mapped (more q rest)
+
+    keys_in-mapped : (es : Parts) → holds_key first there (map f keys) (preorder_of (mapped_parts f es)) ≡ holds_key first ledger keys (preorder_of es)
+    keys_in-mapped es = ap (holds_key first there (map f keys)) (preorder_of-mapped f es) ∙ holds_key-mapped ledger there keys (preorder_of es)
+
+    mutual
+      stands_for_key-mapped : (t : Tree) → stands_for_key first there (map f keys) (mapped f t) ≡ stands_for_key first ledger keys t
+      stands_for_key-mapped (Node kind m span semantic_id ps) = ap₂ (λ a b. a || b) (has_number-mapped r m keys) (ap₂ (λ a b. a && b) (r.new m) (form_for_key-mapped kind ps))
+
+      form_for_key-mapped : (kind : Kind) (ps : Parts) → form_for_key first there (map f keys) kind (mapped_parts f ps) ≡ form_for_key first ledger keys kind ps
+      form_for_key-mapped Kind.SequenceExpression (more (list es) end) = ap₂ (λ a b. a || b) (ap₂ (λ a b. a && b) (ends_with_name-mapped es) (keys_in-mapped es)) (last_for_key-mapped es)
+      form_for_key-mapped Kind.CallExpression (more g (more (list es) rest)) = ap₂ (λ a b. a && b) (is_any_helper-mapped g) (any_for_key-mapped es)
+      form_for_key-mapped Kind.AssignmentExpression (more operator (more to (more right end))) = part_for_key-mapped right
+      form_for_key-mapped kind ps = refl
+
+      part_for_key-mapped : (p : Part) → part_for_key first there (map f keys) (mapped_part f p) ≡ part_for_key first ledger keys p
+      part_for_key-mapped (child t) = stands_for_key-mapped t
+      part_for_key-mapped p = refl
+
+      last_for_key-mapped : (ps : Parts) → last_for_key first there (map f keys) (mapped_parts f ps) ≡ last_for_key first ledger keys ps
+      last_for_key-mapped end = refl
+      last_for_key-mapped (more p end) = part_for_key-mapped p
+      last_for_key-mapped (more p (more q rest)) = last_for_key-mapped (more q rest)
+
+      any_for_key-mapped : (ps : Parts) → any_for_key first there (map f keys) (mapped_parts f ps) ≡ any_for_key first ledger keys ps
+      any_for_key-mapped end = refl
+      any_for_key-mapped (more p ps) = ap₂ (λ a b. a || b) (part_for_key-mapped p) (any_for_key-mapped ps)
 
     call_fits-mapped : (x : Naming) (kind : Kind) (ps : Parts) → call_fits first there (map f keys) x kind (mapped_parts f ps) ≡ call_fits first ledger keys x kind ps
     call_fits-mapped x Kind.CallExpression (more g (more (list (more e es)) rest)) =
-        ap₂ (λ a b. a && b) (ap₂ (λ a b. not a || b) (is_helper_callee-mapped (codes "toPropertyKey") g) (is_source_key-mapped e))
+        ap₂ (λ a b. a && b) (ap₂ (λ a b. not a || b) (is_helper_callee-mapped (codes "toPropertyKey") g) (part_for_key-mapped e))
         (ap₂ (λ a b. not a || b) (is_helper_callee-mapped (codes "setFunctionName") g) (is_without_name-mapped f x e))
     call_fits-mapped x kind ps = refl
 

@@ -1,8 +1,8 @@
 -- Calls of helpers that convert or name: what they are called with. (Our own.)
-use Rattle.std.specs.Prelude.{ℕ, suc, List, [], ◌∷◌, ◌++◌, Bool, true, false, cond, not, ◌&&◌, ◌||◌, nat_eq, bytes_eq, codes, Option, Some}
+use Rattle.std.specs.Prelude.{ℕ, suc, List, [], ◌∷◌, ◌++◌, Bool, true, false, cond, not, ◌&&◌, ◌||◌, nat_eq, bytes_eq, codes, Option, Some, None}
 use Rattle.es_base.specs.Conforms.{is_among}
 use Rattle.es_base.specs.Numbered.{is_new}
-use Rattle.es_base.specs.Preorder.{number_of}
+use Rattle.es_base.specs.Preorder.{preorder_of, number_of}
 use Rattle.es_base.specs.Tree.{Tree, Part, Parts, Node, end, more, child, list, string, literal}
 use Rattle.es_base.specs.declared.kind.Kind.{Kind}
 use Rattle.es_base.specs.declared.ledger.GeneratedKind.{GeneratedKind}
@@ -129,30 +129,57 @@ is_without_name x (child (Node Kind.ClassExpression m span semantic_id ps)) = no
 is_without_name x (child (Node Kind.ThisExpression m span semantic_id ps)) = none_is_name x.keys x.tested
 is_without_name x p = false
 
-abbrev pub is_class_key : List ℕ → Option GeneratedKind → Bool
-is_class_key keys (Some (GeneratedKind.ClassTemp n)) = has_number n.0 keys
-is_class_key keys g = false
+abbrev pub is_there : Option GeneratedKind → Bool
+is_there None = false
+is_there (Some g) = true
 
 module _ (first : ℕ) (ledger : List LedgerEntry) (keys : List ℕ) where
-  -- a computed key of the source, or, where that is a lowered class, a sequence that ends with its name
-  abbrev pub is_class_name : Part → Bool
-  is_class_name (child (Node Kind.IdentifierReference m span semantic_id ps)) = is_class_key keys (generated_as (string_of (at 0 ps)) ledger)
-  is_class_name p = false
+  abbrev pub is_any_helper : Part → Bool
+  is_any_helper (child (Node Kind.MemberExpression m span semantic_id (more (child (Node Kind.IdentifierReference b bspan b_semantic_id (more (string s) end))) rest))) = is_new first b && bytes_eq s (codes "babelHelpers")
+  is_any_helper p = false
 
-  abbrev pub is_class_name_last : Parts → Bool
-  is_class_name_last end = false
-  is_class_name_last (more p end) = is_class_name p
-  is_class_name_last (more p (more q rest)) = is_class_name_last (more q rest)
+  abbrev pub holds_key : List Tree → Bool
+  holds_key [] = false
+  holds_key (t ∷ ts) = has_number (number_of t) keys || holds_key ts
 
-  abbrev pub is_source_key : Part → Bool
-  is_source_key (child (Node Kind.SequenceExpression m span semantic_id ps)) = has_number m keys || is_class_name_last (items (at 0 ps))
-  is_source_key (child (Node kind m span semantic_id ps)) = has_number m keys
-  is_source_key p = false
+  abbrev pub is_generated_name : Part → Bool
+  is_generated_name (child (Node Kind.IdentifierReference m span semantic_id ps)) = is_there (generated_as (string_of (at 0 ps)) ledger)
+  is_generated_name p = false
+
+  abbrev pub ends_with_name : Parts → Bool
+  ends_with_name end = false
+  ends_with_name (more p end) = is_generated_name p
+  ends_with_name (more p (more q rest)) = ends_with_name (more q rest)
+
+  -- a computed key of the source, or the new form that it was lowered to: its value is that of the form, or a generated name
+  -- at the end keeps it
+  abbrev mutual
+    pub stands_for_key : Tree → Bool
+    stands_for_key (Node kind m span semantic_id ps) = has_number m keys || (is_new first m && form_for_key kind ps)
+
+    pub form_for_key : Kind → Parts → Bool
+    form_for_key Kind.SequenceExpression (more (list es) end) = (ends_with_name es && holds_key (preorder_of es)) || last_for_key es
+    form_for_key Kind.CallExpression (more f (more (list es) rest)) = is_any_helper f && any_for_key es
+    form_for_key Kind.AssignmentExpression (more operator (more to (more right end))) = part_for_key right
+    form_for_key kind ps = false
+
+    pub part_for_key : Part → Bool
+    part_for_key (child t) = stands_for_key t
+    part_for_key p = false
+
+    pub last_for_key : Parts → Bool
+    last_for_key end = false
+    last_for_key (more p end) = part_for_key p
+    last_for_key (more p (more q rest)) = last_for_key (more q rest)
+
+    pub any_for_key : Parts → Bool
+    any_for_key end = false
+    any_for_key (more p ps) = part_for_key p || any_for_key ps
 
   -- `babelHelpers.toPropertyKey(k)` and `babelHelpers.setFunctionName(f, k)`
   abbrev pub call_fits : Naming → Kind → Parts → Bool
   call_fits x Kind.CallExpression (more f (more (list (more e es)) rest)) =
-      (not (is_helper_callee first (codes "toPropertyKey") f) || is_source_key e)
+      (not (is_helper_callee first (codes "toPropertyKey") f) || part_for_key e)
       && (not (is_helper_callee first (codes "setFunctionName") f) || is_without_name x e)
   call_fits x kind ps = true
 
