@@ -77,7 +77,7 @@ for function in SAYS:
 # witnesses whose output does not meet a clause; where it is not that of the definitions, the meanings are equal or are not asked
 LISTS = 'lists_kept options_{n} source_{n} output_{n}'
 DEFINED = 'definitions_stand (nodes source_{n}) options_{n} generated_{n} (private_members source_{n}) source_{n} output_{n}'
-TIMELY = 'names_timely (nodes source_{n}) generated_{n} output_{n}'
+TIMELY = 'names_timely (nodes source_{n}) generated_{n} (private_members source_{n}) output_{n}'
 CALLS = 'helper_calls_fit (nodes source_{n}) generated_{n} (computed_keys (preorder source_{n})) output_{n}'
 HOMES = 'homes_kept (nodes source_{n}) options_{n} source_{n} output_{n}'
 PRINTABLE = 'is_printable output_{n}'

@@ -37,7 +37,7 @@ clauses o ledger p q =
     ∷ names_declared (nodes p) ledger q
     ∷ declarations_accounted (nodes p) ledger p q
     ∷ initializations_stand (nodes p) ledger (private_members p) q ledger
-    ∷ names_timely (nodes p) ledger q
+    ∷ names_timely (nodes p) ledger (private_members p) q
     ∷ temporaries_steady (nodes p) ledger q
     ∷ keys_stand (nodes p) o ledger (private_members p) q (all_temporaries (nodes p) o ledger (private_members p) q (preorder q))
     ∷ nodes_kept p q

@@ -495,12 +495,12 @@ pub fn clauses_are_not_met()
     ensures break_in_an_arrow { is_printable output_break_in_an_arrow ≡ false }
     ensures class_behind_its_use { lists_kept options_class_behind_its_use source_class_behind_its_use output_class_behind_its_use ≡ false }
     ensures class_in_a_constructor { lists_kept options_class_in_a_constructor source_class_in_a_constructor output_class_in_a_constructor ≡ false }
-    ensures class_temporary_before_its_class { names_timely (nodes source_class_temporary_before_its_class) generated_class_temporary_before_its_class output_class_temporary_before_its_class ≡ false }
-    ensures class_temporary_of_another_case { names_timely (nodes source_class_temporary_of_another_case) generated_class_temporary_of_another_case output_class_temporary_of_another_case ≡ false }
-    ensures closure_before_its_class { names_timely (nodes source_closure_before_its_class) generated_closure_before_its_class output_closure_before_its_class ≡ false }
+    ensures class_temporary_before_its_class { names_timely (nodes source_class_temporary_before_its_class) generated_class_temporary_before_its_class (private_members source_class_temporary_before_its_class) output_class_temporary_before_its_class ≡ false }
+    ensures class_temporary_of_another_case { names_timely (nodes source_class_temporary_of_another_case) generated_class_temporary_of_another_case (private_members source_class_temporary_of_another_case) output_class_temporary_of_another_case ≡ false }
+    ensures closure_before_its_class { names_timely (nodes source_closure_before_its_class) generated_closure_before_its_class (private_members source_closure_before_its_class) output_closure_before_its_class ≡ false }
     ensures constant_temporary { declarations_accounted (nodes source_constant_temporary) generated_constant_temporary source_constant_temporary output_constant_temporary ≡ false }
     ensures conversion_of_no_key { helper_calls_fit (nodes source_conversion_of_no_key) generated_conversion_of_no_key (computed_keys (preorder source_conversion_of_no_key)) output_conversion_of_no_key ≡ false }
-    ensures dead_temporary { names_timely (nodes source_dead_temporary) generated_dead_temporary output_dead_temporary ≡ false }
+    ensures dead_temporary { names_timely (nodes source_dead_temporary) generated_dead_temporary (private_members source_dead_temporary) output_dead_temporary ≡ false }
     ensures directive_behind_a_name { is_printable output_directive_behind_a_name ≡ false }
     ensures elements_of_a_written_class_dropped { definitions_stand (nodes source_elements_of_a_written_class_dropped) options_elements_of_a_written_class_dropped generated_elements_of_a_written_class_dropped (private_members source_elements_of_a_written_class_dropped) source_elements_of_a_written_class_dropped output_elements_of_a_written_class_dropped ≡ false }
     ensures field_of_a_written_class_doubled { definitions_stand (nodes source_field_of_a_written_class_doubled) options_field_of_a_written_class_doubled generated_field_of_a_written_class_doubled (private_members source_field_of_a_written_class_doubled) source_field_of_a_written_class_doubled output_field_of_a_written_class_doubled ≡ false }
@@ -508,9 +508,9 @@ pub fn clauses_are_not_met()
     ensures fields_of_a_written_class_exchanged { definitions_stand (nodes source_fields_of_a_written_class_exchanged) options_fields_of_a_written_class_exchanged generated_fields_of_a_written_class_exchanged (private_members source_fields_of_a_written_class_exchanged) source_fields_of_a_written_class_exchanged output_fields_of_a_written_class_exchanged ≡ false }
     ensures function_out_of_its_block { lists_kept options_function_out_of_its_block source_function_out_of_its_block output_function_out_of_its_block ≡ false }
     ensures hidden_body { conforms Place.Program output_hidden_body ≡ false }
-    ensures let_of_another_case { names_timely (nodes source_let_of_another_case) generated_let_of_another_case output_let_of_another_case ≡ false }
-    ensures map_made_in_a_branch { names_timely (nodes source_map_made_in_a_branch) generated_map_made_in_a_branch output_map_made_in_a_branch ≡ false }
-    ensures method_assigned_in_another_function { names_timely (nodes source_method_assigned_in_another_function) generated_method_assigned_in_another_function output_method_assigned_in_another_function ≡ false }
+    ensures let_of_another_case { names_timely (nodes source_let_of_another_case) generated_let_of_another_case (private_members source_let_of_another_case) output_let_of_another_case ≡ false }
+    ensures map_made_in_a_branch { names_timely (nodes source_map_made_in_a_branch) generated_map_made_in_a_branch (private_members source_map_made_in_a_branch) output_map_made_in_a_branch ≡ false }
+    ensures method_assigned_in_another_function { names_timely (nodes source_method_assigned_in_another_function) generated_method_assigned_in_another_function (private_members source_method_assigned_in_another_function) output_method_assigned_in_another_function ≡ false }
     ensures method_given_behind_its_calls { initializations_stand (nodes source_method_given_behind_its_calls) generated_method_given_behind_its_calls (private_members source_method_given_behind_its_calls) output_method_given_behind_its_calls generated_method_given_behind_its_calls ≡ false }
     ensures name_of_a_named_class { helper_calls_fit (nodes source_name_of_a_named_class) generated_name_of_a_named_class (computed_keys (preorder source_name_of_a_named_class)) output_name_of_a_named_class ≡ false }
     ensures name_of_no_member { initializations_stand (nodes source_name_of_no_member) generated_name_of_no_member (private_members source_name_of_no_member) output_name_of_no_member generated_name_of_no_member ≡ false }
@@ -520,14 +520,14 @@ pub fn clauses_are_not_met()
     ensures parameter_renamed { homes_kept (nodes source_parameter_renamed) options_parameter_renamed source_parameter_renamed output_parameter_renamed ≡ false }
     ensures private_name_twice { names_declared (nodes source_private_name_twice) generated_private_name_twice output_private_name_twice ≡ false }
     ensures strict_rest { is_printable output_strict_rest ≡ false }
-    ensures super_function_behind_a_call { names_timely (nodes source_super_function_behind_a_call) generated_super_function_behind_a_call output_super_function_behind_a_call ≡ false }
-    ensures super_function_behind_its_calls { names_timely (nodes source_super_function_behind_its_calls) generated_super_function_behind_its_calls output_super_function_behind_its_calls ≡ false }
+    ensures super_function_behind_a_call { names_timely (nodes source_super_function_behind_a_call) generated_super_function_behind_a_call (private_members source_super_function_behind_a_call) output_super_function_behind_a_call ≡ false }
+    ensures super_function_behind_its_calls { names_timely (nodes source_super_function_behind_its_calls) generated_super_function_behind_its_calls (private_members source_super_function_behind_its_calls) output_super_function_behind_its_calls ≡ false }
     ensures temporary_given_again { temporaries_steady (nodes source_temporary_given_again) generated_temporary_given_again output_temporary_given_again ≡ false }
     ensures temporary_given_again_in_a_loop { temporaries_steady (nodes source_temporary_given_again_in_a_loop) generated_temporary_given_again_in_a_loop output_temporary_given_again_in_a_loop ≡ false }
     ensures temporary_of_a_hoisted_function { temporaries_steady (nodes source_temporary_of_a_hoisted_function) generated_temporary_of_a_hoisted_function output_temporary_of_a_hoisted_function ≡ false }
     ensures temporary_of_the_program { temporaries_steady (nodes source_temporary_of_the_program) generated_temporary_of_the_program output_temporary_of_the_program ≡ false }
     ensures untested_name_of_a_class { helper_calls_fit (nodes source_untested_name_of_a_class) generated_untested_name_of_a_class (computed_keys (preorder source_untested_name_of_a_class)) output_untested_name_of_a_class ≡ false }
-    ensures weak_map_in_another_function { names_timely (nodes source_weak_map_in_another_function) generated_weak_map_in_another_function output_weak_map_in_another_function ≡ false }
+    ensures weak_map_in_another_function { names_timely (nodes source_weak_map_in_another_function) generated_weak_map_in_another_function (private_members source_weak_map_in_another_function) output_weak_map_in_another_function ≡ false }
 {}
 
 /// Outputs that mean what their sources mean, though a name or a value in them looks like another one.

@@ -101,6 +101,9 @@ module _ (first : ℕ) (o : Options) where
   elements-unchanging : Unchanging first (λ l p q. elements_kept o (preorder p) (preorder q))
   elements-unchanging f r l p q = ap₂ (elements_kept o) (preorder-mapped f p) (preorder-mapped f q) ∙ elements_kept-mapped r o (preorder p) (preorder q)
 
+  timely-unchanging : Unchanging first (λ l p q. names_timely first l (private_members p) q)
+  timely-unchanging f r l p q = ap (λ ms. names_timely first (mapped_ledger f l) ms (mapped f q)) (private_members-mapped f p) ∙ names_timely-mapped r l (private_members p) q
+
   calls-unchanging : Unchanging first (λ l p q. helper_calls_fit first l (computed_keys (preorder p)) q)
   calls-unchanging f r l p q =
       ap (λ ks. helper_calls_fit first (mapped_ledger f l) ks (mapped f q)) (all_computed_keys-mapped f p)
@@ -117,7 +120,7 @@ clauses_law first o ledger p q once old generated met = record {
     declared = kept first ledger p q once old generated (λ l p q. names_declared first l q) (λ f r l p q. names_declared-mapped r l q) met.declared;
     accounted = kept first ledger p q once old generated (declarations_accounted first) (λ f r l p q. declarations_accounted-mapped r l p q) met.accounted;
     initialized = kept first ledger p q once old generated (λ l p q. initializations_stand first l (private_members p) q l) (initialized-unchanging first o) met.initialized;
-    timely = kept first ledger p q once old generated (λ l p q. names_timely first l q) (λ f r l p q. names_timely-mapped r l q) met.timely;
+    timely = kept first ledger p q once old generated (λ l p q. names_timely first l (private_members p) q) (timely-unchanging first o) met.timely;
     temporaries = kept first ledger p q once old generated (λ l p q. temporaries_steady first l q) (λ f r l p q. temporaries_steady-mapped r l q) met.temporaries;
     keys = kept first ledger p q once old generated (λ l p q. keys_clause first o l (private_members p) q (preorder q)) (keys-unchanging first o) met.keys;
     nodes = kept first ledger p q once old generated (λ l p q. nodes_kept p q) (λ f r l p q. nodes_kept-mapped r p q) met.nodes;

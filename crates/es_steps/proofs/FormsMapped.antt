@@ -147,7 +147,7 @@ module _ (f : ℕ → ℕ) where
   is_same_key-mapped k l = refl
 
   kept_name-mapped : (key : Code) (p : Option (Code × Code)) (whole : Code) → kept_name (mapped_code f key) (mapped_option (mapped_two f) p) (mapped_code f whole) ≡ mapped_code f (kept_name key p whole)
-  kept_name-mapped key (Some p) whole = rw (is_same_key-mapped key p.0) (cond-code (is_same_key key p.0) (from_member (from_call p.1)) whole)
+  kept_name-mapped key (Some p) whole = rw (is_same_key-mapped key p.0) (cond-code (is_same_key key p.0) (from_member (from_call (sequence (and p.0 (and p.1 done))))) whole)
   kept_name-mapped key None whole = refl
 
   parameter_names-mapped : (ps : Codes) → parameter_names (mapped_codes f ps) ≡ parameter_names ps

@@ -9,7 +9,7 @@ use Rattle.es_base.specs.declared.ledger.LedgerEntry.{LedgerEntry}
 use Rattle.es_base.specs.declared.literal.LiteralValue.TheVariants as literal_value
 use Rattle.es_steps.specs.Context.{generated_as}
 use Rattle.es_steps.specs.Definitions.{spelling}
-use Rattle.es_steps.specs.HelperCalls.{is_helper_callee, part_number, computed_key, computed_keys, StaticKey, is_name, computed_static_key, static_key, method_key, field_key, method_keys, field_keys, body_keys, Naming, is_name_literal, tests_of, tests_at, naming_in, naming_of_element, is_class_body, is_without_name, is_there, is_any_helper, holds_key, is_generated_name, ends_with_name, stands_for_key, form_for_key, part_for_key, last_for_key, any_for_key, call_fits, calls_fit, calls_in, calls_at, calls_of, calls_of_body, helper_calls_fit}
+use Rattle.es_steps.specs.HelperCalls.{is_helper_callee, part_number, computed_key, computed_keys, StaticKey, is_name, is_key_conversion, computed_static_key, static_key, method_key, field_key, method_keys, field_keys, body_keys, Naming, is_name_literal, tests_of, tests_at, naming_in, naming_of_element, is_class_body, is_without_name, is_there, is_any_helper, holds_key, is_generated_name, ends_with_name, stands_for_key, form_for_key, part_for_key, last_for_key, any_for_key, call_fits, calls_fit, calls_in, calls_at, calls_of, calls_of_body, helper_calls_fit}
 use Rattle.es_steps.specs.Parts.{at, items, string_of, is_true}
 use Rattle.es_steps.specs.References.{has_number}
 use Rattle.es_steps.specs.Values.{String}
@@ -44,10 +44,14 @@ module _ (f : ℕ → ℕ) where
 
   -- ---- keys of static elements
 
+  is_key_conversion-mapped : (p : Part) → is_key_conversion (mapped_part f p) ≡ is_key_conversion p
+  is_key_conversion-mapped (child (Node Kind.CallExpression m span semantic_id (more (child (Node Kind.MemberExpression k kspan k_semantic_id (more o (more (child (Node Kind.IdentifierName j jspan j_semantic_id (more (string t) end))) rest)))) arguments))) = refl
+  is_key_conversion-mapped p = refl
+
   computed_static_key-mapped : (p : Part) → computed_static_key (mapped_part f p) ≡ computed_static_key p
   computed_static_key-mapped (child (Node Kind.Literal m span semantic_id (more (literal (literal_value.String s raw)) end))) = refl
-  computed_static_key-mapped (child (Node Kind.AssignmentExpression m span semantic_id ps)) = ap (λ s. StaticKey.is_kept_by s ∷ []) (ap spelling (at-mapped f 1 ps) ∙ spelling-mapped f (at 1 ps))
-  computed_static_key-mapped (child (Node Kind.IdentifierReference m span semantic_id ps)) = ap (λ s. StaticKey.is_kept_by s ∷ []) (string_at-mapped f 0 ps)
+  computed_static_key-mapped (child (Node Kind.AssignmentExpression m span semantic_id ps)) =
+      ap₂ (λ b s. cond b (StaticKey.is_kept_by s) is_name ∷ []) (ap is_key_conversion (at-mapped f 2 ps) ∙ is_key_conversion-mapped (at 2 ps)) (ap spelling (at-mapped f 1 ps) ∙ spelling-mapped f (at 1 ps))
   computed_static_key-mapped p = refl
 
   static_key-mapped : (b c : Bool) (p : Part) → static_key b c (mapped_part f p) ≡ static_key b c p
@@ -180,7 +184,9 @@ module _ {first : ℕ} {f : ℕ → ℕ} (r : Renames first f) where
 
       calls_at-mapped : (b : Bool) (x : Naming) (p : Part) → calls_at first there (map f keys) b x (mapped_part f p) ≡ calls_at first ledger keys b x p
       calls_at-mapped b x (child t) = calls_fit-mapped x t
-      calls_at-mapped true x (list ps) = ap (λ ks. calls_of_body first there (map f keys) x ks [] (mapped_parts f ps)) (method_keys-mapped f ps) ∙ calls_of_body-mapped x (method_keys ps) [] ps
+      calls_at-mapped true x (list ps) =
+          ap₂ (λ all ks. calls_of_body first there (map f keys) x all ks [] (mapped_parts f ps)) (ap₂ (λ a b. a ++ b) (method_keys-mapped f ps) (field_keys-mapped f ps)) (method_keys-mapped f ps)
+          ∙ calls_of_body-mapped x (method_keys ps ++ field_keys ps) (method_keys ps) [] ps
       calls_at-mapped false x (list ps) = calls_of-mapped x ps
       calls_at-mapped true x p = refl
       calls_at-mapped false x p = refl
@@ -189,11 +195,11 @@ module _ {first : ℕ} {f : ℕ → ℕ} (r : Renames first f) where
       calls_of-mapped x end = refl
       calls_of-mapped x (more p ps) = ap₂ (λ a b. a && b) (calls_at-mapped false x p) (calls_of-mapped x ps)
 
-      calls_of_body-mapped : (x : Naming) (methods front : List StaticKey) (ps : Parts) → calls_of_body first there (map f keys) x methods front (mapped_parts f ps) ≡ calls_of_body first ledger keys x methods front ps
-      calls_of_body-mapped x methods front end = refl
-      calls_of_body-mapped x methods front (more p ps) =
-          ap₂ (λ a b. a && b) (calls_at-mapped false (naming_of_element x methods front) p)
-          (ap (λ k. calls_of_body first there (map f keys) x methods (front ++ k) (mapped_parts f ps)) (field_key-mapped f p) ∙ calls_of_body-mapped x methods (front ++ field_key p) ps)
+      calls_of_body-mapped : (x : Naming) (all methods front : List StaticKey) (ps : Parts) → calls_of_body first there (map f keys) x all methods front (mapped_parts f ps) ≡ calls_of_body first ledger keys x all methods front ps
+      calls_of_body-mapped x all methods front end = refl
+      calls_of_body-mapped x all methods front (more p ps) =
+          ap₂ (λ a b. a && b) (calls_at-mapped false (naming_of_element x all methods front) p)
+          (ap (λ k. calls_of_body first there (map f keys) x all methods (front ++ k) (mapped_parts f ps)) (field_key-mapped f p) ∙ calls_of_body-mapped x all methods (front ++ field_key p) ps)
 
     pub helper_calls_fit-mapped : (q : Tree) → helper_calls_fit first there (map f keys) (mapped f q) ≡ helper_calls_fit first ledger keys q
-    helper_calls_fit-mapped q = calls_fit-mapped (record { keys = []; outer_keys = []; tested = [] }) q
+    helper_calls_fit-mapped q = calls_fit-mapped (record { keys = []; outer_keys = []; all_keys = []; tested = [] }) q

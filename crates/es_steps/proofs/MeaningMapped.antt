@@ -3,7 +3,7 @@ use Rattle.std.specs.Prelude.{◌≡◌, ℕ, zero, suc, List, [], ◌∷◌, ma
 use Rattle.std.proofs.Common.{refl, sym, ap, ap₂, ◌∙◌}
 use Rattle.es_base.specs.Numbered.{is_new}
 use Rattle.es_base.specs.Preorder.{preorder}
-use Rattle.es_base.specs.Tree.{Tree, Part, Parts, Node, end, more, child, list, string}
+use Rattle.es_base.specs.Tree.{Tree, Part, Parts, Node, end, more, child, absent, list, string}
 use Rattle.es_base.specs.declared.kind.Kind.{Kind}
 use Rattle.es_base.specs.declared.ledger.GeneratedKind.{GeneratedKind}
 use Rattle.es_base.specs.declared.ledger.LedgerEntry.{LedgerEntry}
@@ -113,6 +113,7 @@ module _ (f : ℕ → ℕ) where
 
   declared_function-mapped : (ledger : List LedgerEntry) (t : Tree) → declared_function (mapped_ledger f ledger) (mapped f t) ≡ map (mapped_pair f) (declared_function ledger t)
   declared_function-mapped ledger (Node Kind.FunctionDeclaration g span semantic_id (more (child (Node Kind.BindingIdentifier b s i (more (string x) end))) ps)) = ap (λ k. unless_generated k (f b, f g)) (generated_as-mapped f x ledger) ∙ unless_generated-mapped (generated_as x ledger) (b, g)
+  declared_function-mapped ledger (Node Kind.ExportDefaultDeclaration m span semantic_id (more (child (Node Kind.FunctionDeclaration g gspan g_semantic_id (more absent ps))) rest)) = refl
   declared_function-mapped ledger t = refl
 
   declared_functions-mapped : (ledger : List LedgerEntry) (ts : List Tree) → declared_functions (mapped_ledger f ledger) (map (mapped f) ts) ≡ map (mapped_pair f) (declared_functions ledger ts)
@@ -128,19 +129,19 @@ module _ (f : ℕ → ℕ) where
   second_numbers-mapped (p ∷ ps) = ap (λ ns. f p.1 ∷ ns) (second_numbers-mapped ps)
 
 module _ {first : ℕ} {f : ℕ → ℕ} (r : Renames first f) where
-  function_at-mapped : (is_static : Bool) (kind : PrivateKind) (d : ℕ) (ps : List (ℕ × ℕ)) → function_at is_static kind (f d) (map (mapped_pair f) ps) ≡ mapped_option (mapped_member_entry f) (function_at is_static kind d ps)
-  function_at-mapped is_static kind d [] = refl
-  function_at-mapped is_static kind d (p ∷ ps) = rw (r.apart d p.0) (cond-mapped (mapped_option (mapped_member_entry f)) (nat_eq d p.0) (Some (FunctionIs is_static kind p.1)) (function_at is_static kind d ps) refl (function_at-mapped is_static kind d ps))
+  function_at-mapped : (n : ℕ) (is_static : Bool) (kind : PrivateKind) (d : ℕ) (ps : List (ℕ × ℕ)) → function_at (f n) is_static kind (f d) (map (mapped_pair f) ps) ≡ mapped_option (mapped_member_entry f) (function_at n is_static kind d ps)
+  function_at-mapped n is_static kind d [] = refl
+  function_at-mapped n is_static kind d (p ∷ ps) = rw (r.apart d p.0) (cond-mapped (mapped_option (mapped_member_entry f)) (nat_eq d p.0) (Some (FunctionIs n is_static kind p.1)) (function_at n is_static kind d ps) refl (function_at-mapped n is_static kind d ps))
 
-  member_entry-mapped : (is_static : Bool) (kind : PrivateKind) (d : ℕ) (functions : List (ℕ × ℕ)) → member_entry is_static kind (f d) (map (mapped_pair f) functions) ≡ mapped_option (mapped_member_entry f) (member_entry is_static kind d functions)
-  member_entry-mapped is_static a_field d functions = refl
-  member_entry-mapped is_static kind d functions = function_at-mapped is_static kind d functions
+  member_entry-mapped : (n : ℕ) (is_static : Bool) (kind : PrivateKind) (d : ℕ) (functions : List (ℕ × ℕ)) → member_entry (f n) is_static kind (f d) (map (mapped_pair f) functions) ≡ mapped_option (mapped_member_entry f) (member_entry n is_static kind d functions)
+  member_entry-mapped n is_static a_field d functions = refl
+  member_entry-mapped n is_static kind d functions = function_at-mapped n is_static kind d functions
 
   member_entries-mapped : (functions : List (ℕ × ℕ)) (xs : List PrivateMember) → member_entries (map (mapped_pair f) functions) (mapped_privates f xs) ≡ mapped_option (map (mapped_numbered_member f)) (member_entries functions xs)
   member_entries-mapped functions [] = refl
   member_entries-mapped functions (x ∷ xs) =
-      ap₂ (with_member (f x.number)) (member_entry-mapped x.is_static x.kind x.number functions) (member_entries-mapped functions xs)
-      ∙ with_member-mapped f x.number (member_entry x.is_static x.kind x.number functions) (member_entries functions xs)
+      ap₂ (with_member (f x.number)) (member_entry-mapped x.class x.is_static x.kind x.number functions) (member_entries-mapped functions xs)
+      ∙ with_member-mapped f x.number (member_entry x.class x.is_static x.kind x.number functions) (member_entries functions xs)
 
   declares_at-mapped : (kind : Kind) (m : ℕ) (ps : Parts) (d : DeclarationKind) (i : ℕ) → declares_at first kind (f m) (mapped_parts f ps) d i ≡ declares_at first kind m ps d i
   declares_at-mapped Kind.VariableDeclaration m ps d i = ap DeclarationKind.Variable (string_at-mapped f 0 ps)

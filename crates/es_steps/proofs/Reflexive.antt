@@ -164,8 +164,8 @@ private_kind-same a_getter = refl
 private_kind-same a_setter = refl
 
 member-same : (e : MemberEntry) → same_member e e ≡ true
-member-same (IsField b) = boolean-same b
-member-same (FunctionIs b kind f) = both (boolean-same b) (both (private_kind-same kind) (number-same f))
+member-same (IsField n b) = both (number-same n) (boolean-same b)
+member-same (FunctionIs n b kind f) = both (both (number-same n) (boolean-same b)) (both (private_kind-same kind) (number-same f))
 
 declaration-same : (d : DeclarationKind) → same_declaration d d ≡ true
 declaration-same (Variable s) = string-same s

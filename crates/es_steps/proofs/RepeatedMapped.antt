@@ -11,7 +11,7 @@ use Rattle.es_steps.specs.Parts.{at, items, string_of, is_true, has_pattern}
 use Rattle.es_steps.specs.PrivateNames.{is_class}
 use Rattle.es_steps.specs.References.{has_number}
 use Rattle.es_steps.specs.Scopes.{is_binding_identifier}
-use Rattle.es_steps.specs.Repeated.{Surroundings, is_loop, is_arrow, super_function, if_here, constructs_at, function_place, is_parameters_part, first_number, parameters_place, place_in, around_program, takes_vars, hoisted_in, in_var_at, surroundings_in, is_placed, own_place, place_of, places, places_in, places_at, places_of, all_places}
+use Rattle.es_steps.specs.Repeated.{Surroundings, is_loop, is_arrow, super_function, if_here, constructs_at, function_place, is_parameters_part, first_number, parameters_place, once_place, loop_place, place_in, around_program, takes_vars, hoisted_in, in_var_at, surroundings_in, is_placed, own_place, place_of, places, places_in, places_at, places_of, all_places}
 use Rattle.es_steps.proofs.ContextMapped.{generated_as-mapped, name_in-mapped}
 use Rattle.es_steps.proofs.Mapped.{Renames, mapped, mapped_part, mapped_parts, mapped_option, mapped_generated, mapped_ledger, mapped_pair}
 use Rattle.es_steps.proofs.PartsMapped.{cond-mapped, append-mapped, at-mapped, items_at-mapped, string_at-mapped, is_true_at-mapped, has_pattern-mapped, number_of-mapped}
@@ -48,6 +48,16 @@ module _ (f : ℕ → ℕ) where
   class_or-mapped true m n = refl
   class_or-mapped false m n = refl
 
+  once_place-mapped : (p : Part) (place : ℕ) → once_place (mapped_part f p) (f place) ≡ f (once_place p place)
+  once_place-mapped (child (Node Kind.VariableDeclaration m span semantic_id ps)) place = refl
+  once_place-mapped p place = refl
+
+  loop_place-mapped : (kind : Kind) (m : ℕ) (ps : Parts) (i place : ℕ) → loop_place kind (f m) (mapped_parts f ps) i (f place) ≡ f (loop_place kind m ps i place)
+  loop_place-mapped Kind.ForStatement m ps i place = cond-mapped f (nat_eq i 0) (once_place (at 0 ps) place) m (ap (λ p. once_place p (f place)) (at-mapped f 0 ps) ∙ once_place-mapped (at 0 ps) place) refl
+  loop_place-mapped Kind.ForInStatement m ps i place = class_or-mapped (nat_eq i 1) place m
+  loop_place-mapped Kind.ForOfStatement m ps i place = class_or-mapped (nat_eq i 1) place m
+  loop_place-mapped kind m ps i place = refl
+
   first_number-mapped : (ps : Parts) (place : ℕ) → first_number (mapped_parts f ps) (f place) ≡ f (first_number ps place)
   first_number-mapped (more (child t) ps) place = number_of-mapped f t
   first_number-mapped (more p ps) place = refl
@@ -64,13 +74,13 @@ module _ {first : ℕ} {f : ℕ → ℕ} (r : Renames first f) (ledger : List Le
   there s = mapped_surroundings f s
 
   abbrev of_kind : Surroundings → Kind → ℕ → Parts → ℕ → ℕ
-  of_kind s kind m ps i = cond (is_function kind || is_arrow kind) (parameters_place (is_parameters_part kind i) (items (at i ps)) (function_place (is_new first m) s.constructs m s.place)) (cond (is_loop kind) m s.place)
+  of_kind s kind m ps i = cond (is_function kind || is_arrow kind) (parameters_place (is_parameters_part kind i) (items (at i ps)) (function_place (is_new first m) s.constructs m s.place)) (cond (is_loop kind) (loop_place kind m ps i s.place) s.place)
 
   of_kind-mapped : (s : Surroundings) (kind : Kind) (m : ℕ) (ps : Parts) (i : ℕ) → of_kind (there s) kind (f m) (mapped_parts f ps) i ≡ f (of_kind s kind m ps i)
   of_kind-mapped s kind m ps i =
       let place : ℕ = function_place (is_new first m) s.constructs m s.place in
       rw (r.new m, items_at-mapped f i ps, function_place-mapped f (is_new first m) s.constructs m s.place)
-      (cond-mapped f (is_function kind || is_arrow kind) (parameters_place (is_parameters_part kind i) (items (at i ps)) place) (cond (is_loop kind) m s.place) (parameters_place-mapped f (is_parameters_part kind i) (items (at i ps)) place) (class_or-mapped f (is_loop kind) m s.place))
+      (cond-mapped f (is_function kind || is_arrow kind) (parameters_place (is_parameters_part kind i) (items (at i ps)) place) (cond (is_loop kind) (loop_place kind m ps i s.place) s.place) (parameters_place-mapped f (is_parameters_part kind i) (items (at i ps)) place) (cond-mapped f (is_loop kind) (loop_place kind m ps i s.place) s.place (loop_place-mapped f kind m ps i s.place) refl))
 
   place_in-mapped : (s : Surroundings) (kind : Kind) (m : ℕ) (ps : Parts) (i : ℕ) → place_in first (there s) kind (f m) (mapped_parts f ps) i ≡ f (place_in first s kind m ps i)
   place_in-mapped s Kind.PropertyDefinition m ps i = rw (is_true_at-mapped f 3 ps) (class_or-mapped f (nat_eq i 1 && not (is_true (at 3 ps))) s.class s.place)

@@ -187,8 +187,8 @@ module _ (f : ℕ → ℕ) (test : ℕ → Bool) (still : (n : ℕ) → test n �
   numbered_entry-still p all = rw (number-still p.0 (entry_numbers p.1) all, entry-still p.1 (rest p.0 (entry_numbers p.1) all)) refl
 
   member-still : (e : MemberEntry) → Pass (member_numbers e) → mapped_member_entry f e ≡ e
-  member-still (IsField is_static) all = refl
-  member-still (FunctionIs is_static kind g) all = ap (FunctionIs is_static kind) (number-still g [] all)
+  member-still (IsField n is_static) all = ap (λ (k : ℕ). IsField k is_static) (number-still n [] all)
+  member-still (FunctionIs n is_static kind g) all = ap₂ (λ (k h : ℕ). FunctionIs k is_static kind h) (number-still n (g ∷ []) all) (number-still g [] (rest n (g ∷ []) all))
 
   numbered_member-still : (p : ℕ × MemberEntry) → Pass (numbered_member_numbers p) → mapped_numbered_member f p ≡ p
   numbered_member-still p all = rw (number-still p.0 (member_numbers p.1) all, member-still p.1 (rest p.0 (member_numbers p.1) all)) refl

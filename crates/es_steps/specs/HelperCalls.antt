@@ -8,11 +8,12 @@ use Rattle.es_base.specs.declared.kind.Kind.{Kind}
 use Rattle.es_base.specs.declared.ledger.GeneratedKind.{GeneratedKind}
 use Rattle.es_base.specs.declared.ledger.LedgerEntry.{LedgerEntry}
 use Rattle.es_base.specs.declared.literal.LiteralValue.TheVariants as literal_value
-use Rattle.es_steps.specs.Context.{generated_as}
+use Rattle.es_steps.specs.Context.{generated_as, is_function}
 use Rattle.es_steps.specs.Definitions.{spelling}
 use Rattle.es_steps.specs.Parts.{at, items, string_of, is_true}
 use Rattle.es_steps.specs.Printable.{is_spelled}
 use Rattle.es_steps.specs.References.{has_number}
+use Rattle.es_steps.specs.Repeated.{is_arrow}
 use Rattle.es_steps.specs.Values.{String}
 
 abbrev pub is_helper_callee : ℕ → String → Part → Bool
@@ -41,11 +42,15 @@ pub data StaticKey : Type 0 where
   -- computed, and kept by a generated name
   is_kept_by : (s : String) → StaticKey
 
+-- a call of `toPropertyKey`
+abbrev pub is_key_conversion : Part → Bool
+is_key_conversion (child (Node Kind.CallExpression m span semantic_id (more (child (Node Kind.MemberExpression k kspan k_semantic_id (more o (more (child (Node Kind.IdentifierName j jspan j_semantic_id (more (string t) end))) rest)))) arguments))) = bytes_eq t (codes "toPropertyKey")
+is_key_conversion p = false
+
 -- a key that is computed
 abbrev pub computed_static_key : Part → List StaticKey
 computed_static_key (child (Node Kind.Literal m span semantic_id (more (literal (literal_value.String s raw)) end))) = cond (bytes_eq s (codes "name")) (is_name ∷ []) []
-computed_static_key (child (Node Kind.AssignmentExpression m span semantic_id ps)) = is_kept_by (spelling (at 1 ps)) ∷ []
-computed_static_key (child (Node Kind.IdentifierReference m span semantic_id ps)) = is_kept_by (string_of (at 0 ps)) ∷ []
+computed_static_key (child (Node Kind.AssignmentExpression m span semantic_id ps)) = cond (is_key_conversion (at 2 ps)) (is_kept_by (spelling (at 1 ps))) is_name ∷ []
 computed_static_key p = is_name ∷ []
 
 abbrev pub static_key : Bool → Bool → Part → List StaticKey
@@ -80,6 +85,8 @@ body_keys p = []
 pub record Naming : Type 0 where
   pub keys : List StaticKey
   pub outer_keys : List StaticKey
+  -- of the class around, all, which are there when a function runs
+  pub all_keys : List StaticKey
   pub tested : List String
 
 abbrev pub is_not_name : StaticKey → List String → Bool
@@ -109,11 +116,11 @@ abbrev pub naming_in : Naming → Kind → Parts → ℕ → Naming
 naming_in x Kind.LogicalExpression ps i = cond (nat_eq i 2 && bytes_eq (string_of (at 0 ps)) (codes "&&")) (record x { tested = tests_at (at 1 ps) ++ x.tested }) x
 naming_in x Kind.PropertyDefinition ps i = cond (nat_eq i 0) (record x { keys = x.outer_keys }) x
 naming_in x Kind.MethodDefinition ps i = cond (nat_eq i 0) (record x { keys = x.outer_keys }) x
-naming_in x kind ps i = x
+naming_in x kind ps i = cond (is_function kind || is_arrow kind) (record x { keys = x.all_keys }) x
 
 -- an element behind these: all methods of the class are there, and the fields in front
-abbrev pub naming_of_element : Naming → List StaticKey → List StaticKey → Naming
-naming_of_element x methods front = record { keys = methods ++ front; outer_keys = x.keys; tested = [] }
+abbrev pub naming_of_element : Naming → List StaticKey → List StaticKey → List StaticKey → Naming
+naming_of_element x all methods front = record { keys = methods ++ front; outer_keys = x.keys; all_keys = all; tested = [] }
 
 abbrev pub is_class_body : Kind → Bool
 is_class_body Kind.ClassBody = true
@@ -193,7 +200,7 @@ module _ (first : ℕ) (ledger : List LedgerEntry) (keys : List ℕ) where
 
     pub calls_at : Bool → Naming → Part → Bool
     calls_at is_body x (child t) = calls_fit x t
-    calls_at true x (list ps) = calls_of_body x (method_keys ps) [] ps
+    calls_at true x (list ps) = calls_of_body x (method_keys ps ++ field_keys ps) (method_keys ps) [] ps
     calls_at false x (list ps) = calls_of x ps
     calls_at is_body x p = true
 
@@ -201,10 +208,10 @@ module _ (first : ℕ) (ledger : List LedgerEntry) (keys : List ℕ) where
     calls_of x end = true
     calls_of x (more p ps) = calls_at false x p && calls_of x ps
 
-    pub calls_of_body : Naming → List StaticKey → List StaticKey → Parts → Bool
-    calls_of_body x methods front end = true
-    calls_of_body x methods front (more p ps) = calls_at false (naming_of_element x methods front) p && calls_of_body x methods (front ++ field_key p) ps
+    pub calls_of_body : Naming → List StaticKey → List StaticKey → List StaticKey → Parts → Bool
+    calls_of_body x all methods front end = true
+    calls_of_body x all methods front (more p ps) = calls_at false (naming_of_element x all methods front) p && calls_of_body x all methods (front ++ field_key p) ps
 
   -- of a lowered program
   abbrev pub helper_calls_fit : Tree → Bool
-  helper_calls_fit q = calls_fit (record { keys = []; outer_keys = []; tested = [] }) q
+  helper_calls_fit q = calls_fit (record { keys = []; outer_keys = []; all_keys = []; tested = [] }) q

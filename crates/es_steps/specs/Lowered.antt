@@ -112,9 +112,22 @@ abbrev pub is_named_again : LedgerEntry → List LedgerEntry → Bool
 is_named_again e [] = false
 is_named_again e (x ∷ xs) = (same_space e.kind x.kind && bytes_eq e.name x.name) || is_named_again e xs
 
+-- one name for a member, and one for the brand of a class
+abbrev pub same_subject : GeneratedKind → GeneratedKind → Bool
+same_subject (GeneratedKind.WeakMap d) (GeneratedKind.WeakMap k) = nat_eq d.0 k.0
+same_subject (GeneratedKind.StaticField d) (GeneratedKind.StaticField k) = nat_eq d.0 k.0
+same_subject (GeneratedKind.Brand n) (GeneratedKind.Brand k) = nat_eq n.0 k.0
+same_subject (GeneratedKind.Method d) (GeneratedKind.Method k) = nat_eq d.0 k.0
+same_subject (GeneratedKind.LooseKey d) (GeneratedKind.LooseKey k) = nat_eq d.0 k.0
+same_subject g h = false
+
+abbrev pub has_another_name : GeneratedKind → List LedgerEntry → Bool
+has_another_name g [] = false
+has_another_name g (x ∷ xs) = same_subject g x.kind || has_another_name g xs
+
 abbrev pub names_declared : ℕ → List LedgerEntry → Tree → Bool
 names_declared first [] q = true
-names_declared first (e ∷ es) q = (is_underscored e.name && not (is_named_again e es)) && (declared_by_kind first q e.name e.kind && names_declared first es q)
+names_declared first (e ∷ es) q = (is_underscored e.name && not (is_named_again e es || has_another_name e.kind es)) && (declared_by_kind first q e.name e.kind && names_declared first es q)
 
 -- ---- each new declaration is accounted for
 
@@ -299,9 +312,22 @@ abbrev pub is_one_initialization : GeneratedKind → List PrivateMember → Tree
 is_one_initialization g members q (i ∷ []) = i.1 && (is_declared_function i.0 (preorder q) || all_before i.0 (class_before g members) (preorder q))
 is_one_initialization g members q is = false
 
+-- a temporary is given a value by one assignment alone
+abbrev pub is_temp : GeneratedKind → Bool
+is_temp GeneratedKind.Temp = true
+is_temp g = false
+
+abbrev pub is_at_most_one : List (ℕ × Bool) → Bool
+is_at_most_one [] = true
+is_at_most_one (i ∷ []) = true
+is_at_most_one is = false
+
+abbrev pub initialization_stands : GeneratedKind → List PrivateMember → Tree → List (ℕ × Bool) → Bool
+initialization_stands g members q is = (needs_none g && (not (is_temp g) || is_at_most_one is)) || (belongs members g && is_one_initialization g members q is)
+
 abbrev pub initializations_stand : ℕ → List LedgerEntry → List PrivateMember → Tree → List LedgerEntry → Bool
 initializations_stand first ledger members q [] = true
-initializations_stand first ledger members q (e ∷ es) = (needs_none e.kind || (belongs members e.kind && is_one_initialization e.kind members q (initializations first ledger q e.name e.kind (preorder q)))) && initializations_stand first ledger members q es
+initializations_stand first ledger members q (e ∷ es) = initialization_stands e.kind members q (initializations first ledger q e.name e.kind (preorder q)) && initializations_stand first ledger members q es
 
 -- the temporaries of keys are given before their class
 abbrev pub any_before : List (ℕ × Bool) → ℕ → List Tree → Bool
@@ -323,7 +349,7 @@ pub record MeetsClauses (first : ℕ) (o : Options) (ledger : List LedgerEntry) 
   pub declared : names_declared first ledger q ≡ true
   pub accounted : declarations_accounted first ledger p q ≡ true
   pub initialized : initializations_stand first ledger (private_members p) q ledger ≡ true
-  pub timely : names_timely first ledger q ≡ true
+  pub timely : names_timely first ledger (private_members p) q ≡ true
   pub temporaries : temporaries_steady first ledger q ≡ true
   pub keys : keys_stand first o ledger (private_members p) q (all_temporaries first o ledger (private_members p) q (preorder q)) ≡ true
   pub nodes : nodes_kept p q ≡ true

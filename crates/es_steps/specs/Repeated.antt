@@ -71,10 +71,22 @@ first_number ps place = place
 abbrev pub parameters_place : Bool → Parts → ℕ → ℕ
 parameters_place here ps place = cond (here && has_pattern ps) (first_number ps place) place
 
+-- what the head of a loop evaluates once: a declaration that a `for` begins with, known by its number, since what it declares is
+-- copied from round to round (14.7.4.4); or what stands in the place around
+abbrev pub once_place : Part → ℕ → ℕ
+once_place (child (Node Kind.VariableDeclaration m span semantic_id ps)) place = m
+once_place p place = place
+
+abbrev pub loop_place : Kind → ℕ → Parts → ℕ → ℕ → ℕ
+loop_place Kind.ForStatement m ps i place = cond (nat_eq i 0) (once_place (at 0 ps) place) m
+loop_place Kind.ForInStatement m ps i place = cond (nat_eq i 1) place m
+loop_place Kind.ForOfStatement m ps i place = cond (nat_eq i 1) place m
+loop_place kind m ps i place = m
+
 -- where the i-th part of a node stands
 abbrev pub place_in : ℕ → Surroundings → Kind → ℕ → Parts → ℕ → ℕ
 place_in first s Kind.PropertyDefinition m ps i = cond (nat_eq i 1 && not (is_true (at 3 ps))) s.class s.place
-place_in first s kind m ps i = cond (is_function kind || is_arrow kind) (parameters_place (is_parameters_part kind i) (items (at i ps)) (function_place (is_new first m) s.constructs m s.place)) (cond (is_loop kind) m s.place)
+place_in first s kind m ps i = cond (is_function kind || is_arrow kind) (parameters_place (is_parameters_part kind i) (items (at i ps)) (function_place (is_new first m) s.constructs m s.place)) (cond (is_loop kind) (loop_place kind m ps i s.place) s.place)
 
 -- where a `var` in the i-th part is hoisted to
 abbrev pub takes_vars : Kind → Bool

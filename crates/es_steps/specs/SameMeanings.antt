@@ -129,8 +129,8 @@ same_private_kind a_setter a_setter = true
 same_private_kind kind other = false
 
 abbrev pub same_member : MemberEntry → MemberEntry → Bool
-same_member (IsField b) (IsField c) = same_boolean b c
-same_member (FunctionIs b kind f) (FunctionIs c other g) = same_boolean b c && (same_private_kind kind other && nat_eq f g)
+same_member (IsField n b) (IsField m c) = nat_eq n m && same_boolean b c
+same_member (FunctionIs n b kind f) (FunctionIs m c other g) = nat_eq n m && same_boolean b c && (same_private_kind kind other && nat_eq f g)
 same_member x y = false
 
 abbrev pub same_declaration : DeclarationKind → DeclarationKind → Bool

@@ -103,8 +103,8 @@ abbrev pub numbered_entry_numbers : ℕ × Entry → List ℕ
 numbered_entry_numbers p = p.0 ∷ entry_numbers p.1
 
 abbrev pub member_numbers : MemberEntry → List ℕ
-member_numbers (IsField is_static) = []
-member_numbers (FunctionIs is_static kind f) = f ∷ []
+member_numbers (IsField n is_static) = n ∷ []
+member_numbers (FunctionIs n is_static kind f) = n ∷ f ∷ []
 
 abbrev pub numbered_member_numbers : ℕ × MemberEntry → List ℕ
 numbered_member_numbers p = p.0 ∷ member_numbers p.1
