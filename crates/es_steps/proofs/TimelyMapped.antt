@@ -10,7 +10,7 @@ use Rattle.es_steps.specs.Definitions.{spelling}
 use Rattle.es_steps.specs.Expressions.{is_logical}
 use Rattle.es_steps.specs.HelperCalls.{is_class_body}
 use Rattle.es_steps.specs.KeptNodes.{pair_stands, all_pairs_stand}
-use Rattle.es_steps.specs.Parts.{at, items, string_of, is_true}
+use Rattle.es_steps.specs.Parts.{at, items, string_of}
 use Rattle.es_steps.specs.PrivateNames.{PrivateMember, member_at, is_class, is_element}
 use Rattle.es_steps.specs.Timely.{MarkForm, declares, initializes, hoists, uses, Around, Mark, is_held, is_held_arrow, is_instance_value, runs_later, around_in, mark_by, mark, declared_mark, initialized_mark, marks_before, marks_behind, is_given, is_let_declaration, runs_with_class, any_runs, body_runs, is_of_class, is_needed_by, needed_names, uses_of, is_called_arrow, marks, marks_in, marks_at, marks_of, key_marks, value_marks, is_later, gives_by, gives_in_time, any_gives, is_dead_by, is_dead, is_skipped_by, is_skipped, is_followed, is_use, comes_first, is_early_by, is_early, asks, in_time, names_timely}
 use Rattle.es_steps.specs.Values.{String}

@@ -13,7 +13,7 @@ use Rattle.es_base.specs.declared.kind.Kind.{Kind}
 use Rattle.es_steps.proofs.Reflexive.{number-same}
 use Rattle.es_steps.specs.Context.{is_constructor}
 use Rattle.es_steps.specs.Definitions.{FieldDefinition, chosen, element_numbers, body_numbers, elements_kept, call_definition, definition_at, definitions_in, definitions_at, definitions_of, function_definitions, super_definitions, constructor_definitions, all_definitions, instance_definitions, static_definitions, is_instance_method, any_of, defined_fields, class_fits, classes_fit, definitions_stand}
-use Rattle.es_steps.specs.HelperCalls.{is_helper_callee, computed_keys, StaticKey, Naming, naming_in, naming_of_element, is_class_body, field_key, method_keys, call_fits, calls_fit, calls_in, calls_at, calls_of, calls_of_body}
+use Rattle.es_steps.specs.HelperCalls.{is_helper_callee, computed_keys, StaticKey, Naming, naming_in, naming_of_element, is_class_body, field_key, method_keys, field_keys, call_fits, calls_fit, calls_in, calls_at, calls_of, calls_of_body}
 use Rattle.es_steps.specs.KeptNodes.{statement_list, declared_classes, carried_classes, item_number, item_numbers, free_number, free_numbers, is_static_block, free_lists, free_lists_at, free_lists_in, list_of, is_within, all_within, is_free_statement, is_function_declaration, free_statements, free_at, free_in, all_homes, lowered_blocks}
 use Rattle.es_steps.specs.Lowered.{IsLowered, nothing_left, own_name_numbers, is_new_const, all_accounted}
 use Rattle.es_steps.specs.LoweredClasses.{Element, elements_of, is_lowered_element, any_element, is_lowered_class, holds_lowered, has_lowered_class, constructor_function, constructor_in}
@@ -243,7 +243,7 @@ module _ (first : ℕ) (keys : List ℕ) where
 
     calls_at-fit : (is_body : Bool) (x : Naming) (p : Part) → Below first (preorder_of_part p) → calls_at first [] keys is_body x p ≡ true
     calls_at-fit is_body x (child t) b = calls-fit x t b
-    calls_at-fit true x (list ps) b = calls_of_body-fit x (method_keys ps) [] ps b
+    calls_at-fit true x (list ps) b = calls_of_body-fit x (method_keys ps ++ field_keys ps) (method_keys ps) [] ps b
     calls_at-fit false x (list ps) b = calls_of-fit x ps b
     calls_at-fit true x p b = refl
     calls_at-fit false x p b = refl
@@ -253,14 +253,14 @@ module _ (first : ℕ) (keys : List ℕ) where
     calls_of-fit x (more p ps) b =
         both (calls_at-fit false x p (below-first first (preorder_of_part p) (preorder_of ps) b)) (calls_of-fit x ps (below-second first (preorder_of_part p) (preorder_of ps) b))
 
-    calls_of_body-fit : (x : Naming) (methods front : List StaticKey) (ps : Parts) → Below first (preorder_of ps) → calls_of_body first [] keys x methods front ps ≡ true
-    calls_of_body-fit x methods front end b = refl
-    calls_of_body-fit x methods front (more p ps) b =
-        both (calls_at-fit false (naming_of_element x methods front) p (below-first first (preorder_of_part p) (preorder_of ps) b))
-        (calls_of_body-fit x methods (front ++ field_key p) ps (below-second first (preorder_of_part p) (preorder_of ps) b))
+    calls_of_body-fit : (x : Naming) (all methods front : List StaticKey) (ps : Parts) → Below first (preorder_of ps) → calls_of_body first [] keys x all methods front ps ≡ true
+    calls_of_body-fit x all methods front end b = refl
+    calls_of_body-fit x all methods front (more p ps) b =
+        both (calls_at-fit false (naming_of_element x all methods front) p (below-first first (preorder_of_part p) (preorder_of ps) b))
+        (calls_of_body-fit x all methods (front ++ field_key p) ps (below-second first (preorder_of_part p) (preorder_of ps) b))
 
 abbrev none_around : Naming
-none_around = record { keys = []; outer_keys = []; tested = [] }
+none_around = record { keys = []; outer_keys = []; all_keys = []; tested = [] }
 
 supers-none : (first : ℕ) (o : Options) (n : ℕ) (ts : List Tree) → super_definitions first o [] n ts ≡ []
 supers-none first o n [] = refl
@@ -457,7 +457,7 @@ unchanged-owes o t e h left =
         declared = refl;
         accounted = below-accounted (nodes t) (own_name_numbers t (preorder t)) (preorder t) turn.below;
         initialized = refl;
-        timely = names-timely (nodes t) t;
+        timely = names-timely (nodes t) (private_members t) t;
         temporaries = refl;
         keys = rw (temporaries-none (nodes t) o (private_members t) t (preorder t)) (keys-stand (lowers_fields o));
         nodes = all-stand (preorder t) (preorder t) (λ u i. i);
