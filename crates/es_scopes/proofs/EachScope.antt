@@ -11,15 +11,15 @@ use Rattle.es_base.specs.declared.ids.ScopeId.{ScopeId}
 use Rattle.es_base.specs.declared.kind.Kind.{Kind}
 use Rattle.es_base.specs.declared.table.Place.{Place}
 use Rattle.es_base.specs.declared.table.Sort.{Sort}
-use Rattle.es_scopes.specs.Agreement.{names_of_node}
 use Rattle.es_scopes.specs.Entries.{Collected, entered, collected, collected_parts, collected_part, collected_items, nothing_yet, entries_of}
-use Rattle.es_scopes.specs.Held.{weight, scope_gets, held_weight, given_weight, IsElsewhere, IsNoBody}
+use Rattle.es_scopes.specs.Held.{node_weight, scope_gets, held_weight, given_weight, IsElsewhere, IsNoBody}
 use Rattle.es_scopes.specs.NodeScopes.{opens, has_scope, is_body_place}
 use Rattle.es_scopes.specs.Opened.{opens_at, opened, opened_parts, opened_part, opened_items}
 use Rattle.es_scopes.specs.Surroundings.{scope_place, inside, declares_in, nowhere}
 use Rattle.es_scopes.specs.Tables.{Fits, AreOrdered, scope_count, scopes_in}
 use Rattle.es_scopes.specs.declared.entry.Entry.{Entry}
 use Rattle.es_scopes.specs.declared.entry.Entry.TheVariants as entry
+use Rattle.es_scopes.specs.declared.surroundings.Declarer.{Declarer}
 use Rattle.es_scopes.specs.declared.surroundings.Declares.{Declares}
 use Rattle.es_scopes.specs.declared.surroundings.Declares.TheVariants as declares
 use Rattle.es_scopes.specs.declared.surroundings.Surroundings.{Surroundings}
@@ -60,7 +60,7 @@ no-body (declares.Pattern holder who) b h e = tt
 above-other : (m n : ℕ) → m < n → nat_eq m n ≡ false
 above-other m n l = grind (arith, nat_tests)
 
-module _ (w : ℕ → List ℕ → ℕ) where
+module _ (w : Declarer → ℕ → List ℕ → ℕ) where
   known-gets : (m n : ℕ) (o : Option ScopeId) → ((s : ScopeId) → o ≡ Some s → s.0 < m) → m ≤ n → (x : ℕ) → scope_gets n o x ≡ 0
   known-gets m n None h le x = refl
   known-gets m n (Some s) h le x = let k = h s refl in ap (λ b. cond b x 0) (above-other s.0 n (omega arith))
@@ -77,9 +77,9 @@ module _ (w : ℕ → List ℕ → ℕ) where
 
   none-yet : (m n : ℕ) (es : List Entry) → AreOrdered m es → m + scopes_in es ≤ n → held_weight w n es ≡ 0
   none-yet m n [] h le = refl
-  none-yet m n (entry.Scope parent in_parameters flags ∷ es) h le = none-yet (m + 1) n es h.1 (omega arith)
-  none-yet m n (entry.Body ∷ es) h le = none-yet (m + 0) n es h.1 (omega arith)
-  none-yet m n (entry.Binding node holder who name flags head ∷ es) h le = omega (arith, known-gets m n holder h.0 (omega arith) (w node.0 name), none-yet (m + 0) n es h.1 (omega arith))
+  none-yet m n (entry.Scope node parent in_parameters flags ∷ es) h le = none-yet (m + 1) n es h.1 (omega arith)
+  none-yet m n (entry.Body node ∷ es) h le = none-yet (m + 0) n es h.1 (omega arith)
+  none-yet m n (entry.Binding node holder who name flags head ∷ es) h le = omega (arith, known-gets m n holder h.0 (omega arith) (w who node.0 name), none-yet (m + 0) n es h.1 (omega arith))
   none-yet m n (entry.Reference node scope in_parameters name flags ∷ es) h le = none-yet (m + 0) n es h.1 (omega arith)
 
   none-counted : (n : ℕ) (c : Collected) → Counts c → c.next ≤ n → held_weight w n c.entries ≡ 0
@@ -186,9 +186,9 @@ opens-has : (kind : Kind) (b : Bool) → opens_at kind b ≡ true → has_scope 
 opens-has Kind.BlockStatement b h = refl
 opens-has kind b h = h
 
-module _ (w : ℕ → List ℕ → ℕ) where
+module _ (w : Declarer → ℕ → List ℕ → ℕ) where
   abbrev pub EachGets : ℕ → List Tree → List Entry → Type 0
-  EachGets start nodes es = (j : ℕ) (x : Tree) → slice_get nodes j ≡ Some x → held_weight w (start + j) es ≡ weight w (names_of_node x)
+  EachGets start nodes es = (j : ℕ) (x : Tree) → slice_get nodes j ≡ Some x → held_weight w (start + j) es ≡ node_weight w x
 
   quiet-items : (n : ℕ) (d : Declares) (ps : Parts) → IsElsewhere n d → gives_items w n d ps ≡ 0
   quiet-items n d end h = refl
@@ -215,9 +215,9 @@ module _ (w : ℕ → List ℕ → ℕ) where
       let first : c.next + 0 ≡ c.next = omega arith in
       ap (λ (n : ℕ). held_weight w n (collected s c (Node kind m span id ps)).entries) first
       ∙ own-tree w c.next place s c kind m span id ps h (opens-has kind s.is_body is) (opens-same kind s ∙ is) refl (holds-elsewhere w c.next c.next s.declares (omega arith) within.holders) (λ block. no-body s.declares s.is_body knows (block-open kind s.is_body block is))
-      ∙ (let none = none-counted w c.next c counts (omega arith) in ap (λ (n : ℕ). n + weight w (names_of_node (Node kind m span id ps))) none)
-      ∙ (let z : 0 + weight w (names_of_node (Node kind m span id ps)) ≡ weight w (names_of_node (Node kind m span id ps)) = omega arith in z)
-      ∙ ap (λ t. weight w (names_of_node t)) (from-some _ _ e)
+      ∙ (let none = none-counted w c.next c counts (omega arith) in ap (λ (n : ℕ). n + node_weight w (Node kind m span id ps)) none)
+      ∙ (let z : 0 + node_weight w (Node kind m span id ps) ≡ node_weight w (Node kind m span id ps) = omega arith in z)
+      ∙ ap (node_weight w) (from-some _ _ e)
   each-node place s c kind m span id ps h knows counts within true is below (suc j) x e =
       let later : c.next + suc j ≡ (c.next + 1) + j = omega arith in
       ap (λ (n : ℕ). held_weight w n (collected s c (Node kind m span id ps)).entries) later
@@ -298,7 +298,7 @@ counts-nothing = record { ordered = tt; count = refl }
 within-nowhere : Within 0 nowhere
 within-nowhere = record { scope = λ s e. absurd (cc e); holders = tt; body = λ e. absurd (true≢false (sym e)) }
 
-pub each-program : (w : ℕ → List ℕ → ℕ) (t x : Tree) (j : ℕ) → conforms Place.Program t ≡ true → slice_get (opened false t) j ≡ Some x → held_weight w j (entries_of t) ≡ weight w (names_of_node x)
+pub each-program : (w : Declarer → ℕ → List ℕ → ℕ) (t x : Tree) (j : ℕ) → conforms Place.Program t ≡ true → slice_get (opened false t) j ≡ Some x → held_weight w j (entries_of t) ≡ node_weight w x
 each-program w t x j h e =
     let plain : j ≡ 0 + j = omega arith in
     ap (λ (n : ℕ). held_weight w n (entries_of t)) plain ∙ each-tree w Place.Program nowhere nothing_yet t h refl tt counts-nothing within-nowhere j x e

@@ -40,8 +40,8 @@ where-references None d s who name flags head = marked-references head _ _
 where-references (Some y) d s who name flags head = again-references d y flags head (is_own_name (declarer_at d.declarers y))
 
 declare-references : (d : Declarations) (e : Entry) → (declare d e).scoping.references ≡ d.scoping.references
-declare-references d (entry.Scope parent in_parameters flags) = refl
-declare-references d entry.Body = refl
+declare-references d (entry.Scope node parent in_parameters flags) = refl
+declare-references d (entry.Body node) = refl
 declare-references d (entry.Binding node None who name flags head) = refl
 declare-references d (entry.Binding node (Some s) who name flags head) = where-references (get_binding d.scoping s name) d s who name flags head
 declare-references d (entry.Reference node scope in_parameters name flags) = refl
@@ -57,8 +57,8 @@ created-flags t (Some y) f = map-append (λ (r : Reference). r.flags) t.referenc
 -- the flags of the references of a table are those of its entries
 numbered-flags : (n : Numbering) (es : List Entry) → map (λ r. r.flags) (numbered n es).declarations.scoping.references ≡ map (λ r. r.flags) n.declarations.scoping.references ++ map (λ r. r.flags) (references_in es)
 numbered-flags n [] = sym (append-nil _)
-numbered-flags n (entry.Scope parent in_parameters flags ∷ es) = numbered-flags (number n (entry.Scope parent in_parameters flags)) es
-numbered-flags n (entry.Body ∷ es) = numbered-flags (number n entry.Body) es
+numbered-flags n (entry.Scope node parent in_parameters flags ∷ es) = numbered-flags (number n (entry.Scope node parent in_parameters flags)) es
+numbered-flags n (entry.Body node ∷ es) = numbered-flags (number n (entry.Body node)) es
 numbered-flags n (entry.Binding node holder who name flags head ∷ es) = numbered-flags (number n (entry.Binding node holder who name flags head)) es
 numbered-flags n (entry.Reference node scope in_parameters name flags ∷ es) =
     numbered-flags (number n (entry.Reference node scope in_parameters name flags)) es
@@ -97,11 +97,11 @@ where-rows (Some y) d s who name flags head = ap row_flags (again-rows d y flags
 
 declared-rows : (d : Declarations) (es : List Entry) → row_flags (declared d es).scoping.scopes ≡ row_flags d.scoping.scopes ++ map (λ f. Some f) (scope_flags_in es)
 declared-rows d [] = sym (append-nil _)
-declared-rows d (entry.Scope parent in_parameters flags ∷ es) =
-    declared-rows (declare d (entry.Scope parent in_parameters flags)) es
+declared-rows d (entry.Scope node parent in_parameters flags ∷ es) =
+    declared-rows (declare d (entry.Scope node parent in_parameters flags)) es
     ∙ ap (λ l. l ++ map (λ f. Some f) (scope_flags_in es)) (map-append (option_map (λ (x : Scope). x.flags)) d.scoping.scopes (Some (new_scope parent flags) ∷ []))
     ∙ append_assoc (row_flags d.scoping.scopes) (Some flags ∷ []) (map (λ f. Some f) (scope_flags_in es))
-declared-rows d (entry.Body ∷ es) = declared-rows d es
+declared-rows d (entry.Body node ∷ es) = declared-rows d es
 declared-rows d (entry.Binding node None who name flags head ∷ es) = declared-rows d es
 declared-rows d (entry.Binding node (Some s) who name flags head ∷ es) =
     declared-rows (declare d (entry.Binding node (Some s) who name flags head)) es
@@ -114,8 +114,8 @@ created-rows t (Some y) f = refl
 
 pub numbered-rows : (n : Numbering) (es : List Entry) → (numbered n es).declarations.scoping.scopes ≡ n.declarations.scoping.scopes
 numbered-rows n [] = refl
-numbered-rows n (entry.Scope parent in_parameters flags ∷ es) = numbered-rows (number n (entry.Scope parent in_parameters flags)) es
-numbered-rows n (entry.Body ∷ es) = numbered-rows (number n entry.Body) es
+numbered-rows n (entry.Scope node parent in_parameters flags ∷ es) = numbered-rows (number n (entry.Scope node parent in_parameters flags)) es
+numbered-rows n (entry.Body node ∷ es) = numbered-rows (number n (entry.Body node)) es
 numbered-rows n (entry.Binding node holder who name flags head ∷ es) = numbered-rows (number n (entry.Binding node holder who name flags head)) es
 numbered-rows n (entry.Reference node scope in_parameters name flags ∷ es) =
     numbered-rows (number n (entry.Reference node scope in_parameters name flags)) es

@@ -79,12 +79,12 @@ same-keeps : (t : Table) → Keeps 0 t t
 same-keeps t = record { there = λ h. h; scopes = omega arith; symbols = omega arith }
 
 declare-keeps : (d : Declarations) (e : Entry) → Keeps (scope_count e) d.scoping (declare d e).scoping
-declare-keeps d (entry.Scope parent in_parameters flags) = record {
+declare-keeps d (entry.Scope node parent in_parameters flags) = record {
   there = there-push d.scoping.scopes (new_scope parent flags);
   scopes = length-append d.scoping.scopes (Some (new_scope parent flags) ∷ []);
   symbols = omega arith;
 }
-declare-keeps d entry.Body = same-keeps d.scoping
+declare-keeps d (entry.Body node) = same-keeps d.scoping
 declare-keeps d (entry.Binding node None who name flags head) = same-keeps d.scoping
 declare-keeps d (entry.Binding node (Some s) who name flags head) = where-keeps (get_binding d.scoping s name) d s who name flags head
 declare-keeps d (entry.Reference node scope in_parameters name flags) = same-keeps d.scoping
@@ -107,8 +107,8 @@ scopes-declared d [] = omega arith
 scopes-declared d (e ∷ es) = omega (arith, scopes-declared (declare d e) es, scopes-declare d e)
 
 pub at_most_one : (e : Entry) → scope_count e ≤ 1
-at_most_one (entry.Scope parent in_parameters flags) = omega arith
-at_most_one entry.Body = omega arith
+at_most_one (entry.Scope node parent in_parameters flags) = omega arith
+at_most_one (entry.Body node) = omega arith
 at_most_one (entry.Binding node holder who name flags head) = omega arith
 at_most_one (entry.Reference node scope in_parameters name flags) = omega arith
 
@@ -123,14 +123,14 @@ created-references t None f = length-append t.references (record { symbol_id = N
 created-references t (Some y) f = length-append t.references (record { symbol_id = Some y; flags = f } ∷ [])
 
 pub scopes-referred : (d : Declarations) (e : Entry) → (referred d e).scoping.scopes ≡ d.scoping.scopes
-scopes-referred d (entry.Scope parent in_parameters flags) = refl
-scopes-referred d entry.Body = refl
+scopes-referred d (entry.Scope node parent in_parameters flags) = refl
+scopes-referred d (entry.Body node) = refl
 scopes-referred d (entry.Binding node holder who name flags head) = refl
 scopes-referred d (entry.Reference node scope in_parameters name flags) = created-scopes d.scoping (meant d scope in_parameters name) flags
 
 pub references-referred : (d : Declarations) (e : Entry) → length (referred d e).scoping.references ≤ length d.scoping.references + 1
-references-referred d (entry.Scope parent in_parameters flags) = omega arith
-references-referred d entry.Body = omega arith
+references-referred d (entry.Scope node parent in_parameters flags) = omega arith
+references-referred d (entry.Body node) = omega arith
 references-referred d (entry.Binding node holder who name flags head) = omega arith
 references-referred d (entry.Reference node scope in_parameters name flags) = omega (arith, created-references d.scoping (meant d scope in_parameters name) flags)
 
@@ -145,8 +145,8 @@ AllFit n [] = Unit
 AllFit n (e ∷ es) = Fits n e × AllFit n es
 
 fits-le : (n m : ℕ) (e : Entry) → n ≤ m → Fits n e → Fits m e
-fits-le n m (entry.Scope parent in_parameters flags) le h = λ s e. let k = h s e in omega arith
-fits-le n m entry.Body le h = tt
+fits-le n m (entry.Scope node parent in_parameters flags) le h = λ s e. let k = h s e in omega arith
+fits-le n m (entry.Body node) le h = tt
 fits-le n m (entry.Binding node holder who name flags head) le h = λ s e. let k = h s e in omega arith
 fits-le n m (entry.Reference node scope in_parameters name flags) le h = λ s e. let k = h s e in omega arith
 

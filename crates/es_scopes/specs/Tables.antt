@@ -63,7 +63,7 @@ abbrev pub opened : Declarations → Option ScopeId → Bool → ScopeFlags → 
 opened d parent in_parameters flags = record d { scoping = with_new_scope d.scoping parent flags; in_parameters = d.in_parameters ++ in_parameters ∷ [] }
 
 abbrev pub declare : Declarations → Entry → Declarations
-declare d (entry.Scope parent in_parameters flags) = opened d parent in_parameters flags
+declare d (entry.Scope node parent in_parameters flags) = opened d parent in_parameters flags
 declare d (entry.Binding node (Some s) who name flags head) = bound d s who name flags head
 declare d e = d
 
@@ -103,7 +103,7 @@ meant d (Some s) in_parameters name = first_seen d name in_parameters (scope_anc
 -- ---- references, and the semantic ids of all entries
 
 abbrev pub scope_count : Entry → ℕ
-scope_count (entry.Scope parent in_parameters flags) = 1
+scope_count (entry.Scope node parent in_parameters flags) = 1
 scope_count e = 0
 
 abbrev pub scopes_in : List Entry → ℕ
@@ -116,8 +116,8 @@ held_symbol t None name = None
 held_symbol t (Some s) name = symbol_number (get_binding t s name)
 
 abbrev pub id_of : Numbering → Entry → Option ℕ
-id_of n (entry.Scope parent in_parameters flags) = Some n.next_scope
-id_of n entry.Body = None
+id_of n (entry.Scope node parent in_parameters flags) = Some n.next_scope
+id_of n (entry.Body node) = None
 id_of n (entry.Binding node holder who name flags head) = held_symbol n.declarations.scoping holder name
 id_of n (entry.Reference node scope in_parameters name flags) = Some (length n.declarations.scoping.references)
 
@@ -140,8 +140,8 @@ numbering_of es = numbered (record { declarations = declared none_declared es; i
 
 -- the scopes that an entry names are among the first n
 abbrev pub Fits : ℕ → Entry → Type 0
-Fits n (entry.Scope parent in_parameters flags) = ForSome parent (λ s. s.0 < n)
-Fits n entry.Body = Unit
+Fits n (entry.Scope node parent in_parameters flags) = ForSome parent (λ s. s.0 < n)
+Fits n (entry.Body node) = Unit
 Fits n (entry.Binding node holder who name flags head) = ForSome holder (λ s. s.0 < n)
 Fits n (entry.Reference node scope in_parameters name flags) = ForSome scope (λ s. s.0 < n)
 

@@ -147,6 +147,7 @@ impl Declarations {
                 parent,
                 in_parameters,
                 flags,
+                ..
             } => self.open(*parent, *in_parameters, *flags),
             Entry::Binding {
                 holder: Some(holder),
