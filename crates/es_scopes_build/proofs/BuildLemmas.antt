@@ -9,7 +9,7 @@ use Rattle.es_scopes.specs.Tables.{AreOrdered, number, numbered, numbering_of, i
 use Rattle.es_scopes.specs.declared.entry.Entry.{Entry}
 use Rattle.es_scopes.specs.declared.refer.Numbering.{Numbering}
 use Rattle.es_scopes.proofs.OrderLemmas.{entries-ordered}
-use Rattle.es_scopes_build.specs.Written.{bearers}
+use Rattle.es_scopes_law.specs.Written.{bearers}
 use Rattle.es_scopes_build.proofs.WalkLemmas.{entry_each, bearers-nodes}
 
 pub ordered : (t : Tree) (es : List Entry) → es ≡ entries_of t → AreOrdered 0 es

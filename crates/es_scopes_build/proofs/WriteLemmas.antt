@@ -8,7 +8,7 @@ use Rattle.es_base.specs.Tree.{Tree, Node, Part, Parts, end, more}
 use Rattle.es_base.specs.declared.kind.Kind.{Kind}
 use Rattle.es_node.specs.Bearing.{bears_semantic_id, semantic_id_fits}
 use Rattle.es_node.specs.View.{kind_of, number_in, span_in, semantic_id_in, parts_in}
-use Rattle.es_scopes_build.specs.Written.{bearers, bearers_of, bearers_of_part, id_at, written, written_part, written_parts}
+use Rattle.es_scopes_law.specs.Written.{bearers, bearers_of, bearers_of_part, id_at, written, written_part, written_parts}
 
 -- the parts of the items, and then others
 abbrev joined : {X : Type 0} → (X → Part) → List X → Parts → Parts

@@ -4,7 +4,7 @@ ghost use Rattle.std.specs.Prelude.{◌≡◌, ◌<◌, ◌^◌, IfOk, OnOk, OnE
 ghost use Rattle.es_base.specs.Carried.{stripped};
 ghost use Rattle.es_base.specs.Preorder.{nodes};
 ghost use Rattle.es_scopes.specs.Built.{built_table};
-ghost use Rattle.es_scopes_build.specs.Build.{built_tree};
+ghost use Rattle.es_scopes_law.specs.Build.{built_tree};
 
 use crate::collect::entries_of;
 use crate::written::write_node;
