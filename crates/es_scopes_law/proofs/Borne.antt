@@ -258,13 +258,13 @@ mutual
 abbrev pub Apart : ℕ → List ℕ → Type 0
 Apart m ms = (n : ℕ) → In n ms → nat_eq m n ≡ false
 
-distinct-first : (m : ℕ) (ms : List ℕ) → EachOnce (m ∷ ms) → Apart m ms
+pub distinct-first : (m : ℕ) (ms : List ℕ) → EachOnce (m ∷ ms) → Apart m ms
 unfolding IsDistinct
 distinct-first m [] h n k = absurd k
 distinct-first m (x ∷ ms) h n (inl e) = ap (nat_eq m) (sym e) ∙ h.0.0
 distinct-first m (x ∷ ms) h n (inr k) = distinct-first m ms (h.0.1, h.1.1) n k
 
-distinct-rest : (m : ℕ) (ms : List ℕ) → EachOnce (m ∷ ms) → EachOnce ms
+pub distinct-rest : (m : ℕ) (ms : List ℕ) → EachOnce (m ∷ ms) → EachOnce ms
 unfolding IsDistinct
 distinct-rest m ms h = h.1
 
@@ -272,7 +272,7 @@ numbers-pairs : (ts : List Tree) → map (λ (x : ℕ × Option ℕ). x.0) (map 
 numbers-pairs [] = refl
 numbers-pairs (Node kind m span id ps ∷ ts) = ap (λ l. m ∷ l) (numbers-pairs ts)
 
-eq-swap : (m n : ℕ) → nat_eq m n ≡ false → nat_eq n m ≡ false
+pub eq-swap : (m n : ℕ) → nat_eq m n ≡ false → nat_eq n m ≡ false
 eq-swap m n h = elim (nat_eq n m) as (λ b. nat_eq n m ≡ b → b ≡ false) [
   | true ↦ λ e. absurd (true≢false (sym ((Decides-eqb m n).1 (sym ((Decides-eqb n m).0 e))) ∙ h))
   | false ↦ λ e. refl

@@ -1,3 +1,6 @@
 pub mod Lists
 pub mod Borne
 pub mod Same
+pub mod Rows
+pub mod Around
+pub mod Holders
