@@ -4,3 +4,5 @@ pub mod Same
 pub mod Rows
 pub mod Around
 pub mod Holders
+pub mod Held
+pub mod ScopesAgree

@@ -136,3 +136,13 @@ parent-before n (entry.Scope node parent in_parameters flags ∷ es) (suc j) x h
 parent-before n (entry.Body node ∷ es) j x h e = λ q is. let k = parent-before (n + 0) es j x h.1 e q is in omega arith
 parent-before n (entry.Binding node holder who name flags head ∷ es) j x h e = λ q is. let k = parent-before (n + 0) es j x h.1 e q is in omega arith
 parent-before n (entry.Reference node scope in_parameters name flags ∷ es) j x h e = λ q is. let k = parent-before (n + 0) es j x h.1 e q is in omega arith
+
+pub get-some : {X : Type 0} (xs : List X) (i : ℕ) → i < length xs → (x : X) × (slice_get xs i ≡ Some x)
+get-some [] i l = absurd (omega arith)
+get-some (x ∷ xs) zero l = (x, refl)
+get-some (x ∷ xs) (suc i) l = get-some xs i (omega arith)
+
+pub get-below : {X : Type 0} (xs : List X) (i : ℕ) (x : X) → slice_get xs i ≡ Some x → i < length xs
+get-below [] i x h = absurd (cc h)
+get-below (y ∷ xs) zero x h = omega arith
+get-below (y ∷ xs) (suc i) x h = let k = get-below xs i x h in omega arith
