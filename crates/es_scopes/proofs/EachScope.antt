@@ -87,22 +87,22 @@ module _ (w : Declarer → ℕ → List ℕ → ℕ) where
 
 -- ---- as many scopes are counted as nodes have one
 
-opens-same : (kind : Kind) (s : Surroundings) → opens kind (scope_place s) ≡ opens_at kind s.is_body
+pub opens-same : (kind : Kind) (s : Surroundings) → opens kind (scope_place s) ≡ opens_at kind s.is_body
 opens-same Kind.BlockStatement s = refl
 opens-same kind s = refl
 
-one-node : (b : Bool) (t : Tree) (n : ℕ) → cond b (n + 1) n ≡ n + length (cond b (t ∷ []) [])
+pub one-node : (b : Bool) (t : Tree) (n : ℕ) → cond b (n + 1) n ≡ n + length (cond b (t ∷ []) [])
 one-node true t n = omega arith
 one-node false t n = omega arith
 
 -- what is known of the parts from the i-th on
-abbrev Bodies : (ℕ → Surroundings) → ℕ → (ℕ → Bool) → Type 0
+abbrev pub Bodies : (ℕ → Surroundings) → ℕ → (ℕ → Bool) → Type 0
 Bodies f i bs = (j : ℕ) → bs j ≡ (f (i + j)).is_body
 
-first-body : (f : ℕ → Surroundings) (i : ℕ) (bs : ℕ → Bool) → Bodies f i bs → bs 0 ≡ (f i).is_body
+pub first-body : (f : ℕ → Surroundings) (i : ℕ) (bs : ℕ → Bool) → Bodies f i bs → bs 0 ≡ (f i).is_body
 first-body f i bs h = h 0 ∙ (let e : i + 0 ≡ i = omega arith in ap (λ (k : ℕ). (f k).is_body) e)
 
-rest-bodies : (f : ℕ → Surroundings) (i : ℕ) (bs : ℕ → Bool) → Bodies f i bs → Bodies f (i + 1) (λ j. bs (suc j))
+pub rest-bodies : (f : ℕ → Surroundings) (i : ℕ) (bs : ℕ → Bool) → Bodies f i bs → Bodies f (i + 1) (λ j. bs (suc j))
 rest-bodies f i bs h j = h (suc j) ∙ (let e : i + suc j ≡ (i + 1) + j = omega arith in ap (λ (k : ℕ). (f k).is_body) e)
 
 mutual
@@ -115,7 +115,7 @@ mutual
     length-append (cond (opens_at kind s.is_body) (Node kind m span id ps ∷ []) []) (opened_parts (is_body_place kind) ps),
   )
 
-  count-parts : (f : ℕ → Surroundings) (i : ℕ) (c : Collected) (ps : Parts) (bs : ℕ → Bool) → Bodies f i bs → (collected_parts f i c ps).next ≡ c.next + length (opened_parts bs ps)
+  pub count-parts : (f : ℕ → Surroundings) (i : ℕ) (c : Collected) (ps : Parts) (bs : ℕ → Bool) → Bodies f i bs → (collected_parts f i c ps).next ≡ c.next + length (opened_parts bs ps)
   count-parts f i c end bs h = omega arith
   count-parts f i c (more p ps) bs h = omega (
     arith,
@@ -125,7 +125,7 @@ mutual
     length-append (opened_part (bs 0) p) (opened_parts (λ j. bs (suc j)) ps),
   )
 
-  count-part : (s : Surroundings) (c : Collected) (p : Part) → (collected_part s c p).next ≡ c.next + length (opened_part s.is_body p)
+  pub count-part : (s : Surroundings) (c : Collected) (p : Part) → (collected_part s c p).next ≡ c.next + length (opened_part s.is_body p)
   count-part s c (child t) = count-tree s c t
   count-part s c absent = omega arith
   count-part s c (list ps) = count-items s c ps
@@ -134,13 +134,13 @@ mutual
   count-part s c (boolean b) = omega arith
   count-part s c (literal v) = omega arith
 
-  count-items : (s : Surroundings) (c : Collected) (ps : Parts) → (collected_items s c ps).next ≡ c.next + length (opened_items s.is_body ps)
+  pub count-items : (s : Surroundings) (c : Collected) (ps : Parts) → (collected_items s c ps).next ≡ c.next + length (opened_items s.is_body ps)
   count-items s c end = omega arith
   count-items s c (more p ps) = omega (arith, count-items s (collected_part s c p) ps, count-part s c p, length-append (opened_part s.is_body p) (opened_items s.is_body ps))
 
 -- ---- each scope gets the names of its node
 
-get-append : {X : Type 0} (xs ys : List X) (j : ℕ) (x : X) → slice_get (xs ++ ys) j ≡ Some x → ((slice_get xs j ≡ Some x) × (j < length xs)) ⊎ ((k : ℕ) × ((j ≡ length xs + k) × (slice_get ys k ≡ Some x)))
+pub get-append : {X : Type 0} (xs ys : List X) (j : ℕ) (x : X) → slice_get (xs ++ ys) j ≡ Some x → ((slice_get xs j ≡ Some x) × (j < length xs)) ⊎ ((k : ℕ) × ((j ≡ length xs + k) × (slice_get ys k ≡ Some x)))
 get-append [] ys j x h = inr (j, (omega arith, h))
 get-append (y ∷ xs) ys zero x h = inl (h, omega arith)
 get-append (y ∷ xs) ys (suc j) x h = elim (get-append xs ys j x h) [

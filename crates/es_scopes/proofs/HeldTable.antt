@@ -19,7 +19,7 @@ use Rattle.es_scopes.specs.Entries.{entries_of}
 use Rattle.es_scopes.specs.Held.{weight, node_weight, parameter_names, other_names, scope_gets, held_weight}
 use Rattle.es_scopes.specs.Opened.{opened}
 use Rattle.es_scopes.specs.Table.{Table, row_at, names_of_row, changed_at, get_binding, holding, new_scope, with_binding}
-use Rattle.es_scopes.specs.Tables.{marked_if, bound_first, bound_over, bound_more, bound_where, opened as with_opened, declare, declared, none_declared, numbered, Fits, AreOrdered, IsWhole, scope_count, is_own_name, declarer_at}
+use Rattle.es_scopes.specs.Tables.{marked_if, bound_first, bound_where, opened as with_opened, declare, declared, none_declared, numbered, Fits, AreOrdered, IsWhole, scope_count}
 use Rattle.es_scopes.specs.declared.declare.Declarations.{Declarations}
 use Rattle.es_scopes.specs.declared.entry.Entry.{Entry}
 use Rattle.es_scopes.specs.declared.entry.Entry.TheVariants as entry
@@ -106,7 +106,7 @@ name-bound : (o : Option SymbolId) (d : Declarations) (q : ScopeId) (who : Decla
 name-bound None d q who name flags head s x there is =
     ap (λ (rows : List (Option Scope)). has_name rows s x) (marked-rows head (record { 0 = length d.scoping.symbols }) (with_binding d.scoping q name flags)) ∙ name-held d.scoping.scopes q.0 s name x (record { 0 = length d.scoping.symbols }) there
 name-bound (Some y) d q who name flags head s x there is =
-    ap (λ (rows : List (Option Scope)). has_name rows s x) (again-rows d y flags head (is_own_name (declarer_at d.declarers y)))
+    ap (λ (rows : List (Option Scope)). has_name rows s x) (again-rows d y who flags head)
     ∙ implied-or (has_name d.scoping.scopes s x) (nat_eq q.0 s && bytes_eq x name) (λ h.
     let both = and_parts (nat_eq q.0 s) (bytes_eq x name) h in
     let scope : q.0 ≡ s = (Decides-eqb q.0 s).0 both.0 in

@@ -1,18 +1,18 @@
 -- What each entry does to the sizes of a table, where no scope is removed.
-use Rattle.std.proofs.Common.{◌≡◌, refl, sym, ap, subst, ◌∙◌, ℕ, ◌+◌, ◌<◌, ◌≤◌, List, [], ◌∷◌, ◌++◌, length, drop, get_or, Bool, true, false, cond, Option, Some, None, ◌⊎◌, inl, inr, arith}
+use Rattle.std.proofs.Common.{◌≡◌, refl, sym, ap, subst, ◌∙◌, ℕ, ◌+◌, ◌<◌, ◌≤◌, List, [], ◌∷◌, ◌++◌, length, drop, get_or, Bool, true, false, cond, ◌||◌, Option, Some, None, ◌⊎◌, inl, inr, arith}
 use Rattle.std.specs.Prelude.{option_map, is_some, slice_get, bit_or}
 use Rattle.std.specs.Option.{option_and_then}
 use Rattle.std.proofs.lemmas.List.{length-append, drop_more}
 use Rattle.es_base.specs.declared.ids.ScopeId.{ScopeId}
 use Rattle.es_base.specs.declared.ids.SymbolId.{SymbolId}
-use Rattle.es_scopes.specs.Table.{Table, row_at, changed_at, get_binding, holding, new_scope, new_symbol, marked, symbol_flagged, with_binding, with_created_reference}
+use Rattle.es_scopes.specs.Table.{Table, row_at, changed_at, get_binding, holding, new_scope, new_symbol, marked, symbol_flagged, with_symbol_flags, with_binding, with_created_reference}
 use Rattle.es_scopes.specs.declared.flags.SymbolFlags.{SymbolFlags}
 use Rattle.es_scopes.specs.declared.flags.ReferenceFlags.{ReferenceFlags}
 use Rattle.es_scopes.specs.declared.table.Scope.{Scope}
 use Rattle.es_scopes.proofs.RowLemmas.{length-changed_at, slice_get-push_within, slice_get-push_last, is_some-option_map}
 use Rattle.es_scopes.proofs.TableLemmas.{part-changed}
 use Rattle.es_scopes.proofs.TableShown.{declared-references}
-use Rattle.es_scopes.specs.Tables.{marked_if, bound_first, bound_over, bound_more, bound_where, declare, declared, none_declared, meant, referred, number, numbered, Fits, AreOrdered, IsWhole, scope_count, scopes_in, flags_of, is_own_name, declarer_at}
+use Rattle.es_scopes.specs.Tables.{marked_if, bound_first, bound_where, declare, declared, none_declared, meant, referred, number, numbered, Fits, AreOrdered, IsWhole, scope_count, scopes_in, flags_of, flags_with, repeats, declarer_at}
 use Rattle.es_scopes.specs.declared.declare.Declarations.{Declarations}
 use Rattle.es_scopes.specs.declared.refer.Numbering.{Numbering}
 use Rattle.es_scopes.specs.declared.entry.Entry.{Entry}
@@ -58,22 +58,13 @@ first-keeps d s who name flags head =
       symbols = omega (arith, marked-symbols head (record { 0 = length d.scoping.symbols }) t, length-append d.scoping.symbols (new_symbol name s flags ∷ []));
     }
 
-over-keeps : (d : Declarations) (y : SymbolId) (flags : SymbolFlags) (head : Bool) → Keeps 0 d.scoping (bound_over d y flags head).scoping
-over-keeps d y flags true = record { there = λ h. h; scopes = omega arith; symbols = omega (arith, length-changed_at marked y.0 (changed_at (symbol_flagged flags) y.0 d.scoping.symbols), length-changed_at (symbol_flagged flags) y.0 d.scoping.symbols) }
-over-keeps d y flags false = record { there = λ h. h; scopes = omega arith; symbols = omega (arith, length-changed_at (symbol_flagged flags) y.0 d.scoping.symbols) }
-
-more-keeps : (d : Declarations) (y : SymbolId) (flags : SymbolFlags) → Keeps 0 d.scoping (bound_more d y flags).scoping
-more-keeps d y flags =
-    let all : SymbolFlags = record { 0 = bit_or (flags_of d.scoping y) flags.0 } in
-    record { there = λ h. h; scopes = omega arith; symbols = omega (arith, length-changed_at marked y.0 (changed_at (symbol_flagged all) y.0 d.scoping.symbols), length-changed_at (symbol_flagged all) y.0 d.scoping.symbols) }
-
-again-keeps : (d : Declarations) (y : SymbolId) (flags : SymbolFlags) (head : Bool) (b : Bool) → Keeps 0 d.scoping (cond b (bound_over d y flags head) (bound_more d y flags)).scoping
-again-keeps d y flags head true = over-keeps d y flags head
-again-keeps d y flags head false = more-keeps d y flags
+again-keeps : (d : Declarations) (y : SymbolId) (f : SymbolFlags) (b : Bool) → Keeps 0 d.scoping (marked_if b y (with_symbol_flags d.scoping y f))
+again-keeps d y f true = record { there = λ h. h; scopes = omega arith; symbols = omega (arith, length-changed_at marked y.0 (changed_at (symbol_flagged f) y.0 d.scoping.symbols), length-changed_at (symbol_flagged f) y.0 d.scoping.symbols) }
+again-keeps d y f false = record { there = λ h. h; scopes = omega arith; symbols = omega (arith, length-changed_at (symbol_flagged f) y.0 d.scoping.symbols) }
 
 where-keeps : (o : Option SymbolId) (d : Declarations) (s : ScopeId) (who : Declarer) (name : List ℕ) (flags : SymbolFlags) (head : Bool) → Keeps 0 d.scoping (bound_where o d s who name flags head).scoping
 where-keeps None d s who name flags head = first-keeps d s who name flags head
-where-keeps (Some y) d s who name flags head = again-keeps d y flags head (is_own_name (declarer_at d.declarers y))
+where-keeps (Some y) d s who name flags head = again-keeps d y (flags_with (declarer_at d.declarers y) who (flags_of d.scoping y) flags) (head || repeats (declarer_at d.declarers y) who)
 
 same-keeps : (t : Table) → Keeps 0 t t
 same-keeps t = record { there = λ h. h; scopes = omega arith; symbols = omega arith }

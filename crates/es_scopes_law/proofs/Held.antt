@@ -1,5 +1,5 @@
 -- A table of entries is one: parents form trees, names and symbols agree, references mean symbols of the table.
-use Rattle.std.proofs.Common.{◌≡◌, refl, sym, ap, subst, ◌∙◌, ℕ, zero, suc, ◌+◌, ◌<◌, ◌≤◌, List, [], ◌∷◌, ◌++◌, length, Bool, true, false, true≢false, cond, Option, Some, None, arith}
+use Rattle.std.proofs.Common.{◌≡◌, refl, sym, ap, subst, ◌∙◌, ℕ, zero, suc, ◌+◌, ◌<◌, ◌≤◌, List, [], ◌∷◌, ◌++◌, length, Bool, true, false, true≢false, cond, ◌||◌, Option, Some, None, arith}
 use Rattle.std.specs.Prelude.{option_map, slice_get, is_some, bit_or}
 use Rattle.std.proofs.lemmas.List.{length-append}
 use Rattle.es_base.specs.Tree.{Tree}
@@ -9,7 +9,7 @@ use Rattle.es_scopes.specs.Bindings.{lookup}
 use Rattle.es_scopes.specs.Built.{built_table}
 use Rattle.es_scopes.specs.Entries.{entries_of}
 use Rattle.es_scopes.specs.Table.{Table, IsTable, IsNamed, HasSymbol, HasScope, row_at, names_of_row, get_binding, or_else, scope_at, scope_ancestors, with_binding, with_symbol_flags, with_created_reference, with_new_reference}
-use Rattle.es_scopes.specs.Tables.{marked_if, flags_of, bound_over, bound_more, bound_where, declare, declared, none_declared, first_seen, meant, visible, is_in_parameters, is_other, referred, number, numbered, is_own_name, declarer_at, scope_count, Fits, AreOrdered, IsWhole}
+use Rattle.es_scopes.specs.Tables.{marked_if, flags_of, flags_with, repeats, bound_where, declare, declared, none_declared, first_seen, meant, visible, is_in_parameters, is_other, referred, number, numbered, declarer_at, scope_count, Fits, AreOrdered, IsWhole}
 use Rattle.es_scopes.specs.declared.declare.Declarations.{Declarations}
 use Rattle.es_scopes.specs.declared.entry.Entry.{Entry}
 use Rattle.es_scopes.specs.declared.entry.Entry.TheVariants as entry
@@ -27,17 +27,11 @@ marked-table : (b : Bool) (y : SymbolId) (t : Table) → IsTable t → IsTable (
 marked-table true y t h = IsTable-marked t h y.0
 marked-table false y t h = h
 
-again-table : (b : Bool) (d : Declarations) (y : SymbolId) (flags : SymbolFlags) (head : Bool) → IsTable d.scoping → IsTable (cond b (bound_over d y flags head) (bound_more d y flags)).scoping
-again-table true d y flags head h = marked-table head y (with_symbol_flags d.scoping y flags) (IsTable-symbol_flags d.scoping h y.0 flags)
-again-table false d y flags head h =
-    let all : SymbolFlags = record { 0 = bit_or (flags_of d.scoping y) flags.0 } in
-    IsTable-marked (with_symbol_flags d.scoping y all) (IsTable-symbol_flags d.scoping h y.0 all) y.0
-
 where-table : (o : Option SymbolId) (d : Declarations) (s : ScopeId) (who : Declarer) (name : List ℕ) (flags : SymbolFlags) (head : Bool) → HasScope d.scoping s → IsTable d.scoping → IsTable (bound_where o d s who name flags head).scoping
 where-table None d s who name flags head there h =
     let row = some_row (scope_at d.scoping s) there in
     marked-table head (record { 0 = length d.scoping.symbols }) (with_binding d.scoping s name flags) (IsTable-binding d.scoping h s name flags row.0 row.1)
-where-table (Some y) d s who name flags head there h = again-table (is_own_name (declarer_at d.declarers y)) d y flags head h
+where-table (Some y) d s who name flags head there h = marked-table (head || repeats (declarer_at d.declarers y) who) y (with_symbol_flags d.scoping y (flags_with (declarer_at d.declarers y) who (flags_of d.scoping y) flags)) (IsTable-symbol_flags d.scoping h y.0 (flags_with (declarer_at d.declarers y) who (flags_of d.scoping y) flags))
 
 table-declare : (d : Declarations) (e : Entry) → IsWhole d.scoping → Fits (length d.scoping.scopes) e → IsTable d.scoping → IsTable (declare d e).scoping
 table-declare d (entry.Scope node parent in_parameters flags) whole fits h = IsTable-new_scope d.scoping parent flags h (λ q e. whole q (fits q e))

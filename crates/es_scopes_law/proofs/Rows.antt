@@ -9,7 +9,7 @@ use Rattle.es_base.specs.declared.ids.SymbolId.{SymbolId}
 use Rattle.es_scopes.specs.Built.{built_table}
 use Rattle.es_scopes.specs.Entries.{entries_of}
 use Rattle.es_scopes.specs.Table.{Table, changed_at, row_at, parents, parent_of, get_binding, holding, new_scope, HasScope}
-use Rattle.es_scopes.specs.Tables.{marked_if, bound_first, bound_over, bound_more, bound_where, declare, declared, none_declared, numbered, is_own_name, declarer_at, is_in_parameters, scope_count, scopes_in, Fits, AreOrdered, IsWhole}
+use Rattle.es_scopes.specs.Tables.{marked_if, bound_where, declare, declared, none_declared, numbered, is_in_parameters, scope_count, scopes_in, Fits, AreOrdered, IsWhole}
 use Rattle.es_scopes.specs.declared.declare.Declarations.{Declarations}
 use Rattle.es_scopes.specs.declared.entry.Entry.{Entry}
 use Rattle.es_scopes.specs.declared.entry.Entry.TheVariants as entry
@@ -58,15 +58,11 @@ parents-changed name y (suc i) (row ∷ rows) = ap (λ l. option_map (λ x. x.pa
 
 where-parents : (o : Option SymbolId) (d : Declarations) (s : ScopeId) (who : Declarer) (name : List ℕ) (flags : SymbolFlags) (head : Bool) → row_parents (bound_where o d s who name flags head).scoping.scopes ≡ row_parents d.scoping.scopes
 where-parents None d s who name flags head = ap row_parents (marked-rows head _ _) ∙ parents-changed name (record { 0 = length d.scoping.symbols }) s.0 d.scoping.scopes
-where-parents (Some y) d s who name flags head = ap row_parents (again-rows d y flags head (is_own_name (declarer_at d.declarers y)))
+where-parents (Some y) d s who name flags head = ap row_parents (again-rows d y who flags head)
 
 where-places : (o : Option SymbolId) (d : Declarations) (s : ScopeId) (who : Declarer) (name : List ℕ) (flags : SymbolFlags) (head : Bool) → (bound_where o d s who name flags head).in_parameters ≡ d.in_parameters
 where-places None d s who name flags head = refl
-where-places (Some y) d s who name flags head = again (is_own_name (declarer_at d.declarers y))
-  where
-    again : (b : Bool) → (cond b (bound_over d y flags head) (bound_more d y flags)).in_parameters ≡ d.in_parameters
-    again true = refl
-    again false = refl
+where-places (Some y) d s who name flags head = refl
 
 declared-parents : (d : Declarations) (es : List Entry) → row_parents (declared d es).scoping.scopes ≡ row_parents d.scoping.scopes ++ map (λ x. Some x.parent) (scopes_among es)
 declared-parents d [] = sym (append-nil _)
