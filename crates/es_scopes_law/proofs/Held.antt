@@ -33,7 +33,7 @@ where-table None d s who name flags head there h =
     marked-table head (record { 0 = length d.scoping.symbols }) (with_binding d.scoping s name flags) (IsTable-binding d.scoping h s name flags row.0 row.1)
 where-table (Some y) d s who name flags head there h = marked-table (head || repeats (declarer_at d.declarers y) who) y (with_symbol_flags d.scoping y (flags_with (declarer_at d.declarers y) who (flags_of d.scoping y) flags)) (IsTable-symbol_flags d.scoping h y.0 (flags_with (declarer_at d.declarers y) who (flags_of d.scoping y) flags))
 
-table-declare : (d : Declarations) (e : Entry) → IsWhole d.scoping → Fits (length d.scoping.scopes) e → IsTable d.scoping → IsTable (declare d e).scoping
+pub table-declare : (d : Declarations) (e : Entry) → IsWhole d.scoping → Fits (length d.scoping.scopes) e → IsTable d.scoping → IsTable (declare d e).scoping
 table-declare d (entry.Scope node parent in_parameters flags) whole fits h = IsTable-new_scope d.scoping parent flags h (λ q e. whole q (fits q e))
 table-declare d (entry.Body node) whole fits h = h
 table-declare d (entry.Binding node None who name flags head) whole fits h = h
@@ -44,7 +44,7 @@ table-declared : (d : Declarations) (es : List Entry) → IsWhole d.scoping → 
 table-declared d [] whole ordered h = h
 table-declared d (e ∷ es) whole ordered h = table-declared (declare d e) es (IsWhole-declare d e whole) (subst (λ (n : ℕ). AreOrdered n es) (sym (scopes-declare d e)) ordered.1) (table-declare d e whole ordered.0 h)
 
-none-table : IsTable none_declared.scoping
+pub none-table : IsTable none_declared.scoping
 none-table = record { trees = λ s there. absurd (true≢false (sym there)); named = λ s name y e. absurd (cc e); targets = λ r y e. absurd (cc e); listed = λ y r e. absurd (true≢false (sym e)) }
 
 -- the scopes and names of a program
@@ -74,7 +74,7 @@ pub meant-there : (d : Declarations) → IsTable d.scoping → (scope : Option S
 meant-there d h None b name y e = absurd (cc e)
 meant-there d h (Some s) b name y e = seen-there d h name b (scope_ancestors d.scoping s) y e
 
-symbol-below : (symbols : List Symbol) (i : ℕ) → is_some (slice_get symbols i) ≡ true → i < length symbols
+pub symbol-below : (symbols : List Symbol) (i : ℕ) → is_some (slice_get symbols i) ≡ true → i < length symbols
 symbol-below [] i h = absurd (true≢false (sym h))
 symbol-below (x ∷ symbols) zero h = omega arith
 symbol-below (x ∷ symbols) (suc i) h = let k = symbol-below symbols i h in omega arith

@@ -6,3 +6,5 @@ pub mod Around
 pub mod Holders
 pub mod Held
 pub mod ScopesAgree
+pub mod Declarers
+pub mod Seen
