@@ -53,7 +53,7 @@ declared-table t = table-declared none_declared (entries_of t) (λ s l. absurd (
 
 -- ---- references
 
-visible-some : (d : Declarations) (b : Bool) (o : Option SymbolId) (y : SymbolId) → visible d b o ≡ Some y → o ≡ Some y
+pub visible-some : (d : Declarations) (b : Bool) (o : Option SymbolId) (y : SymbolId) → visible d b o ≡ Some y → o ≡ Some y
 visible-some d b None y e = absurd (cc e)
 visible-some d false (Some z) y e = e
 visible-some d true (Some z) y e = by (is_other (declarer_at d.declarers z)) e

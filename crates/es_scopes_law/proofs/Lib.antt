@@ -8,3 +8,6 @@ pub mod Held
 pub mod ScopesAgree
 pub mod Declarers
 pub mod Seen
+pub mod Uses
+pub mod Resolved
+pub mod Referred
