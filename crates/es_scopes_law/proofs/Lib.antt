@@ -11,3 +11,4 @@ pub mod Seen
 pub mod Uses
 pub mod Resolved
 pub mod Referred
+pub mod ReferencesAgree
