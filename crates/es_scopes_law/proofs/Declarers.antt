@@ -33,7 +33,7 @@ use Rattle.es_scopes_law.proofs.Held.{table-declare, symbol-below}
 abbrev pub is_at : ℕ → List ℕ → ScopeId → List ℕ → Bool
 is_at q x s name = nat_eq s.0 q && bytes_eq x name
 
-at-same : (q : ℕ) (x : List ℕ) (s : ScopeId) (name : List ℕ) → is_at q x s name ≡ true → (q ≡ s.0) × (x ≡ name)
+pub at-same : (q : ℕ) (x : List ℕ) (s : ScopeId) (name : List ℕ) → is_at q x s name ≡ true → (q ≡ s.0) × (x ≡ name)
 at-same q x s name h = let both = and_parts (nat_eq s.0 q) (bytes_eq x name) h in (sym ((Decides-eqb s.0 q).0 both.0), (bytes_eq-Decides x name).0 both.1)
 
 at-own : (s : ScopeId) (name : List ℕ) → is_at s.0 name s name ≡ true

@@ -12,3 +12,4 @@ pub mod Uses
 pub mod Resolved
 pub mod Referred
 pub mod ReferencesAgree
+pub mod Marks
