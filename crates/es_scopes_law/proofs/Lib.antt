@@ -13,3 +13,4 @@ pub mod Resolved
 pub mod Referred
 pub mod ReferencesAgree
 pub mod Marks
+pub mod Listed
