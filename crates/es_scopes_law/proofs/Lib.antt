@@ -14,3 +14,4 @@ pub mod Referred
 pub mod ReferencesAgree
 pub mod Marks
 pub mod Listed
+pub mod Heads
