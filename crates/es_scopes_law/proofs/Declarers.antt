@@ -36,7 +36,7 @@ is_at q x s name = nat_eq s.0 q && bytes_eq x name
 pub at-same : (q : ℕ) (x : List ℕ) (s : ScopeId) (name : List ℕ) → is_at q x s name ≡ true → (q ≡ s.0) × (x ≡ name)
 at-same q x s name h = let both = and_parts (nat_eq s.0 q) (bytes_eq x name) h in (sym ((Decides-eqb s.0 q).0 both.0), (bytes_eq-Decides x name).0 both.1)
 
-at-own : (s : ScopeId) (name : List ℕ) → is_at s.0 name s name ≡ true
+pub at-own : (s : ScopeId) (name : List ℕ) → is_at s.0 name s name ≡ true
 at-own s name = ap (λ b. b && bytes_eq name name) ((Decides-eqb s.0 s.0).1 refl) ∙ (bytes_eq-Decides name name).1 refl
 
 binding-push : (scopes : List (Option Scope)) (p : Option ScopeId) (f : ScopeFlags) (q : ℕ) (x : List ℕ) → lookup x (names_of_row (row_at (scopes ++ Some (new_scope p f) ∷ []) q)) ≡ lookup x (names_of_row (row_at scopes q))

@@ -15,3 +15,6 @@ pub mod ReferencesAgree
 pub mod Marks
 pub mod Listed
 pub mod Heads
+pub mod Bodies
+pub mod Repeated
+pub mod MutatedAgree

@@ -4,8 +4,10 @@ use Rattle.std.proofs.Common.{◌≡◌, ◌≢◌, refl, sym, ap, subst, ◌∙
 use Rattle.std.specs.Prelude.{option_map, slice_get, is_some, bytes_eq, unwrap_or, nat_le}
 use Rattle.std.proofs.lemmas.List.{length-append}
 use Rattle.es_base.specs.Preorder.{one_if}
+use Rattle.es_base.specs.Tree.{Tree}
 use Rattle.es_base.specs.declared.ids.ScopeId.{ScopeId}
 use Rattle.es_base.specs.declared.ids.SymbolId.{SymbolId}
+use Rattle.es_scopes.specs.Entries.{entries_of}
 use Rattle.es_scopes.specs.Held.{held_weight}
 use Rattle.es_scopes.specs.Table.{Table, symbol_at, get_binding, changed_at, marked, symbol_flagged, new_symbol, with_binding, with_symbol_flags}
 use Rattle.es_scopes.specs.Tables.{marked_if, flags_of, flags_with, repeats, joined, bound_first, bound_again, declare, declared, none_declared, is_own_name, declarer_at, Fits, AreOrdered}
@@ -16,10 +18,11 @@ use Rattle.es_scopes.specs.declared.flags.SymbolFlags.{SymbolFlags}
 use Rattle.es_scopes.specs.declared.surroundings.Declarer.{Declarer}
 use Rattle.es_scopes.specs.declared.surroundings.Declarer.TheVariants as declarer
 use Rattle.es_scopes.specs.declared.table.Symbol.{Symbol}
+use Rattle.es_scopes.proofs.OrderLemmas.{entries-ordered}
 use Rattle.es_scopes.proofs.RowLemmas.{slice_get-changed_at_same, slice_get-changed_at_other, slice_get-push_within, slice_get-push_last}
 use Rattle.es_scopes.proofs.TableSteps.{scopes-declare}
 use Rattle.es_scopes_law.proofs.Declarers.{Made, made-declare, Changes, of_name, of_symbol, next_of, after_entry, after-declare, is_at, at-same, entry_is, who_is, who-declare}
-use Rattle.es_scopes_law.proofs.Seen.{spelled}
+use Rattle.es_scopes_law.proofs.Seen.{spelled, made-none}
 
 abbrev pub mark_of : Option Symbol → Bool
 mark_of o = unwrap_or (option_map (λ (x : Symbol). x.is_marked) o) false
@@ -168,7 +171,7 @@ mark-declare d e q x made fits = after-declare marks first_mark more_mark mark-c
 abbrev pub many_beside : ℕ → List ℕ → List Entry → ℕ
 many_beside q x es = held_weight (spelled is_beside x) q es
 
-abbrev two : ℕ → Bool
+abbrev pub two : ℕ → Bool
 two zero = false
 two (suc zero) = false
 two (suc (suc n)) = true
@@ -209,3 +212,10 @@ mark-declared d (e ∷ es) q x made ordered =
     ∙ (λ i. mark-declare d e q x made ordered.0 i || (some_head q x es || two (one_if (who-declare is_beside beside-both d e q x made ordered.0 i) + many_beside q x es)))
     ∙ mark-step (mark_named d q x) (beside_named d q x) (entry_head q x e) (entry_is is_beside q x e) (some_head q x es) (many_beside q x es)
     ∙ ap (λ (n : ℕ). mark_named d q x || (some_head q x (e ∷ es) || two (one_if (beside_named d q x) + n))) (sym (weight-entry e es q x))
+
+-- the mark of the symbol of a name of a program
+pub marks-declared : (t : Tree) (q : ScopeId) (x : List ℕ) (y : SymbolId) → get_binding (declared none_declared (entries_of t)).scoping q x ≡ Some y → is_marked_at (declared none_declared (entries_of t)).scoping y ≡ (some_head q.0 x (entries_of t) || two (many_beside q.0 x (entries_of t)))
+marks-declared t q x y e =
+    ap (of_symbol marks first_mark more_mark (declared none_declared (entries_of t))) (sym e)
+    ∙ mark-declared none_declared (entries_of t) q.0 x made-none (entries-ordered t)
+    ∙ (let same : 0 + many_beside q.0 x (entries_of t) ≡ many_beside q.0 x (entries_of t) = omega arith in ap (λ (n : ℕ). some_head q.0 x (entries_of t) || two n) same)

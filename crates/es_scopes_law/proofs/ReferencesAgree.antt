@@ -57,8 +57,7 @@ get-told f xs ys k x is at = ap (λ l. slice_get l k) (sym is) ∙ get-map f xs 
 
 module _ (t : Tree) (h : IsBuilt t) where
   -- the k-th reference
-  pub record ReferenceNumbered (r : Reference) : Type 0 where
-    pub number : ℕ
+  pub record ReferenceNumbered (number : ℕ) (r : Reference) : Type 0 where
     pub carries_it : carried t r.number ≡ Some number
     pub row : table.Reference
     pub at : slice_get (built_table t).references number ≡ Some row
@@ -66,7 +65,7 @@ module _ (t : Tree) (h : IsBuilt t) where
     pub write : writes (Some row) ≡ r.writes
 
   -- what the k-th entry of a reference tells is what the k-th reference of the tree is
-  reference-at : (k : ℕ) (r : Reference) → slice_get (resolve t) k ≡ Some r → ReferenceNumbered r
+  pub reference-at : (k : ℕ) (r : Reference) → slice_get (resolve t) k ≡ Some r → ReferenceNumbered k r
   reference-at k r at =
       let D = declared none_declared (entries_of t) in
       let x : Told = (r.number, r.spelling, r.writes, meant_symbol t r.to) in
@@ -76,7 +75,6 @@ module _ (t : Tree) (h : IsBuilt t) where
       let row = map-some (λ (x : table.Reference). x.symbol_id) (slice_get (built_table t).references k) target.0 (sym (get-map (λ (x : table.Reference). x.symbol_id) (built_table t).references k) ∙ ap (λ l. slice_get l k) (targets-built t) ∙ target.1) in
       let write : slice_get (map (λ (x : NodeReference). has_write x.flags.0) (references_in (entries_of t))) k ≡ Some r.writes = get-told (λ (x : Told). x.2) (told D (entries_of t)) _ k x (told-writes D (entries_of t)) it in
       record {
-        number = k;
         carries_it = ap (carried t) (sym node.2) ∙ carries t h node.0.node (Some k) (let same : 0 + k ≡ k = omega arith in subst (λ (j : ℕ). In (node.0.node, Some j) (given (built_table t) 0 0 (entries_of t))) same (reference-given (built_table t) 0 0 (entries_of t) k node.0 node.1));
         row = row.0;
         at = row.1;
@@ -93,14 +91,24 @@ module _ (t : Tree) (h : IsBuilt t) where
       map-twice [] = refl
       map-twice (x ∷ xs) = ap (λ l. has_write x.flags.0 ∷ l) (map-twice xs)
 
-  pub reference-numbered : (r : Reference) → In r (resolve t) → ReferenceNumbered r
-  reference-numbered r among = let k = in-at r (resolve t) among in reference-at k.0 r k.1
+  pub reference-numbered : (r : Reference) → In r (resolve t) → (k : ℕ) × ReferenceNumbered k r
+  reference-numbered r among = let k = in-at r (resolve t) among in (k.0, reference-at k.0 r k.1)
+
+  -- the reference of a row of the table
+  pub reference-of : (k : ℕ) (row : table.Reference) → slice_get (built_table t).references k ≡ Some row → (r : Reference) × (slice_get (resolve t) k ≡ Some r)
+  reference-of k row at =
+      let D = declared none_declared (entries_of t) in
+      let target : slice_get (map (λ (x : Told). x.3) (told D (entries_of t))) k ≡ Some (symbol_number row.symbol_id) =
+      ap (λ l. slice_get l k) (told-targets D (entries_of t) ∙ ap (map symbol_number) (sym (targets-built t))) ∙ get-map symbol_number (map (λ (x : table.Reference). x.symbol_id) (built_table t).references) k ∙ ap (option_map symbol_number) (get-map (λ (x : table.Reference). x.symbol_id) (built_table t).references k ∙ ap (option_map (λ (x : table.Reference). x.symbol_id)) at) in
+      let it = map-some (λ (x : Told). x.3) (slice_get (told D (entries_of t)) k) (symbol_number row.symbol_id) (sym (get-map (λ (x : Told). x.3) (told D (entries_of t)) k) ∙ target) in
+      let found = map-some (λ (r : Reference). (r.number, r.spelling, r.writes, meant_symbol t r.to)) (slice_get (resolve t) k) it.0 (sym (get-map (λ (r : Reference). (r.number, r.spelling, r.writes, meant_symbol t r.to)) (resolve t) k) ∙ ap (λ l. slice_get l k) (sym (references-told t h)) ∙ it.1) in
+      (found.0, found.1)
 
   pub carries-reference_of : (r : Reference) → In r (resolve t) → (k : ReferenceId) × CarriesReference (built_table t) t r k
   carries-reference_of r among =
       let k = reference-numbered r among in
-      (record { 0 = k.number }, record {
-        carries = k.carries_it;
-        there = ap is_some k.at;
-        target = ap (λ o. symbol_number (option_and_then (λ x. x.symbol_id) o)) k.at ∙ k.target;
+      (record { 0 = k.0 }, record {
+        carries = k.1.carries_it;
+        there = ap is_some k.1.at;
+        target = ap (λ o. symbol_number (option_and_then (λ x. x.symbol_id) o)) k.1.at ∙ k.1.target;
       })

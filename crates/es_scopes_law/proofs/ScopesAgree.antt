@@ -195,7 +195,7 @@ module _ (t : Tree) (h : IsBuilt t) where
       sym a.node ∙ ap (λ (z : ScopeOf). z.node) one ∙ b.node
 
   -- what an identifier carries is a symbol of the table
-  held-there : (o : Option ScopeId) (name : List ℕ) (y : SymbolId) → held_symbol (built_table t) o name ≡ Some y.0 → (s : ScopeId) × (o ≡ Some s) × (get_binding (built_table t) s name ≡ Some y)
+  pub held-there : (o : Option ScopeId) (name : List ℕ) (y : SymbolId) → held_symbol (built_table t) o name ≡ Some y.0 → (s : ScopeId) × (o ≡ Some s) × (get_binding (built_table t) s name ≡ Some y)
   held-there None name y e = absurd (cc e)
   held-there (Some s) name y e = (s, refl, by (get_binding (built_table t) s name) e)
     where
