@@ -18,3 +18,4 @@ pub mod Heads
 pub mod Bodies
 pub mod Repeated
 pub mod MutatedAgree
+pub mod Agreeing

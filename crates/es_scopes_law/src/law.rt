@@ -1,8 +1,9 @@
-// The laws of built tables and trees: functions that do nothing.
+// The law of built tables and trees: a function that does nothing.
 
-ghost use Rattle.es_scopes_law.specs.Law.{BuiltNumbersLaw};
+ghost use Rattle.es_scopes_law.specs.Law.{BuiltAgreesLaw};
 
-/// Each node that may bear a semantic id has the number of its entry.
-pub fn built_trees_have_the_numbers_of_their_entries()
-    ensures { BuiltNumbersLaw }
+/// The table of a program agrees with its tree, on whose nodes the numbers of the table are written: its
+/// scopes, their names, what its references mean, and which of its symbols are mutated.
+pub fn built_tables_agree_with_their_trees()
+    ensures { BuiltAgreesLaw }
 {}
