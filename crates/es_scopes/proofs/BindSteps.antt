@@ -1,15 +1,13 @@
 -- An identifier that declares a name again, and a name that is seen.
-use Rattle.std.proofs.Common.{◌≡◌, sym, ap, ◌∙◌, ℕ, List, ◌∷◌, ◌++◌, length, take, drop, Bool, cond, Some, None}
+use Rattle.std.proofs.Common.{◌≡◌, ap, ◌∙◌, ℕ, List, ◌∷◌, Bool, Some, None}
 use Rattle.std.specs.Prelude.{is_some, slice_get}
 use Rattle.es_base.specs.declared.ids.ScopeId.{ScopeId}
 use Rattle.es_base.specs.declared.ids.SymbolId.{SymbolId}
-use Rattle.es_scopes.specs.Table.{Table, HasSymbol, changed_at, get_binding, or_else, symbol_flagged, with_symbol_flags}
+use Rattle.es_scopes.specs.Table.{Table, HasSymbol, get_binding, or_else, symbol_flagged, with_symbol_flags}
 use Rattle.es_scopes.specs.Tables.{visible, first_seen, is_in_parameters}
 use Rattle.es_scopes.specs.declared.declare.Declarations.{Declarations}
 use Rattle.es_scopes.specs.declared.flags.SymbolFlags.{SymbolFlags}
-use Rattle.es_scopes.specs.declared.surroundings.Declarer.{Declarer}
-use Rattle.es_scopes.specs.declared.surroundings.Declarer.TheVariants as declarer
-use Rattle.es_scopes.proofs.RowLemmas.{written_back, is_some-option_map, slice_get-changed_at_same}
+use Rattle.es_scopes.proofs.RowLemmas.{is_some-option_map, slice_get-changed_at_same}
 
 pub has_flags : (now t : Table) (y : SymbolId) (f : SymbolFlags) → now ≡ with_symbol_flags t y f → HasSymbol t y → HasSymbol now y
 has_flags now t y f is h = ap (λ (t : Table). is_some (slice_get t.symbols y.0)) is ∙ ap is_some (slice_get-changed_at_same (symbol_flagged f) y.0 t.symbols) ∙ is_some-option_map (symbol_flagged f) (slice_get t.symbols y.0) ∙ h

@@ -1,10 +1,10 @@
 -- In a tree that conforms each scope gets the names of its node: no other part of the tree declares there.
-use Rattle.std.proofs.Common.{◌≡◌, refl, sym, ap, subst, ◌∙◌, ℕ, zero, suc, ◌+◌, ◌-◌, ◌<◌, ◌≤◌, ◌⊎◌, inl, inr, List, [], ◌∷◌, ◌++◌, length, Bool, true, false, true≢false, cond, ◌&&◌, not, nat_eq, Option, Some, None, arith}
-use Rattle.std.specs.Prelude.{option_to_list, slice_get, codes}
+use Rattle.std.proofs.Common.{◌≡◌, refl, sym, ap, subst, ◌∙◌, ℕ, zero, suc, ◌+◌, ◌<◌, ◌≤◌, ◌⊎◌, inl, inr, List, [], ◌∷◌, ◌++◌, length, Bool, true, false, true≢false, cond, ◌&&◌, not, nat_eq, Option, Some, None, arith}
+use Rattle.std.specs.Prelude.{slice_get}
 use Rattle.std.proofs.lemmas.Bool.{and_parts}
 use Rattle.std.proofs.lemmas.Bool.Decides.{nat_tests}
 use Rattle.std.proofs.lemmas.List.{length-append}
-use Rattle.es_base.specs.Conforms.{conforms, parts_conform, part_conforms, items_conform, item_conforms, key_place, place_rule, kind_rule, boolean_at}
+use Rattle.es_base.specs.Conforms.{conforms, parts_conform, part_conforms, items_conform, item_conforms, key_place, place_rule, kind_rule}
 use Rattle.es_base.specs.Table.{Field, members_of, stands_in}
 use Rattle.es_base.specs.Tree.{Tree, Part, Parts, Node, end, more, child, absent, list, string, no_string, boolean, literal}
 use Rattle.es_base.specs.declared.ids.ScopeId.{ScopeId}
@@ -12,18 +12,18 @@ use Rattle.es_base.specs.declared.kind.Kind.{Kind}
 use Rattle.es_base.specs.declared.table.Place.{Place}
 use Rattle.es_base.specs.declared.table.Sort.{Sort}
 use Rattle.es_scopes.specs.Entries.{Collected, entered, collected, collected_parts, collected_part, collected_items, nothing_yet, entries_of}
-use Rattle.es_scopes.specs.Held.{node_weight, scope_gets, held_weight, given_weight, IsElsewhere, IsNoBody}
+use Rattle.es_scopes.specs.Held.{node_weight, scope_gets, held_weight, IsElsewhere, IsNoBody}
 use Rattle.es_scopes.specs.NodeScopes.{opens, has_scope, is_body_place}
 use Rattle.es_scopes.specs.Opened.{opens_at, opened, opened_parts, opened_part, opened_items}
 use Rattle.es_scopes.specs.Surroundings.{scope_place, inside, declares_in, nowhere}
-use Rattle.es_scopes.specs.Tables.{Fits, AreOrdered, scope_count, scopes_in}
+use Rattle.es_scopes.specs.Tables.{AreOrdered, scopes_in}
 use Rattle.es_scopes.specs.declared.entry.Entry.{Entry}
 use Rattle.es_scopes.specs.declared.entry.Entry.TheVariants as entry
 use Rattle.es_scopes.specs.declared.surroundings.Declarer.{Declarer}
 use Rattle.es_scopes.specs.declared.surroundings.Declares.{Declares}
 use Rattle.es_scopes.specs.declared.surroundings.Declares.TheVariants as declares
 use Rattle.es_scopes.specs.declared.surroundings.Surroundings.{Surroundings}
-use Rattle.es_scopes.proofs.HeldNames.{fit_place, fit_list, fit_sort, fit_all, fit_key, fit-parts, key-fits, list-fits, held-parts, held-part, held-items, held-tree, own-tree, quiet-gives, gives_parts, gives_items, quiet-parts}
+use Rattle.es_scopes.proofs.HeldNames.{fit_place, fit_list, fit_sort, fit_all, fit_key, fit-parts, key-fits, list-fits, held-parts, held-items, own-tree, quiet-gives, gives_items, quiet-parts}
 use Rattle.es_scopes.proofs.OrderLemmas.{Within, Counts, Holds, inside-within, within-le, entered-counts, collected-counts, part-counts, more_in_part}
 
 -- ---- a place has a body where it is that of one

@@ -14,7 +14,6 @@ use Rattle.es_base.specs.declared.literal.LiteralValue.{LiteralValue}
 use Rattle.es_base.specs.declared.table.Place.{Place}
 use Rattle.es_base.specs.declared.table.Sort.{Sort}
 use Rattle.es_base.specs.declared.table.Words.{Words}
-use Rattle.es_scopes.specs.Agreement.{names_of_node}
 use Rattle.es_scopes.specs.Entries.{Collected, binding, entry_of, entered, collected, collected_parts, collected_part, collected_items, nothing_yet, entries_of}
 use Rattle.es_scopes.specs.Held.{weight, node_weight, scope_gets, held_weight, given_weight, IsElsewhere, IsNoBody}
 use Rattle.es_scopes.specs.NodeScopes.{opens, has_scope, is_strict, scope_flags}

@@ -1,7 +1,6 @@
 -- The scopes of a built table hold the names that their nodes have by the definitions of `es_steps`.
-use Rattle.std.proofs.Common.{◌≡◌, ◌≢◌, refl, sym, ap, subst, ◌∙◌, ℕ, zero, suc, ◌+◌, ◌<◌, ◌≤◌, ◌⊎◌, inl, inr, List, [], ◌∷◌, ◌++◌, length, Bool, true, false, true≢false, cond, ◌&&◌, ◌||◌, not, nat_eq, Option, Some, None, arith}
+use Rattle.std.proofs.Common.{◌≡◌, refl, sym, ap, subst, ◌∙◌, ℕ, zero, suc, ◌+◌, inl, inr, List, [], ◌∷◌, ◌++◌, length, Bool, true, false, true≢false, cond, ◌&&◌, ◌||◌, nat_eq, Option, Some, None, arith}
 use Rattle.std.specs.Prelude.{is_some, slice_get, option_map, bytes_eq}
-use Rattle.std.specs.Option.{option_and_then}
 use Rattle.std.proofs.lemmas.Bool.{and_parts}
 use Rattle.std.proofs.lemmas.Bool.Decides.{Decides-eqb}
 use Rattle.std.proofs.lemmas.Slice.Eq.{bytes_eq-Decides}
@@ -16,10 +15,10 @@ use Rattle.es_scopes.specs.Agreement.{names_of_node, own_name}
 use Rattle.es_scopes.specs.Bindings.{Names, lookup}
 use Rattle.es_scopes.specs.Built.{built_table}
 use Rattle.es_scopes.specs.Entries.{entries_of}
-use Rattle.es_scopes.specs.Held.{weight, node_weight, parameter_names, other_names, scope_gets, held_weight}
+use Rattle.es_scopes.specs.Held.{weight, node_weight, parameter_names, other_names, held_weight}
 use Rattle.es_scopes.specs.Opened.{opened}
-use Rattle.es_scopes.specs.Table.{Table, row_at, names_of_row, changed_at, get_binding, holding, new_scope, with_binding}
-use Rattle.es_scopes.specs.Tables.{marked_if, bound_first, bound_where, opened as with_opened, declare, declared, none_declared, numbered, Fits, AreOrdered, IsWhole, scope_count}
+use Rattle.es_scopes.specs.Table.{row_at, names_of_row, changed_at, get_binding, holding, new_scope, with_binding}
+use Rattle.es_scopes.specs.Tables.{bound_where, declare, declared, none_declared, Fits, AreOrdered, IsWhole}
 use Rattle.es_scopes.specs.declared.declare.Declarations.{Declarations}
 use Rattle.es_scopes.specs.declared.entry.Entry.{Entry}
 use Rattle.es_scopes.specs.declared.entry.Entry.TheVariants as entry

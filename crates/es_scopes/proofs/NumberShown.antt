@@ -1,5 +1,5 @@
 -- The numbers of entries, and what references mean.
-use Rattle.std.proofs.Common.{◌≡◌, refl, sym, ap, ◌∙◌, ℕ, ◌+◌, List, [], ◌∷◌, ◌++◌, append_assoc, map, length, Bool, true, false, Option, Some, None, arith}
+use Rattle.std.proofs.Common.{◌≡◌, refl, sym, ap, ◌∙◌, ℕ, ◌+◌, List, [], ◌∷◌, ◌++◌, append_assoc, map, length, Bool, Option, Some, None, arith}
 use Rattle.std.proofs.lemmas.List.{map-append, append-nil}
 use Rattle.es_base.specs.Carried.{symbol_number}
 use Rattle.es_base.specs.Tree.{Tree}
@@ -9,8 +9,8 @@ use Rattle.es_scopes.specs.Bindings.{lookup}
 use Rattle.es_scopes.specs.Built.{built_table}
 use Rattle.es_scopes.specs.Entries.{entries_of}
 use Rattle.es_scopes.specs.Shown.{ids_from, targets_from}
-use Rattle.es_scopes.specs.Table.{Table, row_at, names_of_row, get_binding, or_else, scope_ancestors, chain, parents, with_created_reference}
-use Rattle.es_scopes.specs.Tables.{declared, none_declared, visible, is_in_parameters, first_seen, meant, held_symbol, id_of, referred, number, numbered, numbering_of}
+use Rattle.es_scopes.specs.Table.{Table, row_at, names_of_row, or_else, scope_ancestors, chain, parents, with_created_reference}
+use Rattle.es_scopes.specs.Tables.{declared, none_declared, visible, is_in_parameters, first_seen, meant, held_symbol, referred, number, numbered, numbering_of}
 use Rattle.es_scopes.specs.declared.declare.Declarations.{Declarations}
 use Rattle.es_scopes.specs.declared.entry.Entry.{Entry}
 use Rattle.es_scopes.specs.declared.entry.Entry.TheVariants as entry

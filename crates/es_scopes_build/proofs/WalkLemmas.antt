@@ -1,5 +1,5 @@
 -- A walk that collects the entries of a tree: how far it has come, and how much it collects.
-use Rattle.std.proofs.Common.{◌≡◌, refl, sym, ap, ◌∙◌, ℕ, ◌+◌, ◌<◌, ◌≤◌, List, [], ◌∷◌, ◌++◌, length, drop, get_or, Bool, true, false, cond, Option, Some, None, Result, Ok, Err, arith}
+use Rattle.std.proofs.Common.{◌≡◌, refl, sym, ap, ◌∙◌, ℕ, ◌+◌, ◌<◌, ◌≤◌, List, [], ◌∷◌, length, drop, get_or, Bool, true, false, cond, Result, Ok, Err, arith}
 use Rattle.std.specs.Prelude.{option_to_list, IfOk}
 use Rattle.std.proofs.lemmas.List.{drop_more, drop_all, length-append}
 use Rattle.es_base.specs.Preorder.{nodes, nodes_of, nodes_of_part, one_if}

@@ -1,17 +1,14 @@
 -- A built table agrees with its tree.
-use Rattle.std.proofs.Common.{◌≡◌, refl, sym, ap, subst, ◌∙◌, ℕ, List, [], true, Option}
-use Rattle.std.specs.Prelude.{Contains}
+use Rattle.std.proofs.Common.{◌≡◌, sym, subst, ◌∙◌, ℕ, List, [], true}
 use Rattle.es_base.specs.Conforms.{conforms}
 use Rattle.es_base.specs.Numbered.{numbers, EachOnce}
 use Rattle.es_base.specs.Tree.{Tree}
 use Rattle.es_base.specs.declared.table.Place.{Place}
 use Rattle.es_scopes.specs.Agreement.{Agrees}
 use Rattle.es_scopes.specs.Built.{built_table}
-use Rattle.es_scopes.specs.Entries.{entries_of}
 use Rattle.es_scopes.specs.NodeBindings.{bindings_of}
 use Rattle.es_scopes.specs.NodeScopes.{scopes_of}
 use Rattle.es_scopes.specs.Table.{Table}
-use Rattle.es_scopes.specs.declared.entry.Entry.{Entry}
 use Rattle.es_scopes_law.specs.Build.{built_tree}
 use Rattle.es_scopes_law.proofs.Borne.{given, bearing-built}
 use Rattle.es_scopes_law.proofs.Lists.{in-Contains}

@@ -1,9 +1,9 @@
 -- The scopes among the entries of a tree are those of `scopes_of`: their nodes, and the nodes around them.
-use Rattle.std.proofs.Common.{◌≡◌, refl, sym, ap, subst, ◌∙◌, ℕ, zero, suc, ◌+◌, ◌<◌, ◌≤◌, ◌⊎◌, inl, inr, List, [], ◌∷◌, ◌++◌, append_assoc, map, length, Bool, true, false, true≢false, cond, not, ◌&&◌, Option, Some, None, arith}
+use Rattle.std.proofs.Common.{◌≡◌, refl, sym, ap, subst, ◌∙◌, ℕ, zero, suc, ◌+◌, List, [], ◌∷◌, ◌++◌, append_assoc, map, length, Bool, true, false, true≢false, cond, not, ◌&&◌, Option, Some, None, arith}
 use Rattle.std.specs.Prelude.{option_map, option_to_list, slice_get}
 use Rattle.std.specs.Option.{option_and_then}
 use Rattle.std.proofs.lemmas.Bool.{and_parts}
-use Rattle.std.proofs.lemmas.List.{map-append, append-nil, length-append}
+use Rattle.std.proofs.lemmas.List.{map-append, append-nil}
 use Rattle.es_base.specs.Carried.{scope_number}
 use Rattle.es_base.specs.Preorder.{number_of}
 use Rattle.es_base.specs.Tree.{Tree, Part, Parts, Node, end, more, child, absent, list, string, no_string, boolean, literal}
@@ -13,7 +13,7 @@ use Rattle.es_scopes.specs.Entries.{Collected, binding, entry_of, entered, colle
 use Rattle.es_scopes.specs.NodeScopes as scopes
 use Rattle.es_scopes.specs.NodeScopes.{NodeScope, own_scope, node_scopes, scopes_of_parts, scopes_of_part, scopes_of_items, scopes_of, outermost, opens, has_scope, is_strict, scope_flags, is_body_place, is_outside}
 use Rattle.es_scopes.specs.Opened.{opens_at, opened, opened_parts, opened_part, opened_items}
-use Rattle.es_scopes.specs.Surroundings.{scope_place, inside, is_in_own, nowhere}
+use Rattle.es_scopes.specs.Surroundings.{scope_place, inside, nowhere}
 use Rattle.es_scopes.specs.declared.entry.Entry.{Entry}
 use Rattle.es_scopes.specs.declared.entry.Entry.TheVariants as entry
 use Rattle.es_scopes.specs.declared.flags.ScopeFlags.{ScopeFlags}
@@ -21,7 +21,7 @@ use Rattle.es_scopes.specs.declared.surroundings.Declares.{Declares}
 use Rattle.es_scopes.specs.declared.surroundings.Declares.TheVariants as declares
 use Rattle.es_scopes.specs.declared.surroundings.Surroundings.{Surroundings}
 use Rattle.es_scopes.proofs.OrderLemmas.{Within, Counts, inside-within, within-le, entered-counts, part-counts, more_in_part}
-use Rattle.es_scopes_law.proofs.Rows.{ScopeOf, scopes_among, among-append, among-count, get-map}
+use Rattle.es_scopes_law.proofs.Rows.{ScopeOf, scopes_among, among-append, among-count}
 use Rattle.es_steps.specs.Parts.{at, string_of}
 
 -- ---- entries are added behind others

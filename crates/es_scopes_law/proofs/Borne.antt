@@ -1,13 +1,12 @@
 -- The semantic ids on the nodes of a built tree: that of each node that may bear one is the number of its entry.
-use Rattle.std.proofs.Common.{◌≡◌, refl, sym, ap, subst, ◌∙◌, ℕ, zero, suc, ◌+◌, ◌<◌, ◌⊎◌, inl, inr, List, [], ◌∷◌, ◌++◌, append_assoc, map, length, nat_eq, Bool, true, false, true≢false, cond, Option, Some, None, arith}
-use Rattle.std.specs.Prelude.{option_to_list, slice_get}
+use Rattle.std.proofs.Common.{◌≡◌, refl, sym, ap, subst, ◌∙◌, ℕ, suc, ◌+◌, inl, inr, List, [], ◌∷◌, ◌++◌, append_assoc, map, length, nat_eq, Bool, true, false, true≢false, cond, Option, Some, None, arith}
+use Rattle.std.specs.Prelude.{option_to_list}
 use Rattle.std.specs.List.{IsDistinct}
 use Rattle.std.proofs.lemmas.Bool.Decides.{Decides-eqb}
 use Rattle.std.proofs.lemmas.List.{append-nil, map-append, length-append}
 use Rattle.es_base.specs.Numbered.{numbers, EachOnce}
 use Rattle.es_base.specs.Preorder.{preorder, preorder_of, preorder_of_part, number_of, one_if}
 use Rattle.es_base.specs.Tree.{Tree, Part, Parts, Node, end, more, child, absent, list, string, no_string, boolean, literal}
-use Rattle.es_base.specs.declared.ids.ScopeId.{ScopeId}
 use Rattle.es_base.specs.declared.kind.Kind.{Kind}
 use Rattle.es_node.specs.Bearing.{bears_semantic_id}
 use Rattle.es_scopes.specs.Agreement.{carried_by, carried}
@@ -27,7 +26,7 @@ use Rattle.es_scopes.specs.declared.surroundings.Surroundings.{Surroundings}
 use Rattle.es_scopes.proofs.NumberShown.{ids-built}
 use Rattle.es_scopes_law.specs.Build.{built_tree}
 use Rattle.es_scopes_law.specs.Written.{bearers, bearers_of, bearers_of_part, id_at, written, written_part, written_parts}
-use Rattle.es_scopes_law.proofs.Lists.{In, in-left, in-right, in-cases, in-map, from-map}
+use Rattle.es_scopes_law.proofs.Lists.{In, in-left, in-right, in-cases, in-map}
 use Rattle.es_steps.specs.Parts.{at, string_of}
 
 abbrev pub node_of : Entry → ℕ

@@ -1,6 +1,6 @@
 -- What is known of the symbol of a name, by the entries that declare the name: whether it is seen from parameters, and whether
 -- it is marked.
-use Rattle.std.proofs.Common.{◌≡◌, ◌≢◌, refl, sym, ap, subst, ◌∙◌, ℕ, zero, suc, ◌+◌, ◌<◌, ◌≤◌, ◌⊎◌, inl, inr, List, [], ◌∷◌, ◌++◌, length, nat_eq, Bool, true, false, true≢false, cond, ◌&&◌, ◌||◌, not, Option, Some, None, arith}
+use Rattle.std.proofs.Common.{◌≡◌, ◌≢◌, refl, sym, ap, subst, ◌∙◌, ℕ, zero, suc, ◌<◌, inl, inr, List, [], ◌∷◌, ◌++◌, length, nat_eq, Bool, true, false, true≢false, cond, ◌&&◌, ◌||◌, Option, Some, None, arith}
 use Rattle.std.specs.Prelude.{option_map, slice_get, is_some, bytes_eq, unwrap_or}
 use Rattle.std.proofs.lemmas.Bool.{and_parts}
 use Rattle.std.proofs.lemmas.Bool.Decides.{Decides-eqb}
@@ -8,9 +8,9 @@ use Rattle.std.proofs.lemmas.List.{length-append}
 use Rattle.std.proofs.lemmas.Slice.Eq.{bytes_eq-Decides}
 use Rattle.es_base.specs.declared.ids.ScopeId.{ScopeId}
 use Rattle.es_base.specs.declared.ids.SymbolId.{SymbolId}
-use Rattle.es_scopes.specs.Bindings.{Names, lookup}
-use Rattle.es_scopes.specs.Table.{Table, IsTable, IsNamed, HasScope, HasSymbol, symbol_at, row_at, names_of_row, changed_at, get_binding, or_else, holding, new_scope, new_symbol, marked, symbol_flagged, with_binding, with_symbol_flags}
-use Rattle.es_scopes.specs.Tables.{marked_if, flags_of, flags_with, repeats, joined, bound_first, bound_again, bound_where, opened, declare, declared, none_declared, is_other, is_own_name, declarer_at, scope_count, Fits, AreOrdered, IsWhole}
+use Rattle.es_scopes.specs.Bindings.{lookup}
+use Rattle.es_scopes.specs.Table.{Table, IsTable, IsNamed, HasScope, row_at, names_of_row, changed_at, get_binding, or_else, holding, new_scope, new_symbol, marked, symbol_flagged, with_binding, with_symbol_flags}
+use Rattle.es_scopes.specs.Tables.{marked_if, flags_of, flags_with, repeats, joined, bound_first, bound_again, bound_where, opened, declare, declarer_at, Fits, IsWhole}
 use Rattle.es_scopes.specs.declared.declare.Declarations.{Declarations}
 use Rattle.es_scopes.specs.declared.entry.Entry.{Entry}
 use Rattle.es_scopes.specs.declared.entry.Entry.TheVariants as entry
@@ -22,10 +22,10 @@ use Rattle.es_scopes.specs.declared.table.Scope.{Scope}
 use Rattle.es_scopes.specs.declared.table.Symbol.{Symbol}
 use Rattle.es_scopes.proofs.BindingLemmas.{lookup-push}
 use Rattle.es_scopes.proofs.NameLemmas.{symbol-there}
-use Rattle.es_scopes.proofs.RowLemmas.{same_or_other, length-changed_at, slice_get-changed_at_same, slice_get-changed_at_other, slice_get-push_within, slice_get-push_last}
-use Rattle.es_scopes.proofs.TableLemmas.{row_at-changed_same, row_at-changed_other, some_row}
+use Rattle.es_scopes.proofs.RowLemmas.{same_or_other, length-changed_at, slice_get-changed_at_other, slice_get-push_within, slice_get-push_last}
+use Rattle.es_scopes.proofs.TableLemmas.{row_at-changed_same, row_at-changed_other}
 use Rattle.es_scopes.proofs.TableShown.{marked-rows, again-rows}
-use Rattle.es_scopes.proofs.TableSteps.{IsWhole-declare, scopes-declare}
+use Rattle.es_scopes.proofs.TableSteps.{IsWhole-declare}
 use Rattle.es_scopes_law.proofs.Held.{table-declare, symbol-below}
 
 -- ---- the symbol of a name after an entry

@@ -1,6 +1,6 @@
 -- The identifiers that are a `var` in the head of a for-in or for-of: those of `bindings_of`, and those that `es_steps` collects of
 -- each such loop. They are weighed, each by its number.
-use Rattle.std.proofs.Common.{◌≡◌, refl, sym, ap, subst, ◌∙◌, ℕ, zero, suc, ◌+◌, ◌<◌, ◌≤◌, List, [], ◌∷◌, ◌++◌, map, nat_eq, Bool, true, false, true≢false, cond, ◌&&◌, ◌||◌, not, Option, Some, None, arith}
+use Rattle.std.proofs.Common.{◌≡◌, refl, sym, ap, ◌∙◌, ℕ, suc, ◌+◌, List, [], ◌∷◌, ◌++◌, nat_eq, Bool, true, false, true≢false, cond, ◌&&◌, ◌||◌, not, Option, None, arith}
 use Rattle.std.specs.Prelude.{codes, bytes_eq}
 use Rattle.std.proofs.lemmas.Bool.{and_parts}
 use Rattle.std.proofs.lemmas.Bool.Decides.{nat_tests}
@@ -11,12 +11,11 @@ use Rattle.es_base.specs.Tree.{Tree, Part, Parts, Node, end, more, child, absent
 use Rattle.es_base.specs.declared.kind.Kind.{Kind}
 use Rattle.es_base.specs.declared.table.Place.{Place}
 use Rattle.es_base.specs.declared.table.Sort.{Sort}
-use Rattle.es_base.specs.declared.table.Words.{Words}
 use Rattle.es_scopes.specs.Held.{weight}
 use Rattle.es_scopes.specs.NodeBindings.{NodeBinding, own_binding, node_bindings, bindings_of_parts, bindings_of_part, bindings_of_items, bindings_of, flags_in, in_head}
-use Rattle.es_steps.specs.Parts.{at, items, string_of}
+use Rattle.es_steps.specs.Parts.{at, string_of}
 use Rattle.es_steps.specs.References.{is_for_each, numbers_of}
-use Rattle.es_steps.specs.Scopes.{Declaration, no_class, binds, is_binding_identifier, bound_names, bound_members, bound_part, bound_items, var_names, var_part, var_items, var_by, statement_form, is_var}
+use Rattle.es_steps.specs.Scopes.{Declaration, no_class, binds, bound_names, bound_members, bound_part, bound_items, var_names, var_part, var_items, is_var}
 
 -- ---- where such identifiers stand
 

@@ -1,15 +1,14 @@
 -- A table of entries is one: parents form trees, names and symbols agree, references mean symbols of the table.
-use Rattle.std.proofs.Common.{◌≡◌, refl, sym, ap, subst, ◌∙◌, ℕ, zero, suc, ◌+◌, ◌<◌, ◌≤◌, List, [], ◌∷◌, ◌++◌, length, Bool, true, false, true≢false, cond, ◌||◌, Option, Some, None, arith}
-use Rattle.std.specs.Prelude.{option_map, slice_get, is_some, bit_or}
+use Rattle.std.proofs.Common.{◌≡◌, refl, sym, subst, ◌∙◌, ℕ, zero, suc, ◌<◌, List, [], ◌∷◌, length, Bool, true, false, true≢false, cond, ◌||◌, Option, Some, None, arith}
+use Rattle.std.specs.Prelude.{slice_get, is_some}
 use Rattle.std.proofs.lemmas.List.{length-append}
 use Rattle.es_base.specs.Tree.{Tree}
 use Rattle.es_base.specs.declared.ids.ScopeId.{ScopeId}
 use Rattle.es_base.specs.declared.ids.SymbolId.{SymbolId}
-use Rattle.es_scopes.specs.Bindings.{lookup}
 use Rattle.es_scopes.specs.Built.{built_table}
 use Rattle.es_scopes.specs.Entries.{entries_of}
-use Rattle.es_scopes.specs.Table.{Table, IsTable, IsNamed, HasSymbol, HasScope, row_at, names_of_row, get_binding, or_else, scope_at, scope_ancestors, with_binding, with_symbol_flags, with_created_reference, with_new_reference}
-use Rattle.es_scopes.specs.Tables.{marked_if, flags_of, flags_with, repeats, bound_where, declare, declared, none_declared, first_seen, meant, visible, is_in_parameters, is_other, referred, number, numbered, declarer_at, scope_count, Fits, AreOrdered, IsWhole}
+use Rattle.es_scopes.specs.Table.{Table, IsTable, HasSymbol, HasScope, get_binding, or_else, scope_at, scope_ancestors, with_binding, with_symbol_flags, with_created_reference, with_new_reference}
+use Rattle.es_scopes.specs.Tables.{marked_if, flags_of, flags_with, repeats, bound_where, declare, declared, none_declared, first_seen, meant, visible, is_in_parameters, is_other, referred, number, numbered, declarer_at, Fits, AreOrdered, IsWhole}
 use Rattle.es_scopes.specs.declared.declare.Declarations.{Declarations}
 use Rattle.es_scopes.specs.declared.entry.Entry.{Entry}
 use Rattle.es_scopes.specs.declared.entry.Entry.TheVariants as entry

@@ -1,5 +1,5 @@
 -- The identifiers that declare in a scope, by the entries of a tree and by the names of the scope's node.
-use Rattle.std.proofs.Common.{◌≡◌, refl, sym, ap, subst, ◌∙◌, ℕ, zero, suc, ◌+◌, ◌<◌, ◌≤◌, ◌⊎◌, inl, inr, List, [], ◌∷◌, ◌++◌, length, map, nat_eq, Bool, true, false, true≢false, cond, ◌&&◌, Option, Some, None, arith}
+use Rattle.std.proofs.Common.{◌≡◌, refl, sym, ap, subst, ◌∙◌, ℕ, suc, ◌+◌, ◌<◌, ◌≤◌, ◌⊎◌, inl, inr, List, [], ◌∷◌, ◌++◌, map, nat_eq, Bool, true, false, true≢false, cond, ◌&&◌, Option, Some, None, arith}
 use Rattle.std.specs.Prelude.{slice_get, bytes_eq}
 use Rattle.std.proofs.lemmas.Bool.{and_parts}
 use Rattle.std.proofs.lemmas.Bool.Decides.{Decides-eqb}
@@ -14,7 +14,7 @@ use Rattle.es_base.specs.declared.kind.Kind.{Kind}
 use Rattle.es_base.specs.declared.table.Place.{Place}
 use Rattle.es_scopes.specs.Agreement.{names_of_node, own_name, names_in, names_held}
 use Rattle.es_scopes.specs.Entries.{entries_of}
-use Rattle.es_scopes.specs.Held.{weight, node_weight, parameter_names, other_names, scope_gets, held_weight}
+use Rattle.es_scopes.specs.Held.{weight, node_weight, parameter_names, other_names, held_weight}
 use Rattle.es_scopes.specs.NodeScopes.{is_body_place}
 use Rattle.es_scopes.specs.Opened.{opens_at, opened, opened_parts, opened_part, opened_items}
 use Rattle.es_scopes.specs.declared.entry.Entry.{Entry}

@@ -1,9 +1,9 @@
 -- The list of a symbol of a table of entries is of the references that mean it.
-use Rattle.std.proofs.Common.{◌≡◌, ◌≢◌, refl, sym, ap, subst, ◌∙◌, ℕ, zero, suc, ◌+◌, ◌<◌, List, [], ◌∷◌, ◌++◌, length, nat_eq, Bool, true, false, true≢false, cond, ◌&&◌, ◌||◌, not, Option, Some, None, ◌⊎◌, inl, inr, arith}
-use Rattle.std.specs.Prelude.{option_map, slice_get, is_some}
+use Rattle.std.proofs.Common.{◌≡◌, refl, sym, ap, subst, ◌∙◌, ℕ, zero, suc, List, [], ◌∷◌, ◌++◌, length, nat_eq, Bool, true, false, true≢false, ◌&&◌, ◌||◌, Option, Some, None, inl, inr, arith}
+use Rattle.std.specs.Prelude.{option_map, slice_get}
 use Rattle.std.specs.Cmp.{unsigned_tied}
 use Rattle.std.specs.FinSet as set
-use Rattle.std.specs.Ordering.{nat_cmp, eq_by_cmp}
+use Rattle.std.specs.Ordering.{nat_cmp}
 use Rattle.std.proofs.lemmas.Bool.Decides.{Decides-eqb}
 use Rattle.std.proofs.lemmas.Cmp.{nat_cmp_total}
 use Rattle.es_base.specs.Tree.{Tree}
@@ -12,8 +12,8 @@ use Rattle.es_base.specs.declared.ids.SymbolId.{SymbolId}
 use Rattle.es_scopes.specs.Built.{built_table}
 use Rattle.es_scopes.specs.Entries.{entries_of}
 use Rattle.es_scopes.specs.ReferenceNumbers.{ReferenceNumbers}
-use Rattle.es_scopes.specs.Table.{Table, IsTable, changed_at, get_binding, listing, marked, symbol_flagged, new_symbol, with_binding, with_created_reference, with_symbol_flags}
-use Rattle.es_scopes.specs.Tables.{marked_if, flags_of, flags_with, repeats, bound_first, bound_where, declare, declared, none_declared, declarer_at, meant, referred, number, numbered}
+use Rattle.es_scopes.specs.Table.{Table, changed_at, get_binding, listing, marked, symbol_flagged, new_symbol, with_binding, with_created_reference, with_symbol_flags}
+use Rattle.es_scopes.specs.Tables.{marked_if, flags_of, flags_with, repeats, bound_where, declare, declared, none_declared, declarer_at, meant, referred, number, numbered}
 use Rattle.es_scopes.specs.declared.declare.Declarations.{Declarations}
 use Rattle.es_scopes.specs.declared.entry.Entry.{Entry}
 use Rattle.es_scopes.specs.declared.entry.Entry.TheVariants as entry

@@ -1,8 +1,7 @@
 -- Which symbols of a table of entries are marked: those of a name that more than one identifier declares in its scope, own names
 -- of function expressions aside, and those of a `var` in the head of a for-in or for-of.
-use Rattle.std.proofs.Common.{◌≡◌, ◌≢◌, refl, sym, ap, subst, ◌∙◌, ℕ, zero, suc, ◌+◌, ◌<◌, ◌≤◌, List, [], ◌∷◌, ◌++◌, length, nat_eq, Bool, true, false, true≢false, cond, ◌&&◌, ◌||◌, not, Option, Some, None, arith}
-use Rattle.std.specs.Prelude.{option_map, slice_get, is_some, bytes_eq, unwrap_or, nat_le}
-use Rattle.std.proofs.lemmas.List.{length-append}
+use Rattle.std.proofs.Common.{◌≡◌, ◌≢◌, refl, sym, ap, subst, ◌∙◌, ℕ, zero, suc, ◌+◌, ◌<◌, List, [], ◌∷◌, ◌++◌, length, nat_eq, Bool, true, false, true≢false, cond, ◌&&◌, ◌||◌, not, Option, Some, None, arith}
+use Rattle.std.specs.Prelude.{option_map, slice_get, is_some, bytes_eq, unwrap_or}
 use Rattle.es_base.specs.Preorder.{one_if}
 use Rattle.es_base.specs.Tree.{Tree}
 use Rattle.es_base.specs.declared.ids.ScopeId.{ScopeId}
@@ -10,7 +9,7 @@ use Rattle.es_base.specs.declared.ids.SymbolId.{SymbolId}
 use Rattle.es_scopes.specs.Entries.{entries_of}
 use Rattle.es_scopes.specs.Held.{held_weight}
 use Rattle.es_scopes.specs.Table.{Table, symbol_at, get_binding, changed_at, marked, symbol_flagged, new_symbol, with_binding, with_symbol_flags}
-use Rattle.es_scopes.specs.Tables.{marked_if, flags_of, flags_with, repeats, joined, bound_first, bound_again, declare, declared, none_declared, is_own_name, declarer_at, Fits, AreOrdered}
+use Rattle.es_scopes.specs.Tables.{marked_if, flags_of, flags_with, repeats, joined, declare, declared, none_declared, is_own_name, declarer_at, Fits, AreOrdered}
 use Rattle.es_scopes.specs.declared.declare.Declarations.{Declarations}
 use Rattle.es_scopes.specs.declared.entry.Entry.{Entry}
 use Rattle.es_scopes.specs.declared.entry.Entry.TheVariants as entry

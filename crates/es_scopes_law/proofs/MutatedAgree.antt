@@ -1,31 +1,27 @@
 -- In a tree that carries the numbers of its table, a symbol is mutated just where one of its identifiers is written.
-use Rattle.std.proofs.Common.{◌≡◌, refl, sym, ap, subst, ◌∙◌, ℕ, zero, suc, ◌+◌, ◌<◌, ◌≤◌, ◌⊎◌, inl, inr, List, [], ◌∷◌, ◌++◌, map, length, nat_eq, Bool, true, false, true≢false, cond, ◌&&◌, ◌||◌, not, Option, Some, None, arith}
-use Rattle.std.specs.Prelude.{option_map, slice_get, is_some, bytes_eq, ◌↔◌}
-use Rattle.std.specs.Option.{option_and_then}
-use Rattle.std.specs.FinSet as set
+use Rattle.std.proofs.Common.{◌≡◌, refl, sym, ap, subst, ◌∙◌, ℕ, zero, suc, ◌+◌, ◌≤◌, ◌⊎◌, inl, inr, List, [], ◌∷◌, ◌++◌, length, nat_eq, Bool, true, false, true≢false, cond, ◌&&◌, ◌||◌, Option, Some, None, arith}
+use Rattle.std.specs.Prelude.{slice_get, is_some, bytes_eq, ◌↔◌}
 use Rattle.std.proofs.lemmas.Bool.{and_parts}
 use Rattle.std.proofs.lemmas.Bool.Decides.{Decides-eqb}
 use Rattle.es_base.specs.Carried.{symbol_number}
-use Rattle.es_base.specs.Conforms.{conforms}
-use Rattle.es_base.specs.Preorder.{preorder, number_of, one_if}
-use Rattle.es_base.specs.Tree.{Tree, Part, Parts, Node, end, more, child, absent, list, string, no_string, boolean, literal}
+use Rattle.es_base.specs.Preorder.{preorder, one_if}
+use Rattle.es_base.specs.Tree.{Tree, Parts, Node, end, more, child}
 use Rattle.es_base.specs.declared.ids.NodeId.{NodeId}
 use Rattle.es_base.specs.declared.ids.ScopeId.{ScopeId}
 use Rattle.es_base.specs.declared.ids.SymbolId.{SymbolId}
 use Rattle.es_base.specs.declared.kind.Kind.{Kind}
-use Rattle.es_base.specs.declared.table.Place.{Place}
 use Rattle.es_scopes.specs.Agreement.{carried, meant_symbol, names_of_node, own_name, IsWritten}
 use Rattle.es_scopes.specs.Bindings.{lookup}
 use Rattle.es_scopes.specs.Built.{built_table}
 use Rattle.es_scopes.specs.Entries.{entries_of}
-use Rattle.es_scopes.specs.Held.{weight, node_weight, parameter_names, other_names, held_weight}
+use Rattle.es_scopes.specs.Held.{weight, node_weight, parameter_names, other_names}
 use Rattle.es_scopes.specs.NodeBindings.{NodeBinding, bindings_of}
 use Rattle.es_scopes.specs.NodeScopes.{has_scope, is_body_place}
 use Rattle.es_scopes.specs.Opened.{opened}
 use Rattle.es_scopes.specs.References.{writes, HoldsWrite}
 use Rattle.es_scopes.specs.Shown.{bindings_in}
-use Rattle.es_scopes.specs.Table.{Table, IsTable, HasSymbol, IsMutated, symbol_at, row_at, names_of_row, get_binding}
-use Rattle.es_scopes.specs.Tables.{declared, none_declared, held_symbol}
+use Rattle.es_scopes.specs.Table.{HasSymbol, IsMutated, symbol_at, row_at, names_of_row, get_binding}
+use Rattle.es_scopes.specs.Tables.{none_declared}
 use Rattle.es_scopes.specs.declared.entry.Entry.{Entry}
 use Rattle.es_scopes.specs.declared.entry.Entry.TheVariants as entry
 use Rattle.es_scopes.specs.declared.flags.SymbolFlags.{SymbolFlags}
@@ -36,27 +32,25 @@ use Rattle.es_scopes.specs.declared.table.Scope.{Scope}
 use Rattle.es_scopes.specs.declared.table.Symbol.{Symbol}
 use Rattle.es_scopes.proofs.BindingOrder.{bindings-entries}
 use Rattle.es_scopes.proofs.EachScope.{each-program, count-program}
-use Rattle.es_scopes.proofs.HeldTable.{names-by}
-use Rattle.es_scopes.proofs.OrderLemmas.{entries-ordered}
 use Rattle.es_scopes.proofs.RowLemmas.{within_from_row}
 use Rattle.es_scopes.proofs.TableSteps.{scopes-declared}
 use Rattle.es_scopes.proofs.WrittenLemmas.{IsMutated-from, IsMutated-to}
-use Rattle.es_scopes_law.proofs.Bodies.{kind_in, Standing, has_one, body_of, standing}
+use Rattle.es_scopes_law.proofs.Bodies.{Standing, has_one, body_of, standing}
 use Rattle.es_scopes_law.proofs.Declarers.{is_at, at-same, at-own as at-itself}
 use Rattle.es_scopes_law.proofs.Heads.{node_heads, total, each, head_total, heads-program}
-use Rattle.es_scopes_law.proofs.Holders.{opened-preorder, in-weight}
+use Rattle.es_scopes_law.proofs.Holders.{opened-preorder}
 use Rattle.es_scopes_law.proofs.Listed.{points, is_target, built-listed, mark-built}
 use Rattle.es_scopes_law.proofs.Lists.{In, in-left, in-right, in-cases, in-at, at-in}
 use Rattle.es_scopes_law.proofs.Marks.{mark_of, is_beside, many_beside, some_head, entry_head, two, marks-declared}
-use Rattle.es_scopes_law.proofs.ReferencesAgree.{ReferenceNumbered, reference-at, reference-numbered, reference-of}
-use Rattle.es_scopes_law.proofs.Repeated.{spell, number-append, or-cases, or-left, or-right, Twice, repeated-twice, Repeats, twice-repeated, written-in, in-written}
-use Rattle.es_scopes_law.proofs.Rows.{get-some, get-below}
-use Rattle.es_scopes_law.proofs.ScopesAgree.{IsBuilt, rows, carries-name, carries-binding, held-there, SymbolNumbered, symbol-numbered, symbol-is-there, binding-entry, some-same, map-some}
+use Rattle.es_scopes_law.proofs.ReferencesAgree.{reference-at, reference-numbered, reference-of}
+use Rattle.es_scopes_law.proofs.Repeated.{spell, number-append, or-cases, or-left, or-right, repeated-twice, twice-repeated, written-in, in-written}
+use Rattle.es_scopes_law.proofs.Rows.{get-some}
+use Rattle.es_scopes_law.proofs.ScopesAgree.{IsBuilt, rows, carries-name, carries-binding, held-there, symbol-numbered, symbol-is-there, some-same}
 use Rattle.es_scopes_law.proofs.Seen.{spelled}
 use Rattle.es_steps.specs.Parts.{at, items, block_items}
-use Rattle.es_steps.specs.References.{Reference, resolve, written, assigned, if_bound, has_number, is_declared, repeated, is_for_each, numbers_of, written_by, written_by_all}
-use Rattle.es_steps.specs.Scopes.{Declaration, ScopeForm, scope_form, scope_names, lexical_part, lexical_items, var_part, var_items, body_names}
-use Rattle.es_steps.specs.Values.{Referent, Bound, Free}
+use Rattle.es_steps.specs.References.{Reference, resolve, assigned, if_bound, has_number, repeated, written_by, written_by_all}
+use Rattle.es_steps.specs.Scopes.{Declaration, scope_form, scope_names, lexical_part, lexical_items, var_part, body_names}
+use Rattle.es_steps.specs.Values.{Referent, Bound}
 
 -- ---- the names of a node that are no own names
 
@@ -237,7 +231,7 @@ assigned-in n r [] h w to = absurd h
 assigned-in n r (q ∷ rs) (inl e) w to =
     number-append n (if_bound q.writes q.to) (assigned rs)
     ∙ or-left (has_number n (if_bound q.writes q.to)) (has_number n (assigned rs))
-        ((λ i. has_number n (if_bound ((ap (λ (z : Reference). z.writes) e ∙ w) i) ((ap (λ (z : Reference). z.to) e ∙ to) i))) ∙ or-left (nat_eq n n) false ((Decides-eqb n n).1 refl))
+    ((λ i. has_number n (if_bound ((ap (λ (z : Reference). z.writes) e ∙ w) i) ((ap (λ (z : Reference). z.to) e ∙ to) i))) ∙ or-left (nat_eq n n) false ((Decides-eqb n n).1 refl))
 assigned-in n r (q ∷ rs) (inr h) w to = number-append n (if_bound q.writes q.to) (assigned rs) ∙ or-right (has_number n (if_bound q.writes q.to)) (has_number n (assigned rs)) (assigned-in n r rs h w to)
 
 in-assigned : (n : ℕ) (rs : List Reference) → has_number n (assigned rs) ≡ true → (r : Reference) × (In r rs) × (r.writes ≡ true) × (r.to ≡ Bound n)

@@ -1,19 +1,16 @@
 -- In a tree that carries the numbers of its table, references agree.
-use Rattle.std.proofs.Common.{◌≡◌, refl, sym, ap, subst, ◌∙◌, ℕ, zero, suc, ◌+◌, ◌<◌, List, [], ◌∷◌, ◌++◌, map, length, Bool, true, false, cond, Option, Some, None, arith}
+use Rattle.std.proofs.Common.{◌≡◌, refl, sym, ap, subst, ◌∙◌, ℕ, ◌+◌, List, [], ◌∷◌, map, Some, arith}
 use Rattle.std.specs.Prelude.{option_map, slice_get, is_some}
 use Rattle.std.specs.Option.{option_and_then}
 use Rattle.es_base.specs.Carried.{symbol_number}
 use Rattle.es_base.specs.Tree.{Tree}
-use Rattle.es_base.specs.declared.ids.NodeId.{NodeId}
 use Rattle.es_base.specs.declared.ids.ReferenceId.{ReferenceId}
-use Rattle.es_base.specs.declared.ids.SymbolId.{SymbolId}
-use Rattle.es_scopes.specs.Agreement.{carried, meant_symbol, target_number, CarriesReference}
+use Rattle.es_scopes.specs.Agreement.{carried, meant_symbol, CarriesReference}
 use Rattle.es_scopes.specs.Built.{built_table}
 use Rattle.es_scopes.specs.Entries.{entries_of}
-use Rattle.es_scopes.specs.NodeReferences.{NodeReference, references_of}
+use Rattle.es_scopes.specs.NodeReferences.{NodeReference}
 use Rattle.es_scopes.specs.References.{writes}
 use Rattle.es_scopes.specs.Shown.{references_in, targets_from}
-use Rattle.es_scopes.specs.Table.{Table, HasReference}
 use Rattle.es_scopes.specs.Tables.{declared, none_declared, meant}
 use Rattle.es_scopes.specs.declared.declare.Declarations.{Declarations}
 use Rattle.es_scopes.specs.declared.entry.Entry.{Entry}
@@ -25,7 +22,7 @@ use Rattle.es_scopes.proofs.ReferenceOrder.{references-entries}
 use Rattle.es_scopes.proofs.TableShown.{references-built}
 use Rattle.es_scopes_law.proofs.Borne.{given}
 use Rattle.es_scopes_law.proofs.Lists.{In, in-at}
-use Rattle.es_scopes_law.proofs.Referred.{Told, told, resolved, references-told}
+use Rattle.es_scopes_law.proofs.Referred.{Told, told, references-told}
 use Rattle.es_scopes_law.proofs.Rows.{get-map}
 use Rattle.es_scopes_law.proofs.ScopesAgree.{IsBuilt, carries, reference-given, map-some, some-same}
 use Rattle.es_scopes_law.proofs.Uses.{has_write}
@@ -106,9 +103,11 @@ module _ (t : Tree) (h : IsBuilt t) where
 
   pub carries-reference_of : (r : Reference) → In r (resolve t) → (k : ReferenceId) × CarriesReference (built_table t) t r k
   carries-reference_of r among =
-      let k = reference-numbered r among in
-      (record { 0 = k.0 }, record {
-        carries = k.1.carries_it;
-        there = ap is_some k.1.at;
-        target = ap (λ o. symbol_number (option_and_then (λ x. x.symbol_id) o)) k.1.at ∙ k.1.target;
-      })
+      let k = reference-numbered r among in (
+        record { 0 = k.0 },
+        record {
+          carries = k.1.carries_it;
+          there = ap is_some k.1.at;
+          target = ap (λ o. symbol_number (option_and_then (λ x. x.symbol_id) o)) k.1.at ∙ k.1.target;
+        },
+      )

@@ -1,9 +1,9 @@
 -- Each reference of a tree has an entry, and means there what `resolve` gives.
-use Rattle.std.proofs.Common.{◌≡◌, refl, sym, ap, subst, ◌∙◌, ℕ, zero, suc, ◌+◌, ◌<◌, ◌≤◌, List, [], ◌∷◌, ◌++◌, append_assoc, map, length, nat_eq, Bool, true, false, true≢false, cond, ◌&&◌, ◌||◌, not, Option, Some, None, arith}
-use Rattle.std.specs.Prelude.{option_map, option_to_list, slice_get, codes}
+use Rattle.std.proofs.Common.{◌≡◌, refl, sym, ap, subst, ◌∙◌, ℕ, suc, ◌+◌, List, [], ◌∷◌, ◌++◌, append_assoc, map, length, Bool, true, false, true≢false, cond, ◌&&◌, not, Option, Some, None, arith}
+use Rattle.std.specs.Prelude.{option_to_list, slice_get, codes}
 use Rattle.std.specs.Option.{option_and_then}
 use Rattle.std.proofs.lemmas.Bool.{and_parts}
-use Rattle.std.proofs.lemmas.List.{append-nil, map-append, length-append}
+use Rattle.std.proofs.lemmas.List.{append-nil, map-append}
 use Rattle.es_base.specs.Carried.{symbol_number}
 use Rattle.es_base.specs.Conforms.{conforms, parts_conform, part_conforms, items_conform, item_conforms, place_rule, kind_rule, boolean_at, is_target_place, key_place}
 use Rattle.es_base.specs.Table.{Field, members_of, stands_in}
@@ -30,9 +30,9 @@ use Rattle.es_scopes.proofs.EachScope.{count-part, Bodies, first-body, rest-bodi
 use Rattle.es_scopes.proofs.OrderLemmas.{Within, Counts, inside-within, within-le, entered-counts, part-counts, more_in_part}
 use Rattle.es_scopes_law.proofs.Around.{Extends, extends-trans, parts-extends, items-extend, entered-here, get-left, counts-nothing, within-nowhere}
 use Rattle.es_scopes_law.proofs.Resolved.{Means, means-part}
-use Rattle.es_scopes_law.proofs.Rows.{ScopeOf, scopes_among, among-append}
+use Rattle.es_scopes_law.proofs.Rows.{scopes_among, among-append}
 use Rattle.es_scopes_law.proofs.ScopesAgree.{IsBuilt}
-use Rattle.es_scopes_law.proofs.Uses.{has_write, is_write_place, write-target, fits_place, fits_use, fits_uses, use-place, uses-fit, is_list, no_list_bodies, bodies-fit, body-same}
+use Rattle.es_scopes_law.proofs.Uses.{has_write, is_write_place, write-target, fits_use, fits_uses, use-place, uses-fit, is_list, no_list_bodies, bodies-fit, body-same}
 use Rattle.es_steps.specs.Parts.{at, string_of}
 use Rattle.es_steps.specs.References as steps
 use Rattle.es_steps.specs.References.{Reference, referent, reference, is_reference, is_target, references, references_in, part_references, item_references, resolve}
@@ -204,9 +204,9 @@ module _ (t : Tree) (h : IsBuilt t) where
         both.1 fits.1 no_lists.1 (part-counts (f i) c p counts (within i)) (λ j. within-le c.next inner.next (f j) (more_in_part (f i) c p) (within j)) ext
         (reaches-right t c.next inner.next (opened_part (bs 0) p) (opened_parts (λ j. bs (suc j)) ps) (count-part (f i) c p ∙ ap (λ b. c.next + length (opened_part b p)) (sym is_body)) reach)
         ∙ ap (λ (l : List Told). l ++ resolved t (references_in (λ j. N (suc j)) (λ j. bs (suc j)) fs ps))
-            (refs-part (f i) c computed g.sort (N 0) p both.0 means_here (ap (λ (u : ℕ). fits_use g.sort (has_write u)) (sym used) ∙ fits.0) (ap (λ b. not (is_list g.sort && b)) (sym is_body) ∙ no_lists.0) counts (within i) (extends-trans _ _ _ (parts-extends f (i + 1) inner ps) ext)
-            (subst (λ (b : Bool). Reaches t c.next (opened_part b p)) is_body (reaches-left t c.next (opened_part (bs 0) p) (opened_parts (λ j. bs (suc j)) ps) reach))
-            ∙ ap (λ (b : Bool). told D c.entries ++ resolved t (part_references (N 0) (is_target g.sort) b p)) (sym is_body))
+        (refs-part (f i) c computed g.sort (N 0) p both.0 means_here (ap (λ (u : ℕ). fits_use g.sort (has_write u)) (sym used) ∙ fits.0) (ap (λ b. not (is_list g.sort && b)) (sym is_body) ∙ no_lists.0) counts (within i) (extends-trans _ _ _ (parts-extends f (i + 1) inner ps) ext)
+        (subst (λ (b : Bool). Reaches t c.next (opened_part b p)) is_body (reaches-left t c.next (opened_part (bs 0) p) (opened_parts (λ j. bs (suc j)) ps) reach))
+        ∙ ap (λ (b : Bool). told D c.entries ++ resolved t (part_references (N 0) (is_target g.sort) b p)) (sym is_body))
         ∙ joined (told D c.entries) (resolved t (part_references (N 0) (is_target g.sort) (bs 0) p)) (resolved t (references_in (λ j. N (suc j)) (λ j. bs (suc j)) fs ps))
         ∙ ap (λ (l : List Told). told D c.entries ++ l) (sym (resolved-append t (part_references (N 0) (is_target g.sort) (bs 0) p) (references_in (λ j. N (suc j)) (λ j. bs (suc j)) fs ps)))
 
@@ -240,8 +240,8 @@ module _ (t : Tree) (h : IsBuilt t) where
         refs-items s inner holes place names ps others means used no_body (part-counts s c p counts within) (within-le c.next inner.next s (more_in_part s c p) within) ext
         (reaches-right t c.next inner.next (opened_part s.is_body p) (opened_items s.is_body ps) (count-part s c p) reach)
         ∙ ap (λ (l : List Told). l ++ resolved t (item_references names (is_target_place place) ps))
-            (refs-item s c holes place names p both.0 means used counts within (extends-trans _ _ _ (items-extend s inner ps) ext) (reaches-left t c.next (opened_part s.is_body p) (opened_items s.is_body ps) reach)
-            ∙ ap (λ (b : Bool). told D c.entries ++ resolved t (part_references names (is_target_place place) b p)) no_body)
+        (refs-item s c holes place names p both.0 means used counts within (extends-trans _ _ _ (items-extend s inner ps) ext) (reaches-left t c.next (opened_part s.is_body p) (opened_items s.is_body ps) reach)
+        ∙ ap (λ (b : Bool). told D c.entries ++ resolved t (part_references names (is_target_place place) b p)) no_body)
         ∙ joined (told D c.entries) (resolved t (part_references names (is_target_place place) false p)) (resolved t (item_references names (is_target_place place) ps))
         ∙ ap (λ (l : List Told). told D c.entries ++ l) (sym (resolved-append t (part_references names (is_target_place place) false p) (item_references names (is_target_place place) ps)))
 

@@ -1,53 +1,39 @@
 -- What references mean: by the scopes of a built table, and by the names that `es_steps` sees at their places.
-use Rattle.std.proofs.Common.{◌≡◌, refl, sym, ap, subst, ◌∙◌, ℕ, zero, suc, ◌+◌, ◌<◌, ◌≤◌, ◌⊎◌, inl, inr, List, [], ◌∷◌, ◌++◌, append_assoc, map, length, nat_eq, Bool, true, false, true≢false, cond, ◌&&◌, ◌||◌, not, Option, Some, None, arith}
-use Rattle.std.specs.Prelude.{option_map, option_to_list, slice_get, is_some, bytes_eq, codes}
+use Rattle.std.proofs.Common.{◌≡◌, refl, sym, ap, subst, ◌∙◌, ℕ, inl, inr, List, [], ◌∷◌, ◌++◌, length, nat_eq, Bool, true, false, true≢false, cond, ◌&&◌, ◌||◌, not, Option, Some, None}
+use Rattle.std.specs.Prelude.{slice_get, is_some, bytes_eq}
 use Rattle.std.specs.Option.{option_and_then}
 use Rattle.std.proofs.lemmas.Bool.{and_parts}
-use Rattle.std.proofs.lemmas.List.{append-nil, map-append, length-append}
+use Rattle.std.proofs.lemmas.List.{append-nil}
 use Rattle.std.proofs.lemmas.Slice.Eq.{bytes_eq-Decides}
 use Rattle.es_base.specs.Carried.{symbol_number}
-use Rattle.es_base.specs.Conforms.{conforms, parts_conform, part_conforms, items_conform, item_conforms, place_rule, kind_rule, boolean_at, is_target_place, key_place}
-use Rattle.es_base.specs.Table.{Field, members_of, stands_in}
-use Rattle.es_base.specs.Tree.{Tree, Part, Parts, Node, end, more, child, absent, list, string, no_string, boolean, literal}
+use Rattle.es_base.specs.Tree.{Tree, Parts, Node}
 use Rattle.es_base.specs.declared.ids.ScopeId.{ScopeId}
 use Rattle.es_base.specs.declared.ids.SymbolId.{SymbolId}
 use Rattle.es_base.specs.declared.kind.Kind.{Kind}
-use Rattle.es_base.specs.declared.table.Place.{Place}
-use Rattle.es_base.specs.declared.table.Sort.{Sort}
-use Rattle.es_scopes.specs.Agreement.{carried, meant_symbol, names_of_node, own_name}
+use Rattle.es_scopes.specs.Agreement.{carried, names_of_node, own_name}
 use Rattle.es_scopes.specs.Bindings.{lookup}
-use Rattle.es_scopes.specs.Built.{built_table}
-use Rattle.es_scopes.specs.Entries.{Collected, binding, entry_of, entered, collected, collected_parts, collected_part, collected_items, nothing_yet, entries_of}
+use Rattle.es_scopes.specs.Entries.{entries_of}
 use Rattle.es_scopes.specs.Held.{parameter_names, other_names}
-use Rattle.es_scopes.specs.NodeReferences.{use_in}
-use Rattle.es_scopes.specs.NodeScopes.{opens, has_scope, is_strict, scope_flags, is_body_place, is_outside}
-use Rattle.es_scopes.specs.Opened.{opens_at, opened, opened_parts, opened_part, opened_items}
-use Rattle.es_scopes.specs.Surroundings.{scope_place, inside, is_in_own, is_parameter_place, nowhere}
-use Rattle.es_scopes.specs.Table.{Table, IsTable, row_at, names_of_row, get_binding, or_else, or_none, parents, chain, scope_ancestors, HasScope}
+use Rattle.es_scopes.specs.NodeScopes.{is_outside}
+use Rattle.es_scopes.specs.Opened.{opens_at, opened}
+use Rattle.es_scopes.specs.Surroundings.{is_in_own, is_parameter_place}
+use Rattle.es_scopes.specs.Table.{row_at, names_of_row, get_binding, or_else, or_none, parents, chain}
 use Rattle.es_scopes.specs.Tables.{declared, none_declared, visible, is_in_parameters, first_seen, meant}
 use Rattle.es_scopes.specs.declared.declare.Declarations.{Declarations}
-use Rattle.es_scopes.specs.declared.entry.Entry.{Entry}
-use Rattle.es_scopes.specs.declared.entry.Entry.TheVariants as entry
-use Rattle.es_scopes.specs.declared.flags.ScopeFlags.{ScopeFlags}
-use Rattle.es_scopes.specs.declared.surroundings.Declares.{Declares}
-use Rattle.es_scopes.specs.declared.surroundings.Declares.TheVariants as declares
 use Rattle.es_scopes.specs.declared.surroundings.Surroundings.{Surroundings}
 use Rattle.es_scopes.specs.declared.table.Scope.{Scope}
-use Rattle.es_scopes.proofs.EachScope.{count-tree, count-part, Bodies, first-body, rest-bodies, opens-same, one-node}
+use Rattle.es_scopes.proofs.EachScope.{opens-same}
 use Rattle.es_scopes.proofs.HeldTable.{names-built, names-by}
-use Rattle.es_scopes.proofs.OrderLemmas.{Within, Counts, inside-within, within-le, entered-counts, part-counts, more_in_part}
 use Rattle.es_scopes.proofs.TreeLemmas.{chain-parent}
-use Rattle.es_scopes_law.proofs.Around.{Extends, extends-trans, parts-extends, items-extend, tree-extends, entered-extends, entered-here, get-left, counts-nothing, within-nowhere}
 use Rattle.es_scopes_law.proofs.Held.{declared-table, visible-some}
 use Rattle.es_scopes_law.proofs.Lists.{In, in-left, in-right, in-cases}
-use Rattle.es_scopes_law.proofs.Rows.{ScopeOf, scopes_among, among-append, scope-parent, scope-place, scope-known, get-below}
-use Rattle.es_scopes_law.proofs.ScopesAgree.{IsBuilt, rows, carries-name, some-same}
+use Rattle.es_scopes_law.proofs.Rows.{ScopeOf, scopes_among, scope-parent, scope-place, scope-known, get-below}
+use Rattle.es_scopes_law.proofs.ScopesAgree.{IsBuilt, rows, carries-name}
 use Rattle.es_scopes_law.proofs.Seen.{seen-from-parameters}
-use Rattle.es_scopes_law.proofs.Uses.{has_write, is_write_place, write-target, fits_place, fits_use, fits_uses, use-place, uses-fit, is_list, no_list_bodies, bodies-fit, body-same}
-use Rattle.es_steps.specs.Parts.{at, string_of}
+use Rattle.es_steps.specs.Parts.{at}
 use Rattle.es_steps.specs.References as steps
 use Rattle.es_steps.specs.References.{Reference, is_declared, referent, reference, is_reference, is_target, references, references_in, part_references, item_references, resolve}
-use Rattle.es_steps.specs.Scopes.{Declaration, names_at, is_body_part, scope_names, scope_form}
+use Rattle.es_steps.specs.Scopes.{Declaration, names_at, scope_names, scope_form}
 
 -- ---- the names of a node that a part of it sees
 

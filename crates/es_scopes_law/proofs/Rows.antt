@@ -1,23 +1,19 @@
 -- The rows of scopes of a table of entries: the parent of each, and whether it stands in the parameters of its parent.
-use Rattle.std.proofs.Common.{◌≡◌, refl, sym, ap, subst, ◌∙◌, ℕ, zero, suc, ◌+◌, ◌<◌, ◌≤◌, List, [], ◌∷◌, ◌++◌, append_assoc, map, length, Bool, true, false, cond, Option, Some, None, arith}
-use Rattle.std.specs.Prelude.{option_map, slice_get, is_some, unwrap_or}
+use Rattle.std.proofs.Common.{◌≡◌, refl, sym, ap, ◌∙◌, ℕ, zero, suc, ◌+◌, ◌<◌, List, [], ◌∷◌, ◌++◌, append_assoc, map, length, Bool, false, Option, Some, None, arith}
+use Rattle.std.specs.Prelude.{option_map, slice_get, unwrap_or}
 use Rattle.std.specs.Option.{option_and_then, ForSome}
-use Rattle.std.proofs.lemmas.List.{map-append, append-nil, length-append}
-use Rattle.es_base.specs.Tree.{Tree}
+use Rattle.std.proofs.lemmas.List.{map-append, append-nil}
 use Rattle.es_base.specs.declared.ids.ScopeId.{ScopeId}
 use Rattle.es_base.specs.declared.ids.SymbolId.{SymbolId}
-use Rattle.es_scopes.specs.Built.{built_table}
-use Rattle.es_scopes.specs.Entries.{entries_of}
-use Rattle.es_scopes.specs.Table.{Table, changed_at, row_at, parents, parent_of, get_binding, holding, new_scope, HasScope}
-use Rattle.es_scopes.specs.Tables.{marked_if, bound_where, declare, declared, none_declared, numbered, is_in_parameters, scope_count, scopes_in, Fits, AreOrdered, IsWhole}
+use Rattle.es_scopes.specs.Table.{changed_at, parents, get_binding, holding, new_scope, HasScope}
+use Rattle.es_scopes.specs.Tables.{bound_where, declare, declared, none_declared, is_in_parameters, scopes_in, AreOrdered}
 use Rattle.es_scopes.specs.declared.declare.Declarations.{Declarations}
 use Rattle.es_scopes.specs.declared.entry.Entry.{Entry}
 use Rattle.es_scopes.specs.declared.entry.Entry.TheVariants as entry
 use Rattle.es_scopes.specs.declared.flags.SymbolFlags.{SymbolFlags}
 use Rattle.es_scopes.specs.declared.surroundings.Declarer.{Declarer}
 use Rattle.es_scopes.specs.declared.table.Scope.{Scope}
-use Rattle.es_scopes.proofs.OrderLemmas.{entries-ordered}
-use Rattle.es_scopes.proofs.TableShown.{marked-rows, again-rows, numbered-rows}
+use Rattle.es_scopes.proofs.TableShown.{marked-rows, again-rows}
 use Rattle.es_scopes.proofs.TableSteps.{IsWhole-declared, scopes-declared}
 
 -- the scope of an entry

@@ -1,6 +1,6 @@
 -- In a tree that carries the numbers of its table, scopes agree: their parents, their names, and the symbols of these.
-use Rattle.std.proofs.Common.{◌≡◌, refl, sym, ap, subst, ◌∙◌, ℕ, zero, suc, ◌+◌, ◌<◌, ◌≤◌, ◌⊎◌, inl, inr, List, [], ◌∷◌, ◌++◌, map, length, Bool, true, false, true≢false, cond, Option, Some, None, arith}
-use Rattle.std.specs.Prelude.{option_map, slice_get, is_some, Contains}
+use Rattle.std.proofs.Common.{◌≡◌, refl, sym, ap, subst, ◌∙◌, ℕ, zero, suc, ◌+◌, inl, inr, List, [], ◌∷◌, Bool, true, false, Option, Some, None, arith}
+use Rattle.std.specs.Prelude.{option_map, slice_get, is_some}
 use Rattle.std.specs.Option.{option_and_then}
 use Rattle.es_base.specs.Carried.{scope_number, symbol_number}
 use Rattle.es_base.specs.Conforms.{conforms}
@@ -15,12 +15,12 @@ use Rattle.es_scopes.specs.Agreement.{carried, names_held, names_of_node, Carrie
 use Rattle.es_scopes.specs.Built.{built_table}
 use Rattle.es_scopes.specs.Entries.{entries_of}
 use Rattle.es_scopes.specs.NodeBindings.{NodeBinding, bindings_of}
-use Rattle.es_scopes.specs.NodeReferences.{NodeReference, references_of}
+use Rattle.es_scopes.specs.NodeReferences.{NodeReference}
 use Rattle.es_scopes.specs.NodeScopes.{NodeScope, scopes_of}
 use Rattle.es_scopes.specs.Opened.{opened}
 use Rattle.es_scopes.specs.Shown.{bindings_in, references_in}
-use Rattle.es_scopes.specs.Table.{Table, IsTable, HasScope, HasSymbol, row_at, parent_of, parents, get_binding}
-use Rattle.es_scopes.specs.Tables.{held_symbol, declared, none_declared, AreOrdered}
+use Rattle.es_scopes.specs.Table.{Table, HasScope, HasSymbol, row_at, parent_of, parents, get_binding}
+use Rattle.es_scopes.specs.Tables.{held_symbol, declared, none_declared}
 use Rattle.es_scopes.specs.declared.entry.Entry.{Entry}
 use Rattle.es_scopes.specs.declared.entry.Entry.TheVariants as entry
 use Rattle.es_scopes.specs.declared.flags.SymbolFlags.{SymbolFlags}
@@ -31,10 +31,10 @@ use Rattle.es_scopes.proofs.HeldTable.{names-built}
 use Rattle.es_scopes.proofs.NameLemmas.{symbol-there}
 use Rattle.es_scopes.proofs.OrderLemmas.{entries-ordered}
 use Rattle.es_scopes.proofs.TableShown.{numbered-rows}
-use Rattle.es_scopes_law.proofs.Around.{shown, wanted, scope_node, around-program, opened-scopes}
+use Rattle.es_scopes_law.proofs.Around.{scope_node, around-program, opened-scopes}
 use Rattle.es_scopes_law.proofs.Borne.{given, bearing, carried-bearing}
 use Rattle.es_scopes_law.proofs.Held.{built-table}
-use Rattle.es_scopes_law.proofs.Holders.{Declared, names-declared, opened-preorder, names-node}
+use Rattle.es_scopes_law.proofs.Holders.{names-declared, opened-preorder, names-node}
 use Rattle.es_scopes_law.proofs.Lists.{In, in-at, at-in, in-Contains}
 use Rattle.es_scopes_law.proofs.Rows.{ScopeOf, scopes_among, get-map, get-some, get-below, scope-parent, scope-known, parent-before}
 use Rattle.es_steps.specs.References.{is_declared}
@@ -176,14 +176,16 @@ module _ (t : Tree) (h : IsBuilt t) where
   pub carries-scope_of : (x : NodeScope) → In x (scopes_of t) → (s : ScopeId) × CarriesScope (built_table t) t x s
   carries-scope_of x among =
       let k = scope-numbered x among in
-      let s : ScopeId = record { 0 = k.number } in
-      (s, record {
-        carries = ap (carried t) (sym k.node) ∙ carries-scope k.number k.entry k.at;
-        there = there-scope k.number k.entry k.at;
-        parent = ap scope_number (parent-is k.number k.entry k.at) ∙ parent-around k.number k.entry k.at k.entry.parent refl ∙ ap (option_and_then (carried t)) k.around;
-        names = λ name. names-built t k.tree k.number name h.conforming k.opens ∙ ap (is_declared name) (sym (names-of x k));
-        symbols = λ d held. carries-name k.number k.tree d k.opens (subst (In d) (names-of x k) (in-Contains d (names_held t x.node) held));
-      })
+      let s : ScopeId = record { 0 = k.number } in (
+        s,
+        record {
+          carries = ap (carried t) (sym k.node) ∙ carries-scope k.number k.entry k.at;
+          there = there-scope k.number k.entry k.at;
+          parent = ap scope_number (parent-is k.number k.entry k.at) ∙ parent-around k.number k.entry k.at k.entry.parent refl ∙ ap (option_and_then (carried t)) k.around;
+          names = λ name. names-built t k.tree k.number name h.conforming k.opens ∙ ap (is_declared name) (sym (names-of x k));
+          symbols = λ d held. carries-name k.number k.tree d k.opens (subst (In d) (names-of x k) (in-Contains d (names_held t x.node) held));
+        },
+      )
 
   -- each scope is of one node
   pub scopes-apart : (x y : NodeScope) → In x (scopes_of t) → In y (scopes_of t) → carried t x.node ≡ carried t y.node → x.node ≡ y.node

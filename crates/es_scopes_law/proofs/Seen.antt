@@ -1,10 +1,9 @@
 -- Which names of a scope are seen from the parameters of its function: the parameters, and the own name of the function.
-use Rattle.std.proofs.Common.{◌≡◌, refl, sym, ap, subst, ◌∙◌, ℕ, zero, suc, ◌+◌, ◌<◌, List, [], ◌∷◌, ◌++◌, length, nat_eq, Bool, true, false, true≢false, cond, ◌&&◌, ◌||◌, not, Option, Some, None, arith}
+use Rattle.std.proofs.Common.{◌≡◌, refl, sym, ap, subst, ◌∙◌, ℕ, zero, suc, ◌+◌, List, [], ◌∷◌, ◌++◌, length, nat_eq, Bool, true, false, cond, ◌&&◌, ◌||◌, not, Option, Some, None, arith}
 use Rattle.std.specs.Prelude.{slice_get, is_some, bytes_eq}
 use Rattle.es_base.specs.Conforms.{conforms}
 use Rattle.es_base.specs.Preorder.{one_if}
 use Rattle.es_base.specs.Tree.{Tree, Parts, Node}
-use Rattle.es_base.specs.declared.ids.ScopeId.{ScopeId}
 use Rattle.es_base.specs.declared.ids.SymbolId.{SymbolId}
 use Rattle.es_base.specs.declared.kind.Kind.{Kind}
 use Rattle.es_base.specs.declared.table.Place.{Place}
@@ -13,7 +12,7 @@ use Rattle.es_scopes.specs.Entries.{entries_of}
 use Rattle.es_scopes.specs.Held.{weight, node_weight, parameter_names, other_names, held_weight}
 use Rattle.es_scopes.specs.Opened.{opened}
 use Rattle.es_scopes.specs.Table.{get_binding}
-use Rattle.es_scopes.specs.Tables.{joined, declare, declared, none_declared, visible, is_other, is_own_name, declarer_at, Fits, AreOrdered}
+use Rattle.es_scopes.specs.Tables.{joined, declare, declared, none_declared, visible, is_other, declarer_at, AreOrdered}
 use Rattle.es_scopes.specs.declared.declare.Declarations.{Declarations}
 use Rattle.es_scopes.specs.declared.entry.Entry.{Entry}
 use Rattle.es_scopes.specs.declared.entry.Entry.TheVariants as entry
@@ -22,7 +21,7 @@ use Rattle.es_scopes.specs.declared.surroundings.Declarer.TheVariants as declare
 use Rattle.es_scopes.proofs.EachScope.{each-program}
 use Rattle.es_scopes.proofs.OrderLemmas.{entries-ordered}
 use Rattle.es_scopes.proofs.TableSteps.{scopes-declare}
-use Rattle.es_scopes_law.proofs.Declarers.{Made, made-declare, is_at, entry_is, of_name, of_symbol, who_is, who-declare}
+use Rattle.es_scopes_law.proofs.Declarers.{Made, made-declare, entry_is, of_name, of_symbol, who_is, who-declare}
 use Rattle.es_scopes_law.proofs.Held.{none-table}
 use Rattle.es_steps.specs.References.{is_declared}
 use Rattle.es_steps.specs.Scopes.{Declaration}

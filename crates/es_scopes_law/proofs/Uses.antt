@@ -1,5 +1,5 @@
 -- A name that stands where something is assigned to is used so, and no other.
-use Rattle.std.proofs.Common.{◌≡◌, refl, sym, ap, ◌∙◌, ℕ, suc, List, [], ◌∷◌, Bool, true, false, true≢false, cond, ◌&&◌, not, nat_eq, Option}
+use Rattle.std.proofs.Common.{◌≡◌, refl, sym, ap, ◌∙◌, ℕ, suc, List, [], ◌∷◌, Bool, true, false, true≢false, cond, ◌&&◌, not}
 use Rattle.std.specs.Prelude.{◌==◌, codes, bytes_eq}
 use Rattle.std.specs.Int.RustNames.{bit_and}
 use Rattle.es_base.specs.Conforms.{is_target_place}
