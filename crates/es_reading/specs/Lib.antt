@@ -7,3 +7,4 @@ pub mod Members
 pub mod Reading
 pub mod Told
 pub mod Unlisted
+pub mod Value

@@ -1,6 +1,6 @@
 // The output for the bytes of a source: the lowered tree, or why there is none.
 
-ghost use Rattle.std.specs.Prelude.{◌≡◌, ◌≤◌, ◌<◌, ◌+◌, ◌^◌, IfOk, IfErr, Ok, [], length, true, false};
+ghost use Rattle.std.specs.Prelude.{◌≡◌, ◌≤◌, ◌<◌, ◌+◌, ◌^◌, IfOk, IfErr, Ok, [], length, true};
 ghost use Rattle.es_base.specs.Conforms.{conforms};
 ghost use Rattle.es_base.specs.Preorder.{numbered_from};
 ghost use Rattle.es_base.specs.declared.kind.Kind.{Kind};
@@ -9,13 +9,13 @@ ghost use Rattle.es_node.specs.View.{kind_of};
 ghost use Rattle.es_writing.specs.Kept.{IsKept};
 ghost use Rattle.es_writing.specs.Lowered.{write_lowered};
 ghost use Rattle.es_reading.specs.Reading.{read, root};
+ghost use Rattle.es_reading.specs.Value.{view};
 ghost use Rattle.es_reading.specs.Told.{Tells, ids, values};
 ghost use Rattle.es_reading.specs.declared.numbers.Numbers.{Numbers};
 ghost use Rattle.es_steps.specs.FirstForm.{is_first_form};
-ghost use Rattle.lower_run.specs.Lines.{line, json_line};
+ghost use Rattle.lower_run.specs.Lines.{line};
 ghost use Rattle.lower_run.specs.Outcome.{IsOutputOfBytes, IsOutputOfValue, IsOutputOfTree, IsLineOf, IsOfForm, IsRefused, most_bytes};
 ghost use Rattle.lower_run.specs.Arguments.{options_for, lowered_by};
-ghost use Rattle.serde_json.specs.View.{view};
 ghost use Rattle.serde_json.specs.Written.{compact_text};
 
 use crate::arguments::Lowering;
@@ -30,10 +30,12 @@ use es_base::list::List;
 use es_node::node::Node;
 use es_reading::fault::ReadError;
 use es_reading::numbers::Numbers;
+use es_reading::parse::{ParseError, parse};
 use es_reading::tree::read_tree;
+use es_reading::value::Value;
 use es_steps::error::LowerError;
 use es_writing::program::lowered_text;
-use serde_json::Value;
+use json::Scratch;
 use std::alloc::{AllocError, Global};
 use std::mem::forget;
 
@@ -43,24 +45,16 @@ pub fn answer(alloc: Global, lowering: Lowering, bytes: &[u8]) -> Result<Output,
     requires { length bytes.now ≤ most_bytes }
     ensures { IfOk result (λ s. IsOutputOfBytes (options_for lowering) bytes.now s.status (s.text.items)) }
 {
-    match Value::from_slice(alloc, bytes) {
+    let mut scratch = Scratch::new(alloc);
+    match parse(alloc, bytes, &mut scratch) {
         Ok(value) => of_value(alloc, lowering, value),
-        Err(error) => of_error(alloc, error.is_memory()),
+        Err(ParseError::Invalid) => output_with(alloc, Status::NotATree, "not a tree: json\n"),
+        Err(ParseError::NoMemory) => Err(AllocError),
     }
-}
-
-/// That the bytes are no JSON, unless there was not enough memory to know.
-fn of_error(alloc: Global, is_memory: bool) -> Result<Output, AllocError>
-    ensures { IfOk result (λ s. (is_memory ≡ false) × ((s.status ≡ Status.NotATree) × (s.text.items ≡ json_line))) }
-{
-    if is_memory {
-        return Err(AllocError);
-    }
-    output_with(alloc, Status::NotATree, "not a tree: json\n")
 }
 
 /// The output for a value.
-fn of_value(alloc: Global, lowering: Lowering, value: Value) -> Result<Output, AllocError>
+fn of_value(alloc: Global, lowering: Lowering, value: Value<'_>) -> Result<Output, AllocError>
     requires { values (view value) + 1 < 2 ^ 32 }
     ensures { IfOk result (λ s. IsOutputOfValue (options_for lowering) (view value) s.status (s.text.items)) }
 {
@@ -72,7 +66,7 @@ fn of_value(alloc: Global, lowering: Lowering, value: Value) -> Result<Output, A
 
 /// The program that a value is, and the numbers of its nodes that have members outside the table. The
 /// value, which takes most of the memory, is let go.
-fn tree_of(alloc: Global, value: Value) -> Result<(Node, List<NodeId>), ReadError>
+fn tree_of(alloc: Global, value: Value<'_>) -> Result<(Node, List<NodeId>), ReadError>
     requires { values (view value) + 1 < 2 ^ 32 }
     ensures ok { IfOk result (λ r. read Numbers.Preorder (view value) root 0 ≡ Ok (record { value = r.0; foreign = ids r.1 })) }
     ensures conforms { IfOk result (λ r. conforms Place.Program r.0 ≡ true) }
