@@ -12,7 +12,7 @@ ghost use Rattle.serde_json.specs.View.{view};
 
 use es_reading::fault::ReadError;
 use es_reading::numbers::Numbers;
-use es_reading::owned::borrowed;
+use borrowed_json::owned::borrowed;
 use es_reading::tree::read_tree;
 use es_tree::program::Program;
 use serde_json::Value;

@@ -7,8 +7,8 @@ use Rattle.serde_json.specs.Find.{get, get_member, as_array}
 use Rattle.serde_json.specs.View.{view as owned_view, members_view as owned_members, items_of}
 use Rattle.serde_json.proofs.Views.{Entry}
 use Rattle.es_reading.specs.Look.{array_at}
-use Rattle.es_reading.specs.Value.{Keyed, members_view, view}
-use Rattle.es_reading.specs.declared.value.Value.{Value}
+use Rattle.borrowed_json.specs.View.{Keyed, members_view, view}
+use Rattle.borrowed_json.specs.declared.value.Value.{Value}
 
 -- an item of a list, of values of either type
 pub item_depth : {X : Type 0} (see : X → Data) (vs : List X) (i : ℕ) (v : X) → i < length vs → v ≡ get_or vs i v → depth (see v) ≤ items_depth (items_of (map see vs))

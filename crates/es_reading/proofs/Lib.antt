@@ -7,8 +7,6 @@ pub mod Depths
 pub mod Given
 pub mod Named
 pub mod Ordered
-pub mod Borrowing
-pub mod Parsing
 pub mod Parted
 pub mod Ruled
 pub mod Standing

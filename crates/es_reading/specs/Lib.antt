@@ -7,4 +7,3 @@ pub mod Members
 pub mod Reading
 pub mod Told
 pub mod Unlisted
-pub mod Value

@@ -2,14 +2,14 @@
 
 ghost use Rattle.std.specs.Prelude.{◌≡◌};
 ghost use Rattle.es_reading.specs.Kinds.{is_named, has_private_property, is_private_in, may_be_target, may_be_literal, may_be_reference, may_be_name, suits, may_stand, kind_in, kind_among};
-ghost use Rattle.es_reading.specs.Value.{view};
+ghost use Rattle.borrowed_json.specs.View.{view};
 
 use crate::fault::What;
 use crate::lengths::kinds_of_length;
 use crate::literal::may_be_key;
 use crate::look::{is_node_at, is_string_at, is_true_at};
 use crate::spot::Spot;
-use crate::value::Value;
+use borrowed_json::value::Value;
 use es_base::kind::Kind;
 use es_base::places::is_target_place;
 use es_base::strings::is_foreign_name;

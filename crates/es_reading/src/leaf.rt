@@ -12,11 +12,11 @@ ghost use Rattle.es_reading.specs.Members.{is_of_sort};
 ghost use Rattle.es_reading.specs.Reading.{leaf_of, literal_part};
 ghost use Rattle.es_reading.specs.Unlisted.{holds_nodes};
 ghost use Rattle.serde_json.specs.Find.{get};
-ghost use Rattle.es_reading.specs.Value.{view};
+ghost use Rattle.borrowed_json.specs.View.{view};
 
 use crate::literal::{form_in, value_of};
 use crate::look::{is_true_at, string_at};
-use crate::value::Value;
+use borrowed_json::value::Value;
 use es_base::name::Name;
 use es_base::strings::word_of;
 use es_base::table::{Sort, Words};

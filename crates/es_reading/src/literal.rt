@@ -4,11 +4,11 @@ ghost use Rattle.std.specs.Prelude.{◌≡◌, IfOk, codes, option_map};
 ghost use Rattle.es_reading.specs.Forms.{form_of};
 ghost use Rattle.es_reading.specs.Literals.{regexp_in, bigint_in, string_in, boolean_in, by_raw, by_value, null_or_number_in, is_whole_or_absent, form_in, value_of, may_be_key, is_key_form};
 ghost use Rattle.serde_json.specs.Find.{get};
-ghost use Rattle.es_reading.specs.Value.{view};
+ghost use Rattle.borrowed_json.specs.View.{view};
 
 use crate::look::{boolean_at, string_at};
 use crate::strings::nullable_name;
-use crate::value::Value;
+use borrowed_json::value::Value;
 use es_base::literal::LiteralValue;
 use es_base::name::Name;
 use es_base::strings::is_number_string;

@@ -4,9 +4,9 @@ ghost use Rattle.std.specs.Prelude.{◌≡◌, Some, option_map, is_some, true};
 ghost use Rattle.es_base.specs.Carried.{span_of};
 ghost use Rattle.es_reading.specs.Look.{string_at, boolean_at, array_at, is_this, is_string_at, type_at, is_node_at, is_true_at, is_null, is_there, u32_at, span_at};
 ghost use Rattle.serde_json.specs.Find.{get};
-ghost use Rattle.es_reading.specs.Value.{view, items_view};
+ghost use Rattle.borrowed_json.specs.View.{view, items_view};
 
-use crate::value::Value;
+use borrowed_json::value::Value;
 use es_base::ids::Span;
 
 /// The string at a member.

@@ -5,12 +5,12 @@ ghost use Rattle.es_base.specs.Table.{field_of, words_of};
 ghost use Rattle.es_base.specs.declared.table.Place.{Place};
 ghost use Rattle.es_base.specs.declared.table.Sort.{Sort};
 ghost use Rattle.es_reading.specs.Members.{is_word, is_false, is_of_sort, are_of_sorts, counts_agree, are_good, is_one_more, count_at};
-ghost use Rattle.es_reading.specs.Value.{view};
+ghost use Rattle.borrowed_json.specs.View.{view};
 
 use crate::literal::form_in;
 use crate::look::{array_at, boolean_at, string_at};
 use crate::strings::is_empty_string;
-use crate::value::Value;
+use borrowed_json::value::Value;
 use es_base::kind::Kind;
 use es_base::strings::word_of;
 use es_base::table::{Member, Sort, Words, members};

@@ -12,7 +12,7 @@ ghost use Rattle.es_reading.specs.Members.{are_good, are_of_sorts, is_of_sort};
 ghost use Rattle.es_reading.specs.Unlisted.{is_foreign_node};
 ghost use Rattle.es_reading.specs.Told.{Tells, Gives, child_in, ids, list_in, member_in, nullable_in, row_in, values, values_there, values_at};
 ghost use Rattle.serde_json.specs.Find.{get};
-ghost use Rattle.es_reading.specs.Value.{view};
+ghost use Rattle.borrowed_json.specs.View.{view};
 
 use crate::fault::{ReadError, What};
 use crate::kinds::kind_in;
@@ -24,7 +24,7 @@ use crate::members::are_good;
 use crate::numbers::Numbers;
 use crate::spot::{Parent, Slots, Spot};
 use crate::unlisted::{floats_of, is_foreign_node};
-use crate::value::Value;
+use borrowed_json::value::Value;
 use es_base::ids::NodeId;
 use es_base::kind::Kind;
 use es_base::list::List;

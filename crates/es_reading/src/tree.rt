@@ -7,13 +7,13 @@ ghost use Rattle.es_base.specs.declared.table.Place.{Place};
 ghost use Rattle.es_reading.specs.declared.numbers.Numbers.{Numbers};
 ghost use Rattle.es_reading.specs.Reading.{read, root};
 ghost use Rattle.es_reading.specs.Told.{Tells, ids, values};
-ghost use Rattle.es_reading.specs.Value.{view};
+ghost use Rattle.borrowed_json.specs.View.{view};
 
 use crate::fault::ReadError;
 use crate::numbers::Numbers;
 use crate::read::{Reader, read_node};
 use crate::spot::Spot;
-use crate::value::Value;
+use borrowed_json::value::Value;
 use es_base::ids::NodeId;
 use es_base::list::List;
 use es_base::table::Place;

@@ -5,11 +5,11 @@ ghost use Rattle.std.specs.Str.{chars};
 ghost use Rattle.es_base.specs.Conforms.{is_among, begins_with};
 ghost use Rattle.es_base.specs.Table.{field_of, members_of};
 ghost use Rattle.es_reading.specs.Unlisted.{holds_nodes, is_node_member, floats_in, floats_of, is_field, is_listed, is_foreign_type, is_foreign_object, any_foreign, is_foreign_value, foreign_among, foreign_of, has_options, is_foreign_node};
-ghost use Rattle.es_reading.specs.Value.{view, items_view, members_view};
+ghost use Rattle.borrowed_json.specs.View.{view, items_view, members_view};
 ghost use Rattle.serde_json.specs.Written.{has_float, items_have_float, members_have_float};
 
 use crate::look::is_there;
-use crate::value::Value;
+use borrowed_json::value::Value;
 use es_base::kind::Kind;
 use es_base::strings::{begins_with, is_among};
 use es_base::table::{Member, Sort, members};

@@ -1,7 +1,7 @@
 use Rattle.std.proofs.Common.{rules, refl, sym, ap, ◌∙◌, ◌+◌, map, drop, List, ◌∷◌, None, subst, arith}
 use Rattle.std.proofs.lemmas.List.{drop_more, drop_all}
-use Rattle.es_reading.specs.Value.{view, items_view}
-use Rattle.es_reading.specs.declared.value.Value.{Value}
+use Rattle.borrowed_json.specs.View.{view, items_view}
+use Rattle.borrowed_json.specs.declared.value.Value.{Value}
 use Rattle.es_base.specs.Table.{Field, field_of, members_of}
 use Rattle.es_base.specs.Preorder.{nodes_of, nodes_of_part}
 use Rattle.es_base.specs.Tree.{Node, trees, nullable_trees}

@@ -1,5 +1,5 @@
 use Rattle.std.proofs.Common.{arith}
-use Rattle.es_reading.specs.Value.{view}
+use Rattle.borrowed_json.specs.View.{view}
 use Rattle.es_reading.proofs.Depths.{item_depth, member_at_depth}
 use Rattle.es_reading.proofs.unlisted.+float.Goals as goal
 

@@ -1,6 +1,6 @@
 use Rattle.std.proofs.Common.{◌≡◌, ◌+◌, ◌*◌, drop}
 use Rattle.serde_json.specs.Data.{depth, items_depth, members_depth}
-use Rattle.es_reading.specs.Value.{view, items_view, members_view}
+use Rattle.borrowed_json.specs.View.{view, items_view, members_view}
 use Rattle.serde_json.specs.Written.{items_have_float, members_have_float}
 use Rattle.es_reading.proofs.unlisted.+float.Given as goal
 

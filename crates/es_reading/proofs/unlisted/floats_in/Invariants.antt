@@ -1,7 +1,7 @@
 use Rattle.std.proofs.Common.{◌≡◌, drop, map}
 use Rattle.es_base.specs.Table.{field_of}
 use Rattle.es_reading.specs.Unlisted.{floats_in}
-use Rattle.es_reading.specs.Value.{members_view}
+use Rattle.borrowed_json.specs.View.{members_view}
 use Rattle.es_reading.proofs.unlisted.floats_in.Given as goal
 
 abbrev pub invariant-loop-entry : goal.invariant-loop-entry

@@ -1,6 +1,6 @@
 use Rattle.std.proofs.Common.{◌≡◌, drop}
 use Rattle.es_reading.specs.Unlisted.{foreign_among}
-use Rattle.es_reading.specs.Value.{members_view}
+use Rattle.borrowed_json.specs.View.{members_view}
 use Rattle.es_reading.proofs.unlisted.foreign_among.Given as goal
 
 abbrev pub invariant-loop-entry : goal.invariant-loop-entry

@@ -5,10 +5,10 @@ use Rattle.json.specs.Reads.{token_of}
 use Rattle.json.proofs.Grammar.{value_is, value-begin_array, value-begin_object, read_key-shorter}
 use Rattle.serde_json.specs.Data.{null, boolean, number, string, array, object, put}
 use Rattle.serde_json.specs.Read.{of_json, of_items, of_members, converted}
-use Rattle.es_reading.specs.Value.{members_view, number_view, view}
-use Rattle.es_reading.specs.declared.value.Value.{String, Number, Bool, Null, the_lemmas}
-use Rattle.es_reading.proofs.Parsing.{converted-array, converted-object, item_read, item_refused, items_over, member_read, member_refused, key_refused, members_over, items_before, items_before-no_items, one_more_item, none_before, members_view-insert_entry, view-Array, view-Object}
-use Rattle.es_reading.proofs.parse.+read.Goals as goal
+use Rattle.borrowed_json.specs.View.{members_view, number_view, view}
+use Rattle.borrowed_json.specs.declared.value.Value.{String, Number, Bool, Null, the_lemmas}
+use Rattle.borrowed_json.proofs.Parsing.{converted-array, converted-object, item_read, item_refused, items_over, member_read, member_refused, key_refused, members_over, items_before, items_before-no_items, one_more_item, none_before, members_view-insert_entry, view-Array, view-Object}
+use Rattle.borrowed_json.proofs.parse.+read.Goals as goal
 
 -- ---- a value
 
@@ -186,8 +186,8 @@ read_members-members-preserved t c =
       omega (arith, l.invariant.3),
     )
 
-pub read_members-returns-in_ok-in_order-clause-ok : goal.read_members-returns-in_ok-in_order-clause-ok
-read_members-returns-in_ok-in_order-clause-ok t c =
+pub read_members-returns-clause-ok : goal.read_members-returns-clause-ok
+read_members-returns-clause-ok t c =
     let p = value c.args.depth in
     let l = c.members in
     let n = l.invariant.0 in

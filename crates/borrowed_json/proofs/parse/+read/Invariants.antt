@@ -2,9 +2,9 @@ use Rattle.std.proofs.Common.{◌≡◌, ℕ, ◌+◌, ◌*◌, ◌≤◌, lengt
 use Rattle.json.specs.Json.{items, members, value, parse_map}
 use Rattle.serde_json.specs.Data.{no_members}
 use Rattle.serde_json.specs.Read.{of_items, of_members, converted}
-use Rattle.es_reading.specs.Value.{members_view}
-use Rattle.es_reading.proofs.Parsing.{items_before}
-use Rattle.es_reading.proofs.parse.+read.Given as goal
+use Rattle.borrowed_json.specs.View.{members_view}
+use Rattle.borrowed_json.proofs.Parsing.{items_before}
+use Rattle.borrowed_json.proofs.parse.+read.Given as goal
 
 abbrev pub decreases-read : goal.decreases-read
 decreases-read l = 2 * l.depth

@@ -5,8 +5,8 @@ ghost use Rattle.json.specs.Json.{value, items, members};
 ghost use Rattle.json.specs.Lex.{tokens};
 ghost use Rattle.serde_json.specs.Data.{no_members};
 ghost use Rattle.serde_json.specs.Read.{of_json, of_items, of_members, converted, max_depth, number_of, number_from, float_of, read as read_text};
-ghost use Rattle.es_reading.specs.Value.{items_view, members_view, number_view, view};
-ghost use Rattle.es_reading.specs.declared.parse.ParseError.{ParseError};
+ghost use Rattle.borrowed_json.specs.View.{items_view, members_view, number_view, view};
+ghost use Rattle.borrowed_json.specs.declared.parse.ParseError.{ParseError};
 
 use crate::value::{Number, Value};
 use fast_float::Numeral;
@@ -27,7 +27,7 @@ pub enum ParseError {
 }
 
 impl From<Invalid> for ParseError {
-    ghost use Rattle.es_reading.specs.declared.parse.ParseError as error;
+    ghost use Rattle.borrowed_json.specs.declared.parse.ParseError as error;
 
     ghost from_gives = { λ _ e. e ≡ error.ParseError.Invalid };
 
@@ -37,7 +37,7 @@ impl From<Invalid> for ParseError {
 }
 
 impl From<AllocError> for ParseError {
-    ghost use Rattle.es_reading.specs.declared.parse.ParseError as error;
+    ghost use Rattle.borrowed_json.specs.declared.parse.ParseError as error;
 
     ghost from_gives = { λ _ e. e ≡ error.ParseError.NoMemory };
 
@@ -47,7 +47,7 @@ impl From<AllocError> for ParseError {
 }
 
 impl<T: Drop> From<AllocFailed<T>> for ParseError {
-    ghost use Rattle.es_reading.specs.declared.parse.ParseError as error;
+    ghost use Rattle.borrowed_json.specs.declared.parse.ParseError as error;
 
     ghost from_gives = { λ _ e. e ≡ error.ParseError.NoMemory };
 

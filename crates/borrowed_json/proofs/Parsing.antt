@@ -9,8 +9,8 @@ use Rattle.json.specs.Json.{Parse, parse_map, after_end_array, read_key, items_s
 use Rattle.json.proofs.Grammar.{items_end, items_more, members_end, members_no_key, members_more}
 use Rattle.serde_json.specs.Data.{Data, array, object, Items, no_items, item, Members, no_members, put}
 use Rattle.serde_json.specs.Read.{of_json, of_items, of_members, converted}
-use Rattle.es_reading.specs.Value.{Keyed, items_view, members_view, view}
-use Rattle.es_reading.specs.declared.value.Value.{Value, Array, Object, the_lemmas}
+use Rattle.borrowed_json.specs.View.{Keyed, items_view, members_view, view}
+use Rattle.borrowed_json.specs.declared.value.Value.{Value, Array, Object, the_lemmas}
 
 -- ---- a reading under a conversion
 

@@ -1,7 +1,7 @@
 // A value of `serde_json` as a value that borrows its strings.
 
 ghost use Rattle.std.specs.Prelude.{◌≡◌, IfOk};
-ghost use Rattle.es_reading.specs.Value.{items_view, members_view, number_view, view};
+ghost use Rattle.borrowed_json.specs.View.{items_view, members_view, number_view, view};
 ghost use Rattle.serde_json.specs.View.{items_view as owned_items, members_view as owned_members, number_view as owned_number, view as owned_view};
 
 use crate::value::{Number, Value};

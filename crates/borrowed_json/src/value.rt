@@ -1,7 +1,7 @@
 // JSON values whose strings are borrowed.
 
 ghost use Rattle.std.specs.Prelude.{◌≡◌, is_some, option_map, option_and_then};
-ghost use Rattle.es_reading.specs.Value.{items_view, members_view, number_view, view};
+ghost use Rattle.borrowed_json.specs.View.{items_view, members_view, number_view, view};
 ghost use Rattle.serde_json.specs.Find.{get, get_member, as_array, as_bool, as_i64, as_null, as_number, as_str, as_u64, is_float};
 
 /// A number of JSON: a whole number of 64 bits, or a float.
@@ -158,7 +158,7 @@ fn find<'v, 'a>(members: &'v [(&'a str, Value<'a>)], name: &str) -> Option<&'v V
     ensures { option_map (λ v. view v.now) result ≡ get_member name.now (members_view members.now) }
 {
     for member in members {
-        if member.0 == name {
+        if name == member.0 {
             return Some(&member.1);
         }
     }

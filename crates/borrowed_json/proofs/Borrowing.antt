@@ -1,11 +1,11 @@
 -- A value that borrows its strings from a value of `serde_json`.
 use Rattle.std.proofs.Common.{◌≡◌, refl, sym, ap, ap₂, ◌∙◌, ℕ, ℤ, List, [], ◌∷◌, ◌++◌, map, Option, Some, None, string_bytes, append-nil, append_assoc}
 use Rattle.serde_json.specs.Data.{Num, unsigned, negative, float, Data, Members, no_members, member}
-use Rattle.serde_json.specs.Find.{as_u64, as_i64, to_float}
+use Rattle.serde_json.specs.Find.{as_u64, as_i64}
 use Rattle.serde_json.specs.View.{view as owned_view, members_view as owned_members}
 use Rattle.serde_json.proofs.Views.{Entry}
-use Rattle.es_reading.specs.Value.{Keyed, members_view, view}
-use Rattle.es_reading.specs.declared.value.Value.{Value}
+use Rattle.borrowed_json.specs.View.{Keyed, members_view, view}
+use Rattle.borrowed_json.specs.declared.value.Value.{Value}
 
 -- ---- numbers
 
@@ -18,11 +18,6 @@ pub number_below : (n : Num) (z : ℤ) → None ≡ as_u64 n → Some z ≡ as_i
 number_below (unsigned n) z none is = cc
 number_below (negative y) z none is = cc
 number_below (float x) z none is = cc
-
-pub number_other : (n : Num) → None ≡ as_u64 n → None ≡ as_i64 n → float (to_float n) ≡ n
-number_other (unsigned n) none no = cc
-number_other (negative y) none no = cc
-number_other (float x) none no = refl
 
 -- ---- members
 

@@ -3,9 +3,9 @@ use Rattle.std.specs.Borrow.{Bor}
 use Rattle.std.specs.Prelude.{ℕ, List, [], ◌∷◌, map}
 use Rattle.serde_json.specs.Data.{Num, unsigned, negative, float, Data, null, boolean, number, string, array, object, Items, no_items, item, Members, no_members, member}
 pub use Rattle.serde_json.specs.View.{items_of}
-use Rattle.es_reading.specs.declared.value.Number.{Number}
-use Rattle.es_reading.specs.declared.value.Value.{Value, fold-Value}
-use Rattle.es_reading.specs.declared.value.Value.TheOpen.{Value-F}
+use Rattle.borrowed_json.specs.declared.value.Number.{Number}
+use Rattle.borrowed_json.specs.declared.value.Value.{Value, fold-Value}
+use Rattle.borrowed_json.specs.declared.value.Value.TheOpen.{Value-F}
 
 abbrev pub number_view : Number → Num
 number_view (Number.Unsigned n) = unsigned n

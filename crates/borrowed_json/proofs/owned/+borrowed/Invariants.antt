@@ -1,9 +1,9 @@
 use Rattle.std.proofs.Common.{◌≡◌, ◌+◌, ◌*◌, ◌≤◌, ◌++◌, map, take}
 use Rattle.serde_json.specs.Data.{depth, items_depth, members_depth}
 use Rattle.serde_json.specs.View.{view as owned_view, items_view as owned_items, members_view as owned_members}
-use Rattle.es_reading.specs.Value.{view}
-use Rattle.es_reading.proofs.Borrowing.{pair, owned_pair}
-use Rattle.es_reading.proofs.owned.+borrowed.Given as goal
+use Rattle.borrowed_json.specs.View.{view}
+use Rattle.borrowed_json.proofs.Borrowing.{pair, owned_pair}
+use Rattle.borrowed_json.proofs.owned.+borrowed.Given as goal
 
 abbrev pub decreases-borrowed : goal.decreases-borrowed
 decreases-borrowed l = 2 * depth (owned_view l.value.now)
