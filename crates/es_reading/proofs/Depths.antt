@@ -4,29 +4,16 @@ use Rattle.std.specs.Ordering.{nat_cmp, match_ordering}
 use Rattle.std.specs.Cmp.Lexicographic.{slice_cmp}
 use Rattle.serde_json.specs.Data.{Data, null, boolean as json_boolean, number, string as json_string, array, object, Items, Members, no_members, member, depth, items_depth, members_depth}
 use Rattle.serde_json.specs.Find.{get, get_member, as_array}
-use Rattle.serde_json.specs.View.{view as owned_view, members_view as owned_members, items_of}
-use Rattle.serde_json.proofs.Views.{Entry}
 use Rattle.es_reading.specs.Look.{array_at}
 use Rattle.borrowed_json.specs.View.{Keyed, members_view, view}
 use Rattle.borrowed_json.specs.declared.value.Value.{Value}
 
--- an item of a list, of values of either type
-pub item_depth : {X : Type 0} (see : X → Data) (vs : List X) (i : ℕ) (v : X) → i < length vs → v ≡ get_or vs i v → depth (see v) ≤ items_depth (items_of (map see vs))
-item_depth see [] i v l is = absurd (omega arith)
-item_depth see (w ∷ vs) zero v l is = omega (arith, ap (λ x. depth (see x)) is)
-item_depth see (w ∷ vs) (suc i) v l is = omega (arith, item_depth see vs i v (omega arith) is)
+pub use Rattle.borrowed_json.proofs.Depths.{item_depth}
 
 pub member_at_depth : (ms : List (Keyed Value)) (i : ℕ) (m : Keyed Value) → i < length ms → m ≡ get_or ms i m → depth (view m.1) ≤ members_depth (members_view ms)
 member_at_depth [] i m l is = absurd (omega arith)
 member_at_depth (w ∷ ms) zero m l is = omega (arith, ap (λ x. depth (view x.1)) is)
 member_at_depth (w ∷ ms) (suc i) m l is = omega (arith, member_at_depth ms i m (omega arith) is)
-
--- an entry of a map, of values that own their strings
-pub entry_depth : (es rest : List Entry) (e : Entry) → es ≡ e ∷ rest → depth (owned_view e.1) ≤ members_depth (owned_members es)
-entry_depth es rest e is = omega (arith, ap (λ xs. members_depth (owned_members xs)) is)
-
-pub rest_depth : (es rest : List Entry) (e : Entry) → es ≡ e ∷ rest → members_depth (owned_members rest) ≤ members_depth (owned_members es)
-rest_depth es rest e is = omega (arith, ap (λ xs. members_depth (owned_members xs)) is)
 
 deeper : (o : Ordering) (d e : Data) (r : Option Data) (m : ℕ) → ((f : Data) → r ≡ Some f → depth f ≤ m) → match_ordering o r (Some d) r ≡ Some e → depth e ≤ max (depth d) m
 deeper Less d e r m h is = omega (arith, h e is)
