@@ -1,6 +1,6 @@
 // What else an object holds: floats, and members of TypeScript, JSX and import attributes.
 
-ghost use Rattle.std.specs.Prelude.{◌≡◌, [], ◌∷◌, map, option_map, codes};
+ghost use Rattle.std.specs.Prelude.{◌≡◌, ◌&&◌, [], ◌∷◌, map, not, option_map, codes};
 ghost use Rattle.std.specs.Str.{chars};
 ghost use Rattle.es_base.specs.Conforms.{is_among, begins_with};
 ghost use Rattle.es_base.specs.Table.{field_of, members_of};
@@ -28,11 +28,22 @@ fn floats_in(members: &[Member], object: &[(&str, Value<'_>)]) -> bool
     ensures { result ≡ floats_in (map field_of members.now) (members_view object.now) }
 {
     for entry in object {
-        if !is_node_member(members, entry.0) && has_float(&entry.1) {
+        if is_float_member(members, entry.0, &entry.1) {
             return true;
         }
     }
     false
+}
+
+/// Whether a member holds no nodes, by its name, and has a float. The name is looked up where the value leaves it open.
+fn is_float_member(members: &[Member], key: &str, value: &Value<'_>) -> bool
+    ensures { result ≡ (not (is_node_member (map field_of members.now) key.now) && has_float (view value.now)) }
+{
+    match value {
+        Value::Null | Value::Bool(_) | Value::String(_) => false,
+        Value::Number(number) => number.is_f64() && !is_node_member(members, key),
+        Value::Array(_) | Value::Object(_) => !is_node_member(members, key) && has_float(value),
+    }
 }
 
 /// Whether the member of this name holds nodes.
@@ -121,7 +132,7 @@ fn foreign_among(kind: Kind, object: &[(&str, Value<'_>)]) -> bool
     ensures { result ≡ foreign_among kind (members_view object.now) }
 {
     for entry in object {
-        if !is_listed(kind, entry.0) && is_foreign_value(&entry.1) {
+        if is_foreign_value(&entry.1) && !is_listed(kind, entry.0) {
             return true;
         }
     }
