@@ -1,5 +1,5 @@
 -- A value that borrows its strings from a value of `serde_json`.
-use Rattle.std.proofs.Common.{◌≡◌, refl, sym, ap, ap₂, ◌∙◌, ℕ, ℤ, List, [], ◌∷◌, ◌++◌, map, Option, Some, None, string_bytes, append-nil, append_assoc}
+use Rattle.std.proofs.Common.{◌≡◌, refl, sym, ap, ◌∙◌, ℕ, ℤ, List, [], ◌∷◌, ◌++◌, map, Some, None, string_bytes, append-nil, append_assoc}
 use Rattle.serde_json.specs.Data.{Num, unsigned, negative, float, Data, Members, no_members, member}
 use Rattle.serde_json.specs.Find.{as_u64, as_i64}
 use Rattle.serde_json.specs.View.{view as owned_view, members_view as owned_members}

@@ -1,5 +1,5 @@
 -- The member of an object that has a key.
-use Rattle.std.proofs.Common.{◌≡◌, refl, ◌∙◌, ℕ, List, ◌∷◌, Option, Some, Bool, true, false, true≢false, sym, Ordering, Less, Equal, Greater, bytes_eq, is_eq, nat_cmp}
+use Rattle.std.proofs.Common.{◌≡◌, refl, ◌∙◌, ℕ, List, ◌∷◌, Option, Some, true, false, true≢false, sym, Ordering, Less, Equal, Greater, bytes_eq, is_eq, nat_cmp}
 use Rattle.std.proofs.lemmas.Map.Text.{is_eq-slice_cmp}
 use Rattle.std.specs.Cmp.Lexicographic.{slice_cmp}
 use Rattle.std.specs.Ordering.{match_ordering}

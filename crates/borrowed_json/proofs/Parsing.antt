@@ -1,14 +1,15 @@
 -- The grammar's loops, a turn at a time, under the conversion to data.
-use Rattle.std.proofs.Common.{◌≡◌, ℕ, zero, suc, ◌-◌, ◌<◌, ◌≤◌, List, [], ◌∷◌, ◌++◌, length, Option, Some, None, option_map, option_and_then, Bor, Vec, Global, Ordering, Less, Equal, Greater, refl, ap, ◌∙◌, rules}
+use Rattle.std.proofs.Common.{◌≡◌, ℕ, zero, suc, ◌-◌, ◌<◌, ◌≤◌, List, [], ◌∷◌, ◌++◌, take, drop, set, get_or, length, Option, Some, None, option_map, option_and_then, Bor, Vec, Global, Ordering, Less, Equal, Greater, Result, Ok, Err, refl, sym, ap, ◌∙◌, arith, rules}
 use Rattle.std.specs.BTreeMap.{insert_entry}
-use Rattle.std.specs.Cmp.Lexicographic.{slice_cmp}
-use Rattle.std.specs.Ordering.{nat_cmp, match_ordering}
+use Rattle.std.specs.Result.{IfOk}
+use Rattle.std.specs.Ordering.{match_ordering}
 use Rattle.json.specs.Token.{Token}
 use Rattle.json.specs.Json as json
 use Rattle.json.specs.Json.{Parse, parse_map, after_end_array, read_key, items_step, items, members, if_last}
 use Rattle.json.proofs.Grammar.{items_end, items_more, members_end, members_no_key, members_more}
 use Rattle.serde_json.specs.Data.{Data, array, object, Items, no_items, item, Members, no_members, put}
 use Rattle.serde_json.specs.Read.{of_json, of_items, of_members, converted}
+use Rattle.borrowed_json.specs.Members.{key_cmp, put_all}
 use Rattle.borrowed_json.specs.View.{Keyed, items_view, members_view, view}
 use Rattle.borrowed_json.specs.declared.value.Value.{Value, Array, Object, the_lemmas}
 
@@ -134,9 +135,6 @@ view-Object v = search (rules, the_lemmas)
 
 -- ---- a map of members
 
-abbrev pub key_cmp : Bor (List ℕ) → Bor (List ℕ) → Ordering
-key_cmp x y = slice_cmp nat_cmp x.now y.now
-
 members_view-match_ordering : (o : Ordering) (a b c : List (Keyed Value)) → members_view (match_ordering o a b c) ≡ match_ordering o (members_view a) (members_view b) (members_view c)
 members_view-match_ordering Less a b c = refl
 members_view-match_ordering Equal a b c = refl
@@ -145,6 +143,35 @@ members_view-match_ordering Greater a b c = refl
 pub members_view-insert_entry : (es : List (Keyed Value)) (k : Bor (List ℕ)) (v : Value) → members_view (insert_entry key_cmp es k v) ≡ put k.now (view v) (members_view es)
 members_view-insert_entry [] k v = refl
 members_view-insert_entry (e ∷ es) k v = members_view-match_ordering (key_cmp k e.0) _ _ _ ∙ rw (members_view-insert_entry es k v)
+
+-- the place of a member whose key is there
+pub placed : (ms : List (Keyed Value)) (i : ℕ) (k : Bor (List ℕ)) (v : Value) (m : Keyed Value) → i < length ms → key_cmp k (get_or ms i m).0 ≡ Equal
+    → take i ms ++ insert_entry key_cmp (drop i ms) k v ≡ set ms i ((get_or ms i (k, v)).0, v)
+placed [] i k v m within same = absurd (omega arith)
+placed (e ∷ ms) zero k v m within same = rw same
+placed (e ∷ ms) (suc i) k v m within same = ap (λ es. e ∷ es) (placed ms i k v m (omega arith) same)
+
+-- ---- members that are put in one after another
+
+pub put_all-push : (ms : List (Keyed Value)) (m : Keyed Value) (old : Members) → put_all (ms ++ m ∷ []) old ≡ put m.0.now (view m.1) (put_all ms old)
+put_all-push [] m old = refl
+put_all-push (k ∷ ms) m old = put_all-push ms m (put k.0.now (view k.1) old)
+
+-- the rest of them, after one
+pub put_next : (es : List (Keyed Value)) (k : Bor (List ℕ)) (v : Value) (rest : List (Keyed Value)) → put_all rest (members_view (insert_entry key_cmp es k v)) ≡ put_all ((k, v) ∷ rest) (members_view es)
+put_next es k v rest = ap (put_all rest) (members_view-insert_entry es k v)
+
+module _ (p : Parse json.Json) where
+  pub one_more_member : (all : Option (Members × List Token)) (n : ℕ) (ms ns : List (Keyed Value)) (k : Bor (List ℕ)) (v : Value) (ts s r : List Token) → 0 < n → read_key ts ≡ Some (Some k.now, s) → converted of_json (p s) ≡ Some (view v, r) → ns ≡ ms ++ (k, v) ∷ []
+      → all ≡ converted (λ x. of_members x (put_all ms no_members)) (members p n ts) → all ≡ converted (λ x. of_members x (put_all ns no_members)) (members p (n - 1) r)
+  one_more_member all n ms ns k v ts s r some key e pushed so_far =
+      so_far ∙ member_read p (put_all ms no_members) n k.now ts s r (view v) some key e
+      ∙ ap (λ old. converted (λ x. of_members x old) (members p (n - 1) r)) (sym (ap (λ es. put_all es no_members) pushed ∙ put_all-push ms (k, v) no_members))
+
+-- what more is known of a value, if there is one
+pub if_ok : {T E : Type 0} {P Q : T → Type 0} (r : Result T E) → ((v : T) → P v → Q v) → IfOk r P → IfOk r Q
+if_ok (Ok v) f h = f v h
+if_ok (Err e) f h = tt
 
 -- ---- the whole text
 

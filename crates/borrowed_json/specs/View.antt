@@ -1,7 +1,7 @@
 -- The data that a borrowed value stands for (JSON, RFC 8259).
 use Rattle.std.specs.Borrow.{Bor}
 use Rattle.std.specs.Prelude.{ℕ, List, [], ◌∷◌, map}
-use Rattle.serde_json.specs.Data.{Num, unsigned, negative, float, Data, null, boolean, number, string, array, object, Items, no_items, item, Members, no_members, member}
+use Rattle.serde_json.specs.Data.{Num, unsigned, negative, float, Data, null, boolean, number, string, array, object, Items, Members, no_members, member}
 pub use Rattle.serde_json.specs.View.{items_of}
 use Rattle.borrowed_json.specs.declared.value.Number.{Number}
 use Rattle.borrowed_json.specs.declared.value.Value.{Value, fold-Value}

@@ -24,10 +24,7 @@ pub fn borrowed<'a>(alloc: Global, value: &'a OwnedValue) -> Result<Value<'a>, A
 }
 
 #[cycle(borrowed)]
-fn borrowed_items<'a>(
-    alloc: Global,
-    items: &'a [OwnedValue],
-) -> Result<Vec<Value<'a>>, AllocError>
+fn borrowed_items<'a>(alloc: Global, items: &'a [OwnedValue]) -> Result<Vec<Value<'a>>, AllocError>
     ensures { IfOk result (λ v. items_view v.items ≡ owned_items items.now) }
 {
     let mut found = Vec::with_capacity(alloc, items.len())?;

@@ -1,6 +1,6 @@
 // From JSON text to a value, in one pass over its tokens.
 
-ghost use Rattle.std.specs.Prelude.{◌≡◌, ◌<◌, length, drop, slice_index, ◌==◌, Some, None, Err, IfOk, OnOk, IsUtf8, IsTrue, option_map, true, false};
+ghost use Rattle.std.specs.Prelude.{◌≡◌, ◌<◌, ◌≤◌, ℕ, length, drop, slice_index, ◌==◌, Some, None, Err, IfOk, OnOk, IsUtf8, IsTrue, option_map, true, false};
 ghost use Rattle.json.specs.Json.{value, items, members};
 ghost use Rattle.json.specs.Lex.{tokens};
 ghost use Rattle.serde_json.specs.Data.{no_members};
@@ -8,6 +8,7 @@ ghost use Rattle.serde_json.specs.Read.{of_json, of_items, of_members, converted
 ghost use Rattle.borrowed_json.specs.View.{items_view, members_view, number_view, view};
 ghost use Rattle.borrowed_json.specs.declared.parse.ParseError.{ParseError};
 
+use crate::members::{Member, in_order, of_map, to_map};
 use crate::value::{Number, Value};
 use fast_float::Numeral;
 use json::{Invalid, Reader, Scratch, Token};
@@ -16,6 +17,9 @@ use std::collections::BTreeMap;
 
 /// A value nests at most this deep.
 const MAX_DEPTH: usize = 127;
+
+/// The members of an object are gathered in a list where there are fewer, and else in a map.
+const FEW: usize = 16;
 
 /// Why bytes were not read as a value.
 #[derive(Clone, Copy, Debug, Drop, PartialEq, Eq)]
@@ -91,11 +95,7 @@ fn parse_text<'a>(
 
 /// The next value of the reader, with lists and objects nested at most `depth` deep.
 #[cycle(read)]
-fn read<'a>(
-    alloc: Global,
-    reader: &mut Reader<'a>,
-    depth: usize,
-) -> Result<Value<'a>, ParseError>
+fn read<'a>(alloc: Global, reader: &mut Reader<'a>, depth: usize) -> Result<Value<'a>, ParseError>
     ensures ok { IfOk result (λ v. converted of_json (value depth reader.old) ≡ Some (view v, reader.new)) }
     ensures shorter { OnOk result (length reader.new < length reader.old) }
     ensures err { result ≡ Err ParseError.Invalid → converted of_json (value depth reader.old) ≡ None }
@@ -150,31 +150,40 @@ fn read_members<'a>(
     alloc: Global,
     reader: &mut Reader<'a>,
     depth: usize,
-) -> Result<Vec<(&'a str, Value<'a>)>, ParseError>
+) -> Result<Vec<Member<'a>>, ParseError>
     ensures ok { IfOk result (λ m. converted (λ ms. of_members ms no_members) (members (value depth) (length reader.old) reader.old) ≡ Some (members_view m.items, reader.new)) }
     ensures shorter { OnOk result (length reader.new < length reader.old) }
     ensures err { result ≡ Err ParseError.Invalid → converted (λ ms. of_members ms no_members) (members (value depth) (length reader.old) reader.old) ≡ None }
 {
-    let mut found = BTreeMap::new(alloc);
+    let mut found = Vec::new(alloc);
     'members: while let Some(key) = reader.next_key()? {
         let member = read(alloc, reader, depth)?;
-        drop(found.insert(key, member)?);
+        found.push((key, member))?;
+        if found.len() == FEW {
+            let map = to_map(alloc, found)?;
+            return read_more_members(alloc, reader, depth, map);
+        }
     }
     Ok(in_order(alloc, found)?)
 }
 
-/// The members of a map, with no room for more.
-fn in_order<'a>(
+/// The members of an object, the rest of which are to be read.
+#[cycle(read)]
+fn read_more_members<'a>(
     alloc: Global,
-    found: BTreeMap<&'a str, Value<'a>>,
-) -> Result<Vec<(&'a str, Value<'a>)>, AllocError>
-    ensures { IfOk result (λ m. m.items ≡ found.entry.entries) }
+    reader: &mut Reader<'a>,
+    depth: usize,
+    mut found: BTreeMap<&'a str, Value<'a>>,
+) -> Result<Vec<Member<'a>>, ParseError>
+    ensures ok { IfOk result (λ m. (n : ℕ) → length reader.old ≤ n → converted (λ ms. of_members ms (members_view found.entry.entries)) (members (value depth) n reader.old) ≡ Some (members_view m.items, reader.new)) }
+    ensures shorter { OnOk result (length reader.new < length reader.old) }
+    ensures err { result ≡ Err ParseError.Invalid → (n : ℕ) → length reader.old ≤ n → converted (λ ms. of_members ms (members_view found.entry.entries)) (members (value depth) n reader.old) ≡ None }
 {
-    let mut members = Vec::with_capacity(alloc, found.len())?;
-    for member in found {
-        members.push(member)?;
+    'members: while let Some(key) = reader.next_key()? {
+        let member = read(alloc, reader, depth)?;
+        drop(found.insert(key, member)?);
     }
-    Ok(members)
+    Ok(of_map(alloc, found)?)
 }
 
 /// The number that a text of JSON's grammar is, unless it is too great for a float.

@@ -1,13 +1,14 @@
-use Rattle.std.proofs.Common.{◌≡◌, ◌-◌, ◌<◌, [], ◌∷◌, length, Some, None, sym, ap, ap₂, ◌∙◌, arith, rules}
+use Rattle.std.proofs.Common.{◌≡◌, ◌-◌, ◌<◌, [], ◌∷◌, length, Some, None, refl, sym, ap, ap₂, ◌∙◌, arith, rules}
 use Rattle.json.specs.Token.{Token}
 use Rattle.json.specs.Json.{parse_map, after_end_array, read_key, items, members, value}
 use Rattle.json.specs.Reads.{token_of}
 use Rattle.json.proofs.Grammar.{value_is, value-begin_array, value-begin_object, read_key-shorter}
-use Rattle.serde_json.specs.Data.{null, boolean, number, string, array, object, put}
+use Rattle.serde_json.specs.Data.{null, boolean, number, string, array, object, no_members, put}
 use Rattle.serde_json.specs.Read.{of_json, of_items, of_members, converted}
+use Rattle.borrowed_json.specs.Members.{put_all}
 use Rattle.borrowed_json.specs.View.{members_view, number_view, view}
 use Rattle.borrowed_json.specs.declared.value.Value.{String, Number, Bool, Null, the_lemmas}
-use Rattle.borrowed_json.proofs.Parsing.{converted-array, converted-object, item_read, item_refused, items_over, member_read, member_refused, key_refused, members_over, items_before, items_before-no_items, one_more_item, none_before, members_view-insert_entry, view-Array, view-Object}
+use Rattle.borrowed_json.proofs.Parsing.{converted-array, converted-object, item_read, item_refused, items_over, member_read, member_refused, key_refused, members_over, items_before, items_before-no_items, one_more_item, none_before, one_more_member, if_ok, members_view-insert_entry, view-Array, view-Object}
 use Rattle.borrowed_json.proofs.parse.+read.Goals as goal
 
 -- ---- a value
@@ -143,14 +144,14 @@ read_items-returns-clause-ok t c =
 pub read_members-members-init : goal.read_members-members-init
 read_members-members-init t c =
     let all = members (value c.args.depth) (length c.args.reader.now) c.args.reader.now in
-    (length c.args.reader.now, omega arith, ap (λ es. converted (λ ms. of_members ms (members_view es)) all) (sym c.new-found.ensures.empty), omega arith)
+    (length c.args.reader.now, omega arith, ap (λ found. converted (λ ms. of_members ms (put_all found no_members)) all) (sym c.new-found.ensures.items), omega arith)
 
 pub read_members-returns-in_err-key-clause-err : goal.read_members-returns-in_err-key-clause-err
 read_members-returns-in_err-key-clause-err t c refused =
     let p = value c.args.depth in
     let l = c.members in
     let n = l.invariant.0 in
-    let old = members_view l.found.entries in
+    let old = put_all l.found.items no_members in
     l.invariant.2 ∙ key_refused p old n l.reader c.in_err-key.ensures.value
 
 pub read_members-returns-in_err-member-clause-err : goal.read_members-returns-in_err-member-clause-err
@@ -158,7 +159,7 @@ read_members-returns-in_err-member-clause-err t c refused =
     let p = value c.args.depth in
     let l = c.members in
     let n = l.invariant.0 in
-    let old = members_view l.found.entries in
+    let old = put_all l.found.items no_members in
     let k = c.in-Some.key.now in
     let s = c.next_key.new.self in
     let named : read_key l.reader ≡ Some (Some k, s) = grind arith in
@@ -169,6 +170,84 @@ read_members-members-preserved t c =
     let p = value c.args.depth in
     let l = c.members in
     let n = l.invariant.0 in
+    let s = c.next_key.new.self in
+    let named : read_key l.reader ≡ Some (Some c.in-Some.key.now, s) = grind arith in
+    let done = c.in_ok-member.ensures in
+    let r = c.read.new.reader in
+    let less = read_key-shorter l.reader (Some c.in-Some.key.now) s named in
+    let lesser = done.shorter in (
+      n - 1,
+      omega (arith, l.invariant.1),
+      one_more_member p _ n l.found.items c.push.new.self.items c.in-Some.key c.in_ok-member.member l.reader s r (omega (arith, l.invariant.1)) named done.ok c.in_ok-push.ensures.items l.invariant.2,
+      omega (arith, l.invariant.3),
+    )
+
+pub read_members-returns-then-len-eq-FEW-clause-ok : goal.read_members-returns-then-len-eq-FEW-clause-ok
+read_members-returns-then-len-eq-FEW-clause-ok t c =
+    let p = value c.args.depth in
+    let l = c.members in
+    let n = l.invariant.0 in
+    let s = c.next_key.new.self in
+    let named : read_key l.reader ≡ Some (Some c.in-Some.key.now, s) = grind arith in
+    let done = c.in_ok-member.ensures in
+    let r = c.read.new.reader in
+    let less = read_key-shorter l.reader (Some c.in-Some.key.now) s named in
+    let lesser = done.shorter in
+    let so_far = one_more_member p _ n l.found.items c.push.new.self.items c.in-Some.key c.in_ok-member.member l.reader s r (omega (arith, l.invariant.1)) named done.ok c.in_ok-push.ensures.items l.invariant.2 in
+    let mapped = so_far ∙ ap (λ old. converted (λ ms. of_members ms old) (members p (n - 1) r)) (sym c.in_ok-map.ensures) in
+    if_ok c.read_more_members.result (λ m h. mapped ∙ h (n - 1) (omega (arith, l.invariant.1))) c.read_more_members.ensures.ok
+
+pub read_members-returns-then-len-eq-FEW-clause-err : goal.read_members-returns-then-len-eq-FEW-clause-err
+read_members-returns-then-len-eq-FEW-clause-err t c refused =
+    let p = value c.args.depth in
+    let l = c.members in
+    let n = l.invariant.0 in
+    let s = c.next_key.new.self in
+    let named : read_key l.reader ≡ Some (Some c.in-Some.key.now, s) = grind arith in
+    let done = c.in_ok-member.ensures in
+    let r = c.read.new.reader in
+    let less = read_key-shorter l.reader (Some c.in-Some.key.now) s named in
+    let lesser = done.shorter in
+    let so_far = one_more_member p _ n l.found.items c.push.new.self.items c.in-Some.key c.in_ok-member.member l.reader s r (omega (arith, l.invariant.1)) named done.ok c.in_ok-push.ensures.items l.invariant.2 in
+    so_far ∙ ap (λ old. converted (λ ms. of_members ms old) (members p (n - 1) r)) (sym c.in_ok-map.ensures) ∙ c.read_more_members.ensures.err refused (n - 1) (omega (arith, l.invariant.1))
+
+pub read_members-returns-clause-ok : goal.read_members-returns-clause-ok
+read_members-returns-clause-ok t c =
+    let p = value c.args.depth in
+    let l = c.members in
+    let n = l.invariant.0 in
+    let old = put_all l.found.items no_members in
+    l.invariant.2 ∙ members_over p old n l.reader c.next_key.new.self l.invariant.1 (grind arith) ∙ ap (λ ms. Some (ms, c.next_key.new.self)) (sym c.in_ok-in_order.ensures)
+
+-- ---- more members
+
+pub read_more_members-members-init : goal.read_more_members-members-init
+read_more_members-members-init t c = record {
+  same = λ n enough. (n, enough, refl);
+  shorter = omega arith;
+}
+
+pub read_more_members-returns-in_err-key-clause-err : goal.read_more_members-returns-in_err-key-clause-err
+read_more_members-returns-in_err-key-clause-err t c refused n enough =
+    let p = value c.args.depth in
+    let l = c.members in
+    let k = l.invariant.same n enough in
+    k.2 ∙ key_refused p (members_view l.found.entries) k.0 l.reader c.in_err-key.ensures.value
+
+pub read_more_members-returns-in_err-member-clause-err : goal.read_more_members-returns-in_err-member-clause-err
+read_more_members-returns-in_err-member-clause-err t c refused n enough =
+    let p = value c.args.depth in
+    let l = c.members in
+    let so_far = l.invariant.same n enough in
+    let k = c.in-Some.key.now in
+    let s = c.next_key.new.self in
+    let named : read_key l.reader ≡ Some (Some k, s) = grind arith in
+    so_far.2 ∙ member_refused p (members_view l.found.entries) so_far.0 k l.reader s named (c.read.ensures.err (grind arith))
+
+pub read_more_members-members-preserved : goal.read_more_members-members-preserved
+read_more_members-members-preserved t c =
+    let p = value c.args.depth in
+    let l = c.members in
     let old = members_view l.found.entries in
     let k = c.in-Some.key.now in
     let s = c.next_key.new.self in
@@ -178,18 +257,20 @@ read_members-members-preserved t c =
     let r = c.read.new.reader in
     let less = read_key-shorter l.reader (Some k) s named in
     let lesser = done.shorter in
-    let inserted : members_view c.insert.new.self.entries ≡ put k (view v) old = ap members_view c.in_ok-insert.ensures.entries ∙ members_view-insert_entry l.found.entries c.in-Some.key v in (
-      n - 1,
-      omega (arith, l.invariant.1),
-      l.invariant.2 ∙ member_read p old n k l.reader s r (view v) (omega (arith, l.invariant.1)) named done.ok
-          ∙ ap (λ found. converted (λ ms. of_members ms found) (members p (n - 1) r)) (sym inserted),
-      omega (arith, l.invariant.3),
-    )
+    let inserted : members_view c.insert.new.self.entries ≡ put k (view v) old = ap members_view c.in_ok-insert.ensures.entries ∙ members_view-insert_entry l.found.entries c.in-Some.key v in record {
+      same = λ n enough.
+          let so_far = l.invariant.same n enough in (
+            so_far.0 - 1,
+            omega (arith, so_far.1),
+            so_far.2 ∙ member_read p old so_far.0 k l.reader s r (view v) (omega (arith, so_far.1)) named done.ok
+                ∙ ap (λ found. converted (λ ms. of_members ms found) (members p (so_far.0 - 1) r)) (sym inserted),
+          );
+      shorter = omega (arith, l.invariant.shorter);
+    }
 
-pub read_members-returns-clause-ok : goal.read_members-returns-clause-ok
-read_members-returns-clause-ok t c =
+pub read_more_members-returns-clause-ok : goal.read_more_members-returns-clause-ok
+read_more_members-returns-clause-ok t c n enough =
     let p = value c.args.depth in
     let l = c.members in
-    let n = l.invariant.0 in
-    let old = members_view l.found.entries in
-    l.invariant.2 ∙ members_over p old n l.reader c.next_key.new.self l.invariant.1 (grind arith) ∙ ap (λ ms. Some (members_view ms, c.next_key.new.self)) (sym c.in_ok-in_order.ensures)
+    let so_far = l.invariant.same n enough in
+    so_far.2 ∙ members_over p (members_view l.found.entries) so_far.0 l.reader c.next_key.new.self so_far.1 (grind arith) ∙ ap (λ ms. Some (members_view ms, c.next_key.new.self)) (sym c.in_ok-of_map.ensures)
