@@ -10,9 +10,9 @@ ghost use Rattle.es_reading.specs.declared.numbers.Numbers.{Numbers};
 ghost use Rattle.es_json.specs.Typed.{program_tree};
 ghost use Rattle.serde_json.specs.View.{view};
 
+use borrowed_json::owned::borrowed;
 use es_reading::fault::ReadError;
 use es_reading::numbers::Numbers;
-use borrowed_json::owned::borrowed;
 use es_reading::tree::read_tree;
 use es_tree::program::Program;
 use serde_json::Value;

@@ -1,5 +1,5 @@
 -- What stands in a value is less deep than the value.
-use Rattle.std.proofs.Common.{◌≡◌, refl, sym, ap, ℕ, zero, suc, ◌+◌, ◌*◌, ◌<◌, ◌≤◌, max, List, [], ◌∷◌, map, length, get_or, Option, Some, None, option_and_then, Ordering, Less, Equal, Greater, arith}
+use Rattle.std.proofs.Common.{◌≡◌, refl, sym, ap, ℕ, zero, suc, ◌+◌, ◌*◌, ◌<◌, ◌≤◌, max, List, [], ◌∷◌, length, get_or, Option, Some, None, option_and_then, Ordering, Less, Equal, Greater, arith}
 use Rattle.std.specs.Ordering.{nat_cmp, match_ordering}
 use Rattle.std.specs.Cmp.Lexicographic.{slice_cmp}
 use Rattle.serde_json.specs.Data.{Data, null, boolean as json_boolean, number, string as json_string, array, object, Items, Members, no_members, member, depth, items_depth, members_depth}
@@ -7,7 +7,6 @@ use Rattle.serde_json.specs.Find.{get, get_member, as_array}
 use Rattle.es_reading.specs.Look.{array_at}
 use Rattle.borrowed_json.specs.View.{Keyed, members_view, view}
 use Rattle.borrowed_json.specs.declared.value.Value.{Value}
-
 pub use Rattle.borrowed_json.proofs.Depths.{item_depth}
 
 pub member_at_depth : (ms : List (Keyed Value)) (i : ℕ) (m : Keyed Value) → i < length ms → m ≡ get_or ms i m → depth (view m.1) ≤ members_depth (members_view ms)
