@@ -56,7 +56,7 @@ pub fn answer(alloc: Global, lowering: Lowering, bytes: &[u8]) -> Result<Output,
 /// The output for a value.
 fn of_value(alloc: Global, lowering: Lowering, value: Value<'_>) -> Result<Output, AllocError>
     requires { values (view value) + 1 < 2 ^ 32 }
-    ensures { IfOk result (λ s. IsOutputOfValue (options_for lowering) (view value) s.status (s.text.items)) }
+    ensures { IfOk result (λ s. IsOutputOfValue (options_for lowering) (view value.entry) s.status (s.text.items)) }
 {
     match tree_of(alloc, value) {
         Ok((tree, foreign)) => of_tree(alloc, lowering, tree, foreign.as_slice()),
@@ -68,10 +68,10 @@ fn of_value(alloc: Global, lowering: Lowering, value: Value<'_>) -> Result<Outpu
 /// value, which takes most of the memory, is let go.
 fn tree_of(alloc: Global, value: Value<'_>) -> Result<(Node, List<NodeId>), ReadError>
     requires { values (view value) + 1 < 2 ^ 32 }
-    ensures ok { IfOk result (λ r. read Numbers.Preorder (view value) root 0 ≡ Ok (record { value = r.0; foreign = ids r.1 })) }
+    ensures ok { IfOk result (λ r. read Numbers.Preorder (view value.entry) root 0 ≡ Ok (record { value = r.0; foreign = ids r.1 })) }
     ensures conforms { IfOk result (λ r. conforms Place.Program r.0 ≡ true) }
     ensures preorder { IfOk result (λ r. r.0 ≡ numbered_from 0 r.0) }
-    ensures err { IfErr result (λ e. Tells e (read Numbers.Preorder (view value) root 0)) }
+    ensures err { IfErr result (λ e. Tells e (read Numbers.Preorder (view value.entry) root 0)) }
 {
     read_tree(alloc, &value, Numbers::Preorder)
 }
