@@ -8,13 +8,10 @@ ghost use Rattle.borrowed_json.specs.View.{members_view};
 ghost use Rattle.borrowed_json.specs.declared.value.Value.{Value};
 ghost use Rattle.serde_json.specs.Data.{no_members};
 
-use crate::value::Value;
+use crate::value::{Member, Value};
 use std::alloc::{AllocError, Global};
 use std::cmp::Ordering;
 use std::collections::BTreeMap;
-
-/// A member of an object: its key and its value.
-pub type Member<'a> = (&'a str, Value<'a>);
 
 /// The members that were read, in the order of their keys; of a key that is repeated the last value stands.
 /// Takes time in the square of their number.

@@ -4,7 +4,7 @@ ghost use Rattle.std.specs.Prelude.{◌≡◌, IfOk};
 ghost use Rattle.borrowed_json.specs.View.{items_view, members_view, number_view, view};
 ghost use Rattle.serde_json.specs.View.{items_view as owned_items, members_view as owned_members, number_view as owned_number, view as owned_view};
 
-use crate::value::{Number, Value};
+use crate::value::{Member, Number, Value};
 use serde_json::{Map, Number as OwnedNumber, Value as OwnedValue};
 use std::alloc::{AllocError, Global};
 
@@ -38,7 +38,7 @@ fn borrowed_items<'a>(alloc: Global, items: &'a [OwnedValue]) -> Result<Vec<Valu
 fn borrowed_members<'a>(
     alloc: Global,
     members: &'a Map<String, OwnedValue>,
-) -> Result<Vec<(&'a str, Value<'a>)>, AllocError>
+) -> Result<Vec<Member<'a>>, AllocError>
     ensures { IfOk result (λ v. members_view v.items ≡ owned_members members.now.entries) }
 {
     let mut found = Vec::with_capacity(alloc, members.len())?;

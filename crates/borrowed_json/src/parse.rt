@@ -8,12 +8,13 @@ ghost use Rattle.serde_json.specs.Read.{of_json, of_items, of_members, converted
 ghost use Rattle.borrowed_json.specs.View.{items_view, members_view, number_view, view};
 ghost use Rattle.borrowed_json.specs.declared.parse.ParseError.{ParseError};
 
-use crate::members::{Member, in_order, of_map, to_map};
-use crate::value::{Number, Value};
+use crate::members::{in_order, of_map, to_map};
+use crate::value::{Member, Number, Value};
 use fast_float::Numeral;
 use json::{Invalid, Reader, Scratch, Token};
 use std::alloc::{AllocError, AllocFailed, Global};
 use std::collections::BTreeMap;
+use thiserror::Error;
 
 /// A value nests at most this deep.
 const MAX_DEPTH: usize = 127;
@@ -22,11 +23,13 @@ const MAX_DEPTH: usize = 127;
 const FEW: usize = 16;
 
 /// Why bytes were not read as a value.
-#[derive(Clone, Copy, Debug, Drop, PartialEq, Eq)]
+#[derive(Clone, Copy, Debug, PartialEq, Eq, Error)]
 pub enum ParseError {
     /// They are no JSON.
+    #[error("no JSON")]
     Invalid,
     /// There was not enough memory.
+    #[error("out of memory")]
     NoMemory,
 }
 

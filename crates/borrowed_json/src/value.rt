@@ -24,8 +24,11 @@ pub enum Value<'a> {
     Number(Number),
     String(&'a str),
     Array(Vec<Value<'a>>),
-    Object(Vec<(&'a str, Value<'a>)>),
+    Object(Vec<Member<'a>>),
 }
+
+/// A member of an object: its key and its value.
+pub type Member<'a> = (&'a str, Value<'a>);
 
 impl Number {
     /// Whether it is held as a float.
@@ -154,7 +157,7 @@ impl<'a> Value<'a> {
     }
 }
 
-fn find<'v, 'a>(members: &'v [(&'a str, Value<'a>)], name: &str) -> Option<&'v Value<'a>>
+fn find<'v, 'a>(members: &'v [Member<'a>], name: &str) -> Option<&'v Value<'a>>
     ensures { option_map (λ v. view v.now) result ≡ get_member name.now (members_view members.now) }
 {
     for member in members {
