@@ -151,5 +151,5 @@ created-alike t table holds (Some y) f h =
     let added = new_reference-alike t table holds (Some y) f in
     let last = slice_get-push_last table.references (record { symbol_id = Some y; flags = f }) in
     alike-trans t table pushed (with_created_reference table (Some y) f) added (with_listed-alike t pushed y (record { 0 = length table.references }) (λ own w.
-        let was = h y refl own (sym (ap writes last) ∙ w) in
-        (added.mutated y own (mutated-there (symbol_at table y) table.references was)).1 was))
+    let was = h y refl own (sym (ap writes last) ∙ w) in
+    (added.mutated y own (mutated-there (symbol_at table y) table.references was)).1 was))
