@@ -1,5 +1,5 @@
 -- The flags and marks of the symbols of a built table.
-use Rattle.std.proofs.Common.{◌≡◌, ◌≢◌, refl, sym, ap, subst, ◌∙◌, ℕ, zero, suc, ◌+◌, ◌<◌, ◌≤◌, max, List, [], ◌∷◌, ◌++◌, map, length, nat_eq, nat_le, Bool, true, false, true≢false, cond, ◌&&◌, ◌||◌, not, Option, Some, None, ◌⊎◌, inl, inr, bit_or, arith}
+use Rattle.std.proofs.Common.{◌≡◌, refl, sym, ap, subst, ◌∙◌, ℕ, zero, suc, ◌+◌, ◌<◌, List, [], ◌∷◌, ◌++◌, length, nat_eq, nat_le, Bool, true, false, true≢false, cond, ◌&&◌, ◌||◌, Option, Some, None, inl, inr, bit_or, arith}
 use Rattle.std.specs.Prelude.{option_map, slice_get, is_some, bytes_eq, unwrap_or}
 use Rattle.std.specs.List.{list_any}
 use Rattle.std.proofs.lemmas.Bool.Decides.{nat_tests}
@@ -14,7 +14,7 @@ use Rattle.es_scopes.specs.Built.{built_table}
 use Rattle.es_scopes.specs.Entries.{entries_of}
 use Rattle.es_scopes.specs.NodeBindings.{NodeBinding, all_flags, symbol_flags}
 use Rattle.es_scopes.specs.Table.{Table, symbol_at, row_at, names_of_row, get_binding, changed_at, listing, marked, symbol_flagged, new_symbol, with_binding, with_symbol_flags, with_created_reference}
-use Rattle.es_scopes.specs.Tables.{marked_if, flags_of, flags_with, repeats, joined, bound_first, bound_again, declare, declared, none_declared, is_own_name, declarer_at, meant, referred, number, numbered, Fits, AreOrdered}
+use Rattle.es_scopes.specs.Tables.{marked_if, flags_of, flags_with, repeats, joined, declare, declared, none_declared, is_own_name, declarer_at, meant, referred, number, numbered, Fits, AreOrdered}
 use Rattle.es_scopes.specs.declared.declare.Declarations.{Declarations}
 use Rattle.es_scopes.specs.declared.entry.Entry.{Entry}
 use Rattle.es_scopes.specs.declared.entry.Entry.TheVariants as entry
