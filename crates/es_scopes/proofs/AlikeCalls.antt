@@ -1,5 +1,5 @@
 -- After which calls that remove a scope or change a list a table is as it was for a tree.
-use Rattle.std.proofs.Common.{◌≡◌, ◌≢◌, refl, sym, ap, subst, ◌∙◌, ℕ, ◌+◌, ◌<◌, List, [], ◌∷◌, ◌++◌, length, nat_eq, Bool, true, false, true≢false, cond, ◌&&◌, ◌||◌, not, Option, Some, None, ◌⊎◌, inl, inr, MatchOption, ◌↔◌, arith}
+use Rattle.std.proofs.Common.{◌≡◌, ◌≢◌, refl, sym, ap, subst, ◌∙◌, ℕ, List, [], length, nat_eq, Bool, true, false, true≢false, cond, ◌&&◌, ◌||◌, not, Option, Some, None, ◌⊎◌, inl, inr, MatchOption, ◌↔◌}
 use Rattle.std.specs.Prelude.{option_map, slice_get, is_some, unwrap_or}
 use Rattle.std.specs.Cmp.{unsigned_tied}
 use Rattle.std.specs.FinSet as set
@@ -12,9 +12,8 @@ use Rattle.es_base.specs.declared.ids.ReferenceId.{ReferenceId}
 use Rattle.es_base.specs.declared.ids.ScopeId.{ScopeId}
 use Rattle.es_base.specs.declared.ids.SymbolId.{SymbolId}
 use Rattle.es_scopes.specs.Agreement.{AreAlike, HasScopeOf, HasSymbolOf}
-use Rattle.es_scopes.specs.ReferenceNumbers.{ReferenceNumbers}
 use Rattle.es_scopes.specs.References.{writes, HoldsWrite}
-use Rattle.es_scopes.specs.Table.{Table, IsTable, HasScope, HasSymbol, IsMutated, symbol_at, reference_at, row_at, parent_of, changed_at, is_scope, lifted, listing, unlisting, with_listed, without_listed, without_scope, with_new_reference, with_created_reference}
+use Rattle.es_scopes.specs.Table.{Table, IsTable, IsMutated, symbol_at, reference_at, row_at, parent_of, changed_at, is_scope, lifted, listing, unlisting, with_listed, without_listed, without_scope, with_new_reference, with_created_reference}
 use Rattle.es_scopes.specs.declared.flags.ReferenceFlags.{ReferenceFlags}
 use Rattle.es_scopes.specs.declared.table.Reference.{Reference}
 use Rattle.es_scopes.specs.declared.table.Scope.{Scope}

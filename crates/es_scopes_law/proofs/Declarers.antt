@@ -203,7 +203,7 @@ made-declare d e fits made = record { table = table-declare d e made.whole fits 
 
 -- ---- whether a name is seen from parameters, and whether it is more than an own name
 
-declarer-changed : (ds : List Declarer) (f : Declarer → Declarer) (y : SymbolId) → y.0 < length ds → declarer_at (changed_at f y.0 ds) y ≡ f (declarer_at ds y)
+pub declarer-changed : (ds : List Declarer) (f : Declarer → Declarer) (y : SymbolId) → y.0 < length ds → declarer_at (changed_at f y.0 ds) y ≡ f (declarer_at ds y)
 declarer-changed ds f y l = go ds y.0 l
   where
     go : (ds : List Declarer) (i : ℕ) → i < length ds → unwrap_or (slice_get (changed_at f i ds) i) declarer.Other ≡ f (unwrap_or (slice_get ds i) declarer.Other)

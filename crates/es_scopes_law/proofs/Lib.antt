@@ -20,3 +20,4 @@ pub mod Repeated
 pub mod MutatedAgree
 pub mod Agreeing
 pub mod Removed
+pub mod Flags

@@ -175,7 +175,7 @@ two zero = false
 two (suc zero) = false
 two (suc (suc n)) = true
 
-weight-entry : (e : Entry) (es : List Entry) (q : ℕ) (x : List ℕ) → many_beside q x (e ∷ es) ≡ one_if (entry_is is_beside q x e) + many_beside q x es
+pub weight-entry : (e : Entry) (es : List Entry) (q : ℕ) (x : List ℕ) → many_beside q x (e ∷ es) ≡ one_if (entry_is is_beside q x e) + many_beside q x es
 weight-entry (entry.Scope node parent in_parameters flags) es q x = omega arith
 weight-entry (entry.Body node) es q x = omega arith
 weight-entry (entry.Binding node None who name flags head) es q x = omega arith

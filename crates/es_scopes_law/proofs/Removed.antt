@@ -1,5 +1,5 @@
 -- A scope that no node of a tree has may be removed from a table that agrees with the tree.
-use Rattle.std.proofs.Common.{◌≡◌, refl, sym, ap, subst, ◌∙◌, ℕ, zero, suc, ◌<◌, List, [], ◌∷◌, length, Option, Some, None, arith}
+use Rattle.std.proofs.Common.{◌≡◌, refl, sym, ap, ◌∙◌, ℕ, zero, suc, ◌<◌, List, [], ◌∷◌, length, Option, Some, None, arith}
 use Rattle.std.specs.Prelude.{option_map, slice_get, slice_index_or, Contains}
 use Rattle.std.specs.Option.{option_and_then}
 use Rattle.es_base.specs.Carried.{scope_number}
