@@ -1,25 +1,10 @@
 -- A value that borrows its strings from a value of `serde_json`.
-use Rattle.std.proofs.Common.{◌≡◌, refl, sym, ap, ◌∙◌, ℕ, ℤ, List, [], ◌∷◌, ◌++◌, map, Some, None, string_bytes, append-nil, append_assoc}
-use Rattle.serde_json.specs.Data.{Num, unsigned, negative, float, Data, Members, no_members, member}
-use Rattle.serde_json.specs.Find.{as_u64, as_i64}
+use Rattle.std.proofs.Common.{◌≡◌, refl, sym, ap, ◌∙◌, ℕ, List, [], ◌∷◌, ◌++◌, map, string_bytes, append-nil, append_assoc}
+use Rattle.serde_json.specs.Data.{Data, Members, no_members, member}
 use Rattle.serde_json.specs.View.{view as owned_view, members_view as owned_members}
 use Rattle.serde_json.proofs.Views.{Entry}
 use Rattle.borrowed_json.specs.View.{Keyed, members_view, view}
 use Rattle.borrowed_json.specs.declared.value.Value.{Value}
-
--- ---- numbers
-
-pub whole_number : (n : Num) (k : ℕ) → Some k ≡ as_u64 n → unsigned k ≡ n
-whole_number (unsigned n) k is = cc
-whole_number (negative z) k is = cc
-whole_number (float x) k is = cc
-
-pub number_below : (n : Num) (z : ℤ) → None ≡ as_u64 n → Some z ≡ as_i64 n → negative z ≡ n
-number_below (unsigned n) z none is = cc
-number_below (negative y) z none is = cc
-number_below (float x) z none is = cc
-
--- ---- members
 
 abbrev pub pair : Keyed Value → List ℕ × Data
 pair m = (m.0.now, view m.1)

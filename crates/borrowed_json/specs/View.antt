@@ -1,16 +1,10 @@
 -- The data that a borrowed value stands for (JSON, RFC 8259).
 use Rattle.std.specs.Borrow.{Bor}
 use Rattle.std.specs.Prelude.{ℕ, List, [], ◌∷◌, map}
-use Rattle.serde_json.specs.Data.{Num, unsigned, negative, float, Data, null, boolean, number, string, array, object, Items, Members, no_members, member}
-pub use Rattle.serde_json.specs.View.{items_of}
-use Rattle.borrowed_json.specs.declared.value.Number.{Number}
+use Rattle.serde_json.specs.Data.{Data, null, boolean, number, string, array, object, Items, Members, no_members, member}
+use Rattle.serde_json.specs.View.{items_of, number_view}
 use Rattle.borrowed_json.specs.declared.value.Value.{Value, fold-Value}
 use Rattle.borrowed_json.specs.declared.value.Value.TheOpen.{Value-F}
-
-abbrev pub number_view : Number → Num
-number_view (Number.Unsigned n) = unsigned n
-number_view (Number.Negative z) = negative z
-number_view (Number.Float x) = float x
 
 -- a member: its key and its value
 abbrev pub Keyed : Type 0 → Type 0

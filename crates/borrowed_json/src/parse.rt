@@ -1,17 +1,17 @@
 // From JSON text to a value, in one pass over its tokens.
 
-ghost use Rattle.std.specs.Prelude.{◌≡◌, ◌<◌, ◌≤◌, ℕ, length, drop, slice_index, ◌==◌, Some, None, Err, IfOk, OnOk, IsUtf8, IsTrue, option_map, true, false};
-ghost use Rattle.json.specs.Json.{value, items, members};
-ghost use Rattle.json.specs.Lex.{tokens};
-ghost use Rattle.serde_json.specs.Data.{no_members};
-ghost use Rattle.serde_json.specs.Read.{of_json, of_items, of_members, converted, max_depth, number_of, number_from, float_of, read as read_text};
-ghost use Rattle.borrowed_json.specs.View.{items_view, members_view, number_view, view};
+ghost use Rattle.std.specs.Prelude.{◌≡◌, ◌<◌, ◌≤◌, ℕ, length, slice_index, ◌==◌, Some, None, Err, IfOk, OnOk, IsUtf8, IsTrue, option_map, true, false};
+ghost use Rattle.serde_json.specs.Read.{number_of, number_from, float_of, read};
+ghost use Rattle.serde_json.specs.View.{number_view};
+ghost use Rattle.borrowed_json.specs.Grammar.{value_in, list_in, object_in, object_from};
+ghost use Rattle.borrowed_json.specs.View.{members_view, view};
 ghost use Rattle.borrowed_json.specs.declared.parse.ParseError.{ParseError};
 
 use crate::members::{in_order, of_map, to_map};
-use crate::value::{Member, Number, Value};
+use crate::value::Value;
 use fast_float::Numeral;
 use json::{Invalid, Reader, Scratch, Token};
+use serde_json::Number;
 use std::alloc::{AllocError, AllocFailed, Global};
 use std::collections::BTreeMap;
 use thiserror::Error;
@@ -71,8 +71,8 @@ pub fn parse<'a>(
     bytes: &'a [u8],
     scratch: &'a mut Scratch,
 ) -> Result<Value<'a>, ParseError>
-    ensures ok { IfOk result (λ v. IsUtf8 bytes.now × (read_text bytes.now ≡ Some (view v))) }
-    ensures err { result ≡ Err ParseError.Invalid → IsUtf8 bytes.now → read_text bytes.now ≡ None }
+    ensures ok { IfOk result (λ v. IsUtf8 bytes.now × (read bytes.now ≡ Some (view v))) }
+    ensures err { result ≡ Err ParseError.Invalid → IsUtf8 bytes.now → read bytes.now ≡ None }
 {
     match simdutf8::compat::from_utf8(bytes) {
         Ok(text) => parse_text(alloc, text, scratch),
@@ -85,156 +85,159 @@ fn parse_text<'a>(
     text: &'a str,
     scratch: &'a mut Scratch,
 ) -> Result<Value<'a>, ParseError>
-    ensures ok { IfOk result (λ v. read_text text.now ≡ Some (view v)) }
-    ensures err { result ≡ Err ParseError.Invalid → read_text text.now ≡ None }
+    ensures ok { IfOk result (λ v. read text.now ≡ Some (view v)) }
+    ensures err { result ≡ Err ParseError.Invalid → read text.now ≡ None }
 {
     let mut reader = Reader::new(text, scratch)?;
-    let value = read(alloc, &mut reader, MAX_DEPTH)?;
-    if reader.next().is_some() {
-        return Err(ParseError::Invalid);
+    let value = next_value(alloc, &mut reader, MAX_DEPTH)?;
+    match reader.next() {
+        None => Ok(value),
+        Some(_) => Err(ParseError::Invalid),
     }
-    Ok(value)
 }
 
-/// The next value of the reader, with lists and objects nested at most `depth` deep.
-#[cycle(read)]
-fn read<'a>(alloc: Global, reader: &mut Reader<'a>, depth: usize) -> Result<Value<'a>, ParseError>
-    ensures ok { IfOk result (λ v. converted of_json (value depth reader.old) ≡ Some (view v, reader.new)) }
+/// The next value of the reader, in which lists and objects nest at most `depth` deep.
+#[cycle(next)]
+fn next_value<'a>(
+    alloc: Global,
+    reader: &mut Reader<'a>,
+    depth: usize,
+) -> Result<Value<'a>, ParseError>
+    ensures ok { IfOk result (λ v. value_in depth reader.old ≡ Some (view v, reader.new)) }
     ensures shorter { OnOk result (length reader.new < length reader.old) }
-    ensures err { result ≡ Err ParseError.Invalid → converted of_json (value depth reader.old) ≡ None }
+    ensures err { result ≡ Err ParseError.Invalid → value_in depth reader.old ≡ None }
 {
     let token = reader.next().ok_or(ParseError::Invalid)?;
     match token {
-        Token::String(text) => Ok(Value::String(text)),
-        Token::Number(text) => match parse_number(text) {
-            Some(number) => Ok(Value::Number(number)),
+        Token::BeginArray => next_list(alloc, reader, depth),
+        Token::BeginObject => next_object(alloc, reader, depth),
+        Token::String(string) => Ok(Value::String(string)),
+        Token::Number(text) => match number_of(text) {
             None => Err(ParseError::Invalid),
+            Some(number) => Ok(Value::Number(number)),
         },
         Token::Bool(boolean) => Ok(Value::Bool(boolean)),
         Token::Null => Ok(Value::Null),
-        Token::EndObject | Token::EndArray | Token::Key(_) | Token::Bad => Err(ParseError::Invalid),
-        Token::BeginArray => {
-            if depth == 0 {
-                return Err(ParseError::Invalid);
-            }
-            Ok(Value::Array(read_items(alloc, reader, depth - 1)?))
-        }
-        Token::BeginObject => {
-            if depth == 0 {
-                return Err(ParseError::Invalid);
-            }
-            Ok(Value::Object(read_members(alloc, reader, depth - 1)?))
-        }
+        Token::EndArray | Token::EndObject | Token::Key(_) | Token::Bad => Err(ParseError::Invalid),
     }
 }
 
-/// The items of a list whose bracket was read.
-#[cycle(read)]
-fn read_items<'a>(
+/// The list whose bracket was taken.
+#[cycle(next)]
+fn next_list<'a>(
     alloc: Global,
     reader: &mut Reader<'a>,
     depth: usize,
-) -> Result<Vec<Value<'a>>, ParseError>
-    ensures ok { IfOk result (λ v. converted of_items (items (value depth) (length reader.old) reader.old) ≡ Some (items_view v.items, reader.new)) }
+) -> Result<Value<'a>, ParseError>
+    ensures ok { IfOk result (λ v. list_in depth reader.old ≡ Some (view v, reader.new)) }
     ensures shorter { OnOk result (length reader.new < length reader.old) }
-    ensures err { result ≡ Err ParseError.Invalid → converted of_items (items (value depth) (length reader.old) reader.old) ≡ None }
+    ensures err { result ≡ Err ParseError.Invalid → list_in depth reader.old ≡ None }
 {
-    let mut found = Vec::new(alloc);
+    if depth == 0 {
+        return Err(ParseError::Invalid);
+    }
+    let mut items = Vec::new(alloc);
     'items: while !reader.take_end_array() {
-        let item = read(alloc, reader, depth)?;
-        found.push(item)?;
+        let item = next_value(alloc, reader, depth - 1)?;
+        items.push(item)?;
     }
-    Ok(found)
+    Ok(Value::Array(items))
 }
 
-/// The members of an object whose brace was read, in the order of their keys.
-#[cycle(read)]
-fn read_members<'a>(
+/// The object whose brace was taken.
+#[cycle(next)]
+fn next_object<'a>(
     alloc: Global,
     reader: &mut Reader<'a>,
     depth: usize,
-) -> Result<Vec<Member<'a>>, ParseError>
-    ensures ok { IfOk result (λ m. converted (λ ms. of_members ms no_members) (members (value depth) (length reader.old) reader.old) ≡ Some (members_view m.items, reader.new)) }
+) -> Result<Value<'a>, ParseError>
+    ensures ok { IfOk result (λ v. object_in depth reader.old ≡ Some (view v, reader.new)) }
     ensures shorter { OnOk result (length reader.new < length reader.old) }
-    ensures err { result ≡ Err ParseError.Invalid → converted (λ ms. of_members ms no_members) (members (value depth) (length reader.old) reader.old) ≡ None }
+    ensures err { result ≡ Err ParseError.Invalid → object_in depth reader.old ≡ None }
 {
-    let mut found = Vec::new(alloc);
+    if depth == 0 {
+        return Err(ParseError::Invalid);
+    }
+    let mut members = Vec::new(alloc);
     'members: while let Some(key) = reader.next_key()? {
-        let member = read(alloc, reader, depth)?;
-        found.push((key, member))?;
-        if found.len() == FEW {
-            let map = to_map(alloc, found)?;
-            return read_more_members(alloc, reader, depth, map);
+        let value = next_value(alloc, reader, depth - 1)?;
+        members.push((key, value))?;
+        if members.len() == FEW {
+            let map = to_map(alloc, members)?;
+            return next_members(alloc, reader, depth - 1, map);
         }
     }
-    Ok(in_order(alloc, found)?)
+    Ok(Value::Object(in_order(alloc, members)?))
 }
 
-/// The members of an object, the rest of which are to be read.
-#[cycle(read)]
-fn read_more_members<'a>(
+/// The object of which these members were taken, whose values nest at most `depth` deep.
+#[cycle(next)]
+fn next_members<'a>(
     alloc: Global,
     reader: &mut Reader<'a>,
     depth: usize,
-    mut found: BTreeMap<&'a str, Value<'a>>,
-) -> Result<Vec<Member<'a>>, ParseError>
-    ensures ok { IfOk result (λ m. (n : ℕ) → length reader.old ≤ n → converted (λ ms. of_members ms (members_view found.entry.entries)) (members (value depth) n reader.old) ≡ Some (members_view m.items, reader.new)) }
+    mut map: BTreeMap<&'a str, Value<'a>>,
+) -> Result<Value<'a>, ParseError>
+    ensures ok { IfOk result (λ v. (n : ℕ) → length reader.old ≤ n → object_from (value_in depth) n (members_view map.entry.entries) reader.old ≡ Some (view v, reader.new)) }
     ensures shorter { OnOk result (length reader.new < length reader.old) }
-    ensures err { result ≡ Err ParseError.Invalid → (n : ℕ) → length reader.old ≤ n → converted (λ ms. of_members ms (members_view found.entry.entries)) (members (value depth) n reader.old) ≡ None }
+    ensures err { result ≡ Err ParseError.Invalid → (n : ℕ) → length reader.old ≤ n → object_from (value_in depth) n (members_view map.entry.entries) reader.old ≡ None }
 {
     'members: while let Some(key) = reader.next_key()? {
-        let member = read(alloc, reader, depth)?;
-        drop(found.insert(key, member)?);
+        let value = next_value(alloc, reader, depth)?;
+        drop(map.insert(key, value)?);
     }
-    Ok(of_map(alloc, found)?)
+    Ok(Value::Object(of_map(alloc, map)?))
 }
 
-/// The number that a text of JSON's grammar is, unless it is too great for a float.
-fn parse_number(text: &str) -> Option<Number>
+/// The number that a text of JSON's grammar is; nothing where it is too great for a float.
+fn number_of(text: &str) -> Option<Number>
     ensures { option_map number_view result ≡ number_of text.now }
 {
     let bytes = text.as_bytes();
-    if has_minus(bytes) {
-        negative_number(&Numeral::scan(&bytes[1..]))
+    if is_signed(bytes) {
+        number_below(&Numeral::scan(&bytes[1..]))
     } else {
-        positive_number(&Numeral::scan(bytes))
+        number_above(&Numeral::scan(bytes))
     }
 }
 
-fn has_minus(bytes: &[u8]) -> bool
+/// Whether a minus stands in front.
+fn is_signed(bytes: &[u8]) -> bool
     ensures value { result ≡ (slice_index bytes.now 0 == 45) }
-    ensures len { IsTrue result → 0 < length bytes.now }
+    ensures some { IsTrue result → 0 < length bytes.now }
 {
     !bytes.is_empty() && bytes[0] == b'-'
 }
 
-fn positive_number(numeral: &Numeral<'_>) -> Option<Number>
+/// A number without a sign: whole, where it is and fits, and else the nearest float.
+fn number_above(numeral: &Numeral<'_>) -> Option<Number>
     ensures { option_map number_view result ≡ number_from false numeral.now }
 {
     match numeral.to_u64() {
-        Some(n) => Some(Number::Unsigned(n)),
+        Some(whole) => Number::from_u128(whole as u128),
         None => nearest(false, numeral),
     }
 }
 
-fn negative_number(numeral: &Numeral<'_>) -> Option<Number>
+/// A number with a sign. Minus zero is a float.
+fn number_below(numeral: &Numeral<'_>) -> Option<Number>
     ensures { option_map number_view result ≡ number_from true numeral.now }
 {
-    if let Some(n) = numeral.to_i64(true) {
-        if n < 0 {
-            return Some(Number::Negative(n));
+    match numeral.to_i64(true) {
+        Some(whole) => {
+            if whole < 0 {
+                Number::from_i128(whole as i128)
+            } else {
+                nearest(true, numeral)
+            }
         }
+        None => nearest(true, numeral),
     }
-    nearest(true, numeral)
 }
 
-fn nearest(negative: bool, numeral: &Numeral<'_>) -> Option<Number>
-    ensures { option_map number_view result ≡ float_of negative numeral.now }
+/// The nearest float, if it is finite.
+fn nearest(signed: bool, numeral: &Numeral<'_>) -> Option<Number>
+    ensures { option_map number_view result ≡ float_of signed numeral.now }
 {
-    let x = numeral.to_float::<f64>(negative);
-    if x.is_finite() {
-        Some(Number::Float(x))
-    } else {
-        None
-    }
+    Number::from_f64(numeral.to_float::<f64>(signed))
 }

@@ -1,19 +1,11 @@
 // JSON values whose strings are borrowed.
 
 ghost use Rattle.std.specs.Prelude.{◌≡◌, is_some, option_map, option_and_then};
-ghost use Rattle.borrowed_json.specs.View.{items_view, members_view, number_view, view};
-ghost use Rattle.serde_json.specs.Find.{get, get_member, as_array, as_bool, as_i64, as_null, as_number, as_str, as_u64, is_float};
+ghost use Rattle.borrowed_json.specs.View.{items_view, members_view, view};
+ghost use Rattle.serde_json.specs.Find.{get, get_member, as_array, as_bool, as_i64, as_null, as_number, as_str, as_u64};
+ghost use Rattle.serde_json.specs.View.{number_view};
 
-/// A number of JSON: a whole number of 64 bits, or a float.
-#[derive(Clone, Copy, Drop)]
-pub enum Number {
-    /// A whole number that is not negative.
-    Unsigned(u64),
-    /// A whole number below zero.
-    Negative(i64),
-    /// Any other number.
-    Float(f64),
-}
+use serde_json::Number;
 
 /// A JSON value that borrows its strings. An object has its members in the order of the bytes of their keys,
 /// each key once.
@@ -29,36 +21,6 @@ pub enum Value<'a> {
 
 /// A member of an object: its key and its value.
 pub type Member<'a> = (&'a str, Value<'a>);
-
-impl Number {
-    /// Whether it is held as a float.
-    pub fn is_f64(self) -> bool
-        ensures { result ≡ is_float (number_view self) }
-    {
-        matches!(self, Number::Float(_))
-    }
-
-    /// The whole number of u64 that it is.
-    pub fn as_u64(self) -> Option<u64>
-        ensures { result ≡ as_u64 (number_view self) }
-    {
-        match self {
-            Number::Unsigned(n) => Some(n),
-            Number::Negative(_) | Number::Float(_) => None,
-        }
-    }
-
-    /// Whether it is a whole number of i64.
-    pub fn is_i64(self) -> bool
-        ensures { result ≡ is_some (as_i64 (number_view self)) }
-    {
-        match self {
-            Number::Unsigned(n) => n < 9_223_372_036_854_775_808,
-            Number::Negative(_) => true,
-            Number::Float(_) => false,
-        }
-    }
-}
 
 impl<'a> Value<'a> {
     /// The value at the member of this name.

@@ -2,7 +2,7 @@ use Rattle.std.proofs.Common.{sym, ap, ◌∙◌}
 use Rattle.std.specs.Vec.Iter.{into_iter_items}
 use Rattle.borrowed_json.specs.Members.{put_all}
 use Rattle.borrowed_json.specs.View.{members_view}
-use Rattle.borrowed_json.proofs.Parsing.{put_next}
+use Rattle.borrowed_json.proofs.InOrder.{put_next}
 use Rattle.borrowed_json.proofs.members.in_order.Goals as goal
 
 pub loop-key-preserved : goal.loop-key-preserved

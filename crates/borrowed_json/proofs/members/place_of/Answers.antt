@@ -1,5 +1,5 @@
 use Rattle.std.proofs.Common.{refl, sym, ◌∙◌}
-use Rattle.borrowed_json.proofs.Parsing.{placed}
+use Rattle.borrowed_json.proofs.InOrder.{placed}
 use Rattle.borrowed_json.proofs.members.place_of.Goals as goal
 
 pub returns-in-Equal-clause-ok : goal.returns-in-Equal-clause-ok
