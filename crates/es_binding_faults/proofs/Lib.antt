@@ -1,0 +1,5 @@
+pub mod LeastNumbers
+pub mod HasNumbers
+pub mod Appending
+pub mod Seen
+pub mod Bindings

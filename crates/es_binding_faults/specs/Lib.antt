@@ -1,0 +1,3 @@
+pub mod Leasts
+pub mod Named
+pub mod Seen
