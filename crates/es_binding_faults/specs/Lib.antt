@@ -1,3 +1,4 @@
+pub mod Hoisted
 pub mod Leasts
 pub mod Named
 pub mod Seen

@@ -3,6 +3,7 @@
 #![tactic(auto)]
 
 pub mod bound;
+pub mod hoisted;
 pub mod leasts;
 pub mod numbers;
 pub mod preorder;
