@@ -22,6 +22,9 @@ pub appended_all : {N X : Type 0} (G : ℕ → List N → List X) (old all : Lis
 appended_all {N} {X} G old all ns i none over before =
     sym (append-nil old) ∙ ap (λ (xs : List X). old ++ xs) (sym (at_drop_all (λ (xs : List N). G i xs) ns i over ∙ none i)) ∙ before
 
+pub appended_twice : {X : Type 0} (old mid new xs ys : List X) → mid ≡ old ++ xs → new ≡ mid ++ ys → new ≡ old ++ (xs ++ ys)
+appended_twice {X} old mid new xs ys first second = second ∙ ap (λ (zs : List X). zs ++ ys) first ∙ append_assoc old xs ys
+
 pub OnOk-map : {T E : Type 0} (r : Result T E) (P Q : Type 0) → (P → Q) → OnOk r P → OnOk r Q
 OnOk-map (Ok x) P Q f h = f h
 OnOk-map (Err e) P Q f h = tt

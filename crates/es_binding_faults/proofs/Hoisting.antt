@@ -141,7 +141,7 @@ pub variables_kind : (kind : Kind) → spec.variables ≡ spec.statement_form ki
 variables_kind Kind.VariableDeclaration e = refl
 variables_kind kind e = absurd (cc)
 
-lexical-part : (p : Part) → plain (lexical_part p) ≡ hoisted_part Hoist.Lexical p
+pub lexical-part : (p : Part) → plain (lexical_part p) ≡ hoisted_part Hoist.Lexical p
 lexical-part (child t) = refl
 lexical-part absent = refl
 lexical-part (list ps) = refl
@@ -150,7 +150,7 @@ lexical-part no_string = refl
 lexical-part (boolean b) = refl
 lexical-part (literal v) = refl
 
-var-part : (p : Part) → plain (var_part p) ≡ hoisted_part Hoist.Var p
+pub var-part : (p : Part) → plain (var_part p) ≡ hoisted_part Hoist.Var p
 var-part (child t) = refl
 var-part absent = refl
 var-part (list ps) = refl

@@ -6,3 +6,4 @@ pub mod Bindings
 pub mod Places
 pub mod Plain
 pub mod Hoisting
+pub mod ScopeNames

@@ -2,3 +2,4 @@ pub mod Hoisted
 pub mod Leasts
 pub mod Named
 pub mod Seen
+pub mod ScopeForms

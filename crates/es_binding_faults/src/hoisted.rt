@@ -236,7 +236,7 @@ fn descends(hoist: Hoist, form: StatementForm) -> bool
 
 /// Adds the names that a statement declares for the list around it. Fails on allocation failure alone.
 #[cycle(hoisted)]
-fn add_hoisted<'a>(
+pub fn add_hoisted<'a>(
     hoist: Hoist,
     node: &'a Node,
     names: &mut Vec<Declared<'a>>,

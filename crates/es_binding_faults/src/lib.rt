@@ -3,7 +3,9 @@
 #![tactic(auto)]
 
 pub mod bound;
+pub mod counted;
 pub mod hoisted;
 pub mod leasts;
 pub mod numbers;
 pub mod preorder;
+pub mod scopes;
