@@ -3,3 +3,5 @@ pub mod Leasts
 pub mod Named
 pub mod Seen
 pub mod ScopeForms
+pub mod Repeats
+pub mod Evals

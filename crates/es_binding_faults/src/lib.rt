@@ -4,8 +4,10 @@
 
 pub mod bound;
 pub mod counted;
+pub mod evals;
 pub mod hoisted;
 pub mod leasts;
 pub mod numbers;
 pub mod preorder;
+pub mod repeats;
 pub mod scopes;
