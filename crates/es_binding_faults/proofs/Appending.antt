@@ -2,6 +2,8 @@
 use Rattle.std.proofs.Common.{◌≡◌, refl, sym, ap, ◌∙◌, ℕ, ◌+◌, ◌<◌, ◌≤◌, List, [], ◌∷◌, ◌++◌, map, length, drop, get_or, append_assoc, append-nil, Result, Ok, Err}
 use Rattle.std.specs.Prelude.{OnOk, IfOk}
 use Rattle.std.proofs.lemmas.List.{at_drop_more, at_drop_all}
+use Rattle.es_base.specs.declared.ids.NodeId.{NodeId}
+use Rattle.es_binding_faults.specs.Repeats.{numbers}
 
 module _ {N X : Type 0} (G : ℕ → List N → List X) (g : ℕ → N → List X) where
   -- one item of those that stand behind the i-th
@@ -41,3 +43,9 @@ OnOk-map (Err e) P Q f h = tt
 pub IfOk-map : {T E : Type 0} (r : Result T E) (P Q : T → Type 0) → ((x : T) → P x → Q x) → IfOk r P → IfOk r Q
 IfOk-map (Ok x) P Q f h = f x h
 IfOk-map (Err e) P Q f h = tt
+
+-- ---- numbers of nodes
+
+pub numbers-push : (ns : List NodeId) (n : NodeId) → numbers (ns ++ n ∷ []) ≡ numbers ns ++ n.0 ∷ []
+numbers-push [] n = refl
+numbers-push (m ∷ ns) n = ap (λ (ks : List ℕ). m.0 ∷ ks) (numbers-push ns n)

@@ -11,3 +11,4 @@ pub mod RepeatNames
 pub mod FreeEvals
 pub mod Repeating
 pub mod EvalNames
+pub mod WholeNames

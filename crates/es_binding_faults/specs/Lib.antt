@@ -5,3 +5,4 @@ pub mod Seen
 pub mod ScopeForms
 pub mod Repeats
 pub mod Evals
+pub mod WholeProgram

@@ -3,8 +3,10 @@
 #![tactic(auto)]
 
 pub mod bound;
+pub mod check;
 pub mod counted;
 pub mod evals;
+pub mod facts;
 pub mod hoisted;
 pub mod leasts;
 pub mod numbers;

@@ -1,0 +1,13 @@
+use Rattle.std.proofs.Common.{ap, ◌∙◌}
+use Rattle.es_steps.specs.References.{has_number, resolve}
+use Rattle.es_validity.specs.Facts.{free_evals}
+use Rattle.es_binding_faults.proofs.Appending.{IfOk-map}
+use Rattle.es_binding_faults.proofs.WholeNames.{calls-same}
+use Rattle.es_binding_faults.specs.Repeats.{numbers}
+use Rattle.es_binding_faults.specs.Seen.{seen}
+use Rattle.es_binding_faults.proofs.facts.eval_calls.Goals as goal
+
+pub returns : goal.returns
+returns c =
+    IfOk-map c.calls_of.result _ _ (λ r is. is ∙ calls-same _ (free_evals (resolve c.args.program.now))
+        (λ n. c.in_ok-evals-2.ensures n ∙ ap (λ ns. has_number n (numbers ns)) c.as_slice.ensures.value ∙ ap (has_number n) c.in_ok-evals.ensures) (seen c.args.nodes.now)) c.calls_of.ensures
