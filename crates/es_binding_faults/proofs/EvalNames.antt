@@ -1,5 +1,5 @@
 -- Whether `eval` is declared, and the free references to it of one part behind the i-th.
-use Rattle.std.proofs.Common.{◌≡◌, refl, sym, ap, ◌∙◌, ℕ, suc, ◌+◌, ◌<◌, List, [], ◌∷◌, ◌++◌, length, drop, get_or, Bool, true, false, cond, ◌||◌, arith}
+use Rattle.std.proofs.Common.{◌≡◌, refl, sym, ap, ◌∙◌, ℕ, suc, ◌+◌, ◌<◌, List, [], ◌∷◌, ◌++◌, length, drop, get_or, Bool, true, false, cond, ◌||◌}
 use Rattle.std.specs.Prelude.{bytes_eq, codes}
 use Rattle.std.specs.Str.{chars}
 use Rattle.std.proofs.lemmas.List.{at_drop_more}
@@ -11,7 +11,7 @@ use Rattle.es_base.specs.declared.table.Sort.{Sort}
 use Rattle.es_node.specs.View.{kind_of, number_in, parts_in, have_shapes, has_shape}
 use Rattle.es_node.specs.declared.node.Part as code
 use Rattle.es_node.proofs.Shapes.{right_of}
-use Rattle.es_steps.specs.References.{is_declared, is_reference}
+use Rattle.es_steps.specs.References.{is_reference}
 use Rattle.es_steps.specs.Scopes.{Declaration, seen, scope_of, is_body_part}
 use Rattle.es_binding_faults.proofs.RepeatNames.{any_declared}
 use Rattle.es_binding_faults.proofs.ScopeNames.{seen-plain}

@@ -1,5 +1,5 @@
 -- The free references to `eval` are those of the resolution.
-use Rattle.std.proofs.Common.{◌≡◌, refl, sym, ap, ◌∙◌, ℕ, suc, ◌+◌, List, [], ◌∷◌, ◌++◌, append_assoc, Bool, true, false, cond, not, ◌||◌, Option, Some, None, arith, subst}
+use Rattle.std.proofs.Common.{◌≡◌, refl, sym, ap, ◌∙◌, ℕ, suc, ◌+◌, List, [], ◌∷◌, ◌++◌, append_assoc, Bool, true, false, cond, not, ◌||◌, Option, Some, None, arith}
 use Rattle.std.specs.Prelude.{bytes_eq, codes, ◌&&◌}
 use Rattle.std.proofs.lemmas.Slice.Eq.{bytes_eq-Decides}
 use Rattle.es_base.specs.Table.{Field, members_of}
@@ -66,7 +66,7 @@ mutual
       either (is_reference kind) (reference names target m (string_of (at 0 ps))) (references_in (λ i. names_at is_body kind m ps i ++ names) (is_body_part kind) (members_of kind) ps) (free_eval (declares_eval names) m ps) (free_evals_from (declared_in (declares_eval names) is_body kind m ps) (is_body_part kind) 0 (members_of kind) ps)
       (one_free names target m ps)
       (free_evals-references_in (λ i. names_at is_body kind m ps i ++ names) (is_body_part kind) (declared_in (declares_eval names) is_body kind m ps) (is_body_part kind) 0 (members_of kind) ps
-          (λ k. is_declared-append (codes "eval") (names_at is_body kind m ps k) names ∙ ap (declared_in (declares_eval names) is_body kind m ps) (from_zero k)) (λ k. ap (is_body_part kind) (from_zero k)))
+      (λ k. is_declared-append (codes "eval") (names_at is_body kind m ps k) names ∙ ap (declared_in (declares_eval names) is_body kind m ps) (from_zero k)) (λ k. ap (is_body_part kind) (from_zero k)))
     where
       from_zero : (k : ℕ) → k ≡ 0 + k
       from_zero k = omega arith
@@ -78,7 +78,7 @@ mutual
   free_evals-references_in names parts seen bodies i (f ∷ fs) (more p ps) same are =
       free_evals-append (part_references (names 0) (is_target f.sort) (parts 0) p) (references_in (λ k. names (suc k)) (λ k. parts (suc k)) fs ps)
       ∙ ap (λ (ns : List ℕ). ns ++ free_evals (references_in (λ k. names (suc k)) (λ k. parts (suc k)) fs ps))
-        (free_evals-part (names 0) (is_target f.sort) (parts 0) p ∙ ap (λ b. free_evals_at b (parts 0) p) (same 0 ∙ ap seen (at_once i)) ∙ ap (λ b. free_evals_at (seen i) b p) (are 0 ∙ ap bodies (at_once i)))
+      (free_evals-part (names 0) (is_target f.sort) (parts 0) p ∙ ap (λ b. free_evals_at b (parts 0) p) (same 0 ∙ ap seen (at_once i)) ∙ ap (λ b. free_evals_at (seen i) b p) (are 0 ∙ ap bodies (at_once i)))
       ∙ ap (λ (ns : List ℕ). free_evals_at (seen i) (bodies i) p ++ ns) (free_evals-references_in (λ k. names (suc k)) (λ k. parts (suc k)) seen bodies (i + 1) fs ps (λ k. same (suc k) ∙ ap seen (one_on i k)) (λ k. are (suc k) ∙ ap bodies (one_on i k)))
     where
       at_once : (i : ℕ) → i + 0 ≡ i

@@ -1,6 +1,6 @@
 -- A declaration repeats a name where the least number of that name is less than its own.
-use Rattle.std.proofs.Common.{◌≡◌, refl, sym, ap, ◌∙◌, ℕ, ◌+◌, ◌<◌, List, [], ◌∷◌, ◌++◌, map, Bool, true, false, cond, ◌||◌, Option, Some, None, arith, ◌≤◌, length, drop, get_or}
-use Rattle.std.specs.Prelude.{bytes_eq, ◌&&◌, nat_lt, filter, not}
+use Rattle.std.proofs.Common.{◌≡◌, refl, sym, ap, ◌∙◌, ℕ, ◌+◌, ◌<◌, List, [], ◌∷◌, ◌++◌, Bool, true, false, cond, ◌||◌, Option, Some, None, arith, ◌≤◌, length, drop, get_or}
+use Rattle.std.specs.Prelude.{bytes_eq, ◌&&◌, nat_lt, filter}
 use Rattle.std.specs.Str.{chars}
 use Rattle.std.proofs.lemmas.Bool.Decides.{nat_tests}
 use Rattle.std.proofs.lemmas.List.{at_drop_more, at_drop_all}

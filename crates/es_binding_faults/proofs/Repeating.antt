@@ -1,11 +1,10 @@
 -- What is repeated in the scope of a node.
-use Rattle.std.proofs.Common.{◌≡◌, refl, sym, ap, ◌∙◌, ℕ, List, [], ◌∷◌, ◌++◌, Bool, true, false, cond, append-nil}
-use Rattle.std.specs.Prelude.{filter, not}
+use Rattle.std.proofs.Common.{◌≡◌, ap, ◌∙◌, ℕ, List}
+use Rattle.std.specs.Prelude.{filter}
 use Rattle.es_base.specs.Tree.{Tree, Node}
 use Rattle.es_node.specs.View.{kind_of, parts_in}
-use Rattle.es_steps.specs.References.{has_number, numbers_of}
-use Rattle.es_steps.specs.Scopes.{Declaration, ScopeForm, scope_form}
-use Rattle.es_validity.specs.Facts.{counted, not_among, repeats, repeats_of_all}
+use Rattle.es_steps.specs.Scopes.{Declaration, scope_form}
+use Rattle.es_validity.specs.Facts.{counted, not_among, repeats}
 use Rattle.es_binding_faults.proofs.RepeatNames.{not_among-plain, repeats-plain}
 use Rattle.es_binding_faults.proofs.ScopeNames.{counted-plain}
 use Rattle.es_binding_faults.specs.Named.{plain}
@@ -15,4 +14,3 @@ pub repeats_counted : (lexical branches : List ℕ) (t : Tree) (ds : List Declar
 repeats_counted lexical branches (Node kind m span semantic_id ps) ds is =
     ap (repeats lexical) (is ∙ ap (filter (not_among branches)) (counted-plain (scope_form kind) m ps) ∙ not_among-plain branches (counted (scope_form kind) m ps))
     ∙ repeats-plain lexical (filter (not_among branches) (counted (scope_form kind) m ps))
-

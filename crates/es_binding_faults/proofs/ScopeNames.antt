@@ -1,8 +1,8 @@
 -- The names of bodies, functions and scopes, one after another.
-use Rattle.std.proofs.Common.{◌≡◌, refl, sym, ap, ◌∙◌, ℕ, List, [], ◌∷◌, ◌++◌, append_assoc, Bool, true, false, cond, nat_eq, arith}
-use Rattle.es_base.specs.Tree.{Part, Parts, end, more}
-use Rattle.es_steps.specs.Parts.{at, items, block_items}
-use Rattle.es_steps.specs.Scopes.{Declaration, no_class, own_name, bound_part, body_names, lexical_part, lexical_items, var_part, ScopeForm, program_scope, function_scope, own_function_scope, arrow_scope, own_class_scope, block_scope, static_block_scope, loop_scope, switch_scope, catch_scope, no_scope, scope_names, seen}
+use Rattle.std.proofs.Common.{◌≡◌, refl, sym, ap, ◌∙◌, ℕ, List, ◌++◌, false, cond, nat_eq, arith}
+use Rattle.es_base.specs.Tree.{Part, Parts, more}
+use Rattle.es_steps.specs.Parts.{at, block_items}
+use Rattle.es_steps.specs.Scopes.{Declaration, no_class, own_name, bound_part, body_names, lexical_part, var_part, ScopeForm, program_scope, function_scope, own_function_scope, arrow_scope, own_class_scope, block_scope, static_block_scope, loop_scope, switch_scope, catch_scope, no_scope, scope_names, seen}
 use Rattle.es_validity.specs.Facts.{counted}
 use Rattle.es_binding_faults.proofs.Hoisting.{lexical-part, var-part}
 use Rattle.es_binding_faults.proofs.Plain.{plain-append, plain-bound_part}

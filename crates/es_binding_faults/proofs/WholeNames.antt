@@ -1,5 +1,5 @@
 -- The names of a whole program, one node after another.
-use Rattle.std.proofs.Common.{◌≡◌, refl, sym, ap, ◌∙◌, ℕ, List, [], ◌∷◌, ◌++◌, map, Bool, true, false, cond, ◌||◌, Option, Some, None, Bor}
+use Rattle.std.proofs.Common.{◌≡◌, refl, sym, ap, ◌∙◌, ℕ, List, [], ◌∷◌, ◌++◌, Bool, true, false, cond, ◌||◌, Option, Some, None}
 use Rattle.std.specs.Prelude.{filter, not, ◌&&◌, bytes_eq, nat_lt}
 use Rattle.es_base.specs.Tree.{Tree, Part, Parts, Node, child}
 use Rattle.es_base.specs.declared.kind.Kind.{Kind}
@@ -10,7 +10,6 @@ use Rattle.es_steps.specs.Scopes.{Declaration, no_class, bound_part, scope_form,
 use Rattle.es_validity.specs.Facts.{declared_by, lexical_identifiers, function_name, branch_names, counted, is_repeated_by, is_repeat, repeats, not_among, repeats_of_all, is_eval, eval_calls_of_all}
 use Rattle.es_binding_faults.specs.Evals.{is_eval_call}
 use Rattle.es_binding_faults.specs.Repeats.{repeats_in}
-use Rattle.es_binding_faults.specs.Seen.{seen}
 use Rattle.es_binding_faults.specs.WholeProgram.{lexical_place, is_function_declaration, is_if, branches_at}
 
 pub numbers_of-append : (ds es : List Declaration) → numbers_of (ds ++ es) ≡ numbers_of ds ++ numbers_of es
@@ -75,8 +74,8 @@ repeats-same lexical branches xs ys same alike [] = refl
 repeats-same lexical branches xs ys same alike (Node kind m span semantic_id ps ∷ ts) =
     let ds = counted (scope_form kind) m ps in
     ap (λ (ns : List ℕ). ns ++ repeats_of_all lexical branches ts)
-      (ap (repeats lexical) (filter-same (not_among branches) (not_among ys) (λ d. ap not (alike d.number)) ds)
-      ∙ ap numbers_of (filter-same (is_repeat lexical (filter (not_among ys) ds)) (is_repeat xs (filter (not_among ys) ds)) (is_repeat-same lexical xs same (filter (not_among ys) ds)) (filter (not_among ys) ds)))
+    (ap (repeats lexical) (filter-same (not_among branches) (not_among ys) (λ d. ap not (alike d.number)) ds)
+    ∙ ap numbers_of (filter-same (is_repeat lexical (filter (not_among ys) ds)) (is_repeat xs (filter (not_among ys) ds)) (is_repeat-same lexical xs same (filter (not_among ys) ds)) (filter (not_among ys) ds)))
     ∙ ap (λ (ns : List ℕ). repeats xs (filter (not_among ys) ds) ++ ns) (repeats-same lexical branches xs ys same alike ts)
 
 -- ---- calls of `eval`

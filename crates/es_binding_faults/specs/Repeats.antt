@@ -1,10 +1,10 @@
 -- Which declarations repeat a name, by the least number of each name; and what code has collected.
-use Rattle.std.specs.Prelude.{ℕ, List, [], ◌∷◌, ◌++◌, filter, map, Bool, false, cond, ◌&&◌, ◌||◌, nat_lt, bytes_eq, Option, Some, None}
+use Rattle.std.specs.Prelude.{ℕ, List, [], ◌∷◌, filter, map, Bool, false, cond, nat_lt, bytes_eq, Option, Some, None}
 use Rattle.es_base.specs.Tree.{Tree, Node}
 use Rattle.es_base.specs.declared.ids.NodeId.{NodeId}
-use Rattle.es_steps.specs.References.{has_number, numbers_of}
+use Rattle.es_steps.specs.References.{has_number}
 use Rattle.es_steps.specs.Scopes.{Declaration, scope_form}
-use Rattle.es_validity.specs.Facts.{counted, not_among, repeats, declared_by, function_name}
+use Rattle.es_validity.specs.Facts.{counted, not_among, repeats}
 use Rattle.es_binding_faults.specs.Leasts.{lesser}
 
 abbrev pub numbers : List NodeId → List ℕ

@@ -95,11 +95,7 @@ fn is_eval(node: &Node) -> bool
 }
 
 /// Adds a reference where its name is `eval`, and that is not declared around. Fails on allocation failure alone.
-fn add_reference(
-    declared: bool,
-    node: &Node,
-    evals: &mut Vec<NodeId>,
-) -> Result<(), AllocError>
+fn add_reference(declared: bool, node: &Node, evals: &mut Vec<NodeId>) -> Result<(), AllocError>
     requires { kind_of node.now ≡ Kind.IdentifierReference }
     ensures { OnOk result (numbers evals.new.items ≡ numbers evals.old.items ++ free_eval declared (number_in node.now) (parts_in node.now)) }
 {

@@ -39,13 +39,7 @@ fn lexical_place(node: &Node) -> Option<usize>
     ensures { result ≡ lexical_place (kind_of node.now) (parts_in node.now) }
 {
     match node.kind() {
-        Kind::VariableDeclaration => {
-            if is_var(node.parts()) {
-                None
-            } else {
-                Some(1)
-            }
-        }
+        Kind::VariableDeclaration => { if is_var(node.parts()) { None } else { Some(1) } }
         Kind::ClassDeclaration | Kind::ImportDeclaration => Some(0),
         _ => None,
     }
@@ -111,10 +105,7 @@ fn add_function_name<'a>(
     }
 }
 
-fn add_name_of_function<'a>(
-    node: &'a Node,
-    names: &mut Vec<Declared<'a>>,
-) -> Result<(), AllocError>
+fn add_name_of_function<'a>(node: &'a Node, names: &mut Vec<Declared<'a>>) -> Result<(), AllocError>
     ensures { OnOk result (numbers_of (named names.new.items) ≡ numbers_of (named names.old.items) ++ function_name (child node.now)) }
 {
     if is_function_declaration(node) {
@@ -188,11 +179,7 @@ fn calls_of(alloc: Global, evals: &Numbers, nodes: &[&Node]) -> Result<Vec<NodeI
 }
 
 /// The calls of the free name `eval` in a program, which has these nodes. Fails on allocation failure alone.
-fn eval_calls(
-    alloc: Global,
-    program: &Node,
-    nodes: &[&Node],
-) -> Result<Vec<NodeId>, AllocError>
+fn eval_calls(alloc: Global, program: &Node, nodes: &[&Node]) -> Result<Vec<NodeId>, AllocError>
     ensures { IfOk result (λ r. numbers r.items ≡ eval_calls_of_all (facts.free_evals (resolve program.now)) (seen nodes.now)) }
 {
     let evals = free_evals(alloc, program)?;

@@ -1,13 +1,13 @@
-use Rattle.std.proofs.Common.{◌≡◌, ◌∙◌, sym, refl, false, ◌+◌, ◌<◌, ◌++◌, [], ◌∷◌, ℕ, List, length, drop, cond, arith, ap, get_or, Option}
+use Rattle.std.proofs.Common.{◌≡◌, ◌∙◌, sym, refl, false, ◌+◌, ◌<◌, ◌++◌, length, drop, arith, ap, get_or}
 use Rattle.es_base.specs.Preorder.{nodes, nodes_of, nodes_of_part}
-use Rattle.es_base.specs.Table.{Field, members_of}
+use Rattle.es_base.specs.Table.{members_of}
 use Rattle.es_base.specs.Tree.{child, nullable, trees, nullable_trees}
-use Rattle.es_node.proofs.Below.{nodes_in, part_below, tree_below, hole_below}
-use Rattle.es_node.specs.View.{kind_of, number_in, part_of, parts_of, parts_in, have_shapes}
+use Rattle.es_node.proofs.Below.{part_below, tree_below, hole_below}
+use Rattle.es_node.specs.View.{kind_of, number_in, part_of, parts_of, parts_in}
 use Rattle.es_steps.specs.Scopes.{is_body_part}
 use Rattle.es_binding_faults.proofs.Appending.{appended, appended_at, appended_all, OnOk-map}
 use Rattle.es_binding_faults.proofs.EvalNames.{evals_here, evals_below, next_evals, shapes_length}
-use Rattle.es_binding_faults.specs.Evals.{declared_in, free_eval, free_evals_in, free_evals_from, free_evals_at, free_evals_of}
+use Rattle.es_binding_faults.specs.Evals.{declared_in, free_evals_from, free_evals_at, free_evals_of}
 use Rattle.es_binding_faults.specs.Repeats.{numbers}
 use Rattle.es_binding_faults.proofs.evals.+evals.Goals as goal
 

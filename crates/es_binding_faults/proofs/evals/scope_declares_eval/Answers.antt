@@ -1,4 +1,4 @@
-use Rattle.std.proofs.Common.{◌∙◌, sym, ap, ◌++◌}
+use Rattle.std.proofs.Common.{◌∙◌, ap, ◌++◌}
 use Rattle.es_node.specs.View.{parts_of}
 use Rattle.es_steps.specs.Scopes.{seen}
 use Rattle.es_binding_faults.proofs.EvalNames.{declares_eval-plain}

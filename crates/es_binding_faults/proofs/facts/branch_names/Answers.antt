@@ -1,13 +1,9 @@
-use Rattle.std.proofs.Common.{refl, ap, sym, ◌≡◌, ◌∙◌, ◌++◌, [], ◌∷◌, cond, Bor}
-use Rattle.es_base.specs.Tree.{Tree}
-use Rattle.es_node.specs.View.{kind_of, number_in, parts_in}
-use Rattle.es_steps.specs.References.{numbers_of, resolve}
+use Rattle.es_steps.specs.References.{numbers_of}
 use Rattle.es_validity.specs.Facts.{branch_names}
-use Rattle.es_binding_faults.proofs.Appending.{appended, appended_all}
+use Rattle.es_binding_faults.proofs.Appending.{appended}
 use Rattle.es_binding_faults.proofs.WholeNames.{branches_one}
 use Rattle.es_binding_faults.specs.WholeProgram.{branches_at}
 use Rattle.es_binding_faults.specs.Named.{named}
-use Rattle.es_binding_faults.specs.Repeats.{numbers, repeats_in}
 use Rattle.es_binding_faults.specs.Seen.{seen}
 use Rattle.es_binding_faults.proofs.facts.branch_names.Goals as goal
 

@@ -10,4 +10,4 @@ use Rattle.es_binding_faults.proofs.facts.eval_calls.Goals as goal
 pub returns : goal.returns
 returns c =
     IfOk-map c.calls_of.result _ _ (λ r is. is ∙ calls-same _ (free_evals (resolve c.args.program.now))
-        (λ n. c.in_ok-evals-2.ensures n ∙ ap (λ ns. has_number n (numbers ns)) c.as_slice.ensures.value ∙ ap (has_number n) c.in_ok-evals.ensures) (seen c.args.nodes.now)) c.calls_of.ensures
+    (λ n. c.in_ok-evals-2.ensures n ∙ ap (λ ns. has_number n (numbers ns)) c.as_slice.ensures.value ∙ ap (has_number n) c.in_ok-evals.ensures) (seen c.args.nodes.now)) c.calls_of.ensures

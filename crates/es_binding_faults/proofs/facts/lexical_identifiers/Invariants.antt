@@ -2,7 +2,6 @@ use Rattle.std.proofs.Common.{◌≡◌, ◌++◌, drop}
 use Rattle.es_steps.specs.References.{numbers_of}
 use Rattle.es_validity.specs.Facts.{lexical_identifiers}
 use Rattle.es_binding_faults.specs.Named.{named}
-use Rattle.es_binding_faults.specs.Repeats.{numbers}
 use Rattle.es_binding_faults.specs.Seen.{seen}
 use Rattle.es_binding_faults.proofs.facts.lexical_identifiers.Given as goal
 

@@ -1,7 +1,5 @@
 use Rattle.std.proofs.Common.{◌≡◌, ◌++◌, drop}
-use Rattle.es_steps.specs.References.{numbers_of}
 use Rattle.es_validity.specs.Facts.{repeats_of_all}
-use Rattle.es_binding_faults.specs.Named.{named}
 use Rattle.es_binding_faults.specs.Repeats.{numbers}
 use Rattle.es_binding_faults.specs.Seen.{seen}
 use Rattle.es_binding_faults.proofs.facts.repeats.Given as goal

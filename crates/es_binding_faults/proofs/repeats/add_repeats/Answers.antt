@@ -1,4 +1,4 @@
-use Rattle.std.proofs.Common.{refl, ap, ◌≡◌, ◌∙◌, sym, ◌++◌, [], ◌∷◌, ℕ, List, None, cond, get_or}
+use Rattle.std.proofs.Common.{ap, ◌≡◌, ◌∙◌, ◌++◌, [], ◌∷◌, ℕ, List, None, cond, get_or}
 use Rattle.std.specs.Prelude.{filter}
 use Rattle.es_steps.specs.References.{numbers_of}
 use Rattle.es_validity.specs.Facts.{is_repeat}

@@ -1,4 +1,4 @@
-use Rattle.std.proofs.Common.{refl, ap, ◌∙◌, ◌++◌, [], ◌∷◌, cond, not, get_or}
+use Rattle.std.proofs.Common.{refl, ap, ◌∙◌, ◌++◌, [], ◌∷◌, cond, get_or}
 use Rattle.std.specs.Prelude.{filter}
 use Rattle.es_binding_faults.specs.Repeats.{is_lexical}
 use Rattle.es_binding_faults.proofs.Appending.{appended_or, appended_all}
