@@ -77,7 +77,10 @@ for function in SAYS:
 # witnesses whose output does not meet a clause; where it is not that of the definitions, the meanings are equal or are not asked
 LISTS = 'lists_kept options_{n} source_{n} output_{n}'
 DEFINED = 'definitions_stand (nodes source_{n}) options_{n} generated_{n} (private_members source_{n}) source_{n} output_{n}'
-TIMELY = 'names_timely (nodes source_{n}) generated_{n} output_{n}'
+TIMELY = 'names_timely (nodes source_{n}) generated_{n} (private_members source_{n}) output_{n}'
+CALLS = 'helper_calls_fit (nodes source_{n}) generated_{n} (computed_keys (preorder source_{n})) output_{n}'
+HOMES = 'homes_kept (nodes source_{n}) options_{n} source_{n} output_{n}'
+PRINTABLE = 'is_printable output_{n}'
 STEADY = 'temporaries_steady (nodes source_{n}) generated_{n} output_{n}'
 INITIALIZED = 'initializations_stand (nodes source_{n}) generated_{n} (private_members source_{n}) output_{n} generated_{n}'
 NOT_MET = {
@@ -89,7 +92,17 @@ NOT_MET = {
     'method_given_behind_its_calls': INITIALIZED,
     'super_function_behind_a_call': TIMELY,
     'class_temporary_of_another_case': TIMELY,
-    'body_in_an_arrow': 'homes_kept options_{n} source_{n} output_{n}',
+    'body_in_an_arrow': HOMES,
+    'block_without_a_function': HOMES,
+    'parameter_renamed': HOMES,
+    'map_made_in_a_branch': TIMELY,
+    'let_of_another_case': TIMELY,
+    'directive_behind_a_name': PRINTABLE,
+    'strict_rest': PRINTABLE,
+    'name_without_a_sign': 'names_declared (nodes source_{n}) generated_{n} output_{n}',
+    'conversion_of_no_key': CALLS,
+    'name_of_a_named_class': CALLS,
+    'untested_name_of_a_class': CALLS,
     'function_out_of_its_block': LISTS,
     'class_in_a_constructor': LISTS,
     'class_behind_its_use': LISTS,
@@ -105,7 +118,7 @@ NOT_MET = {
     'another_literal_of_a_written_class': DEFINED,
     'elements_of_a_written_class_dropped': DEFINED,
     'body_dropped': DEFINED,
-    'break_in_an_arrow': 'is_printable output_{n}',
+    'break_in_an_arrow': PRINTABLE,
     'hidden_body': 'conforms Place.Program output_{n}',
     'constant_temporary': 'declarations_accounted (nodes source_{n}) generated_{n} source_{n} output_{n}',
     'private_name_twice': 'names_declared (nodes source_{n}) generated_{n} output_{n}',
@@ -115,9 +128,9 @@ NOT_MET = {
 # the shapes of the two programs
 SHAPES = {'loose_member_read_once': ('[]', '4 ∷ []'), 'super_key_that_stays': ('[]', '4 ∷ []'), 'suspended_class_written': ('6 ∷ []', '[]'), 'imported_object': ('4 ∷ []', '[]'), 'imported_key': ('4 ∷ []', '[]'), 'imported_key_of_a_method': ('4 ∷ []', '[]')}
 # outputs that mean what their sources mean
-RIGHT = ('private_name_beside_a_name', 'branch_of_a_key', 'class_in_a_case', 'key_of_a_binding_for_a_name')
+RIGHT = ('private_name_beside_a_name', 'branch_of_a_key', 'class_in_a_case', 'key_of_a_binding_for_a_name', 'tested_name_of_a_class')
 # wrong outputs that have a meaning, and those of programs whose parameters come before their fields
-OTHER = ('branch_of_a_key_of_another', 'elements_dropped', 'static_field_dropped', 'block_dropped', 'block_behind_a_kept_field', 'read_moved', 'import_read_early', 'statements_of_a_case_exchanged', 'statement_of_another_case', 'arrow_moved_into_parameters')
+OTHER = ('branch_of_a_key_of_another', 'elements_dropped', 'static_field_dropped', 'block_dropped', 'block_behind_a_kept_field', 'read_moved', 'import_read_early', 'statements_of_a_case_exchanged', 'statement_of_another_case', 'arrow_moved_into_parameters', 'functions_of_a_block_exchanged')
 AFTER = ('field_behind_parameters_dropped', 'field_behind_parameters_doubled', 'fields_behind_parameters_exchanged', 'another_literal_behind_parameters')
 pairs, wrong, kept, not_met, shaped, right, other, after = [], [], [], [], [], [], [], []
 folder = f'{CRATE}/specs/witnesses'
@@ -168,8 +181,9 @@ ghost use Rattle.std.specs.Prelude.{◌≡◌, [], ◌∷◌, false};
 ghost use Rattle.es_rows.specs.Owed.{Kept, KeptAfter, Owed, TellsApart, Refused, MeansOther, RefusedAfter, Means, HaveShapes};
 ghost use Rattle.es_steps.specs.Definitions.{definitions_stand};
 ghost use Rattle.es_base.specs.Conforms.{conforms};
-ghost use Rattle.es_base.specs.Preorder.{nodes};
+ghost use Rattle.es_base.specs.Preorder.{nodes, preorder};
 ghost use Rattle.es_base.specs.declared.table.Place.{Place};
+ghost use Rattle.es_steps.specs.HelperCalls.{computed_keys, helper_calls_fit};
 ghost use Rattle.es_steps.specs.KeptNodes.{lists_kept, homes_kept};
 ghost use Rattle.es_steps.specs.Lowered.{names_declared, declarations_accounted, initializations_stand};
 ghost use Rattle.es_steps.specs.Meaning.{source_means};

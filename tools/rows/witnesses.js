@@ -92,6 +92,18 @@ function keep(t, test, f) {
 }
 const swap = (list, i, j) => { [list[i], list[j]] = [list[j], list[i]]; };
 
+// a class with a computed static method, and with a first element that names it, where the key is not `name`
+const named = { options: ['--static-block'], source: 'f(class { static [k()]() {} });', output: 'f(class { static [k()]() {} });' };
+function nameByThis(q) {
+  const body = nodes(q, n => n.type === 'ClassBody')[0].body, call = body[0].key, key = fresh(q, expression('_k = B.toPropertyKey(1)'));
+  key.right.arguments[0] = call;
+  body[0].key = key;
+  body.unshift(fresh(q, tree('class C { static #_ = _k !== "name" && B.setFunctionName(this, "f"); }').body[0].body.body[0]));
+  q.body.unshift(fresh(q, tree('var _k;').body[0]));
+  return body[0];
+}
+nameByThis.generated = [{ name: '_', kind: 'Private', number: 4 }, { name: '_k', kind: 'Temp' }];
+
 const witnesses = [
   pair('parameters_exchanged', 'the parameters of a constructor', 'class A { constructor(a, b) { f(a, b); } }', 'class A { constructor(b, a) { f(a, b); } }', { 7: 8, 8: 7 }),
   pair('rest_dropped', 'a rest parameter of a constructor', 'class A { constructor(a, b) { f(a, b); } }', 'class A { constructor(a, ...b) { f(a, b); } }', { 8: 17, 9: 8, 10: 9, 11: 10, 12: 11, 13: 12, 14: 13, 15: 14, 16: 15 }),
@@ -280,6 +292,34 @@ const witnesses = [
     q => { const f = q.body[0], made = fresh(q, tree('function f() { (() => { 1; })(); }').body[0].body); made.body[0].expression.callee.body = f.body; f.body = made; }),
   clause('function_out_of_its_block', 'a function declaration moved out of its block', { options: ['--class-properties'], source: 'function f() { { function g() { (class { x = 1; }); } } }', output: 'function f() { { function g() { (class { constructor() { B.defineProperty(this, "x", 1); } }); } } }' },
     q => { const body = q.body[0].body.body; body.push(body[0].body.pop()); }),
+  // which identifiers share one binding, where a `var` is hoisted to, what a name means
+  pair('shared_parameters', 'which of three parameters share one binding', 'function f(a, a, c) { return a; }', 'function f(a, c, a) { return a; }', {}),
+  pair('function_of_a_parameter', 'a function declaration with the name of a parameter', 'function f(a) { let r = typeof a; a = 1; function a() {} return r; }', 'function f(a) { let r = typeof a; a = 1; function c() {} return r; }', {}),
+  pair('var_of_a_static_block', 'a `var` of a static block in a loop, and one of a block', 'for (var i = 0; i < 2; i++) { class A { static { var x = i; fs.push(() => x); } } }', 'for (var i = 0; i < 2; i++) { class A {} { var x = i; fs.push(() => x); } }', {}),
+  pair('inner_name_of_a_written_class', 'the name of a class declaration that is written, inside the class and outside', 'class C { [(f(() => C), "m")]() {} } C = 0;', 'f(() => C); class C { ["m"]() {} } C = 0;', { 1: 5, 2: 6, 3: 7, 4: 8, 5: 9, 6: 1, 7: 2, 8: 3, 9: 4 }),
+  pair('typeof_of_a_name', '`typeof` of a free name', 'f((0, typeof nope));', 'f(typeof (0, nope));', { 4: 6, 5: 4, 6: 5 }),
+  pair('delete_of_a_name', '`delete` of a name', 'function f(a) { return (0, delete a); }', 'function f(a) { return delete (0, a); }', { 6: 8, 7: 6, 8: 7 }),
+  alone('arguments_of_a_program', '`arguments` outside of all functions is a free name', 'arguments.x = 1;'),
+  // (acorn takes two functions of one name here for an error, so the second is named behind it)
+  wrong('functions_of_a_block_exchanged', 'functions of one name, `f`, in a static block exchanged', { options: ['--class-properties', '--static-block'], source: 'class C { static { function f() { a(); } function h() { b(); } f(); } }', output: 'class C {} (() => { function f() { a(); } function h() { b(); } f(); })();' },
+    (q, p) => { for (const n of [...preorder(q), ...preorder(p)]) if (n.name === 'h') n.name = 'f'; swap(nodes(q, n => n.type === 'ArrowFunctionExpression')[0].body.body, 0, 1); }),
+  clause('block_without_a_function', 'the statements of a static block in the list around the class', row('block_of_statements'), q => { const s = q.body.pop(); q.body.push(...s.expression.callee.body.body); }),
+  // in time
+  clause('map_made_in_a_branch', 'a map made in the right side of `||=`', { options: ['--class-properties'], source: 'y ||= f(), z = class { #x = 1; };', output: 'var _x; y ||= f(), z = (_x = new WeakMap(), class { constructor() { B.classPrivateFieldInitSpec(this, _x, 1); } });' },
+    q => { const [a, b] = q.body[1].expression.expressions, both = b.right; [both.expressions[1], b.right, a.right, both.expressions[1]] = [a.right, both.expressions[1], both, a.right]; }),
+  clause('let_of_another_case', 'a generated `let` in a case in front', { options: ['--class-properties'], source: 'switch (n) { case 0: f(); case 1: class A { [g()] = 1; } }', output: 'switch (n) { case 0: f(); case 1: let _g; _g = g(); class A { constructor() { B.defineProperty(this, _g, 1); } } }' },
+    q => { const [a, b] = nodes(q, n => n.type === 'SwitchCase'); a.consequent.unshift(b.consequent.shift()); }),
+  // directives, spellings, helpers
+  clause('directive_behind_a_name', 'a directive behind a generated name', { options: ['--class-properties'], source: '"use strict"; class C { #x = 1; }', output: '"use strict"; var _x = new WeakMap(); class C { constructor() { B.classPrivateFieldInitSpec(this, _x, 1); } }' }, q => { swap(q.body, 0, 1); }),
+  clause('strict_rest', 'a new `"use strict"` in a constructor with a rest parameter', { options: ['--class-properties'], source: 'class A extends P { x = 1; }', output: 'class A extends P { constructor(..._args) { super(..._args); B.defineProperty(this, "x", 1); } }' }, q => { constructorOf(q).unshift(fresh(q, tree('"use strict";').body[0])); }),
+  clause('name_without_a_sign', 'a generated name that is `undefined`', { options: ['--class-properties'], source: 'class C { #x = 1; }', output: 'var _x = new WeakMap(); class C { constructor() { B.classPrivateFieldInitSpec(this, _x, 1); } }' },
+    q => { for (const n of preorder(q)) if (n.name === '_x') n.name = 'undefined'; }, [{ name: 'undefined', kind: 'WeakMap', number: 5 }]),
+  clause('parameter_renamed', 'a parameter of a method renamed', beside('m(a) { return a; }'), q => { for (const n of preorder(q)) if (n.name === 'a') n.name = 'static'; }),
+  clause('conversion_of_no_key', 'a conversion of what is no key', row('instance_field'), q => { q.body.push(fresh(q, tree('B.toPropertyKey(o);').body[0])); }),
+  clause('name_of_a_named_class', 'a class with a static method `name` that is named', { options: ['--class-properties'], source: 'f(class { static name() {} x = 1; });', output: 'f(class { constructor() { B.defineProperty(this, "x", 1); } static name() {} });' },
+    q => { const call = q.body[0].expression; call.arguments[0] = around(q, 'B.setFunctionName(o, "f")', call.arguments[0]); }),
+  right('tested_name_of_a_class', 'a class that is named where its computed static method is not `name`', named, q => nameByThis(q), nameByThis.generated),
+  clause('untested_name_of_a_class', 'a class that is named though its computed static method may be `name`', named, q => { const e = nameByThis(q); e.value = e.value.right; }, nameByThis.generated),
 ];
 
 function moduleOf(w) {

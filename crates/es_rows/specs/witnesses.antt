@@ -2,6 +2,7 @@ pub mod AnotherLiteral
 pub mod AnotherLiteralBehindParameters
 pub mod AnotherLiteralOfAWrittenClass
 pub mod ArgumentsBehindAWrite
+pub mod ArgumentsOfAProgram
 pub mod ArgumentsOfAnother
 pub mod ArrowMovedIntoParameters
 pub mod ArrowOutOfALoop
@@ -11,6 +12,7 @@ pub mod BindingNotRenamed
 pub mod BlockBehindAKeptField
 pub mod BlockBehindFields
 pub mod BlockDropped
+pub mod BlockWithoutAFunction
 pub mod BodyDropped
 pub mod BodyInAnArrow
 pub mod BoundBeforeItsTest
@@ -30,10 +32,13 @@ pub mod ClosureBeforeItsClass
 pub mod CompoundAssignment
 pub mod ConstantTemporary
 pub mod ConstructorOfAnotherKey
+pub mod ConversionOfNoKey
 pub mod DeadTemporary
 pub mod DefaultExports
 pub mod DefinitionsNested
+pub mod DeleteOfAName
 pub mod DeletedKey
+pub mod DirectiveBehindAName
 pub mod ElementsDropped
 pub mod ElementsOfAWrittenClassDropped
 pub mod FieldBeforeSuper
@@ -48,7 +53,9 @@ pub mod FieldsBehindParametersExchanged
 pub mod FieldsExchanged
 pub mod FieldsOfAWrittenClassExchanged
 pub mod FreeName
+pub mod FunctionOfAParameter
 pub mod FunctionOutOfItsBlock
+pub mod FunctionsOfABlockExchanged
 pub mod GeneratorConstructor
 pub mod GetterMadeAMethod
 pub mod GetterOrMethod
@@ -61,6 +68,7 @@ pub mod ImportedKey
 pub mod ImportedKeyOfAMethod
 pub mod ImportedObject
 pub mod ImportsExchanged
+pub mod InnerNameOfAWrittenClass
 pub mod KeyGivenBehindTheFields
 pub mod KeyHeadsExchanged
 pub mod KeyOfABindingForAName
@@ -68,16 +76,20 @@ pub mod KeyOfABindingInATemporary
 pub mod KeyOfAMethod
 pub mod KeyReadLate
 pub mod KeyReadTwice
+pub mod LetOfAnotherCase
 pub mod LetOutOfALoop
 pub mod LoopHeadsExchanged
 pub mod LooseMemberReadOnce
+pub mod MapMadeInABranch
 pub mod MapsInLooseMode
 pub mod MemberOfAnObject
 pub mod MethodAssignedInAnotherFunction
 pub mod MethodGivenBehindItsCalls
 pub mod MethodWithoutBrand
+pub mod NameOfANamedClass
 pub mod NameOfNoMember
 pub mod NameTwice
+pub mod NameWithoutASign
 pub mod NamedValue
 pub mod NestedClasses
 pub mod NewImport
@@ -88,6 +100,7 @@ pub mod OwnNamesExchanged
 pub mod ParameterInFront
 pub mod ParameterOfANewConstructor
 pub mod ParameterReadLater
+pub mod ParameterRenamed
 pub mod ParametersExchanged
 pub mod ParentConstructedTwice
 pub mod ParentNeverConstructed
@@ -106,6 +119,7 @@ pub mod RestDropped
 pub mod ResultOfTheSetter
 pub mod ReturnInAnArrow
 pub mod ScriptInAnArrow
+pub mod SharedParameters
 pub mod SpreadForAParameter
 pub mod StatementOfAnIf
 pub mod StatementOfAnotherCase
@@ -115,6 +129,7 @@ pub mod StaticFieldBeforeItsClass
 pub mod StaticFieldDropped
 pub mod StaticGetterOrMethod
 pub mod StaticKeyReadLate
+pub mod StrictRest
 pub mod SuperFunctionBehindACall
 pub mod SuperFunctionBehindItsCalls
 pub mod SuperGivesZero
@@ -133,8 +148,12 @@ pub mod TemporaryOfTheProgram
 pub mod TestOfAnotherObject
 pub mod TestOfOneNull
 pub mod TestedName
+pub mod TestedNameOfAClass
 pub mod TwoConstructors
+pub mod TypeofOfAName
+pub mod UntestedNameOfAClass
 pub mod ValueAsAKey
 pub mod VarArguments
+pub mod VarOfAStaticBlock
 pub mod VoidOfATemplate
 pub mod WeakMapInAnotherFunction

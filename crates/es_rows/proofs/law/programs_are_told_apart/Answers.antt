@@ -10,6 +10,12 @@ returns-clause-caught_names_exchanged c = (refl, refl, refl)
 pub returns-clause-default_exports : goal.returns-clause-default_exports
 returns-clause-default_exports c = (refl, refl, refl)
 
+pub returns-clause-delete_of_a_name : goal.returns-clause-delete_of_a_name
+returns-clause-delete_of_a_name c = (refl, refl, refl)
+
+pub returns-clause-function_of_a_parameter : goal.returns-clause-function_of_a_parameter
+returns-clause-function_of_a_parameter c = (refl, refl, refl)
+
 pub returns-clause-getter_or_method : goal.returns-clause-getter_or_method
 returns-clause-getter_or_method c = (refl, refl, refl)
 
@@ -21,6 +27,9 @@ returns-clause-hole_in_a_pattern c = (refl, refl, refl)
 
 pub returns-clause-imports_exchanged : goal.returns-clause-imports_exchanged
 returns-clause-imports_exchanged c = (refl, refl, refl)
+
+pub returns-clause-inner_name_of_a_written_class : goal.returns-clause-inner_name_of_a_written_class
+returns-clause-inner_name_of_a_written_class c = (refl, refl, refl)
 
 pub returns-clause-key_heads_exchanged : goal.returns-clause-key_heads_exchanged
 returns-clause-key_heads_exchanged c = (refl, refl, refl)
@@ -46,6 +55,9 @@ returns-clause-pattern_keys c = (refl, refl, refl)
 pub returns-clause-rest_dropped : goal.returns-clause-rest_dropped
 returns-clause-rest_dropped c = (refl, refl, refl)
 
+pub returns-clause-shared_parameters : goal.returns-clause-shared_parameters
+returns-clause-shared_parameters c = (refl, refl, refl)
+
 pub returns-clause-statement_of_an_if : goal.returns-clause-statement_of_an_if
 returns-clause-statement_of_an_if c = (refl, refl, refl)
 
@@ -61,8 +73,14 @@ returns-clause-template_key c = (refl, refl, refl)
 pub returns-clause-tested_name : goal.returns-clause-tested_name
 returns-clause-tested_name c = (refl, refl, refl)
 
+pub returns-clause-typeof_of_a_name : goal.returns-clause-typeof_of_a_name
+returns-clause-typeof_of_a_name c = (refl, refl, refl)
+
 pub returns-clause-var_arguments : goal.returns-clause-var_arguments
 returns-clause-var_arguments c = (refl, refl, refl)
+
+pub returns-clause-var_of_a_static_block : goal.returns-clause-var_of_a_static_block
+returns-clause-var_of_a_static_block c = (refl, refl, refl)
 
 pub returns-clause-void_of_a_template : goal.returns-clause-void_of_a_template
 returns-clause-void_of_a_template c = (refl, refl, refl)

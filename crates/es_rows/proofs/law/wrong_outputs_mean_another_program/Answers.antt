@@ -16,6 +16,9 @@ returns-clause-branch_of_a_key_of_another c = (refl, refl)
 pub returns-clause-elements_dropped : goal.returns-clause-elements_dropped
 returns-clause-elements_dropped c = (refl, refl)
 
+pub returns-clause-functions_of_a_block_exchanged : goal.returns-clause-functions_of_a_block_exchanged
+returns-clause-functions_of_a_block_exchanged c = (refl, refl)
+
 pub returns-clause-import_read_early : goal.returns-clause-import_read_early
 returns-clause-import_read_early c = (refl, refl)
 
