@@ -10,7 +10,7 @@ use Rattle.es_base.specs.declared.table.Place.{Place}
 use Rattle.es_scopes.specs.Agreement.{Agrees, AreAlike, HasScopeOf, HasSymbolOf, HasReferenceOf, carried, target_number, meant_symbol, names_of_node}
 use Rattle.es_scopes.specs.Built.{built_table}
 use Rattle.es_scopes.specs.Entries.{Collected, collected, entries_of}
-use Rattle.es_scopes.specs.Held.{weight, scope_gets, held_weight, IsElsewhere, IsNoBody}
+use Rattle.es_scopes.specs.Held.{weight, node_weight, scope_gets, held_weight, IsElsewhere, IsNoBody}
 use Rattle.es_scopes.specs.NodeBindings.{bindings_of}
 use Rattle.es_scopes.specs.NodeReferences.{references_of}
 use Rattle.es_scopes.specs.NodeScopes.{scopes_of, has_scope, opens}
@@ -19,6 +19,8 @@ use Rattle.es_scopes.specs.References.{writes}
 use Rattle.es_scopes.specs.Shown.{bindings_in, references_in, ids_from, targets_from}
 use Rattle.es_scopes.specs.Surroundings.{scope_place}
 use Rattle.es_scopes.specs.Tables.{AreOrdered, scopes_in, numbering_of, declared, none_declared}
+use Rattle.es_scopes.specs.declared.surroundings.Declarer.{Declarer}
+use Rattle.es_scopes.specs.declared.surroundings.Declarer.TheVariants as declarer
 use Rattle.es_scopes.specs.declared.surroundings.Declares.TheVariants as declares
 use Rattle.es_scopes.specs.declared.surroundings.Surroundings.{Surroundings}
 use Rattle.es_scopes.specs.Table.{Table, IsTable, get_binding, with_scope_flags, with_parent, with_new_scope, with_binding, with_name, with_symbol_flags, with_mark, with_reference_flags, with_target, with_new_reference, reference_flagged}
@@ -105,16 +107,16 @@ BuiltTargetsLaw = (t : Tree) → map (λ r. r.symbol_id) (built_table t).referen
 -- In a tree that conforms, a node's own scope gets the names that `es_steps` collects for it, and nothing else of what stands
 -- below it: `var` out of nested statements, parameters, the own name of a function expression.
 abbrev pub OwnNamesLaw : Type 0
-OwnNamesLaw = (w : ℕ → List ℕ → ℕ) (place : Place) (s : Surroundings) (c : Collected) (kind : Kind) (m : ℕ) (span : Option (ℕ × ℕ)) (id : Option ℕ) (ps : Parts) → conforms place (Node kind m span id ps) ≡ true → has_scope kind ≡ true → opens kind (scope_place s) ≡ true → IsElsewhere c.next s.declares → (kind ≡ Kind.BlockStatement → IsNoBody s.declares)
-    → held_weight w c.next (collected s c (Node kind m span id ps)).entries ≡ held_weight w c.next c.entries + weight w (names_of_node (Node kind m span id ps))
+OwnNamesLaw = (w : Declarer → ℕ → List ℕ → ℕ) (place : Place) (s : Surroundings) (c : Collected) (kind : Kind) (m : ℕ) (span : Option (ℕ × ℕ)) (id : Option ℕ) (ps : Parts) → conforms place (Node kind m span id ps) ≡ true → has_scope kind ≡ true → opens kind (scope_place s) ≡ true → IsElsewhere c.next s.declares → (kind ≡ Kind.BlockStatement → IsNoBody s.declares)
+    → held_weight w c.next (collected s c (Node kind m span id ps)).entries ≡ held_weight w c.next c.entries + node_weight w (Node kind m span id ps)
 
 -- so the scope of a program holds the names of the program
 abbrev pub ProgramNamesLaw : Type 0
-ProgramNamesLaw = (w : ℕ → List ℕ → ℕ) (m : ℕ) (span : Option (ℕ × ℕ)) (id : Option ℕ) (ps : Parts) → conforms Place.Program (Node Kind.Program m span id ps) ≡ true → held_weight w 0 (entries_of (Node Kind.Program m span id ps)) ≡ weight w (names_of_node (Node Kind.Program m span id ps))
+ProgramNamesLaw = (w : Declarer → ℕ → List ℕ → ℕ) (m : ℕ) (span : Option (ℕ × ℕ)) (id : Option ℕ) (ps : Parts) → conforms Place.Program (Node Kind.Program m span id ps) ≡ true → held_weight w 0 (entries_of (Node Kind.Program m span id ps)) ≡ node_weight w (Node Kind.Program m span id ps)
 
 -- and the scope of each node with one, in preorder, gets the names of that node, and no others
 abbrev pub EachNamesLaw : Type 0
-EachNamesLaw = (w : ℕ → List ℕ → ℕ) (t x : Tree) (j : ℕ) → conforms Place.Program t ≡ true → slice_get (opened false t) j ≡ Some x → held_weight w j (entries_of t) ≡ weight w (names_of_node x)
+EachNamesLaw = (w : Declarer → ℕ → List ℕ → ℕ) (t x : Tree) (j : ℕ) → conforms Place.Program t ≡ true → slice_get (opened false t) j ≡ Some x → held_weight w j (entries_of t) ≡ node_weight w x
 
 -- so each scope of a built table holds just the names of its node
 abbrev pub BuiltNamesLaw : Type 0
@@ -126,4 +128,4 @@ ScopeCountLaw = (t : Tree) → scopes_in (entries_of t) ≡ length (opened false
 
 -- a scope around a statement gets the lexical names or the `var` that `es_steps` collects of it, or both
 abbrev pub StatementNamesLaw : Type 0
-StatementNamesLaw = (w : ℕ → List ℕ → ℕ) (n : ℕ) (s : Surroundings) (c : Collected) (lexical var : Option ScopeId) (t : Tree) → conforms Place.Statement t ≡ true → s.declares ≡ declares.Statement lexical var → n < c.next → held_weight w n (collected s c t).entries ≡ held_weight w n c.entries + (scope_gets n lexical (weight w (lexical_names t)) + scope_gets n var (weight w (var_names t)))
+StatementNamesLaw = (w : Declarer → ℕ → List ℕ → ℕ) (n : ℕ) (s : Surroundings) (c : Collected) (lexical var : Option ScopeId) (t : Tree) → conforms Place.Statement t ≡ true → s.declares ≡ declares.Statement lexical var → n < c.next → held_weight w n (collected s c t).entries ≡ held_weight w n c.entries + (scope_gets n lexical (weight (w declarer.Other) (lexical_names t)) + scope_gets n var (weight (w declarer.Other) (var_names t)))

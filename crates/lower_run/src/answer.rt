@@ -1,6 +1,6 @@
 // The output for the bytes of a source: the lowered tree, or why there is none.
 
-ghost use Rattle.std.specs.Prelude.{◌≡◌, ◌≤◌, ◌<◌, ◌+◌, ◌^◌, IfOk, OnOk, IfErr, Ok, [], length, true, false};
+ghost use Rattle.std.specs.Prelude.{◌≡◌, ◌≤◌, ◌<◌, ◌+◌, ◌^◌, IfOk, OnOk, IfErr, Ok, [], length, true};
 ghost use Rattle.es_base.specs.Conforms.{conforms};
 ghost use Rattle.es_base.specs.Preorder.{nodes, numbered_from};
 ghost use Rattle.es_base.specs.declared.kind.Kind.{Kind};
@@ -9,19 +9,21 @@ ghost use Rattle.es_node.specs.View.{kind_of};
 ghost use Rattle.es_writing.specs.Kept.{IsKept};
 ghost use Rattle.es_writing.specs.Lowered.{write_lowered};
 ghost use Rattle.es_reading.specs.Reading.{read, root};
+ghost use Rattle.borrowed_json.specs.View.{view};
 ghost use Rattle.es_reading.specs.Told.{Tells, ids, values};
 ghost use Rattle.es_reading.specs.declared.numbers.Numbers.{Numbers};
 ghost use Rattle.es_validity.specs.Validity.{is_valid};
-ghost use Rattle.lower_run.specs.Lines.{line, json_line};
+ghost use Rattle.lower_run.specs.Lines.{line};
 ghost use Rattle.lower_run.specs.Outcome.{IsOutputOfBytes, IsOutputOfValue, IsOutputOfTree, IsLineOf, IsLoweredTo, IsRefused, most_bytes};
 ghost use Rattle.lower_run.specs.Arguments.{options_for};
-ghost use Rattle.serde_json.specs.View.{view};
 ghost use Rattle.serde_json.specs.Written.{compact_text};
 
 use crate::arguments::Lowering;
 use crate::lines::{float_line, not_a_tree_line, refusal_line};
 use crate::output::{Output, output_with};
 use crate::status::Status;
+use borrowed_json::parse::{ParseError, parse};
+use borrowed_json::value::Value;
 use class_properties::lower;
 use class_properties::not_yet::not_yet;
 use es_base::ids::NodeId;
@@ -36,7 +38,7 @@ use es_steps::options::Options;
 use es_unchanged::left::nothing_left;
 use es_validity::error::LowerError;
 use es_writing::program::lowered_text;
-use serde_json::Value;
+use json::Scratch;
 use std::alloc::{AllocError, Global};
 use std::mem::forget;
 
@@ -46,26 +48,18 @@ pub fn answer(alloc: Global, lowering: Lowering, bytes: &[u8]) -> Result<Output,
     requires { length bytes.now ≤ most_bytes }
     ensures { IfOk result (λ s. IsOutputOfBytes (options_for lowering) bytes.now s.status (s.text.items)) }
 {
-    match Value::from_slice(alloc, bytes) {
+    let mut scratch = Scratch::new(alloc);
+    match parse(alloc, bytes, &mut scratch) {
         Ok(value) => of_value(alloc, lowering, value),
-        Err(error) => of_error(alloc, error.is_memory()),
+        Err(ParseError::Invalid) => output_with(alloc, Status::NotATree, "not a tree: json\n"),
+        Err(ParseError::NoMemory) => Err(AllocError),
     }
-}
-
-/// That the bytes are no JSON, unless there was not enough memory to know.
-fn of_error(alloc: Global, is_memory: bool) -> Result<Output, AllocError>
-    ensures { IfOk result (λ s. (is_memory ≡ false) × ((s.status ≡ Status.NotATree) × (s.text.items ≡ json_line))) }
-{
-    if is_memory {
-        return Err(AllocError);
-    }
-    output_with(alloc, Status::NotATree, "not a tree: json\n")
 }
 
 /// The output for a value.
-fn of_value(alloc: Global, lowering: Lowering, value: Value) -> Result<Output, AllocError>
+fn of_value(alloc: Global, lowering: Lowering, value: Value<'_>) -> Result<Output, AllocError>
     requires { values (view value) + 1 < 2 ^ 32 }
-    ensures { IfOk result (λ s. IsOutputOfValue (options_for lowering) (view value) s.status (s.text.items)) }
+    ensures { IfOk result (λ s. IsOutputOfValue (options_for lowering) (view value.entry) s.status (s.text.items)) }
 {
     match tree_of(alloc, value) {
         Ok((tree, foreign)) => of_tree(alloc, lowering, tree, foreign.as_slice()),
@@ -75,13 +69,13 @@ fn of_value(alloc: Global, lowering: Lowering, value: Value) -> Result<Output, A
 
 /// The program that a value is, and the numbers of its nodes that have members outside the table. The
 /// value, which takes most of the memory, is let go.
-fn tree_of(alloc: Global, value: Value) -> Result<(Node, List<NodeId>), ReadError>
+fn tree_of(alloc: Global, value: Value<'_>) -> Result<(Node, List<NodeId>), ReadError>
     requires { values (view value) + 1 < 2 ^ 32 }
-    ensures ok { IfOk result (λ r. read Numbers.Preorder (view value) root 0 ≡ Ok (record { value = r.0; foreign = ids r.1 })) }
+    ensures ok { IfOk result (λ r. read Numbers.Preorder (view value.entry) root 0 ≡ Ok (record { value = r.0; foreign = ids r.1 })) }
     ensures conforms { IfOk result (λ r. conforms Place.Program r.0 ≡ true) }
     ensures preorder { IfOk result (λ r. r.0 ≡ numbered_from 0 r.0) }
     ensures few { IfOk result (λ r. nodes r.0 < 2 ^ 32) }
-    ensures err { IfErr result (λ e. Tells e (read Numbers.Preorder (view value) root 0)) }
+    ensures err { IfErr result (λ e. Tells e (read Numbers.Preorder (view value.entry) root 0)) }
 {
     read_tree(alloc, &value, Numbers::Preorder)
 }

@@ -4,8 +4,9 @@
 ghost use Rattle.std.specs.Prelude.{◌<◌};
 
 use crate::programs::{
-    derived, derived_written, empty, empty_written, no_field, no_field_written, one_field,
-    one_field_kept, one_field_lowered, two_classes, two_classes_lowered, two_fields, two_fields_lowered,
+    derived, derived_written, empty, empty_of_many_members, empty_written, no_field,
+    no_field_written, one_field, one_field_kept, one_field_lowered, two_classes,
+    two_classes_lowered, two_fields, two_fields_lowered,
 };
 use lower_io::sink::{BytesSink, SureSink};
 use lower_io::source::{BytesSource, SureSource};
@@ -105,6 +106,7 @@ fn programs_of_the_form_are_lowered(rt: HostRuntime) -> Result<(), Fail> {
     assert!(rt; ends_so(alloc, twice, one_field(), 0, one_field_lowered())?);
     let kept = [
         (empty(), empty_written()),
+        (empty_of_many_members(), empty_written()),
         (no_field(), no_field_written()),
         (one_field(), one_field_kept()),
         (derived(), derived_written()),

@@ -1,2 +1,3 @@
 pub mod Build
+pub mod Law
 pub mod Written

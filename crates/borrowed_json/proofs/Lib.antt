@@ -1,0 +1,4 @@
+pub mod Borrowing
+pub mod Depths
+pub mod Found
+pub mod Parsing
