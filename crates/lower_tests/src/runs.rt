@@ -115,10 +115,7 @@ fn programs_of_the_form_are_lowered(rt: HostRuntime) -> Result<(), Fail> {
         assert!(rt; ends_so(alloc, NONE, input, 0, output)?, "of {input}");
     }
     // nothing to lower
-    let unchanged = [
-        (empty(), empty_written()),
-        (derived(), derived_written()),
-    ];
+    let unchanged = [(empty(), empty_written()), (derived(), derived_written())];
     for (input, output) in unchanged {
         assert!(rt; ends_so(alloc, LOWER, input, 0, output)?, "of {input}");
     }

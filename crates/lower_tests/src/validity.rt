@@ -676,11 +676,16 @@ fn each_rule(rt: HostRuntime) -> Result<(), Fail> {
     let alloc = rt.alloc();
     for case in cases() {
         if case.line.is_empty() {
-            assert!(rt; status_of(alloc, case.arguments, case.text)? == 0, "of {}", case.text);
+            assert!(rt;
+                status_of(alloc, case.arguments, case.text)? == 0,
+                "of {}",
+                case.text
+            );
         } else {
             assert!(rt;
                 ends_so(alloc, case.arguments, case.text, 1, case.line)?,
-                "of {}", case.text
+                "of {}",
+                case.text
             );
         }
     }
