@@ -149,3 +149,23 @@ all_leasts s o all ds i over before = sym (at_drop_all (λ (xs : List Declared).
 
 pub repeat_one : (lexical : List ℕ) (all : List Declaration) (d : Declaration) (ds : List Declaration) → numbers_of (filter (is_repeat lexical all) (d ∷ ds)) ≡ cond (is_repeat lexical all d) (d.number ∷ []) [] ++ numbers_of (filter (is_repeat lexical all) ds)
 repeat_one lexical all d ds = elim (is_repeat lexical all d) as (λ b. numbers_of (cond b (d ∷ filter (is_repeat lexical all) ds) (filter (is_repeat lexical all) ds)) ≡ cond b (d.number ∷ []) [] ++ numbers_of (filter (is_repeat lexical all) ds)) [ true ↦ refl | false ↦ refl ]
+
+-- ---- where no declaration is lexical
+
+never_earlier : (s : List ℕ) (n : ℕ) → earlier s n [] ≡ false
+unfolding earlier
+never_earlier s n = refl
+
+is_one : {X : Type 0} (b : Bool) (x : X) (xs : List X) → cond b (x ∷ xs) xs ≡ [] → (b ≡ false) × (xs ≡ [])
+is_one true x xs e = absurd (cc)
+is_one false x xs e = (refl, e)
+
+never_repeats : (lexical : List ℕ) (all : List Declaration) → filter (is_lexical lexical) all ≡ [] → (ds : List Declaration) → filter (is_lexical lexical) ds ≡ [] → filter (is_repeat lexical all) ds ≡ []
+never_repeats lexical all none [] e = refl
+never_repeats lexical all none (d ∷ ds) e =
+    let apart = is_one (has_number d.number lexical) d (filter (is_lexical lexical) ds) e in
+    let not_it : is_repeat lexical all d ≡ false = repeats_lexical lexical d apart.0 all ∙ ap (earlier d.spelling d.number) none ∙ never_earlier d.spelling d.number in
+    ap (λ c. cond c (d ∷ filter (is_repeat lexical all) ds) (filter (is_repeat lexical all) ds)) not_it ∙ never_repeats lexical all none ds apart.1
+
+pub no_repeats : (lexical : List ℕ) (ds : List Declaration) → filter (is_lexical lexical) ds ≡ [] → repeats lexical ds ≡ []
+no_repeats lexical ds none = ap numbers_of (never_repeats lexical ds none ds none)

@@ -99,3 +99,15 @@ calls-same xs ys same (t ∷ ts) =
     ∙ ap (λ b. cond b (number_in t ∷ []) [] ++ eval_calls_of_all xs ts) (call-same xs ys same t)
     ∙ ap (λ (ns : List ℕ). cond (is_eval_call ys t) (number_in t ∷ []) [] ++ ns) (calls-same xs ys same ts)
     ∙ sym (calls_one ys t ts)
+
+not_called : (p : Part) → is_eval [] p ≡ false
+not_called (child (Node Kind.IdentifierReference m span semantic_id ps)) = refl
+not_called p = refl
+
+pub none_called : (evals : List ℕ) (ts : List Tree) → evals ≡ [] → eval_calls_of_all evals ts ≡ []
+none_called evals [] e = refl
+none_called evals (t ∷ ts) e = calls_one evals t ts ∙ ap (λ (xs : List ℕ). cond (is_eval_call xs t) (number_in t ∷ []) [] ++ eval_calls_of_all evals ts) e ∙ ap (λ b. cond b (number_in t ∷ []) [] ++ eval_calls_of_all evals ts) (not_call t) ∙ none_called evals ts e
+  where
+    not_call : (t : Tree) → is_eval_call [] t ≡ false
+    not_call (Node Kind.CallExpression m span semantic_id ps) = not_called (at 0 ps)
+    not_call (Node kind m span semantic_id ps) = refl

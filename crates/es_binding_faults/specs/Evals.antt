@@ -42,3 +42,12 @@ abbrev mutual
 abbrev pub is_eval_call : List ℕ → Tree → Bool
 is_eval_call evals (Node Kind.CallExpression m span semantic_id ps) = is_eval evals (at 0 ps)
 is_eval_call evals t = false
+
+-- ---- whether there is any
+
+abbrev pub is_eval_reference : Tree → Bool
+is_eval_reference (Node kind m span semantic_id ps) = is_reference kind && bytes_eq (codes "eval") (string_of (at 0 ps))
+
+abbrev pub spells_eval : List Tree → Bool
+spells_eval [] = false
+spells_eval (t ∷ ts) = is_eval_reference t || spells_eval ts

@@ -10,7 +10,7 @@ ghost use Rattle.es_steps.specs.Parts.{at, string_of};
 ghost use Rattle.es_steps.specs.References.{is_reference, resolve};
 ghost use Rattle.es_steps.specs.Scopes.{is_body_part, seen};
 ghost use Rattle.es_validity.specs.Facts.{free_evals, is_eval};
-ghost use Rattle.es_binding_faults.specs.Evals.{declares_eval, declared_in, free_eval, free_evals_in, free_evals_from, free_evals_at, free_evals_of, is_eval_call};
+ghost use Rattle.es_binding_faults.specs.Evals.{declares_eval, declared_in, free_eval, free_evals_in, free_evals_from, free_evals_at, free_evals_of, is_eval_call, is_eval_reference};
 ghost use Rattle.es_binding_faults.specs.Named.{named};
 ghost use Rattle.es_binding_faults.specs.Repeats.{numbers};
 ghost use Rattle.es_binding_faults.specs.ScopeForms.{scope_of};
@@ -203,6 +203,13 @@ fn add_evals_in_hole(
         Some(node) => add_evals(alloc, declared, false, node, evals),
         None => Ok(()),
     }
+}
+
+/// Whether a node is a reference that is spelled `eval`.
+pub fn is_eval_reference(node: &Node) -> bool
+    ensures { result ≡ is_eval_reference node.now }
+{
+    is_reference(node) && is_eval(node)
 }
 
 /// The references to a free `eval` in a program. Fails on allocation failure alone.

@@ -1,19 +1,21 @@
 // The faults of names of a whole program.
 
 ghost use Rattle.std.specs.Prelude.{◌≡◌, ◌++◌, ◌∷◌, [], IfOk, OnOk, cond};
+ghost use Rattle.es_base.specs.Preorder.{preorder};
 ghost use Rattle.es_base.specs.Tree.{child};
 ghost use Rattle.es_node.specs.View.{kind_of, number_in, parts_in, parts_of};
 ghost use Rattle.es_steps.specs.Parts.{at};
 ghost use Rattle.es_steps.specs.References.{numbers_of, resolve};
 ghost use Rattle.es_validity.specs.Facts as facts;
 ghost use Rattle.es_validity.specs.Facts.{lexical_identifiers, declared_by, branch_names, function_name, repeats_of_all, eval_calls_of_all, repeated_names, eval_calls};
+ghost use Rattle.es_binding_faults.specs.Evals.{spells_eval};
 ghost use Rattle.es_binding_faults.specs.Named.{named};
 ghost use Rattle.es_binding_faults.specs.Repeats.{numbers};
 ghost use Rattle.es_binding_faults.specs.Seen.{seen};
 ghost use Rattle.es_binding_faults.specs.WholeProgram.{lexical_place, is_function_declaration, is_if, branches_at};
 
 use crate::bound::Declared;
-use crate::evals::{free_evals, is_eval_call};
+use crate::evals::{free_evals, is_eval_call, is_eval_reference};
 use crate::hoisted::{add_bound_at, is_var, part_at};
 use crate::numbers::Numbers;
 use crate::preorder::preorder;
@@ -178,10 +180,26 @@ fn calls_of(alloc: Global, evals: &Numbers, nodes: &[&Node]) -> Result<Vec<NodeI
     Ok(found)
 }
 
+/// Whether one of these nodes is a reference that is spelled `eval`.
+fn spells_eval(nodes: &[&Node]) -> bool
+    ensures { result ≡ spells_eval (seen nodes.now) }
+{
+    for node in nodes {
+        if is_eval_reference(node) {
+            return true;
+        }
+    }
+    false
+}
+
 /// The calls of the free name `eval` in a program, which has these nodes. Fails on allocation failure alone.
 fn eval_calls(alloc: Global, program: &Node, nodes: &[&Node]) -> Result<Vec<NodeId>, AllocError>
+    requires { seen nodes.now ≡ preorder program.now }
     ensures { IfOk result (λ r. numbers r.items ≡ eval_calls_of_all (facts.free_evals (resolve program.now)) (seen nodes.now)) }
 {
+    if !spells_eval(nodes) {
+        return Ok(Vec::new(alloc));
+    }
     let evals = free_evals(alloc, program)?;
     let evals = Numbers::of(alloc, evals.as_slice())?;
     calls_of(alloc, &evals, nodes)

@@ -115,6 +115,9 @@ fn add_repeats(
     ensures { OnOk result (numbers found.new.items ≡ numbers found.old.items ++ repeats lexical.now (named names.now)) }
 {
     let lets = lexical_names(alloc, lexical, names)?;
+    if lets.as_slice().is_empty() {
+        return Ok(());
+    }
     let all = leasts(alloc, names)?;
     let lets = leasts(alloc, lets.as_slice())?;
     for declared in names {
