@@ -23,7 +23,7 @@ use Rattle.es_scopes.specs.declared.surroundings.Declarer.{Declarer}
 use Rattle.es_scopes.specs.declared.surroundings.Declarer.TheVariants as declarer
 use Rattle.es_scopes.specs.declared.surroundings.Declares.TheVariants as declares
 use Rattle.es_scopes.specs.declared.surroundings.Surroundings.{Surroundings}
-use Rattle.es_scopes.specs.Table.{Table, IsTable, get_binding, with_scope_flags, with_parent, with_new_scope, with_binding, with_name, with_symbol_flags, with_mark, with_reference_flags, with_target, with_new_reference, reference_flagged}
+use Rattle.es_scopes.specs.Table.{Table, IsTable, IsMutated, parent_of, reference_at, without_scope, with_listed, without_listed, with_created_reference, get_binding, with_scope_flags, with_parent, with_new_scope, with_binding, with_name, with_symbol_flags, with_mark, with_reference_flags, with_target, with_new_reference, reference_flagged}
 use Rattle.es_scopes.specs.declared.flags.ScopeFlags.{ScopeFlags}
 use Rattle.es_scopes.specs.declared.flags.SymbolFlags.{SymbolFlags}
 use Rattle.es_scopes.specs.declared.flags.ReferenceFlags.{ReferenceFlags}
@@ -73,6 +73,22 @@ TargetLaw = (t : Tree) (table : Table) → IsTable table → (r : ReferenceId) (
 
 abbrev pub NewReferenceLaw : Type 0
 NewReferenceLaw = (t : Tree) (table : Table) → IsTable table → (y : Option SymbolId) (f : ReferenceFlags) → AreAlike t table (with_new_reference table y f)
+
+-- a scope removed that is no node's, and that no scope of a node stands right below
+abbrev pub RemovedScopeLaw : Type 0
+RemovedScopeLaw = (t : Tree) (table : Table) (s : ScopeId) → (HasScopeOf t s → ⊥) → ((q : ScopeId) → HasScopeOf t q → parent_of table q ≡ Some s → ⊥) → AreAlike t table (without_scope table s)
+
+-- a reference put on the list of a symbol or taken off it: where an identifier carries the symbol and the reference writes, the
+-- symbol is mutated before, or still
+abbrev pub ListedLaw : Type 0
+ListedLaw = (t : Tree) (table : Table) (y : SymbolId) (r : ReferenceId) → (HasSymbolOf t y → writes (reference_at table r) ≡ true → IsMutated table y) → AreAlike t table (with_listed table y r)
+
+abbrev pub UnlistedLaw : Type 0
+UnlistedLaw = (t : Tree) (table : Table) (y : SymbolId) (r : ReferenceId) → (HasSymbolOf t y → writes (reference_at table r) ≡ true → IsMutated (without_listed table y r) y) → AreAlike t table (without_listed table y r)
+
+-- a new reference, on the list of its symbol
+abbrev pub CreatedReferenceLaw : Type 0
+CreatedReferenceLaw = (t : Tree) (table : Table) → IsTable table → (o : Option SymbolId) (f : ReferenceFlags) → ((y : SymbolId) → o ≡ Some y → HasSymbolOf t y → writes (Some (record { symbol_id = o; flags = f })) ≡ true → IsMutated table y) → AreAlike t table (with_created_reference table o f)
 
 -- ---- what a table is built from
 

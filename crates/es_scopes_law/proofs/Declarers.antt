@@ -103,30 +103,30 @@ abbrev pub entry_at : ℕ → List ℕ → Entry → Bool
 entry_at q x (entry.Binding node (Some s) who name flags head) = is_at q x s name
 entry_at q x e = false
 
-module _ (A : Declarations → SymbolId → Bool) (F : Declarer → Bool → Bool) (G : Bool → Declarer → Declarer → Bool → Bool) where
+module _ {X : Type 0} (none : X) (A : Declarations → SymbolId → X) (F : Declarer → SymbolFlags → Bool → X) (G : X → Declarer → Declarer → SymbolFlags → Bool → X) where
   -- how it changes
   pub record Changes : Type 0 where
     pub opens : (d : Declarations) (p : Option ScopeId) (b : Bool) (f : ScopeFlags) (y : SymbolId) → A (opened d p b f) y ≡ A d y
     pub old : (d : Declarations) (s : ScopeId) (who : Declarer) (name : List ℕ) (flags : SymbolFlags) (head : Bool) (y : SymbolId) → Made d → y.0 < length d.scoping.symbols → A (bound_first d s who name flags head) y ≡ A d y
-    pub new : (d : Declarations) (s : ScopeId) (who : Declarer) (name : List ℕ) (flags : SymbolFlags) (head : Bool) → Made d → A (bound_first d s who name flags head) (record { 0 = length d.scoping.symbols }) ≡ F who head
-    pub again : (d : Declarations) (y : SymbolId) (who : Declarer) (flags : SymbolFlags) (head : Bool) → Made d → y.0 < length d.scoping.symbols → A (bound_again d y who flags head) y ≡ G (A d y) (declarer_at d.declarers y) who head
+    pub new : (d : Declarations) (s : ScopeId) (who : Declarer) (name : List ℕ) (flags : SymbolFlags) (head : Bool) → Made d → A (bound_first d s who name flags head) (record { 0 = length d.scoping.symbols }) ≡ F who flags head
+    pub again : (d : Declarations) (y : SymbolId) (who : Declarer) (flags : SymbolFlags) (head : Bool) → Made d → y.0 < length d.scoping.symbols → A (bound_again d y who flags head) y ≡ G (A d y) (declarer_at d.declarers y) who flags head
     pub others : (d : Declarations) (y z : SymbolId) (who : Declarer) (flags : SymbolFlags) (head : Bool) → z.0 ≢ y.0 → A (bound_again d y who flags head) z ≡ A d z
 
-  abbrev pub of_symbol : Declarations → Option SymbolId → Bool
-  of_symbol d None = false
+  abbrev pub of_symbol : Declarations → Option SymbolId → X
+  of_symbol d None = none
   of_symbol d (Some y) = A d y
 
   -- of the symbol of a name
-  abbrev pub of_name : Declarations → ℕ → List ℕ → Bool
+  abbrev pub of_name : Declarations → ℕ → List ℕ → X
   of_name d q x = of_symbol d (get_binding d.scoping (record { 0 = q }) x)
 
   -- of that after an entry that declares the name
-  abbrev pub next_of : Declarations → Option SymbolId → Declarer → Bool → Bool
-  next_of d None who head = F who head
-  next_of d (Some y) who head = G (A d y) (declarer_at d.declarers y) who head
+  abbrev pub next_of : Declarations → Option SymbolId → Declarer → SymbolFlags → Bool → X
+  next_of d None who flags head = F who flags head
+  next_of d (Some y) who flags head = G (A d y) (declarer_at d.declarers y) who flags head
 
-  abbrev pub after_entry : Declarations → ℕ → List ℕ → Entry → Bool
-  after_entry d q x (entry.Binding node (Some s) who name flags head) = cond (is_at q x s name) (next_of d (get_binding d.scoping s name) who head) (of_name d q x)
+  abbrev pub after_entry : Declarations → ℕ → List ℕ → Entry → X
+  after_entry d q x (entry.Binding node (Some s) who name flags head) = cond (is_at q x s name) (next_of d (get_binding d.scoping s name) who flags head) (of_name d q x)
   after_entry d q x e = of_name d q x
 
   module _ (c : Changes) where
@@ -134,22 +134,22 @@ module _ (A : Declarations → SymbolId → Bool) (F : Declarer → Bool → Boo
     below d q x y made e = symbol-below d.scoping.symbols y.0 (symbol-there d.scoping y x q (made.table.named q x y e))
 
     after-first : (d : Declarations) (s : ScopeId) (who : Declarer) (name : List ℕ) (flags : SymbolFlags) (head : Bool) (q : ℕ) (x : List ℕ) → Made d → HasScope d.scoping s → get_binding d.scoping s name ≡ None
-        → of_name (bound_first d s who name flags head) q x ≡ cond (is_at q x s name) (F who head) (of_name d q x)
-    after-first d s who name flags head q x made there none =
-        ap (of_symbol (bound_first d s who name flags head)) (get-first d s who name flags head (record { 0 = q }) x there none) ∙ by (is_at q x s name) (get_binding d.scoping (record { 0 = q }) x) refl
+        → of_name (bound_first d s who name flags head) q x ≡ cond (is_at q x s name) (F who flags head) (of_name d q x)
+    after-first d s who name flags head q x made there free =
+        ap (of_symbol (bound_first d s who name flags head)) (get-first d s who name flags head (record { 0 = q }) x there free) ∙ by (is_at q x s name) (get_binding d.scoping (record { 0 = q }) x) refl
       where
-        by : (b : Bool) (o : Option SymbolId) → get_binding d.scoping (record { 0 = q }) x ≡ o → of_symbol (bound_first d s who name flags head) (cond b (Some (record { 0 = length d.scoping.symbols })) o) ≡ cond b (F who head) (of_symbol d o)
+        by : (b : Bool) (o : Option SymbolId) → get_binding d.scoping (record { 0 = q }) x ≡ o → of_symbol (bound_first d s who name flags head) (cond b (Some (record { 0 = length d.scoping.symbols })) o) ≡ cond b (F who flags head) (of_symbol d o)
         by true o e = c.new d s who name flags head made
         by false None e = refl
         by false (Some y) e = c.old d s who name flags head y made (below d (record { 0 = q }) x y made e)
 
     after-again : (d : Declarations) (s : ScopeId) (y : SymbolId) (who : Declarer) (name : List ℕ) (flags : SymbolFlags) (head : Bool) (q : ℕ) (x : List ℕ) → Made d → get_binding d.scoping s name ≡ Some y
-        → of_name (bound_again d y who flags head) q x ≡ cond (is_at q x s name) (G (A d y) (declarer_at d.declarers y) who head) (of_name d q x)
+        → of_name (bound_again d y who flags head) q x ≡ cond (is_at q x s name) (G (A d y) (declarer_at d.declarers y) who flags head) (of_name d q x)
     after-again d s y who name flags head q x made held =
         ap (of_symbol (bound_again d y who flags head)) (get-again d y who flags head (record { 0 = q }) x)
         ∙ by (is_at q x s name) refl (get_binding d.scoping (record { 0 = q }) x) refl
       where
-        by : (b : Bool) → is_at q x s name ≡ b → (o : Option SymbolId) → get_binding d.scoping (record { 0 = q }) x ≡ o → of_symbol (bound_again d y who flags head) o ≡ cond b (G (A d y) (declarer_at d.declarers y) who head) (of_symbol d o)
+        by : (b : Bool) → is_at q x s name ≡ b → (o : Option SymbolId) → get_binding d.scoping (record { 0 = q }) x ≡ o → of_symbol (bound_again d y who flags head) o ≡ cond b (G (A d y) (declarer_at d.declarers y) who flags head) (of_symbol d o)
         by true e o is =
             let same = at-same q x s name e in
             let here : o ≡ Some y = sym is ∙ (λ i. get_binding d.scoping (record { 0 = same.0 i }) (same.1 i)) ∙ held in
@@ -170,7 +170,7 @@ module _ (A : Declarations → SymbolId → Bool) (F : Declarer → Bool → Boo
     after-declare d (entry.Binding node None who name flags head) q x made fits = refl
     after-declare d (entry.Binding node (Some s) who name flags head) q x made fits = by (get_binding d.scoping s name) refl
       where
-        by : (o : Option SymbolId) → get_binding d.scoping s name ≡ o → of_name (bound_where o d s who name flags head) q x ≡ cond (is_at q x s name) (next_of d o who head) (of_name d q x)
+        by : (o : Option SymbolId) → get_binding d.scoping s name ≡ o → of_name (bound_where o d s who name flags head) q x ≡ cond (is_at q x s name) (next_of d o who flags head) (of_name d q x)
         by None e = after-first d s who name flags head q x made (made.whole s (fits s refl)) e
         by (Some y) e = after-again d s y who name flags head q x made e
     after-declare d (entry.Reference node scope in_parameters name flags) q x made fits = refl
@@ -220,7 +220,7 @@ module _ (P : Declarer → Bool) (both : (a b : Declarer) → P (joined a b) ≡
   abbrev pub who_is : Declarations → SymbolId → Bool
   who_is d y = P (declarer_at d.declarers y)
 
-  who-changes : Changes who_is (λ who head. P who) (λ a old who head. a || P who)
+  who-changes : Changes false who_is (λ who flags head. P who) (λ a old who flags head. a || P who)
   who-changes = record {
     opens = λ d p b f y. refl;
     old = λ d s who name flags head y made l. ap (λ o. P (unwrap_or o declarer.Other)) (slice_get-push_within d.declarers who y.0 (omega (arith, made.many)));
@@ -229,26 +229,26 @@ module _ (P : Declarer → Bool) (both : (a b : Declarer) → P (joined a b) ≡
     others = λ d y z who flags head other. ap (λ o. P (unwrap_or o declarer.Other)) (slice_get-changed_at_other (joined who) y.0 z.0 d.declarers other);
   }
 
-  pub who-declare : (d : Declarations) (e : Entry) (q : ℕ) (x : List ℕ) → Made d → Fits (length d.scoping.scopes) e → of_name who_is (λ who head. P who) (λ a old who head. a || P who) (declare d e) q x ≡ (of_name who_is (λ who head. P who) (λ a old who head. a || P who) d q x || entry_is P q x e)
-  who-declare d e q x made fits = after-declare who_is (λ who head. P who) (λ a old who head. a || P who) who-changes d e q x made fits ∙ by e
+  pub who-declare : (d : Declarations) (e : Entry) (q : ℕ) (x : List ℕ) → Made d → Fits (length d.scoping.scopes) e → of_name false who_is (λ who flags head. P who) (λ a old who flags head. a || P who) (declare d e) q x ≡ (of_name false who_is (λ who flags head. P who) (λ a old who flags head. a || P who) d q x || entry_is P q x e)
+  who-declare d e q x made fits = after-declare false who_is (λ who flags head. P who) (λ a old who flags head. a || P who) who-changes d e q x made fits ∙ by e
     where
       or_false : (b : Bool) → b ≡ (b || false)
       or_false true = refl
       or_false false = refl
 
-      by : (e : Entry) → after_entry who_is (λ who head. P who) (λ a old who head. a || P who) d q x e ≡ (of_name who_is (λ who head. P who) (λ a old who head. a || P who) d q x || entry_is P q x e)
+      by : (e : Entry) → after_entry false who_is (λ who flags head. P who) (λ a old who flags head. a || P who) d q x e ≡ (of_name false who_is (λ who flags head. P who) (λ a old who flags head. a || P who) d q x || entry_is P q x e)
       by (entry.Scope node parent in_parameters flags) = or_false _
       by (entry.Body node) = or_false _
       by (entry.Binding node None who name flags head) = or_false _
       by (entry.Binding node (Some s) who name flags head) = here (is_at q x s name) refl
         where
-          here : (b : Bool) → is_at q x s name ≡ b → cond b (next_of who_is (λ who head. P who) (λ a old who head. a || P who) d (get_binding d.scoping s name) who head) (of_name who_is (λ who head. P who) (λ a old who head. a || P who) d q x) ≡ (of_name who_is (λ who head. P who) (λ a old who head. a || P who) d q x || (b && P who))
+          here : (b : Bool) → is_at q x s name ≡ b → cond b (next_of false who_is (λ who flags head. P who) (λ a old who flags head. a || P who) d (get_binding d.scoping s name) who flags head) (of_name false who_is (λ who flags head. P who) (λ a old who flags head. a || P who) d q x) ≡ (of_name false who_is (λ who flags head. P who) (λ a old who flags head. a || P who) d q x || (b && P who))
           here false e = or_false _
           here true e =
               let same = at-same q x s name e in
-              next (get_binding d.scoping s name) ∙ (λ i. of_symbol who_is (λ who head. P who) (λ a old who head. a || P who) d (get_binding d.scoping (record { 0 = sym same.0 i }) (sym same.1 i)) || P who)
+              next (get_binding d.scoping s name) ∙ (λ i. of_symbol false who_is (λ who flags head. P who) (λ a old who flags head. a || P who) d (get_binding d.scoping (record { 0 = sym same.0 i }) (sym same.1 i)) || P who)
             where
-              next : (o : Option SymbolId) → next_of who_is (λ who head. P who) (λ a old who head. a || P who) d o who head ≡ (of_symbol who_is (λ who head. P who) (λ a old who head. a || P who) d o || P who)
+              next : (o : Option SymbolId) → next_of false who_is (λ who flags head. P who) (λ a old who flags head. a || P who) d o who flags head ≡ (of_symbol false who_is (λ who flags head. P who) (λ a old who flags head. a || P who) d o || P who)
               next None = refl
               next (Some y) = refl
       by (entry.Reference node scope in_parameters name flags) = or_false _

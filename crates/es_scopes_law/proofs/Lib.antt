@@ -19,3 +19,4 @@ pub mod Bodies
 pub mod Repeated
 pub mod MutatedAgree
 pub mod Agreeing
+pub mod Removed

@@ -32,11 +32,11 @@ is_marked_at t y = mark_of (symbol_at t y)
 abbrev marks : Declarations → SymbolId → Bool
 marks d y = is_marked_at d.scoping y
 
-abbrev first_mark : Declarer → Bool → Bool
-first_mark who head = head
+abbrev first_mark : Declarer → SymbolFlags → Bool → Bool
+first_mark who flags head = head
 
-abbrev more_mark : Bool → Declarer → Declarer → Bool → Bool
-more_mark a old who head = a || (head || repeats old who)
+abbrev more_mark : Bool → Declarer → Declarer → SymbolFlags → Bool → Bool
+more_mark a old who flags head = a || (head || repeats old who)
 
 first-marked : (head : Bool) (symbols : List Symbol) (x : Symbol) (t : Table) → x.is_marked ≡ false → mark_of (slice_get (marked_if head (record { 0 = length symbols }) (record t { symbols = symbols ++ x ∷ [] })).symbols (length symbols)) ≡ head
 first-marked true symbols x t h = ap mark_of (slice_get-changed_at_same marked (length symbols) (symbols ++ x ∷ []) ∙ ap (option_map marked) (slice_get-push_last symbols x))
@@ -83,7 +83,7 @@ again-other : (b : Bool) (t : Table) (y : SymbolId) (f : SymbolFlags) (i : ℕ) 
 again-other true t y f i other = ap mark_of (slice_get-changed_at_other marked y.0 i (changed_at (symbol_flagged f) y.0 t.symbols) other ∙ slice_get-changed_at_other (symbol_flagged f) y.0 i t.symbols other)
 again-other false t y f i other = ap mark_of (slice_get-changed_at_other (symbol_flagged f) y.0 i t.symbols other)
 
-mark-changes : Changes marks first_mark more_mark
+mark-changes : Changes false marks first_mark more_mark
 mark-changes = record {
   opens = λ d p b f y. refl;
   old = λ d s who name flags head y made l. first-other head d.scoping.symbols (new_symbol name s flags) (with_binding d.scoping s name flags) y.0 l;
@@ -109,10 +109,10 @@ beside-both declarer.Other declarer.Parameter = refl
 beside-both declarer.Other declarer.Other = refl
 
 abbrev mark_named : Declarations → ℕ → List ℕ → Bool
-mark_named d q x = of_name marks first_mark more_mark d q x
+mark_named d q x = of_name false marks first_mark more_mark d q x
 
 abbrev beside_named : Declarations → ℕ → List ℕ → Bool
-beside_named d q x = of_name (who_is is_beside beside-both) (λ who head. is_beside who) (λ a old who head. a || is_beside who) d q x
+beside_named d q x = of_name false (who_is is_beside beside-both) (λ who flags head. is_beside who) (λ a old who flags head. a || is_beside who) d q x
 
 -- an entry of the name in the head of a for-in or for-of
 abbrev pub entry_head : ℕ → List ℕ → Entry → Bool
@@ -138,30 +138,30 @@ or-false false = refl
 
 -- a mark after an entry
 mark-declare : (d : Declarations) (e : Entry) (q : ℕ) (x : List ℕ) → Made d → Fits (length d.scoping.scopes) e → mark_named (declare d e) q x ≡ (mark_named d q x || (entry_head q x e || (beside_named d q x && entry_is is_beside q x e)))
-mark-declare d e q x made fits = after-declare marks first_mark more_mark mark-changes d e q x made fits ∙ by e
+mark-declare d e q x made fits = after-declare false marks first_mark more_mark mark-changes d e q x made fits ∙ by e
   where
     nothing : (a b : Bool) → a ≡ (a || (false || (b && false)))
     nothing true b = refl
     nothing false true = refl
     nothing false false = refl
 
-    here : (o : Option SymbolId) (who : Declarer) (head : Bool) → next_of marks first_mark more_mark d o who head ≡ (of_symbol marks first_mark more_mark d o || (head || (of_symbol (who_is is_beside beside-both) (λ who head. is_beside who) (λ a old who head. a || is_beside who) d o && is_beside who)))
-    here None who true = refl
-    here None who false = refl
-    here (Some y) who head = ap (λ b. is_marked_at d.scoping y || (head || b)) (repeats-beside (declarer_at d.declarers y) who)
+    here : (o : Option SymbolId) (who : Declarer) (flags : SymbolFlags) (head : Bool) → next_of false marks first_mark more_mark d o who flags head ≡ (of_symbol false marks first_mark more_mark d o || (head || (of_symbol false (who_is is_beside beside-both) (λ who flags head. is_beside who) (λ a old who flags head. a || is_beside who) d o && is_beside who)))
+    here None who flags true = refl
+    here None who flags false = refl
+    here (Some y) who flags head = ap (λ b. is_marked_at d.scoping y || (head || b)) (repeats-beside (declarer_at d.declarers y) who)
 
-    at-named : (node_name : List ℕ) (s : ScopeId) (who : Declarer) (head b : Bool) → is_at q x s node_name ≡ b → cond b (next_of marks first_mark more_mark d (get_binding d.scoping s node_name) who head) (mark_named d q x) ≡ (mark_named d q x || ((b && head) || (beside_named d q x && (b && is_beside who))))
-    at-named name s who head false e = nothing (mark_named d q x) (beside_named d q x)
-    at-named name s who head true e =
+    at-named : (node_name : List ℕ) (s : ScopeId) (who : Declarer) (flags : SymbolFlags) (head b : Bool) → is_at q x s node_name ≡ b → cond b (next_of false marks first_mark more_mark d (get_binding d.scoping s node_name) who flags head) (mark_named d q x) ≡ (mark_named d q x || ((b && head) || (beside_named d q x && (b && is_beside who))))
+    at-named name s who flags head false e = nothing (mark_named d q x) (beside_named d q x)
+    at-named name s who flags head true e =
         let same = at-same q x s name e in
-        here (get_binding d.scoping s name) who head
-        ∙ (λ i. of_symbol marks first_mark more_mark d (get_binding d.scoping (record { 0 = sym same.0 i }) (sym same.1 i)) || (head || (of_symbol (who_is is_beside beside-both) (λ who head. is_beside who) (λ a old who head. a || is_beside who) d (get_binding d.scoping (record { 0 = sym same.0 i }) (sym same.1 i)) && is_beside who)))
+        here (get_binding d.scoping s name) who flags head
+        ∙ (λ i. of_symbol false marks first_mark more_mark d (get_binding d.scoping (record { 0 = sym same.0 i }) (sym same.1 i)) || (head || (of_symbol false (who_is is_beside beside-both) (λ who flags head. is_beside who) (λ a old who flags head. a || is_beside who) d (get_binding d.scoping (record { 0 = sym same.0 i }) (sym same.1 i)) && is_beside who)))
 
-    by : (e : Entry) → after_entry marks first_mark more_mark d q x e ≡ (mark_named d q x || (entry_head q x e || (beside_named d q x && entry_is is_beside q x e)))
+    by : (e : Entry) → after_entry false marks first_mark more_mark d q x e ≡ (mark_named d q x || (entry_head q x e || (beside_named d q x && entry_is is_beside q x e)))
     by (entry.Scope node parent in_parameters flags) = nothing (mark_named d q x) (beside_named d q x)
     by (entry.Body node) = nothing (mark_named d q x) (beside_named d q x)
     by (entry.Binding node None who name flags head) = nothing (mark_named d q x) (beside_named d q x)
-    by (entry.Binding node (Some s) who name flags head) = at-named name s who head (is_at q x s name) refl
+    by (entry.Binding node (Some s) who name flags head) = at-named name s who flags head (is_at q x s name) refl
     by (entry.Reference node scope in_parameters name flags) = nothing (mark_named d q x) (beside_named d q x)
 
 -- ---- after all entries
@@ -215,6 +215,6 @@ mark-declared d (e ∷ es) q x made ordered =
 -- the mark of the symbol of a name of a program
 pub marks-declared : (t : Tree) (q : ScopeId) (x : List ℕ) (y : SymbolId) → get_binding (declared none_declared (entries_of t)).scoping q x ≡ Some y → is_marked_at (declared none_declared (entries_of t)).scoping y ≡ (some_head q.0 x (entries_of t) || two (many_beside q.0 x (entries_of t)))
 marks-declared t q x y e =
-    ap (of_symbol marks first_mark more_mark (declared none_declared (entries_of t))) (sym e)
+    ap (of_symbol false marks first_mark more_mark (declared none_declared (entries_of t))) (sym e)
     ∙ mark-declared none_declared (entries_of t) q.0 x made-none (entries-ordered t)
     ∙ (let same : 0 + many_beside q.0 x (entries_of t) ≡ many_beside q.0 x (entries_of t) = omega arith in ap (λ (n : ℕ). some_head q.0 x (entries_of t) || two n) same)

@@ -94,7 +94,7 @@ module _ (P : Declarer → Bool) where
   module _ (both : (a b : Declarer) → P (joined a b) ≡ (P b || P a)) where
     -- the symbol of a name is declared so
     abbrev pub is_so : Declarations → ℕ → List ℕ → Bool
-    is_so d q x = of_name (who_is P both) (λ who head. P who) (λ a old who head. a || P who) d q x
+    is_so d q x = of_name false (who_is P both) (λ who flags head. P who) (λ a old who flags head. a || P who) d q x
 
     so-declared : (d : Declarations) (es : List Entry) (q : ℕ) (x : List ℕ) → Made d → AreOrdered (length d.scoping.scopes) es → is_so (declared d es) q x ≡ (is_so d q x || some_entry q x es)
     so-declared d [] q x made ordered = or_false (is_so d q x)
@@ -157,6 +157,6 @@ seen-from-parameters t kind m span id ps j x h at =
     shown_where true y = refl
     shown_where false y = refl
 
-    shown : (d : Declarations) (o : Option SymbolId) → is_some (visible d true o) ≡ of_symbol (who_is is_seen seen-both) (λ who head. is_seen who) (λ a old who head. a || is_seen who) d o
+    shown : (d : Declarations) (o : Option SymbolId) → is_some (visible d true o) ≡ of_symbol false (who_is is_seen seen-both) (λ who flags head. is_seen who) (λ a old who flags head. a || is_seen who) d o
     shown d None = refl
     shown d (Some y) = shown_where (is_other (declarer_at d.declarers y)) y

@@ -12,6 +12,3 @@ returns-clause-key_of_a_binding_for_a_name c = (refl, refl)
 
 pub returns-clause-private_name_beside_a_name : goal.returns-clause-private_name_beside_a_name
 returns-clause-private_name_beside_a_name c = (refl, refl)
-
-pub returns-clause-tested_name_of_a_class : goal.returns-clause-tested_name_of_a_class
-returns-clause-tested_name_of_a_class c = (refl, refl)
