@@ -1,8 +1,8 @@
 // Reading a value as a program.
 
-ghost use Rattle.std.specs.Prelude.{◌≡◌, ◌+◌, ◌<◌, ◌^◌, IfOk, IfErr, Ok, true};
+ghost use Rattle.std.specs.Prelude.{◌≡◌, ◌+◌, ◌<◌, ◌≤◌, ◌^◌, IfOk, IfErr, Ok, true};
 ghost use Rattle.es_base.specs.Conforms.{conforms};
-ghost use Rattle.es_base.specs.Preorder.{numbered_from};
+ghost use Rattle.es_base.specs.Preorder.{nodes, numbered_from};
 ghost use Rattle.es_base.specs.declared.table.Place.{Place};
 ghost use Rattle.es_reading.specs.declared.numbers.Numbers.{Numbers};
 ghost use Rattle.es_reading.specs.Reading.{read, root};
@@ -34,6 +34,7 @@ pub fn read_tree(
     ensures ok { IfOk result (λ r. read numbers (view value.now) root 0 ≡ Ok (record { value = r.0; foreign = ids r.1 })) }
     ensures conforms { IfOk result (λ r. conforms Place.Program r.0 ≡ true) }
     ensures preorder { IfOk result (λ r. numbers ≡ Numbers.Preorder → r.0 ≡ numbered_from 0 r.0) }
+    ensures few { IfOk result (λ r. nodes r.0 ≤ values (view value.now)) }
     ensures err { IfErr result (λ e. Tells e (read numbers (view value.now) root 0)) }
 {
     let reader = Reader { alloc, numbers };

@@ -27,6 +27,16 @@ pub fn no_field_written() -> &'static str {
 "#
 }
 
+/// `export class D extends C {}`.
+pub fn derived() -> &'static str {
+    r#"{"type":"Program","body":[{"type":"ExportNamedDeclaration","declaration":{"type":"ClassDeclaration","id":{"type":"Identifier","name":"D"},"superClass":{"type":"Identifier","name":"C"},"body":{"type":"ClassBody","body":[]}},"specifiers":[],"source":null}],"sourceType":"module"}"#
+}
+
+pub fn derived_written() -> &'static str {
+    r#"{"body":[{"declaration":{"body":{"body":[],"node":5,"type":"ClassBody"},"id":{"name":"D","node":3,"type":"Identifier"},"node":2,"superClass":{"name":"C","node":4,"type":"Identifier"},"type":"ClassDeclaration"},"node":1,"source":null,"specifiers":[],"type":"ExportNamedDeclaration"}],"generated":[],"node":0,"outside":[],"sourceType":"module","type":"Program","warnings":[]}
+"#
+}
+
 /// `class C { x = 1 }`.
 pub fn one_field() -> &'static str {
     r#"{"type":"Program","body":[{"type":"ClassDeclaration","id":{"type":"Identifier","name":"C"},"superClass":null,"body":{"type":"ClassBody","body":[{"type":"PropertyDefinition","static":false,"computed":false,"key":{"type":"Identifier","name":"x"},"value":{"type":"Literal","value":1,"raw":"1"}}]}}],"sourceType":"script"}"#

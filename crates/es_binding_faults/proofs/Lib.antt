@@ -1,0 +1,14 @@
+pub mod LeastNumbers
+pub mod HasNumbers
+pub mod Appending
+pub mod Seen
+pub mod Bindings
+pub mod Places
+pub mod Plain
+pub mod Hoisting
+pub mod ScopeNames
+pub mod RepeatNames
+pub mod FreeEvals
+pub mod Repeating
+pub mod EvalNames
+pub mod WholeNames
