@@ -94,6 +94,7 @@ unspelled_node kind declared m ps below here none = by (is_reference kind) (byte
     by true true h = absurd (cc)
     by true false h = ap (λ b. cond b (m ∷ []) []) (and_false (not declared))
     by false e h = none
+
 nothing_joined : (ms ns : List ℕ) → ms ≡ [] → ns ≡ [] → ms ++ ns ≡ []
 nothing_joined ms ns e f = ap (λ (ks : List ℕ). ks ++ ns) e ∙ f
 
