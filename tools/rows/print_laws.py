@@ -78,7 +78,19 @@ for function in SAYS:
 LISTS = 'lists_kept options_{n} source_{n} output_{n}'
 DEFINED = 'definitions_stand (nodes source_{n}) options_{n} generated_{n} (private_members source_{n}) source_{n} output_{n}'
 TIMELY = 'names_timely (nodes source_{n}) generated_{n} output_{n}'
+STEADY = 'temporaries_steady (nodes source_{n}) generated_{n} output_{n}'
+INITIALIZED = 'initializations_stand (nodes source_{n}) generated_{n} (private_members source_{n}) output_{n} generated_{n}'
 NOT_MET = {
+    'temporary_given_again': STEADY,
+    'temporary_given_again_in_a_loop': STEADY,
+    'temporary_of_a_hoisted_function': STEADY,
+    'parameter_read_later': STEADY,
+    'temporary_of_the_program': STEADY,
+    'method_given_behind_its_calls': INITIALIZED,
+    'super_function_behind_a_call': TIMELY,
+    'class_temporary_of_another_case': TIMELY,
+    'body_in_an_arrow': 'homes_kept options_{n} source_{n} output_{n}',
+    'function_out_of_its_block': LISTS,
     'class_in_a_constructor': LISTS,
     'class_behind_its_use': LISTS,
     'super_function_behind_its_calls': TIMELY,
@@ -98,14 +110,14 @@ NOT_MET = {
     'constant_temporary': 'declarations_accounted (nodes source_{n}) generated_{n} source_{n} output_{n}',
     'private_name_twice': 'names_declared (nodes source_{n}) generated_{n} output_{n}',
     'name_twice': 'names_declared (nodes source_{n}) generated_{n} output_{n}',
-    'name_of_no_member': 'initializations_stand (nodes source_{n}) generated_{n} (private_members source_{n}) output_{n} generated_{n}',
+    'name_of_no_member': INITIALIZED,
 }
 # the shapes of the two programs
-SHAPES = {'loose_member_read_once': ('[]', '4 ∷ []'), 'super_key_that_stays': ('[]', '4 ∷ []'), 'suspended_class_written': ('6 ∷ []', '[]')}
+SHAPES = {'loose_member_read_once': ('[]', '4 ∷ []'), 'super_key_that_stays': ('[]', '4 ∷ []'), 'suspended_class_written': ('6 ∷ []', '[]'), 'imported_object': ('4 ∷ []', '[]'), 'imported_key': ('4 ∷ []', '[]'), 'imported_key_of_a_method': ('4 ∷ []', '[]')}
 # outputs that mean what their sources mean
-RIGHT = ('private_name_beside_a_name', 'branch_of_a_key')
+RIGHT = ('private_name_beside_a_name', 'branch_of_a_key', 'class_in_a_case', 'key_of_a_binding_for_a_name')
 # wrong outputs that have a meaning, and those of programs whose parameters come before their fields
-OTHER = ('branch_of_a_key_of_another', 'elements_dropped', 'static_field_dropped', 'block_dropped', 'block_behind_a_kept_field', 'read_moved')
+OTHER = ('branch_of_a_key_of_another', 'elements_dropped', 'static_field_dropped', 'block_dropped', 'block_behind_a_kept_field', 'read_moved', 'import_read_early', 'statements_of_a_case_exchanged', 'statement_of_another_case', 'arrow_moved_into_parameters')
 AFTER = ('field_behind_parameters_dropped', 'field_behind_parameters_doubled', 'fields_behind_parameters_exchanged', 'another_literal_behind_parameters')
 pairs, wrong, kept, not_met, shaped, right, other, after = [], [], [], [], [], [], [], []
 folder = f'{CRATE}/specs/witnesses'
@@ -158,11 +170,12 @@ ghost use Rattle.es_steps.specs.Definitions.{definitions_stand};
 ghost use Rattle.es_base.specs.Conforms.{conforms};
 ghost use Rattle.es_base.specs.Preorder.{nodes};
 ghost use Rattle.es_base.specs.declared.table.Place.{Place};
-ghost use Rattle.es_steps.specs.KeptNodes.{lists_kept};
+ghost use Rattle.es_steps.specs.KeptNodes.{lists_kept, homes_kept};
 ghost use Rattle.es_steps.specs.Lowered.{names_declared, declarations_accounted, initializations_stand};
 ghost use Rattle.es_steps.specs.Meaning.{source_means};
 ghost use Rattle.es_steps.specs.Printable.{is_printable};
 ghost use Rattle.es_steps.specs.PrivateNames.{private_members};
+ghost use Rattle.es_steps.specs.Temporaries.{temporaries_steady};
 ghost use Rattle.es_steps.specs.Timely.{names_timely};
 ''' + '\n'.join(uses) + '\n\n' + '\n'.join(functions)
 write(f'{CRATE}/src/law.rt', text)

@@ -77,6 +77,19 @@ function branchOfAKey(t, take) {
   call.arguments[0] = fresh(t, expression('_t'));
   body.unshift(fresh(t, tree('let _t;').body[0]));
 }
+// a method beside a lowered field; statements in front of the class
+const beside = (method, before = '') => ({ options: ['--class-properties'], source: `${before} class D { x = 1; ${method} }`, output: `${before} class D { constructor() { B.defineProperty(this, "x", 1); } ${method} }` });
+const inCase = { options: ['--class-properties'], source: 'switch (f()) { case 1: class A { static x = 1; } g(); break; case 2: h(); k(); }', output: 'switch (f()) { case 1: class A {} B.defineProperty(A, "x", 1); g(); break; case 2: h(); k(); }' };
+const temporary = { name: '_t', kind: 'Temp' };
+// in the method `m`, what an argument of the call of f holds is given to a temporary in front of all; the statements of `m`
+function keep(t, test, f) {
+  const m = nodes(t, n => n.type === 'MethodDefinition' && n.key.name === 'm')[0], body = m.value.body.body, call = nodes(m, n => n.type === 'CallExpression' && n.callee.name === f)[0], s = fresh(t, tree('_t = 1;').body[0]), found = nodes(call.arguments[0], test)[0];
+  s.expression.right = found;
+  const read = fresh(t, expression('_t'));
+  if (call.arguments[0] === found) call.arguments[0] = read; else call.arguments[0].body = read;
+  body.unshift(fresh(t, tree('var _t;').body[0]), s);
+  return body;
+}
 const swap = (list, i, j) => { [list[i], list[j]] = [list[j], list[i]]; };
 
 const witnesses = [
@@ -142,10 +155,10 @@ const witnesses = [
   wrong('temporary_never_given', 'a key whose temporary is never given', row('two_keys'), q => { q.body.splice(2, 1); }),
   wrong('temporary_given_late', 'a key whose temporary is given behind its class', { options: ['--class-properties'], source: 'class C { static [k()] = 1; }', output: 'let _k; _k = k(); class C {} B.defineProperty(C, _k, 1);' }, q => { const [s] = q.body.splice(1, 1); q.body.push(s); }),
   right('private_name_beside_a_name', 'a generated private name with the spelling of a free name, which it does not hide', { options: ['--static-block'], source: 'class C { static { _; } }', output: 'var _staticBlock; let C = (class C { static #_ = _staticBlock = () => (_, this); }, _staticBlock());' }, q => {}),
-  right('branch_of_a_key', 'a branch in a key reads what a key in front of it has given', { options: ['--class-properties'], source: 'class D { x = 1; m(a, b) { class C { [k()]() {} [c() ? h(a) : 0]() {} } return C; } }', output: 'class D { constructor() { B.defineProperty(this, "x", 1); } m(a, b) { class C { [k()]() {} [c() ? h(a) : 0]() {} } return C; } }' },
+  right('branch_of_a_key', 'a branch in a key reads what a key in front of it has given', { options: ['--class-properties'], source: 'class D { x = 1; m() { class C { [k()]() {} [c() ? h(this) : 0]() {} } return C; } }', output: 'class D { constructor() { B.defineProperty(this, "x", 1); } m() { class C { [k()]() {} [c() ? h(this) : 0]() {} } return C; } }' },
     q => branchOfAKey(q, a => a), [{ name: '_t', kind: 'Temp' }]),
-  wrong('branch_of_a_key_of_another', 'a branch in a key reads another value that a key in front of it has given', { options: ['--class-properties'], source: 'class D { x = 1; m(a, b) { class C { [k()]() {} [c() ? h(a) : 0]() {} } return C; } }', output: 'class D { constructor() { B.defineProperty(this, "x", 1); } m(a, b) { class C { [k()]() {} [c() ? h(a) : 0]() {} } return C; } }' },
-    q => branchOfAKey(q, a => fresh(q, expression('b'))), [{ name: '_t', kind: 'Temp' }]),
+  wrong('branch_of_a_key_of_another', 'a branch in a key reads another value that a key in front of it has given', { options: ['--class-properties'], source: 'class D { x = 1; m() { class C { [k()]() {} [c() ? h(this) : 0]() {} } return C; } }', output: 'class D { constructor() { B.defineProperty(this, "x", 1); } m() { class C { [k()]() {} [c() ? h(this) : 0]() {} } return C; } }' },
+    q => branchOfAKey(q, a => fresh(q, expression('1'))), [{ name: '_t', kind: 'Temp' }]),
   wrong('key_given_behind_the_fields', 'a key whose temporary is given behind the static field', row('static_key_and_block'), q => { const [s] = q.body.splice(1, 1); q.body.splice(3, 0, s); }),
   wrong('private_name_of_the_outer_class', 'a generated private name that an outer class declares', row('private_name_taken'), q => { for (const n of preorder(q)) if (n.name === '_2') n.name = '_'; }),
   wrong('result_of_the_setter', 'the value of a write that is the result of the setter', row('private_accessors'), q => { const v = preorder(q).find(n => n.type === 'AssignmentExpression' && n.right.type === 'AssignmentExpression'); const sum = v.right.right; v.right = fresh(q, expression('_set_a.call(B.assertClassBrand(_C_brand, this), 0)')); v.right.arguments[1] = sum; }),
@@ -234,6 +247,39 @@ const witnesses = [
     q => { const f = nodes(q, n => n.type === 'MethodDefinition')[0].value, v = fresh(q, tree('var _args2;').body[0]); nodes(f.body, n => n.name === '_args')[0].name = '_args2'; f.body.body.unshift(v); }, [{ name: '_args', kind: 'Args' }, { name: '_args2', kind: 'Args' }]),
   wrong('picked_by_an_async_arrow', 'a value picked by an async arrow', { options: ['--class-properties'], source: 'class C { x = 1; m() { f(g()); } }', output: 'class C { constructor() { B.defineProperty(this, "x", 1); } m() { f(g()); } }' },
     q => { const c = nodes(q, n => n.type === 'CallExpression' && n.callee.name === 'f')[0], pick = fresh(q, expression('(async (_p, _q) => _q[_p])("k", { ["k"]: 1 })')); pick.arguments[1].properties[0].value = c.arguments[0]; c.arguments[0] = pick; }, [{ name: '_p', kind: 'Param' }, { name: '_q', kind: 'Param' }]),
+  // cases
+  right('class_in_a_case', 'a class in a case', inCase, q => {}),
+  wrong('statements_of_a_case_exchanged', 'two statements of a case exchanged', inCase, q => { const s = nodes(q, n => n.type === 'SwitchCase')[0].consequent; swap(s, 2, 3); }),
+  wrong('statement_of_another_case', 'a statement moved into another case', inCase, q => { const [a, b] = nodes(q, n => n.type === 'SwitchCase'); a.consequent.splice(3, 0, b.consequent.shift()); }),
+  // parameters, names
+  pair('var_arguments', 'a `var` that is spelled `arguments`', 'function f() { var arguments; g(arguments); }', 'function f() { var a; g(a); }', {}),
+  wrong('arrow_moved_into_parameters', 'an arrow moved from a body into the parameters, which have an environment of their own', beside('m(a, { ["k"]: b }) { var a = 2; h(() => a); }'),
+    q => { const m = nodes(q, n => n.type === 'MethodDefinition' && n.key.name === 'm')[0].value, call = nodes(m.body, n => n.type === 'CallExpression' && n.callee.name === 'h')[0], p = m.params[1].properties[0], both = fresh(q, expression('(_t = 1, 2)')); both.expressions[0].right = call.arguments[0]; both.expressions[1] = p.key; p.key = both; call.arguments[0] = fresh(q, expression('_t')); q.body.unshift(fresh(q, tree('var _t;').body[0])); }, [temporary]),
+  wrong('import_read_early', 'an imported name read in front of a call', { ...beside('m() { g(); h(y); }', 'import { y } from "m";'), type: 'module' }, q => keep(q, n => n.name === 'y', 'h'), [temporary]),
+  pair('imported_object', 'an imported name as the object of a private member, which is read twice', 'import { o } from "m"; class A { #x = 1; m() { o.#x += 1; } }', 'let o = f(); class A { #x = 1; m() { o.#x += 1; } }', {}, { type: 'module', options: ['--class-properties'] }),
+  pair('imported_key', 'an imported name as the key of a field', 'import { k } from "m"; class C { [k] = 1; }', 'let k = f(); class C { [k] = 1; }', {}, { type: 'module', options: ['--class-properties'] }),
+  pair('imported_key_of_a_method', 'an imported name as the key of a method, in front of a key that is hoisted or not', 'import { k } from "m"; class C { [k]() {} [f()] = 1; }', 'import { k } from "m"; class C { [k]() {} ["f"] = 1; }', {}, { type: 'module', options: ['--class-properties'] }),
+  // temporaries
+  wrong('binding_in_a_temporary', 'what a binding holds, kept for later', beside('m() { h(() => y); var y = g(); }'), q => keep(q, n => n.name === 'y', 'h'), [temporary]),
+  wrong('key_of_a_binding_in_a_temporary', 'what a binding holds as a key, kept for later', beside('m(y) { z(); class C { [y]() {} } return C; }'), q => { const c = nodes(q, n => n.type === 'ClassDeclaration')[1], body = nodes(q, n => n.type === 'MethodDefinition' && n.key.name === 'm')[0].value.body.body, s = fresh(q, tree('_t = B.toPropertyKey(1);').body[0]), k = c.body.body[0].key; s.expression.right.arguments[0] = k; c.body.body[0].key = fresh(q, expression('_t')); body.unshift(fresh(q, tree('var _t;').body[0]), s); }, [temporary]),
+  right('key_of_a_binding_for_a_name', 'the key of a binding in a temporary that names a class', { options: ['--static-block'], source: 'let k = h(); class C { static { f(); } static [k] = class {}; }', output: 'var _key; let k = h(); class C { static [_key = B.toPropertyKey(k)] = (f(), ((_name, _object) => _object[_name])(_key, { [_key]: class {} })); }' }, q => {}),
+  wrong('temporary_given_behind_a_call', 'a temporary given behind a call that reads it', beside('m() { h(() => 5); }'), q => { const body = keep(q, n => n.type === 'Literal', 'h'); body.push(body.splice(1, 1)[0]); }, [temporary]),
+  clause('temporary_given_again', 'a temporary given again behind the function that reads it', beside('m() { h(() => 5); }'), q => { keep(q, n => n.type === 'Literal', 'h').push(fresh(q, tree('_t = 6;').body[0])); }, [temporary]),
+  clause('temporary_given_again_in_a_loop', 'a temporary given again in a loop', beside('m() { for (; c();) { h(5); } }'), q => { keep(q, n => n.type === 'Literal', 'h'); nodes(q, n => n.type === 'ForStatement')[0].body.body.push(fresh(q, tree('_t = 6;').body[0])); }, [temporary]),
+  clause('temporary_of_a_hoisted_function', 'a temporary given behind a call of the function that reads it', beside('m() { g(); function g() { h(5); } }'), q => { const body = keep(q, n => n.type === 'Literal', 'h'); swap(body, 1, 2); }, [temporary]),
+  clause('parameter_read_later', 'a parameter of a new arrow read when its call is over', beside('m() { h(() => y); var y = g(); }'),
+    q => { const body = nodes(q, n => n.type === 'MethodDefinition' && n.key.name === 'm')[0].value.body.body, s = fresh(q, tree('((_p) => 0)(y);').body[0]), call = body[0].expression, y = call.arguments[0].body; s.expression.callee.body = call; s.expression.arguments[0] = y; call.arguments[0].body = fresh(q, expression('_p')); body[0].expression = s.expression; }, [{ name: '_p', kind: 'Param' }]),
+  clause('temporary_of_the_program', 'a temporary of a method that the program declares', row('private_compound_write'), q => { const body = nodes(q, n => n.type === 'MethodDefinition' && n.key.name === 'm')[0].value.body.body; q.body.unshift(body.shift()); }),
+  // functions that generated names are given
+  clause('method_given_behind_its_calls', 'the function of a private method given behind a call that reaches it', { options: ['--class-properties'], source: 'f(class { #m() {} t() { return this.#m; } });', output: 'var _Class_brand; f((_Class_brand = new WeakSet(), class { constructor() { B.classPrivateMethodInitSpec(this, _Class_brand); } t() { return B.assertClassBrand(_Class_brand, this, _m); } })); function _m() {}' },
+    q => { const f = q.body.pop(), s = fresh(q, tree('_m = function() {};').body[0]); Object.assign(s.expression.right, { num: f.num, body: f.body, params: f.params }); q.body.push(s); q.body.unshift(fresh(q, tree('var _m;').body[0])); }),
+  clause('class_temporary_of_another_case', 'the class of one case, by its temporary, in the next', { options: ['--class-properties'], source: 'switch (f()) { case 1: class A { static x = this; } case 2: g(A); }', output: 'var _A; switch (f()) { case 1: class A {} _A = A; B.defineProperty(A, "x", _A); case 2: g(A); }' }, q => { nodes(q, n => n.type === 'CallExpression' && n.callee.name === 'g')[0].arguments[0] = fresh(q, expression('_A')); }),
+  clause('super_function_behind_a_call', 'what stands for `super(..)` given behind a call that reaches it', { options: ['--class-properties'], source: 'class A extends P { x = 1; constructor(a) { h(() => super()); } }', output: 'class A extends P { constructor(a) { var _super = (..._args) => (super(..._args), B.defineProperty(this, "x", 1), this); h(() => _super()); } }' }, q => { swap(constructorOf(q), 0, 1); }),
+  // functions in blocks
+  clause('body_in_an_arrow', 'the body of a function in a new arrow, so that a function in a block is not seen around it', { options: ['--class-properties'], source: 'function f() { { function g() {} } (class { x = 1; }); }', output: 'function f() { { function g() {} } (class { constructor() { B.defineProperty(this, "x", 1); } }); }' },
+    q => { const f = q.body[0], made = fresh(q, tree('function f() { (() => { 1; })(); }').body[0].body); made.body[0].expression.callee.body = f.body; f.body = made; }),
+  clause('function_out_of_its_block', 'a function declaration moved out of its block', { options: ['--class-properties'], source: 'function f() { { function g() { (class { x = 1; }); } } }', output: 'function f() { { function g() { (class { constructor() { B.defineProperty(this, "x", 1); } }); } } }' },
+    q => { const body = q.body[0].body.body; body.push(body[0].body.pop()); }),
 ];
 
 function moduleOf(w) {

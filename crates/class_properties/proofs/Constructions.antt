@@ -63,7 +63,7 @@ abbrev keys : Fields → List Value
 keys no_fields = []
 keys (with_field s v fs) = ConstantOf (StringOf s) ∷ keys fs
 
-abbrev ran : Events → Value → Environment → Option Run
+abbrev pub ran : Events → Value → Environment → Option Run
 ran l v env = Some (record { events = l; value = v; after = env })
 
 pub value_behind-undefined : (l : Events) → value_behind l Undefined ≡ Undefined
@@ -72,9 +72,6 @@ value_behind-undefined l = either (throws l)
     either : (b : Bool) → cond b Undefined Undefined ≡ Undefined
     either true = refl
     either false = refl
-
-behind-none : (l : Events) → behind none l ≡ l
-behind-none l = refl
 
 no_methods : (fs : Fields) → has_instance_methods (field_codes fs) ≡ false
 no_methods no_fields = refl
@@ -147,42 +144,42 @@ module _ (opens : Opened → Evaluation) where
 
     -- ---- entries
 
-    plain-entries : (s e : Environment) (c : Code) → IsPlain c → entries opens first [] s e c ≡ []
-    plain-entries s e c (a_value v) = refl
-    plain-entries s e c (a_name m t kind h) = refl
+    plain-entries : (s : Environment) (c : Code) → IsPlain c → entries opens first [] s c ≡ []
+    plain-entries s c (a_value v) = refl
+    plain-entries s c (a_name m t kind h) = refl
 
-    keys-none : (e : Environment) (fs : Fields) (s : Environment) → key_entries opens first [] s e (field_codes fs) ≡ []
-    keys-none e no_fields s = refl
-    keys-none e (with_field k v fs) s = keys-none e fs _
+    keys-none : (fs : Fields) (s : Environment) → key_entries opens first [] s (field_codes fs) ≡ []
+    keys-none no_fields s = refl
+    keys-none (with_field k v fs) s = keys-none fs _
 
-    statics-none : (n : ℕ) (e : Environment) (fs : Fields) (s : Environment) → static_entries opens first [] n s e (field_codes fs) ≡ []
-    statics-none n e no_fields s = refl
-    statics-none n e (with_field k v fs) s = statics-none n e fs _
+    statics-none : (n : ℕ) (fs : Fields) (s : Environment) → static_entries opens first [] n s (field_codes fs) ≡ []
+    statics-none n no_fields s = refl
+    statics-none n (with_field k v fs) s = statics-none n fs _
 
-    fields-none : (n : ℕ) (e : Environment) (fs : Fields) → ArePlain fs → (s : Environment) → field_entries opens first [] n s e (field_codes fs) ≡ []
-    fields-none n e no_fields h s = refl
-    fields-none n e (with_field k v fs) h s = rw (plain-entries s e v h.0) (fields-none n e fs h.1 _)
+    fields-none : (n : ℕ) (fs : Fields) → ArePlain fs → (s : Environment) → field_entries opens first [] n s (field_codes fs) ≡ []
+    fields-none n no_fields h s = refl
+    fields-none n (with_field k v fs) h s = rw (plain-entries s v h.0) (fields-none n fs h.1 _)
 
-    functions-none : (s i e : Environment) (fs : Fields) → function_entries opens first [] s i e (field_codes fs) ≡ []
-    functions-none s i e no_fields = refl
-    functions-none s i e (with_field k v fs) = functions-none s i e fs
+    functions-none : (s i : Environment) (fs : Fields) → function_entries opens first [] s i (field_codes fs) ≡ []
+    functions-none s i no_fields = refl
+    functions-none s i (with_field k v fs) = functions-none s i fs
 
-    defined-none : (n : ℕ) (e : Environment) (fs : Fields) (cs : Codes) → Defines n fs cs → ArePlain fs → (s : Environment) → all_entries opens first [] s e cs ≡ []
-    defined-none n e no_fields cs none_defined h s = refl
-    defined-none n e (with_field k v fs) cs (defined {cs = ds} m d) h s = rw (plain-entries s e v h.0) (defined-none n e fs ds d h.1 _)
+    defined-none : (n : ℕ) (fs : Fields) (cs : Codes) → Defines n fs cs → ArePlain fs → (s : Environment) → all_entries opens first [] s cs ≡ []
+    defined-none n no_fields cs none_defined h s = refl
+    defined-none n (with_field k v fs) cs (defined {cs = ds} m d) h s = rw (plain-entries s v h.0) (defined-none n fs ds d h.1 _)
 
     -- the one entry of class n
     abbrev class_entries : ℕ → Option ℕ → Fields → Entries
     class_entries n declared fs = (n, Some (ClassEntry declared None [] plain_form [] (record { events = events n fs; value = Undefined }))) ∷ []
 
-    source-entries : (n : ℕ) (declared : Option ℕ) (fs : Fields) → ArePlain fs → entries opens first [] [] [] (class_code n declared done (field_codes fs)) ≡ class_entries n declared fs
+    source-entries : (n : ℕ) (declared : Option ℕ) (fs : Fields) → ArePlain fs → entries opens first [] [] (class_code n declared done (field_codes fs)) ≡ class_entries n declared fs
     source-entries n declared fs h =
-        rw (source_construction n fs fs, source-runs n fs [] h, field-methods fs, form-fields fs, parameters-fields fs, value_behind-undefined (events n fs), stays fs, keys-run fs (λ ks. gives Undefined) none Undefined refl, keys-none [] fs [], statics-none n [] fs [], fields-none n [] fs h []) (ap (λ es. class_entries n declared fs ++ es) (functions-none _ _ [] fs))
+        rw (source_construction n fs fs, source-runs n fs [] h, field-methods fs, form-fields fs, parameters-fields fs, value_behind-undefined (events n fs), stays fs, keys-run fs (λ ks. gives Undefined) none Undefined refl, keys-none fs [], statics-none n fs [], fields-none n fs h []) (ap (λ es. class_entries n declared fs ++ es) (functions-none _ _ fs))
 
-    lowered-entries : (n : ℕ) (declared : Option ℕ) (fs : Fields) (cs : Codes) → AreLowered n fs cs → ArePlain fs → entries opens first [] [] [] (class_code n declared done cs) ≡ class_entries n declared fs
+    lowered-entries : (n : ℕ) (declared : Option ℕ) (fs : Fields) (cs : Codes) → AreLowered n fs cs → ArePlain fs → entries opens first [] [] (class_code n declared done cs) ≡ class_entries n declared fs
     lowered-entries n declared fs cs no_constructor h = refl
     lowered-entries n declared fs cs (one_constructor {ds = ds} k d) h =
-        rw (defined-runs n fs ds [] d h, value_behind-undefined (events n fs), value_behind-undefined (events n fs)) (ap (λ es. class_entries n declared fs ++ (es ++ [])) (defined-none n _ fs ds d h []))
+        rw (defined-runs n fs ds [] d h, value_behind-undefined (events n fs), value_behind-undefined (events n fs)) (ap (λ es. class_entries n declared fs ++ (es ++ [])) (defined-none n fs ds d h []))
 
 -- ---- classes
 
@@ -198,7 +195,7 @@ pub record RunAlike (opens opened : Opened → Evaluation) (first : ℕ) (cs ds 
   pub listed : Events
   pub source : ev_all opens cs (λ vs. gives Undefined) [] ≡ ran listed Undefined []
   pub lowered : ev_all opened ds (λ vs. gives Undefined) [] ≡ ran listed Undefined []
-  pub entries : all_entries opened first [] [] [] ds ≡ all_entries opens first [] [] [] cs
+  pub entries : all_entries opened first [] [] ds ≡ all_entries opens first [] [] cs
   pub functions : gather_all private_function_by cs ≡ []
   pub lowered_functions : gather_all private_function_by ds ≡ []
 

@@ -8,10 +8,10 @@ use Rattle.es_base.specs.Tree.{Tree, Parts, end, more, trees}
 use Rattle.es_steps.proofs.FirstMeaning.{members_of_all-append}
 use Rattle.es_steps.specs.Context.{Context}
 use Rattle.es_steps.specs.Evaluation.{Environment}
-use Rattle.es_steps.specs.Meaning.{DeclarationKind, ClassDeclared, declaring, declaring_items, declared_function, declared_functions, body_of, globals}
+use Rattle.es_steps.specs.Meaning.{DeclarationKind, ClassDeclared, declared_as, declaring, declaring_items, declared_function, declared_functions, body_of, globals}
 use Rattle.es_steps.specs.Modules.{links_in, exports_in}
 use Rattle.es_steps.specs.PrivateNames.{private_members, members_of_all, elements_members}
-use Rattle.es_steps.specs.References.{Reference, if_bound, is_free, assigned, item_references, resolve, written_by, written_by_all, written, writes_free}
+use Rattle.es_steps.specs.References.{Reference, if_bound, is_free, assigned, item_references, resolve, written_by, written_by_all, written, imported_by, imported_by_all, varying, writes_free}
 use Rattle.es_steps.specs.Repeated.{Surroundings, places_of, all_places}
 use Rattle.es_steps.specs.Scopes.{Declaration, lexical_part, lexical_items, var_part, body_names}
 use Rattle.es_steps.specs.Values.{String}
@@ -51,6 +51,10 @@ written_by_all-append : (xs ys : List Tree) → written_by_all (xs ++ ys) ≡ wr
 written_by_all-append [] ys = refl
 written_by_all-append (x ∷ xs) ys = rw (written_by_all-append xs ys) (sym (append_assoc (written_by x) (written_by_all xs) (written_by_all ys)))
 
+imported_by_all-append : (xs ys : List Tree) → imported_by_all (xs ++ ys) ≡ imported_by_all xs ++ imported_by_all ys
+imported_by_all-append [] ys = refl
+imported_by_all-append (x ∷ xs) ys = rw (imported_by_all-append xs ys) (sym (append_assoc (imported_by x) (imported_by_all xs) (imported_by_all ys)))
+
 declared_functions-append : (xs ys : List Tree) → declared_functions [] (xs ++ ys) ≡ declared_functions [] xs ++ declared_functions [] ys
 declared_functions-append [] ys = refl
 declared_functions-append (x ∷ xs) ys = rw (declared_functions-append xs ys) (sym (append_assoc (declared_function [] x) (declared_functions [] xs) (declared_functions [] ys)))
@@ -64,29 +68,30 @@ pub two_ends : {A : Type 0} (xs ys : List A) → xs ++ [] ++ [] ++ ys ≡ xs ++ 
 two_ends [] ys = refl
 two_ends (x ∷ xs) ys = ap (λ zs. x ∷ zs) (two_ends xs ys)
 
--- ---- in these lists nothing is written, and no function and no private member is declared
+-- ---- in these lists nothing is written or imported, and no function and no private member is declared
 
 pub record Unwritten (ps : Parts) : Type 0 where
   pub assigned : (names : List Declaration) → assigned (item_references names false ps) ≡ []
   pub free : (names : List Declaration) → writes_free (codes "arguments") (item_references names false ps) ≡ false
   pub repeated : written_by_all (preorder_of ps) ≡ []
+  pub imported : imported_by_all (preorder_of ps) ≡ []
   pub functions : declared_functions [] (preorder_of ps) ≡ []
   pub members : members_of_all (preorder_of ps) ≡ []
 
 unwritten-end : Unwritten end
-unwritten-end = record { assigned = λ names. refl; free = λ names. refl; repeated = refl; functions = refl; members = refl }
+unwritten-end = record { assigned = λ names. refl; free = λ names. refl; repeated = refl; imported = refl; functions = refl; members = refl }
 
 fields-unwritten : (es : Parts) → AreFields es → Unwritten es
 fields-unwritten end h = unwritten-end
-fields-unwritten (more p es) (a_field m span semantic_id key v (a_key i ispan i_semantic_id s) no_value, h) = let u : Unwritten es = fields-unwritten es h in record { assigned = u.assigned; free = u.free; repeated = u.repeated; functions = u.functions; members = u.members }
-fields-unwritten (more p es) (a_field m span semantic_id key v (a_key i ispan i_semantic_id s) (a_literal l lspan l_semantic_id w), h) = let u : Unwritten es = fields-unwritten es h in record { assigned = u.assigned; free = u.free; repeated = u.repeated; functions = u.functions; members = u.members }
-fields-unwritten (more p es) (a_field m span semantic_id key v (a_key i ispan i_semantic_id s) (a_reference r rspan r_semantic_id x), h) = let u : Unwritten es = fields-unwritten es h in record { assigned = u.assigned; free = u.free; repeated = u.repeated; functions = u.functions; members = u.members }
+fields-unwritten (more p es) (a_field m span semantic_id key v (a_key i ispan i_semantic_id s) no_value, h) = let u : Unwritten es = fields-unwritten es h in record { assigned = u.assigned; free = u.free; repeated = u.repeated; imported = u.imported; functions = u.functions; members = u.members }
+fields-unwritten (more p es) (a_field m span semantic_id key v (a_key i ispan i_semantic_id s) (a_literal l lspan l_semantic_id w), h) = let u : Unwritten es = fields-unwritten es h in record { assigned = u.assigned; free = u.free; repeated = u.repeated; imported = u.imported; functions = u.functions; members = u.members }
+fields-unwritten (more p es) (a_field m span semantic_id key v (a_key i ispan i_semantic_id s) (a_reference r rspan r_semantic_id x), h) = let u : Unwritten es = fields-unwritten es h in record { assigned = u.assigned; free = u.free; repeated = u.repeated; imported = u.imported; functions = u.functions; members = u.members }
 
 definitions-unwritten : (es : Parts) → AreFields es → (k : ℕ) → Unwritten (trees (definitions_from k es))
 definitions-unwritten end h k = unwritten-end
-definitions-unwritten (more p es) (a_field m span semantic_id key v hk no_value, h) k = let u : Unwritten (trees (definitions_from (k + 9) es)) = definitions-unwritten es h (k + 9) in record { assigned = u.assigned; free = u.free; repeated = u.repeated; functions = u.functions; members = u.members }
-definitions-unwritten (more p es) (a_field m span semantic_id key v hk (a_literal l lspan l_semantic_id w), h) k = let u : Unwritten (trees (definitions_from (k + 7) es)) = definitions-unwritten es h (k + 7) in record { assigned = u.assigned; free = u.free; repeated = u.repeated; functions = u.functions; members = u.members }
-definitions-unwritten (more p es) (a_field m span semantic_id key v hk (a_reference r rspan r_semantic_id x), h) k = let u : Unwritten (trees (definitions_from (k + 7) es)) = definitions-unwritten es h (k + 7) in record { assigned = u.assigned; free = u.free; repeated = u.repeated; functions = u.functions; members = u.members }
+definitions-unwritten (more p es) (a_field m span semantic_id key v hk no_value, h) k = let u : Unwritten (trees (definitions_from (k + 9) es)) = definitions-unwritten es h (k + 9) in record { assigned = u.assigned; free = u.free; repeated = u.repeated; imported = u.imported; functions = u.functions; members = u.members }
+definitions-unwritten (more p es) (a_field m span semantic_id key v hk (a_literal l lspan l_semantic_id w), h) k = let u : Unwritten (trees (definitions_from (k + 7) es)) = definitions-unwritten es h (k + 7) in record { assigned = u.assigned; free = u.free; repeated = u.repeated; imported = u.imported; functions = u.functions; members = u.members }
+definitions-unwritten (more p es) (a_field m span semantic_id key v hk (a_reference r rspan r_semantic_id x), h) k = let u : Unwritten (trees (definitions_from (k + 7) es)) = definitions-unwritten es h (k + 7) in record { assigned = u.assigned; free = u.free; repeated = u.repeated; imported = u.imported; functions = u.functions; members = u.members }
 
 elements-unwritten : (es : Parts) → AreFields es → (k : ℕ) → Unwritten (lowered_elements k es)
 elements-unwritten end h k = unwritten-end
@@ -96,6 +101,7 @@ elements-unwritten (more p es) h k =
       assigned = λ names. rw (names-definitions (more p es) h (k + 4), four_ends (item_references names false ts)) (u.assigned names);
       free = λ names. rw (names-definitions (more p es) h (k + 4), four_ends (item_references names false ts)) (u.free names);
       repeated = rw (names-definitions (more p es) h (k + 4), lexical-definitions (more p es) h (k + 4), four_ends (preorder_of ts)) u.repeated;
+      imported = rw (four_ends (preorder_of ts)) u.imported;
       functions = rw (four_ends (preorder_of ts)) u.functions;
       members = rw (four_ends (preorder_of ts)) u.members;
     }
@@ -114,6 +120,7 @@ record ClassUnwritten (n : ℕ) (es ps : Parts) : Type 0 where
   assigned : (names : List Declaration) → assigned (item_references names false es ++ [] ++ [] ++ item_references names false ps) ≡ []
   free : (names : List Declaration) → writes_free (codes "arguments") (item_references names false es ++ [] ++ [] ++ item_references names false ps) ≡ false
   repeated : written_by_all (preorder_of es ++ [] ++ [] ++ preorder_of ps) ≡ []
+  imported : imported_by_all (preorder_of es ++ [] ++ [] ++ preorder_of ps) ≡ []
   functions : declared_functions [] (preorder_of es ++ [] ++ [] ++ preorder_of ps) ≡ []
   members : elements_members n es ++ members_of_all (preorder_of es ++ [] ++ [] ++ preorder_of ps) ≡ []
 
@@ -124,6 +131,7 @@ class-unwritten n es ps a b none =
       assigned = λ names. rw (two_ends (item_references names false es) (item_references names false ps), assigned-append (item_references names false es) (item_references names false ps), a.assigned names) (b.assigned names);
       free = λ names. rw (two_ends (item_references names false es) (item_references names false ps), writes_free-append (codes "arguments") (item_references names false es) (item_references names false ps), a.free names) (b.free names);
       repeated = rw (two_ends xs ys, written_by_all-append xs ys, a.repeated) b.repeated;
+      imported = rw (two_ends xs ys, imported_by_all-append xs ys, a.imported) b.imported;
       functions = rw (two_ends xs ys, declared_functions-append xs ys, a.functions) b.functions;
       members = rw (none, two_ends xs ys, members_of_all-append xs ys, a.members) b.members;
     }
@@ -132,14 +140,14 @@ classes-unwritten : (ps : Parts) → AreClasses ps → Unwritten ps
 classes-unwritten end h = unwritten-end
 classes-unwritten (more p ps) (a_class n span semantic_id id body (a_name i ispan i_semantic_id s free) (a_body m bspan b_semantic_id es he), h) =
     let u : ClassUnwritten n es ps = class-unwritten n es ps (fields-unwritten es he) (classes-unwritten ps h) (fields-no_members n es he) in
-    record { assigned = u.assigned; free = u.free; repeated = u.repeated; functions = u.functions; members = u.members }
+    record { assigned = u.assigned; free = u.free; repeated = u.repeated; imported = u.imported; functions = u.functions; members = u.members }
 
 lowered-unwritten : (ps : Parts) → AreClasses ps → (k : ℕ) → Unwritten (lowered_statements k ps)
 lowered-unwritten end h k = unwritten-end
 lowered-unwritten (more p ps) (a_class n span semantic_id id body (a_name i ispan i_semantic_id s free) (a_body m bspan b_semantic_id es he), h) k =
     let next : ℕ = k + statement_size p in
     let u : ClassUnwritten n (lowered_elements k es) (lowered_statements next ps) = class-unwritten n (lowered_elements k es) (lowered_statements next ps) (elements-unwritten es he k) (lowered-unwritten ps h next) (lowered-no_members n k es) in
-    record { assigned = u.assigned; free = u.free; repeated = u.repeated; functions = u.functions; members = u.members }
+    record { assigned = u.assigned; free = u.free; repeated = u.repeated; imported = u.imported; functions = u.functions; members = u.members }
 
 -- ---- declaring identifiers: those of the classes
 
@@ -165,7 +173,7 @@ elements-declare first (more p es) h k d = four_ends _ ∙ definitions-declare f
 classes-declare : (first : ℕ) (ps : Parts) → AreClasses ps → (k : ℕ) (d : DeclarationKind) → declaring_items first d (lowered_statements k ps) ≡ declaring_items first d ps
 classes-declare first end h k d = refl
 classes-declare first (more p ps) (a_class n span semantic_id id body (a_name i ispan i_semantic_id s free) (a_body m bspan b_semantic_id es he), h) k d =
-    rw (elements-declare first es he k ClassDeclared, fields-declare first es he ClassDeclared) (ap (λ ds. (i, ClassDeclared) ∷ ds) (classes-declare first ps h _ d))
+    rw (elements-declare first es he k ClassDeclared, fields-declare first es he ClassDeclared) (ap (λ ds. (i, declared_as s ClassDeclared) ∷ ds) (classes-declare first ps h _ d))
 
 -- ---- where things stand: classes and their names alone, and these where they stood
 
@@ -222,12 +230,17 @@ lowered-no_exports c env (more p ps) (a_class n span semantic_id id body hid hbo
 
 -- ---- programs
 
-pub written-lowered : (k : ℕ) (t : Tree) → IsProgram t → written (lowered_from k t) ≡ written t
+written-lowered : (k : ℕ) (t : Tree) → IsProgram t → written (lowered_from k t) ≡ written t
 written-lowered k t (a_program m span semantic_id s all h) =
     let ps : Parts = lowered_statements k all in
     let here : Unwritten all = classes-unwritten all h in
     let there : Unwritten ps = lowered-unwritten all h k in
     rw (names-lowered all h k, append-nil (item_references (body_names all ++ []) false all), append-nil (item_references (body_names all ++ []) false ps), append-nil (preorder_of all), append-nil (preorder_of ps), here.assigned (body_names all ++ []), there.assigned (body_names all ++ []), here.repeated, there.repeated) refl
+
+pub varying-lowered : (k : ℕ) (t : Tree) → IsProgram t → varying (lowered_from k t) ≡ varying t
+varying-lowered k t (a_program m span semantic_id s all h) =
+    let ps : Parts = lowered_statements k all in
+    rw (written-lowered k t (a_program m span semantic_id s all h), append-nil (preorder_of all), append-nil (preorder_of ps), (classes-unwritten all h).imported, (lowered-unwritten all h k).imported) refl
 
 pub declaring-lowered : (first k : ℕ) (t : Tree) → IsProgram t → declaring first ClassDeclared (lowered_from k t) ≡ declaring first ClassDeclared t
 declaring-lowered first k t (a_program m span semantic_id s all h) = ap (λ ds. ds ++ []) (classes-declare first all h k ClassDeclared)

@@ -12,7 +12,7 @@ use Rattle.es_base.specs.Tree.{Tree, Part, Parts, Node, end, more, child, absent
 use Rattle.es_base.specs.declared.kind.Kind.{Kind}
 use Rattle.es_steps.proofs.Reflexive.{number-same}
 use Rattle.es_steps.specs.Definitions.{chosen, element_numbers, body_numbers, elements_kept}
-use Rattle.es_steps.specs.KeptNodes.{statement_list, declared_classes, carried_classes, item_number, item_numbers, free_number, free_numbers, is_static_block, free_lists, free_lists_at, free_lists_in, list_of, is_within, all_within, is_free_statement, free_statements, free_at, free_in}
+use Rattle.es_steps.specs.KeptNodes.{statement_list, declared_classes, carried_classes, item_number, item_numbers, is_function_declaration, free_number, free_numbers, is_static_block, free_lists, free_lists_at, free_lists_in, list_of, is_within, all_within, is_free_statement, free_statements, free_at, free_in, all_homes}
 use Rattle.es_steps.specs.Lowered.{IsLowered, is_lowered_kind, kind_of, none_lowered, own_name_numbers, all_accounted}
 use Rattle.es_steps.specs.LoweredClasses.{Element, elements_of, is_lowered_element, any_element, is_lowered_class, holds_lowered, has_lowered_class}
 use Rattle.es_steps.specs.Meaning.{lowered_means, source_means}
@@ -22,7 +22,7 @@ use Rattle.es_steps.specs.PrivateNames.{is_class}
 use Rattle.es_steps.specs.Scopes.{is_binding_identifier}
 use Rattle.es_steps.specs.declared.options.Options.{Options}
 use Rattle.class_properties.proofs.Laid.{old-no_const}
-use Rattle.class_properties.proofs.Standing.{both, In, here, later, in-left, in-right, Among, among-append, all-equal, all-stand, within-more, within-both, within-same, within-append, all_within-append, apart-sym}
+use Rattle.class_properties.proofs.Standing.{both, In, here, later, in-left, in-right, Among, among-append, all-equal, all-stand, within-more, within-both, within-same, within-append, all_within-append, pairs-same, apart-sym}
 use Rattle.class_properties.proofs.Unmarked.{names-timely}
 
 -- ---- no number is new
@@ -131,7 +131,7 @@ declared-carried (Node Kind.ExportDefaultDeclaration m span semantic_id (more (c
 declared-carried t = refl
 
 free_number-within : (o : Options) (t : Tree) → is_within (free_number o (child t)) (item_number (child t)) ≡ true
-free_number-within o t = either (is_free_statement o t)
+free_number-within o t = either (is_free_statement o t || is_function_declaration t)
   where
     either : (b : Bool) → is_within (cond b (number_of t ∷ []) [] ++ declared_classes (child t)) (number_of t ∷ carried_classes (child t)) ≡ true
     either true = within-both (number_of t) (declared_classes (child t)) (carried_classes (child t)) (declared-carried t)
@@ -247,10 +247,12 @@ source-owes t e =
         accounted = below-accounted (nodes t) (own_name_numbers t (preorder t)) (preorder t) turn.below;
         initialized = refl;
         timely = names-timely (nodes t) t;
+        temporaries = refl;
         keys = refl;
         nodes = all-stand (preorder t) (preorder t) (λ u i. i);
         statements = all-equal (free_statements no_options t) (preorder t) (free-among no_options t);
         lists = lists-within no_options (preorder t) turn.once t (λ u i. i);
+        homes = pairs-same (all_homes no_options t);
         definitions = refl;
         elements = elements-stand (preorder t) (preorder t) (λ u i. i) turn.once;
         printable = same_or (is_printable t);

@@ -67,10 +67,6 @@ statements_conform (t ∷ ts) f =
     let rest = and_parts (not (is_rest (child t)) || is_end (trees ts)) (items_conform false Place.Statement (trees ts)) here.1 in
     All-cons (λ u. conforms Place.Statement u ≡ true) t ts here.0 (statements_conform ts rest.1)
 
-pub program_kind : (t : Tree) → conforms Place.Program t ≡ true → kind_of t ≡ Kind.Program
-program_kind (Node Kind.Program id span semantic_id ps) f = refl
-program_kind (Node kind id span semantic_id ps) f = no_false f
-
 body_conforms : (id : ℕ) (span : Option (ℕ × ℕ)) (scope_id : Option ℕ) (source_type : SourceType) (body : List Tree) → conforms Place.Program (program id span scope_id source_type body) ≡ true → All (λ t. conforms Place.Statement t ≡ true) body
 body_conforms id span scope_id source_type body f =
     let word = and_parts (part_conforms false (Sort.Word Words.SourceType) (string (source_type_string source_type))) (items_conform false Place.Statement (trees body) && true) f in

@@ -1,6 +1,6 @@
 -- Which nodes of a program of the first form stand in what it is lowered to: its classes, those of them that have no
 -- fields as they are, and of no class an element.
-use Rattle.std.specs.Prelude.{◌≡◌, ℕ, ◌+◌, List, [], ◌∷◌, ◌++◌, true, not, ◌||◌}
+use Rattle.std.specs.Prelude.{◌≡◌, ℕ, ◌+◌, List, [], ◌∷◌, ◌++◌, true, not, ◌||◌, Option, Some}
 use Rattle.std.proofs.Common.{refl}
 use Rattle.std.proofs.lemmas.Bool.{and_parts}
 use Rattle.std.proofs.lemmas.List.{append-nil}
@@ -8,14 +8,14 @@ use Rattle.es_base.specs.Preorder.{preorder, preorder_of}
 use Rattle.es_base.specs.Tree.{Tree, Part, Parts, Node, end, more}
 use Rattle.es_steps.proofs.Reflexive.{number-same}
 use Rattle.es_steps.specs.Definitions.{chosen, element_numbers, body_numbers, elements_kept}
-use Rattle.es_steps.specs.KeptNodes.{a_class as class_sort, sort_of, is_kept_sort, stands_as, all_stand, nodes_kept, free_in, all_equal, statements_kept, item_numbers, free_numbers, free_lists_in, list_of, is_within, all_within, lists_kept}
+use Rattle.es_steps.specs.KeptNodes.{a_class as class_sort, sort_of, is_kept_sort, stands_as, all_stand, nodes_kept, free_in, all_equal, statements_kept, item_numbers, free_numbers, free_lists_in, list_of, is_within, all_within, lists_kept, homes_of, all_pairs_stand, homes_kept}
 use Rattle.es_steps.specs.LoweredClasses.{elements_of, elements_in, is_lowered_element}
 use Rattle.es_steps.specs.Options.{class_properties_alone}
 use Rattle.es_steps.specs.PrivateNames.{is_class}
 use Rattle.class_properties.proofs.Declared.{two_ends}
-use Rattle.class_properties.proofs.Numbered.{statement_size, lowered_statements, lowered_from}
+use Rattle.class_properties.proofs.Numbered.{lowered_elements, statement_size, lowered_statements, lowered_from}
 use Rattle.class_properties.proofs.Shaped.{no_value, a_literal, a_reference, a_key, a_field, AreFields, a_body, a_name, a_class, AreClasses, IsProgram, a_program}
-use Rattle.class_properties.proofs.Standing.{both, here, later, in-left, in-right, Among, stands_as-in, stands-equal, within-more, within-both, all_within-append}
+use Rattle.class_properties.proofs.Standing.{both, here, later, in-left, in-right, Among, stands_as-in, stands-equal, within-more, within-both, all_within-append, pairs-both, pairs-behind}
 
 -- ---- classes
 
@@ -77,6 +77,23 @@ lists-empty (more p ps) (a_class n span semantic_id id body (a_name i ispan i_se
     let of_fields : List (ℕ × List ℕ) = free_lists_in class_properties_alone es in
     rw (append-nil of_fields, append-nil of_fields) (all_within-append of_fields (free_lists_in class_properties_alone ps) qs (fields-lists es he qs) (lists-empty ps h qs))
 
+-- ---- declaring identifiers and lists stand in their functions: the program alone
+
+fields-homes : (es : Parts) → AreFields es → (home : Option ℕ) → homes_of class_properties_alone home es ≡ []
+fields-homes end h home = refl
+fields-homes (more p es) (a_field m span semantic_id key v (a_key i ispan i_semantic_id s) no_value, h) home = fields-homes es h home
+fields-homes (more p es) (a_field m span semantic_id key v (a_key i ispan i_semantic_id s) (a_literal l lspan l_semantic_id w), h) home = fields-homes es h home
+fields-homes (more p es) (a_field m span semantic_id key v (a_key i ispan i_semantic_id s) (a_reference r rspan r_semantic_id x), h) home = fields-homes es h home
+
+classes-homes : (ps : Parts) → AreClasses ps → (k home : ℕ) → all_pairs_stand (homes_of class_properties_alone (Some home) ps) (homes_of class_properties_alone (Some home) (lowered_statements k ps)) ≡ true
+classes-homes end h k home = refl
+classes-homes (more p ps) (a_class n span semantic_id id body (a_name i ispan i_semantic_id s free) (a_body j bspan b_semantic_id es he), h) k home =
+    let next : ℕ = k + statement_size p in
+    let xs : List (ℕ × ℕ) = homes_of class_properties_alone (Some home) ps in
+    let made : List (ℕ × ℕ) = homes_of class_properties_alone (Some home) (lowered_elements k es) in
+    let ys : List (ℕ × ℕ) = homes_of class_properties_alone (Some home) (lowered_statements next ps) in
+    rw (fields-homes es he (Some home), two_ends made ys) (pairs-both (i, home) xs (made ++ ys) (pairs-behind made xs ys (classes-homes ps h next home)))
+
 -- ---- all elements are lowered
 
 elements_kept-append : (ts us qs : List Tree) → elements_kept class_properties_alone ts qs ≡ true → elements_kept class_properties_alone us qs ≡ true → elements_kept class_properties_alone (ts ++ us) qs ≡ true
@@ -106,6 +123,7 @@ pub record Remains (k : ℕ) (t : Tree) : Type 0 where
   pub nodes : nodes_kept t (lowered_from k t) ≡ true
   pub statements : statements_kept class_properties_alone t (lowered_from k t) ≡ true
   pub lists : lists_kept class_properties_alone t (lowered_from k t) ≡ true
+  pub homes : homes_kept class_properties_alone t (lowered_from k t) ≡ true
   pub elements : elements_kept class_properties_alone (preorder t) (preorder (lowered_from k t)) ≡ true
 
 pub remains : (k : ℕ) (t : Tree) → IsProgram t → Remains k t
@@ -118,5 +136,6 @@ remains k t (a_program m span semantic_id s all h) =
       nodes = rw (append-nil (preorder_of all)) (classes-stand all h k (preorder q) among);
       statements = rw (append-nil (free_in class_properties_alone all)) (classes-equal all h k (preorder q) among);
       lists = both first others;
+      homes = rw (append-nil (homes_of class_properties_alone (Some m) all), append-nil (homes_of class_properties_alone (Some m) low)) (classes-homes all h k m);
       elements = rw (append-nil (preorder_of all)) (classes-elements all h (preorder q));
     }

@@ -13,25 +13,27 @@ use Rattle.es_steps.proofs.FirstMeaning.{joined-done, not_generated-found, plain
 use Rattle.es_steps.proofs.PlainClasses.{IsNotGenerated, fixed, changing, means_class, IsPlain, a_value}
 use Rattle.es_steps.specs.Code.{Code, Codes, value, spelled, field, define, steps, new_function, constructor, done, and}
 use Rattle.es_steps.specs.Context.{Context, NameKind, found_kind, name_kind, inside}
-use Rattle.es_steps.specs.Entries.{Entry, Listed, plain_form, entries}
+use Rattle.es_steps.specs.Evaluation.{settle_run, ev}
+use Rattle.es_steps.specs.Entries.{Entry, Listed, plain_form, listed, after_run, entries}
 use Rattle.es_steps.specs.Events.{Events}
 use Rattle.es_steps.specs.Expressions.{constant_of, name_or_arguments, name_code}
 use Rattle.es_steps.specs.FirstForm.{is_first_form}
 use Rattle.es_steps.specs.Generated.{constructor_at, define_at}
-use Rattle.es_steps.specs.Meaning.{Terms, start, means_of, source_means, source_terms, lowered_means, source_type_of, declaring, globals, ClassDeclared, whole, with_all, in_body}
+use Rattle.es_steps.specs.Modules.{Exported}
+use Rattle.es_steps.specs.Meaning.{Terms, start, means_of, source_means, source_terms, lowered_means, source_type_of, declaring, globals, ClassDeclared, whole, with_all, in_body, MemberEntry, all_exports}
 use Rattle.es_steps.specs.Members.{codes_in}
 use Rattle.es_steps.specs.Opening.{definitions, opening}
 use Rattle.es_steps.specs.Options.{class_properties_alone}
 use Rattle.es_steps.specs.PrivateNames.{PrivateMember, private_members}
 use Rattle.es_steps.specs.Reading.{read, read_part, read_items}
-use Rattle.es_steps.specs.References.{declared, written}
+use Rattle.es_steps.specs.References.{declared, varying}
 use Rattle.es_steps.specs.Repeated.{all_places}
 use Rattle.es_steps.specs.Scopes.{body_names}
 use Rattle.es_steps.specs.Statements.{value_or_undefined, field_form}
 use Rattle.es_steps.specs.Values.{String, ConstantOf, StringOf, Undefined, ThisOf, ArgumentsOf, Bound, Free}
 use Rattle.es_steps.specs.declared.options.Options.{Options}
-use Rattle.class_properties.proofs.Constructions.{Fields, no_fields, with_field, ArePlain, field_codes, Defines, none_defined, defined, AreLowered, no_constructor, one_constructor, pair_of_classes, ArePairs, RunAlike, value_behind-undefined, pairs-run}
-use Rattle.class_properties.proofs.Declared.{HasNone, source-none, lowered-none, names-definitions, names-lowered, written-lowered, declaring-lowered, globals-lowered, places-lowered}
+use Rattle.class_properties.proofs.Constructions.{Fields, no_fields, with_field, ArePlain, field_codes, Defines, none_defined, defined, AreLowered, no_constructor, one_constructor, pair_of_classes, ArePairs, RunAlike, ran, value_behind-undefined, pairs-run}
+use Rattle.class_properties.proofs.Declared.{HasNone, source-none, lowered-none, names-definitions, names-lowered, varying-lowered, declaring-lowered, globals-lowered, places-lowered}
 use Rattle.class_properties.proofs.Shaped.{IsValue, no_value, a_literal, a_reference, a_key, a_field, AreFields, a_body, a_name as a_class_name, a_class, AreClasses, IsProgram, a_program, first_form-shaped}
 use Rattle.class_properties.proofs.Numbered.{key_string, value_from, definitions_from, lowered_elements, lowered_statements}
 use Rattle.class_properties.proofs.Numbered as numbered
@@ -57,7 +59,7 @@ value_in c m key v = value_or_undefined (read_part (inside c Kind.PropertyDefini
 pub record IsInConstructor (c d : Context) : Type 0 where
   pub ledger : d.ledger ≡ []
   pub first_new : d.first_new ≡ c.first_new
-  pub written : d.written ≡ c.written
+  pub varying : d.varying ≡ c.varying
   pub writes_arguments : d.writes_arguments ≡ c.writes_arguments
   pub names : d.names ≡ c.names
   pub this : d.this ≡ ThisOf c.class
@@ -70,7 +72,7 @@ fields_of c (tree.more (tree.child (Node kind m span semantic_id (tree.more key 
 fields_of c ps = no_fields
 
 name-plain : (c : Context) (m : ℕ) (s : String) → c.ledger ≡ [] → IsPlain (name_code c m s)
-name-plain c m s l = rw l (plain-name c m s (found_kind c.first_new c.written s (declared s c.names)) (not_generated-found c.first_new c.written s (declared s c.names)))
+name-plain c m s l = rw l (plain-name c m s (found_kind c.first_new c.varying s (declared s c.names)) (not_generated-found c.first_new c.varying s (declared s c.names)))
 
 value-plain : (c : Context) (v : Part) → c.ledger ≡ [] → IsValue v → IsPlain (value_or_undefined (read_part c v))
 value-plain c v l no_value = a_value Undefined
@@ -95,8 +97,8 @@ kind-same c d m s kind (changing (Bound b)) w a = refl
 kind-same c d m s kind (changing (Free t)) w a = rw (w, a) refl
 kind-same c d m s kind (means_class n b) w a = refl
 
-name-same : (c d : Context) (m : ℕ) (s : String) → c.ledger ≡ [] → d.ledger ≡ [] → d.first_new ≡ c.first_new → d.written ≡ c.written → d.names ≡ c.names → d.writes_arguments ≡ c.writes_arguments → d.arguments ≡ c.arguments → name_code d m s ≡ name_code c m s
-name-same c d m s l k first written names w a = rw (l, k, first, written, names) (kind-same c d m s (found_kind c.first_new c.written s (declared s c.names)) (not_generated-found c.first_new c.written s (declared s c.names)) w a)
+name-same : (c d : Context) (m : ℕ) (s : String) → c.ledger ≡ [] → d.ledger ≡ [] → d.first_new ≡ c.first_new → d.varying ≡ c.varying → d.names ≡ c.names → d.writes_arguments ≡ c.writes_arguments → d.arguments ≡ c.arguments → name_code d m s ≡ name_code c m s
+name-same c d m s l k first varying names w a = rw (l, k, first, varying, names) (kind-same c d m s (found_kind c.first_new c.varying s (declared s c.names)) (not_generated-found c.first_new c.varying s (declared s c.names)) w a)
 
 -- ---- statements of the constructor
 
@@ -105,7 +107,7 @@ value-same : (c d : Context) (k m : ℕ) (key v : Part) → c.ledger ≡ [] → 
 value-same c d k m key v l i no_value = refl
 value-same c d k m key v l i (a_literal j span semantic_id w) = refl
 value-same c d k m key v l i (a_reference j span semantic_id s) =
-    name-same (inside c Kind.PropertyDefinition m (field_parts key v) 1) d j s l i.ledger i.first_new i.written i.names i.writes_arguments i.arguments
+    name-same (inside c Kind.PropertyDefinition m (field_parts key v) 1) d j s l i.ledger i.first_new i.varying i.names i.writes_arguments i.arguments
 
 -- the context of an argument of the call
 abbrev in_call : Context → ℕ → Context
@@ -118,7 +120,7 @@ define-read c d k s w helpers new i =
 
 definition-read : (c d : Context) (k m : ℕ) (key v : Part) (s : String) → c.ledger ≡ [] → declared (codes "babelHelpers") c.names ≡ None → c.first_new ≤ k → IsInConstructor c d → IsValue v → read d (define_at k s (value_from (k + 7) v)) ≡ steps (and (define (k + 1) (ThisOf c.class) (value (ConstantOf (StringOf s))) (value_in c m key v)) done)
 definition-read c d k m key v s l helpers new i h =
-    let there : IsInConstructor c (in_call d k) = record { ledger = i.ledger; first_new = i.first_new; written = i.written; writes_arguments = i.writes_arguments; names = i.names; this = i.this; arguments = i.arguments } in
+    let there : IsInConstructor c (in_call d k) = record { ledger = i.ledger; first_new = i.first_new; varying = i.varying; writes_arguments = i.writes_arguments; names = i.names; this = i.this; arguments = i.arguments } in
     define-read c d k s (value_from (k + 7) v) helpers new i ∙ ap (λ x. steps (and (define (k + 1) (ThisOf c.class) (value (ConstantOf (StringOf s))) x) done)) (value-same c (in_call d k) (k + 7) m key v l there h)
 
 definitions-read : (c d : Context) (es : Parts) → c.ledger ≡ [] → declared (codes "babelHelpers") c.names ≡ None → IsInConstructor c d → AreFields es → (k : ℕ) → c.first_new ≤ k → Defines c.class (fields_of c es) (codes_in (read_items d (trees (definitions_from k es))))
@@ -134,7 +136,7 @@ definitions-read c d (tree.more p es) l free i (a_field m span semantic_id key v
 pub record AreAlike (c d : Context) : Type 0 where
   pub ledger : d.ledger ≡ []
   pub first_new : d.first_new ≡ c.first_new
-  pub written : d.written ≡ c.written
+  pub varying : d.varying ≡ c.varying
   pub writes_arguments : d.writes_arguments ≡ c.writes_arguments
   pub names : d.names ≡ c.names
   pub class : d.class ≡ c.class
@@ -153,7 +155,7 @@ abbrev in_constructor : Context → ℕ → List Tree → Context
 in_constructor c k ts = inside (inside (inside c Kind.MethodDefinition k (method_parts k ts) 1) Kind.FunctionExpression (k + 2) (function_parts k ts) 2) Kind.BlockStatement (k + 3) (body_parts ts) 0
 
 constructor-context : (c d : Context) (k : ℕ) (ts : List Tree) → AreAlike c d → body_names (trees ts) ≡ [] → IsInConstructor c (in_constructor d k ts)
-constructor-context c d k ts a no_names = record { ledger = a.ledger; first_new = a.first_new; written = a.written; writes_arguments = a.writes_arguments; names = rw no_names a.names; this = ap ThisOf a.class; arguments = ap ArgumentsOf a.class }
+constructor-context c d k ts a no_names = record { ledger = a.ledger; first_new = a.first_new; varying = a.varying; writes_arguments = a.writes_arguments; names = rw no_names a.names; this = ap ThisOf a.class; arguments = ap ArgumentsOf a.class }
 
 constructor-read : (d : Context) (k : ℕ) (ts : List Tree) → d.first_new ≤ k → read d (constructor_at k ts) ≡ constructor (new_function (k + 2) plain_form done (steps (codes_in (read_items (in_constructor d k ts) (trees ts)))))
 constructor-read d k ts new =
@@ -171,7 +173,7 @@ elements-read c d (tree.more p es) l free a (a_field m span semantic_id key v (a
     (one_constructor (k + 2) (definitions-read c (in_constructor d k ts) (tree.more p es) l free i all (k + 4) (still_new k 4 new)))
 
 name_kind-same : (c d : Context) (s : String) → c.ledger ≡ [] → AreAlike c d → name_kind d s ≡ name_kind c s
-name_kind-same c d s l a = rw (l, a.ledger, a.first_new, a.written, a.names) refl
+name_kind-same c d s l a = rw (l, a.ledger, a.first_new, a.varying, a.names) refl
 
 classes-read : (c d : Context) (ps : Parts) → IsPlainContext c → AreAlike c d → AreClasses ps → (k : ℕ) → c.first_new ≤ k → ArePairs (codes_in (read_items c ps)) (codes_in (read_items d (lowered_statements k ps)))
 classes-read c d tree.end x a h k new = tt
@@ -182,7 +184,7 @@ classes-read c d (tree.more p ps) x a (a_class n span semantic_id id body (a_cla
     let lowered_parts : Parts = tree.more id (tree.more tree.absent (tree.more (tree.child (Node Kind.ClassBody j bspan b_semantic_id lowered)) tree.end)) in
     let e : Context = inside (inside c Kind.ClassDeclaration n parts 2) Kind.ClassBody j elements 0 in
     let f : Context = inside (inside d Kind.ClassDeclaration n lowered_parts 2) Kind.ClassBody j lowered 0 in
-    let alike : AreAlike e f = record { ledger = a.ledger; first_new = a.first_new; written = a.written; writes_arguments = a.writes_arguments; names = a.names; class = refl } in (
+    let alike : AreAlike e f = record { ledger = a.ledger; first_new = a.first_new; varying = a.varying; writes_arguments = a.writes_arguments; names = a.names; class = refl } in (
       rw (joined-done (codes_in (read_items e es)), joined-done (codes_in (read_items f (lowered_elements k es))), fields-read e es x.options he, name_kind-same c d s x.ledger a)
           (pair_of_classes n _ (fields_of e es) _ (fields-plain e es x.ledger he) (elements-read e f es x.ledger x.helpers alike he k new)),
       classes-read c d ps x a h _ (still_new k _ new),
@@ -206,14 +208,22 @@ terms first options members = record { first_new = first; options = options; led
 abbrev listed_alone : Events → Option Listed
 listed_alone l = Some (record { events = l; value = Undefined })
 
+listed-settled : (l : Events) → listed (settle_run (ran l Undefined [])) ≡ listed_alone l
+listed-settled l = rw (value_behind-undefined l, value_behind-undefined l) refl
+
+with-parts : (o : Terms) (t : Tree) {d d2 : List (ℕ × ℕ)} {l l2 : Option Listed} {es es2 : Option (List (ℕ × Entry))} {ms ms2 : Option (List (ℕ × MemberEntry))} {xs xs2 : Option (List (String × Exported))} → d ≡ d2 → l ≡ l2 → es ≡ es2 → ms ≡ ms2 → xs ≡ xs2 → with_all o t d l es ms xs ≡ with_all o t d2 l2 es2 ms2 xs2
+with-parts o t a b c e f = rw (a, b, c, e, f) refl
+
 pairs-mean : (first : ℕ) (options : Options) (members : List PrivateMember) (p q : Tree) (cs ds : Codes) → members ≡ [] → ArePairs cs ds → HasNone p → HasNone q
     → source_type_of q ≡ source_type_of p → declaring first ClassDeclared q ≡ declaring first ClassDeclared p → globals first q ≡ globals first p → all_places first [] [] q ≡ all_places first [] [] p → means_of (terms first options members) q (steps ds) ≡ means_of (terms first options members) p (steps cs)
 pairs-mean first options members p q cs ds none_there h np nq source_type bindings names stand =
     let o : Terms = terms first options members in
     let run : RunAlike (opening (definitions (steps cs))) (opening (definitions (steps ds))) first cs ds = pairs-run (opening (definitions (steps cs))) (opening (definitions (steps ds))) first cs ds h in
-    let es : Option (List (ℕ × Entry)) = whole (entries (opening (definitions (steps cs))) first [] [] [] (steps cs)) in
-    let here : means_of o p (steps cs) ≡ with_all o p [] (listed_alone run.listed) es (Some []) (Some []) = rw (run.source, value_behind-undefined run.listed, value_behind-undefined run.listed, run.functions, np.exports (in_body (start o p) p) [], none_there) refl in
-    let there : means_of o q (steps ds) ≡ with_all o q [] (listed_alone run.listed) es (Some []) (Some []) = rw (run.lowered, value_behind-undefined run.listed, value_behind-undefined run.listed, run.lowered_functions, nq.exports (in_body (start o q) q) [], run.entries, none_there) refl in
+    let es : Option (List (ℕ × Entry)) = whole (entries (opening (definitions (steps cs))) first [] [] (steps cs)) in
+    let here : means_of o p (steps cs) ≡ with_all o p [] (listed_alone run.listed) es (Some []) (Some []) =
+    with-parts o p run.functions (ap (λ r. listed (settle_run r)) run.source ∙ listed-settled run.listed) refl (rw (run.functions, none_there) refl) (ap all_exports (np.exports (in_body (start o p) p) (after_run [] (ev (opening (definitions (steps cs))) (steps cs) [])))) in
+    let there : means_of o q (steps ds) ≡ with_all o q [] (listed_alone run.listed) es (Some []) (Some []) =
+    with-parts o q run.lowered_functions (ap (λ r. listed (settle_run r)) run.lowered ∙ listed-settled run.listed) (ap whole run.entries) (rw (run.lowered_functions, none_there) refl) (ap all_exports (nq.exports (in_body (start o q) q) (after_run [] (ev (opening (definitions (steps ds))) (steps ds) [])))) in
     there ∙ told (listed_alone run.listed) es ∙ sym here
   where
     told : (l : Option Listed) (es : Option (List (ℕ × Entry))) → with_all (terms first options members) q [] l es (Some []) (Some []) ≡ with_all (terms first options members) p [] l es (Some []) (Some [])
@@ -233,7 +243,7 @@ program-means t (a_program m span semantic_id s all h) =
     let np : HasNone t = source-none t p in
     let nq : HasNone q = lowered-none first t p in
     let plain : IsPlainContext c = record { ledger = refl; options = refl; helpers = helpers-free all h } in
-    let alike : AreAlike c d = record { ledger = refl; first_new = refl; written = written-lowered first t p; writes_arguments = nq.free ∙ sym np.free; names = ap (λ ns. ns ++ []) (names-lowered all h first); class = refl } in
+    let alike : AreAlike c d = record { ledger = refl; first_new = refl; varying = varying-lowered first t p; writes_arguments = nq.free ∙ sym np.free; names = ap (λ ns. ns ++ []) (names-lowered all h first); class = refl } in
     let here : Codes = codes_in (read_items c all) in
     let there : Codes = codes_in (read_items d low) in
     ap (λ cs. means_of o q (steps cs)) (joined-done there)

@@ -18,9 +18,9 @@ use Rattle.es_steps.specs.Options.{lowers_fields, lowers_blocks}
 use Rattle.es_steps.specs.Parts.{at}
 use Rattle.es_steps.specs.PrivateNames.{PrivateMember, elements_members}
 use Rattle.es_steps.specs.Reading.{read}
-use Rattle.es_steps.specs.References.{Reference, item_references, resolve, written}
+use Rattle.es_steps.specs.References.{Reference, item_references, resolve, written, imported, varying}
 use Rattle.es_steps.specs.Scopes.{Declaration, body_names}
-use Rattle.es_steps.specs.Shapes.{ClassAt, class_at, lowered_classes, any_class, heritage_by, heritage_at, heritage_has_events, moves_before_heritage, has_shape_1, initializes_instances, is_late_class, has_shape_2, keeps_block, has_shape_3, reads_twice, reads_twice_of, has_shape_4, has_unwritable, unwritable_items, has_shape_5, class_names, refers_to, writes_any, has_shape_6, named_in_keys, names_stand_at, id_number, suspended_names, has_shape_7, private_behind_part, private_chains, has_shape_8, if_has, shapes_of, shapes}
+use Rattle.es_steps.specs.Shapes.{ClassAt, class_at, lowered_classes, any_class, heritage_by, heritage_at, heritage_has_events, moves_before_heritage, has_shape_1, initializes_instances, is_late_class, has_shape_2, keeps_block, has_shape_3, reads_twice, reads_twice_of, is_imported_key, has_imported_key, has_shape_4, has_unwritable, unwritable_items, has_shape_5, class_names, refers_to, writes_any, has_shape_6, named_in_keys, names_stand_at, id_number, suspended_names, has_shape_7, private_behind_part, private_chains, has_shape_8, if_has, shapes_of, shapes}
 use Rattle.es_steps.specs.declared.options.Options.{Options}
 use Rattle.class_properties.proofs.Declared.{two_ends}
 use Rattle.class_properties.proofs.Shaped.{no_value, a_literal, a_reference, a_key, a_field, AreFields, a_body, a_name, a_class, AreClasses, IsProgram, a_program, first_form-shaped}
@@ -85,10 +85,17 @@ no_keys : (names : List ℕ) (rs : List Reference) (es : Parts) → AreFields es
 no_keys names rs end h = refl
 no_keys names rs (more p es) (a_field m span semantic_id key v hk hv, h) = no_keys names rs es h
 
+no_imported : (hoists : Bool) (is : List ℕ) (rs : List Reference) (es : Parts) → AreFields es → any_element (is_imported_key hoists is rs) (elements_in es) ≡ false
+no_imported hoists is rs end h = refl
+no_imported hoists is rs (more p es) (a_field m span semantic_id key v hk hv, h) = no_imported hoists is rs es h
+
 -- ---- shapes by classes
 
 moves-none : (o : Options) (ws : List ℕ) (rs : List Reference) (k : ClassAt) → IsPlainAt k → moves_before_heritage o ws rs k ≡ false
 moves-none o ws rs k (plain_at n j span semantic_id id es h) = rw (no_hoisted ws rs es h) refl
+
+imports-none : (ws is : List ℕ) (rs : List Reference) (k : ClassAt) → IsPlainAt k → has_imported_key ws is rs k ≡ false
+imports-none ws is rs k (plain_at n j span semantic_id id es h) = no_imported (any_element (is_hoisted_key ws rs) (elements_in es)) is rs es h
 
 late-none : (k : ClassAt) → IsPlainAt k → is_late_class k ≡ false
 late-none k (plain_at n j span semantic_id id es h) = rw (no_constructor es h) (and-false (any_element initializes_instances (elements_in es)))
@@ -190,11 +197,11 @@ program-shapes o t c p =
     no_class (λ k. heritage_has_events c (heritage_at k.number (gather heritage_by c)) && moves_before_heritage o (written t) (resolve t) k)
     (λ k h. rw (moves-none o (written t) (resolve t) k h) (and-false (heritage_has_events c (heritage_at k.number (gather heritage_by c))))) ks plain in
     let named : has_shape_7 t ks ≡ false = no_class (λ k. names_stand_at (id_number k.id) (resolve t) k.heritage || named_in_keys (id_number k.id) (resolve t) k.elements) (names-none (resolve t)) ks plain in
-    no_shapes (has_shape_1 o t c ks) (has_shape_2 o ks) (has_shape_3 o ks) (has_shape_4 o t) (has_shape_5 o t) (has_shape_6 o t ks) (has_shape_7 t ks) (has_shape_8 o t)
+    no_shapes (has_shape_1 o t c ks) (has_shape_2 o ks) (has_shape_3 o ks) (has_shape_4 o t ks) (has_shape_5 o t) (has_shape_6 o t ks) (has_shape_7 t ks) (has_shape_8 o t)
     (rw moves (and-false (lowers_fields o)))
     (rw (no_class is_late_class late-none ks plain) (and-false (lowers_fields o)))
     (rw (no_class keeps_block block-none ks plain, and-false (not (lowers_blocks o))) (and-false (lowers_fields o)))
-    (rw (q.twice o (written t) (resolve t)) (and-false (lowers_fields o)))
+    (rw (q.twice o (varying t) (resolve t), no_class (has_imported_key (written t) (imported t) (resolve t)) (imports-none (written t) (imported t) (resolve t)) ks plain) (and-false (lowers_fields o)))
     (rw q.unwritable (and-false (lowers_fields o)))
     (q.writes (class_names ks ++ suspended_names o (preorder t)))
     named

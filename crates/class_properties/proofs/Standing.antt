@@ -8,7 +8,7 @@ use Rattle.es_base.specs.declared.literal.LiteralValue.TheVariants as literal_va
 use Rattle.es_steps.proofs.FirstMeaning.{no_false}
 use Rattle.es_steps.proofs.Reflexive.{number-same, string-same}
 use Rattle.es_steps.specs.Definitions.{DefinedKey, BrandKey, PrivateKey, PublicKey, FieldDefinition, key_temporary, key_temporaries, all_temporaries}
-use Rattle.es_steps.specs.KeptNodes.{NodeSort, a_class, a_function, a_call, a_construction, another, sort_of, is_kept_sort, same_sort, stands_as, all_stand, stands_equal, all_equal, list_of, is_within, all_within}
+use Rattle.es_steps.specs.KeptNodes.{NodeSort, a_class, a_function, a_call, a_construction, another, sort_of, is_kept_sort, same_sort, stands_as, all_stand, stands_equal, all_equal, list_of, is_within, all_within, pair_stands, all_pairs_stand}
 use Rattle.es_steps.specs.PrivateNames.{PrivateMember, is_class}
 use Rattle.es_steps.specs.SameTrees.{same_tree, same_part, same_parts, same_literal, kind_number}
 use Rattle.es_steps.specs.SameValues.{same_boolean, same_nullable_string}
@@ -189,6 +189,24 @@ pub within-append : (xs ys us vs : List ℕ) → is_within xs ys ≡ true → is
 within-append [] ys us vs h i = within-behind us ys vs i
 within-append (x ∷ xs) [] us vs h i = no_false h
 within-append (x ∷ xs) (y ∷ ys) us vs h i = within_either-append (nat_eq x y) (λ k. within-append xs ys us vs k i) (λ k. within-append (x ∷ xs) ys us vs k i) h
+
+-- pairs in lists
+pub pairs-more : (q : ℕ × ℕ) (ps qs : List (ℕ × ℕ)) → all_pairs_stand ps qs ≡ true → all_pairs_stand ps (q ∷ qs) ≡ true
+pairs-more q [] qs h = refl
+pairs-more q (p ∷ ps) qs h =
+    let parts = and_parts (pair_stands p qs) (all_pairs_stand ps qs) h in
+    both (or_right (nat_eq p.0 q.0 && nat_eq p.1 q.1) (pair_stands p qs) parts.0) (pairs-more q ps qs parts.1)
+
+pub pairs-behind : (xs ps qs : List (ℕ × ℕ)) → all_pairs_stand ps qs ≡ true → all_pairs_stand ps (xs ++ qs) ≡ true
+pairs-behind [] ps qs h = h
+pairs-behind (x ∷ xs) ps qs h = pairs-more x ps (xs ++ qs) (pairs-behind xs ps qs h)
+
+pub pairs-both : (p : ℕ × ℕ) (ps qs : List (ℕ × ℕ)) → all_pairs_stand ps qs ≡ true → all_pairs_stand (p ∷ ps) (p ∷ qs) ≡ true
+pairs-both p ps qs h = both (or_left (nat_eq p.0 p.0 && nat_eq p.1 p.1) (pair_stands p qs) (both (number-same p.0) (number-same p.1))) (pairs-more p ps qs h)
+
+pub pairs-same : (ps : List (ℕ × ℕ)) → all_pairs_stand ps ps ≡ true
+pairs-same [] = refl
+pairs-same (p ∷ ps) = pairs-both p ps ps (pairs-same ps)
 
 pub all_within-append : (ls ks : List (ℕ × List ℕ)) (qs : List Tree) → all_within ls qs ≡ true → all_within ks qs ≡ true → all_within (ls ++ ks) qs ≡ true
 all_within-append [] ks qs h i = i

@@ -8,23 +8,13 @@ use Rattle.es_base.specs.Tree.{Tree, Part, Parts, Node, end, more, child, trees}
 use Rattle.es_base.specs.Words.{source_type_string}
 use Rattle.es_base.specs.declared.kind.Kind.{Kind}
 use Rattle.es_base.specs.declared.operator.SourceType.{SourceType}
-use Rattle.es_steps.specs.FirstForm.{most_nodes, unless, class_names, name_in, element_breaches, elements_breaches, statement_breaches, statements_breaches, not_yet}
+use Rattle.es_steps.specs.FirstForm.{most_nodes, unless, class_names, name_in, statement_breaches, statements_breaches, not_yet}
 use Rattle.es_steps.specs.Values.{String}
 use Rattle.es_tree.specs.Program.{program}
 use Rattle.class_properties.specs.Least.{least_with}
 use Rattle.class_properties.specs.Names.{HaveSame}
 use Rattle.class_properties.proofs.Leasts.{least_with_append, least_is}
 use Rattle.class_properties.proofs.SameNames.{is_among-append, statements_breaches-same}
-
--- ---- elements
-
-pub next_element : (names : List String) (n : Option ℕ) (ts : List Tree) (i : ℕ) (t : Tree) → i < length ts → t ≡ get_or ts i t
-    → least_with n (elements_breaches names (trees (drop i ts))) ≡ least_with (least_with n (element_breaches names (child t))) (elements_breaches names (trees (drop (i + 1) ts)))
-next_element names n ts i t before is =
-    let rest = elements_breaches names (trees (drop (i + 1) ts)) in
-    at_drop_more (λ (us : List Tree). least_with n (elements_breaches names (trees us))) ts i t before
-    ∙ ap (λ u. least_with n (element_breaches names (child u) ++ rest)) (sym is)
-    ∙ least_with_append n (element_breaches names (child t)) rest
 
 -- ---- names of classes
 

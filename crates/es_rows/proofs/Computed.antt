@@ -8,11 +8,12 @@ use Rattle.es_base.specs.Preorder.{preorder, nodes}
 use Rattle.es_base.specs.Tree.{Tree}
 use Rattle.es_base.specs.declared.ledger.LedgerEntry.{LedgerEntry}
 use Rattle.es_steps.specs.Definitions.{definitions_stand, all_temporaries, elements_kept}
-use Rattle.es_steps.specs.KeptNodes.{nodes_kept, statements_kept, lists_kept}
+use Rattle.es_steps.specs.KeptNodes.{nodes_kept, statements_kept, lists_kept, homes_kept}
 use Rattle.es_steps.specs.Lowered.{nothing_left, names_declared, declarations_accounted, initializations_stand, keys_stand, IsLowered}
 use Rattle.es_steps.specs.Printable.{is_printable}
 use Rattle.es_steps.specs.PrivateNames.{private_members}
 use Rattle.es_steps.specs.References.{has_number}
+use Rattle.es_steps.specs.Temporaries.{temporaries_steady}
 use Rattle.es_steps.specs.Timely.{names_timely}
 use Rattle.es_steps.specs.declared.options.Options.{Options}
 
@@ -36,17 +37,19 @@ clauses o ledger p q =
     ∷ declarations_accounted (nodes p) ledger p q
     ∷ initializations_stand (nodes p) ledger (private_members p) q ledger
     ∷ names_timely (nodes p) ledger q
+    ∷ temporaries_steady (nodes p) ledger q
     ∷ keys_stand (nodes p) o ledger (private_members p) q (all_temporaries (nodes p) o ledger (private_members p) q (preorder q))
     ∷ nodes_kept p q
     ∷ statements_kept o p q
     ∷ lists_kept o p q
+    ∷ homes_kept o p q
     ∷ definitions_stand (nodes p) o ledger (private_members p) p q
     ∷ elements_kept o (preorder p) (preorder q)
     ∷ (not (is_printable p) || is_printable q)
     ∷ []
 
 abbrev all_met : List Bool
-all_met = true ∷ true ∷ true ∷ true ∷ true ∷ true ∷ true ∷ true ∷ true ∷ true ∷ true ∷ true ∷ true ∷ []
+all_met = true ∷ true ∷ true ∷ true ∷ true ∷ true ∷ true ∷ true ∷ true ∷ true ∷ true ∷ true ∷ true ∷ true ∷ true ∷ []
 
 -- ---- numbers
 
@@ -101,6 +104,8 @@ lowered {p = p} {q = q} e0 =
     let e10 = rest_of _ _ _ _ e9 in
     let e11 = rest_of _ _ _ _ e10 in
     let e12 = rest_of _ _ _ _ e11 in
+    let e13 = rest_of _ _ _ _ e12 in
+    let e14 = rest_of _ _ _ _ e13 in
     record {
       numbered = numbered (nodes p) q (first_of _ _ _ _ e0);
       clauses = record {
@@ -109,12 +114,14 @@ lowered {p = p} {q = q} e0 =
         accounted = first_of _ _ _ _ e3;
         initialized = first_of _ _ _ _ e4;
         timely = first_of _ _ _ _ e5;
-        keys = first_of _ _ _ _ e6;
-        nodes = first_of _ _ _ _ e7;
-        statements = first_of _ _ _ _ e8;
-        lists = first_of _ _ _ _ e9;
-        definitions = first_of _ _ _ _ e10;
-        elements = first_of _ _ _ _ e11;
-        printable = first_of _ _ _ _ e12;
+        temporaries = first_of _ _ _ _ e6;
+        keys = first_of _ _ _ _ e7;
+        nodes = first_of _ _ _ _ e8;
+        statements = first_of _ _ _ _ e9;
+        lists = first_of _ _ _ _ e10;
+        homes = first_of _ _ _ _ e11;
+        definitions = first_of _ _ _ _ e12;
+        elements = first_of _ _ _ _ e13;
+        printable = first_of _ _ _ _ e14;
       };
     }

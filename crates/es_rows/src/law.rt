@@ -6,11 +6,12 @@ ghost use Rattle.es_steps.specs.Definitions.{definitions_stand};
 ghost use Rattle.es_base.specs.Conforms.{conforms};
 ghost use Rattle.es_base.specs.Preorder.{nodes};
 ghost use Rattle.es_base.specs.declared.table.Place.{Place};
-ghost use Rattle.es_steps.specs.KeptNodes.{lists_kept};
+ghost use Rattle.es_steps.specs.KeptNodes.{lists_kept, homes_kept};
 ghost use Rattle.es_steps.specs.Lowered.{names_declared, declarations_accounted, initializations_stand};
 ghost use Rattle.es_steps.specs.Meaning.{source_means};
 ghost use Rattle.es_steps.specs.Printable.{is_printable};
 ghost use Rattle.es_steps.specs.PrivateNames.{private_members};
+ghost use Rattle.es_steps.specs.Temporaries.{temporaries_steady};
 ghost use Rattle.es_steps.specs.Timely.{names_timely};
 ghost use Rattle.es_rows.specs.rows.InstanceField.{source_instance_field, output_instance_field, generated_instance_field, options_instance_field, outside_instance_field};
 ghost use Rattle.es_rows.specs.rows.SetField.{source_set_field, output_set_field, generated_set_field, options_set_field, outside_set_field};
@@ -92,24 +93,29 @@ ghost use Rattle.es_rows.specs.witnesses.AnotherLiteralBehindParameters.{source_
 ghost use Rattle.es_rows.specs.witnesses.AnotherLiteralOfAWrittenClass.{source_another_literal_of_a_written_class, output_another_literal_of_a_written_class, generated_another_literal_of_a_written_class, options_another_literal_of_a_written_class};
 ghost use Rattle.es_rows.specs.witnesses.ArgumentsBehindAWrite.{first_arguments_behind_a_write, second_arguments_behind_a_write, options_arguments_behind_a_write};
 ghost use Rattle.es_rows.specs.witnesses.ArgumentsOfAnother.{source_arguments_of_another, output_arguments_of_another, generated_arguments_of_another, options_arguments_of_another};
+ghost use Rattle.es_rows.specs.witnesses.ArrowMovedIntoParameters.{source_arrow_moved_into_parameters, output_arrow_moved_into_parameters, generated_arrow_moved_into_parameters, options_arrow_moved_into_parameters};
 ghost use Rattle.es_rows.specs.witnesses.ArrowOutOfALoop.{source_arrow_out_of_a_loop, output_arrow_out_of_a_loop, generated_arrow_out_of_a_loop, options_arrow_out_of_a_loop};
 ghost use Rattle.es_rows.specs.witnesses.AsyncConstructor.{source_async_constructor, output_async_constructor, generated_async_constructor, options_async_constructor};
+ghost use Rattle.es_rows.specs.witnesses.BindingInATemporary.{source_binding_in_a_temporary, output_binding_in_a_temporary, generated_binding_in_a_temporary, options_binding_in_a_temporary};
 ghost use Rattle.es_rows.specs.witnesses.BindingNotRenamed.{source_binding_not_renamed, output_binding_not_renamed, generated_binding_not_renamed, options_binding_not_renamed};
 ghost use Rattle.es_rows.specs.witnesses.BlockBehindAKeptField.{source_block_behind_a_kept_field, output_block_behind_a_kept_field, generated_block_behind_a_kept_field, options_block_behind_a_kept_field};
 ghost use Rattle.es_rows.specs.witnesses.BlockBehindFields.{source_block_behind_fields, output_block_behind_fields, generated_block_behind_fields, options_block_behind_fields};
 ghost use Rattle.es_rows.specs.witnesses.BlockDropped.{source_block_dropped, output_block_dropped, generated_block_dropped, options_block_dropped};
 ghost use Rattle.es_rows.specs.witnesses.BodyDropped.{source_body_dropped, output_body_dropped, generated_body_dropped, options_body_dropped};
+ghost use Rattle.es_rows.specs.witnesses.BodyInAnArrow.{source_body_in_an_arrow, output_body_in_an_arrow, generated_body_in_an_arrow, options_body_in_an_arrow};
 ghost use Rattle.es_rows.specs.witnesses.BoundBeforeItsTest.{source_bound_before_its_test, output_bound_before_its_test, generated_bound_before_its_test, options_bound_before_its_test};
 ghost use Rattle.es_rows.specs.witnesses.BranchOfAKey.{source_branch_of_a_key, output_branch_of_a_key, generated_branch_of_a_key, options_branch_of_a_key};
 ghost use Rattle.es_rows.specs.witnesses.BranchOfAKeyOfAnother.{source_branch_of_a_key_of_another, output_branch_of_a_key_of_another, generated_branch_of_a_key_of_another, options_branch_of_a_key_of_another};
 ghost use Rattle.es_rows.specs.witnesses.BreakInAnArrow.{source_break_in_an_arrow, output_break_in_an_arrow, generated_break_in_an_arrow, options_break_in_an_arrow};
 ghost use Rattle.es_rows.specs.witnesses.CaughtNamesExchanged.{first_caught_names_exchanged, second_caught_names_exchanged, options_caught_names_exchanged};
 ghost use Rattle.es_rows.specs.witnesses.ClassBehindItsUse.{source_class_behind_its_use, output_class_behind_its_use, generated_class_behind_its_use, options_class_behind_its_use};
+ghost use Rattle.es_rows.specs.witnesses.ClassInACase.{source_class_in_a_case, output_class_in_a_case, generated_class_in_a_case, options_class_in_a_case};
 ghost use Rattle.es_rows.specs.witnesses.ClassInAConstructor.{source_class_in_a_constructor, output_class_in_a_constructor, generated_class_in_a_constructor, options_class_in_a_constructor};
 ghost use Rattle.es_rows.specs.witnesses.ClassInFrontOfItsUse.{source_class_in_front_of_its_use, output_class_in_front_of_its_use, generated_class_in_front_of_its_use, options_class_in_front_of_its_use};
 ghost use Rattle.es_rows.specs.witnesses.ClassNamedOtherwise.{first_class_named_otherwise, second_class_named_otherwise, options_class_named_otherwise};
 ghost use Rattle.es_rows.specs.witnesses.ClassRenamed.{source_class_renamed, output_class_renamed, generated_class_renamed, options_class_renamed};
 ghost use Rattle.es_rows.specs.witnesses.ClassTemporaryBeforeItsClass.{source_class_temporary_before_its_class, output_class_temporary_before_its_class, generated_class_temporary_before_its_class, options_class_temporary_before_its_class};
+ghost use Rattle.es_rows.specs.witnesses.ClassTemporaryOfAnotherCase.{source_class_temporary_of_another_case, output_class_temporary_of_another_case, generated_class_temporary_of_another_case, options_class_temporary_of_another_case};
 ghost use Rattle.es_rows.specs.witnesses.ClosureBeforeItsClass.{source_closure_before_its_class, output_closure_before_its_class, generated_closure_before_its_class, options_closure_before_its_class};
 ghost use Rattle.es_rows.specs.witnesses.ConstantTemporary.{source_constant_temporary, output_constant_temporary, generated_constant_temporary, options_constant_temporary};
 ghost use Rattle.es_rows.specs.witnesses.ConstructorOfAnotherKey.{source_constructor_of_another_key, output_constructor_of_another_key, generated_constructor_of_another_key, options_constructor_of_another_key};
@@ -130,6 +136,7 @@ ghost use Rattle.es_rows.specs.witnesses.FieldOfAWrittenClassDropped.{source_fie
 ghost use Rattle.es_rows.specs.witnesses.FieldsBehindParametersExchanged.{source_fields_behind_parameters_exchanged, output_fields_behind_parameters_exchanged, generated_fields_behind_parameters_exchanged, options_fields_behind_parameters_exchanged};
 ghost use Rattle.es_rows.specs.witnesses.FieldsExchanged.{source_fields_exchanged, output_fields_exchanged, generated_fields_exchanged, options_fields_exchanged};
 ghost use Rattle.es_rows.specs.witnesses.FieldsOfAWrittenClassExchanged.{source_fields_of_a_written_class_exchanged, output_fields_of_a_written_class_exchanged, generated_fields_of_a_written_class_exchanged, options_fields_of_a_written_class_exchanged};
+ghost use Rattle.es_rows.specs.witnesses.FunctionOutOfItsBlock.{source_function_out_of_its_block, output_function_out_of_its_block, generated_function_out_of_its_block, options_function_out_of_its_block};
 ghost use Rattle.es_rows.specs.witnesses.GeneratorConstructor.{source_generator_constructor, output_generator_constructor, generated_generator_constructor, options_generator_constructor};
 ghost use Rattle.es_rows.specs.witnesses.GetterMadeAMethod.{source_getter_made_a_method, output_getter_made_a_method, generated_getter_made_a_method, options_getter_made_a_method};
 ghost use Rattle.es_rows.specs.witnesses.GetterOrMethod.{first_getter_or_method, second_getter_or_method, options_getter_or_method};
@@ -137,9 +144,15 @@ ghost use Rattle.es_rows.specs.witnesses.GlobalRenamed.{first_global_renamed, se
 ghost use Rattle.es_rows.specs.witnesses.HeritageReadLate.{source_heritage_read_late, output_heritage_read_late, generated_heritage_read_late, options_heritage_read_late};
 ghost use Rattle.es_rows.specs.witnesses.HiddenBody.{source_hidden_body, output_hidden_body, generated_hidden_body, options_hidden_body};
 ghost use Rattle.es_rows.specs.witnesses.HoleInAPattern.{first_hole_in_a_pattern, second_hole_in_a_pattern, options_hole_in_a_pattern};
+ghost use Rattle.es_rows.specs.witnesses.ImportReadEarly.{source_import_read_early, output_import_read_early, generated_import_read_early, options_import_read_early};
+ghost use Rattle.es_rows.specs.witnesses.ImportedKey.{first_imported_key, second_imported_key, options_imported_key};
+ghost use Rattle.es_rows.specs.witnesses.ImportedKeyOfAMethod.{first_imported_key_of_a_method, second_imported_key_of_a_method, options_imported_key_of_a_method};
+ghost use Rattle.es_rows.specs.witnesses.ImportedObject.{first_imported_object, second_imported_object, options_imported_object};
 ghost use Rattle.es_rows.specs.witnesses.ImportsExchanged.{first_imports_exchanged, second_imports_exchanged, options_imports_exchanged};
 ghost use Rattle.es_rows.specs.witnesses.KeyGivenBehindTheFields.{source_key_given_behind_the_fields, output_key_given_behind_the_fields, generated_key_given_behind_the_fields, options_key_given_behind_the_fields};
 ghost use Rattle.es_rows.specs.witnesses.KeyHeadsExchanged.{first_key_heads_exchanged, second_key_heads_exchanged, options_key_heads_exchanged};
+ghost use Rattle.es_rows.specs.witnesses.KeyOfABindingForAName.{source_key_of_a_binding_for_a_name, output_key_of_a_binding_for_a_name, generated_key_of_a_binding_for_a_name, options_key_of_a_binding_for_a_name};
+ghost use Rattle.es_rows.specs.witnesses.KeyOfABindingInATemporary.{source_key_of_a_binding_in_a_temporary, output_key_of_a_binding_in_a_temporary, generated_key_of_a_binding_in_a_temporary, options_key_of_a_binding_in_a_temporary};
 ghost use Rattle.es_rows.specs.witnesses.KeyOfAMethod.{first_key_of_a_method, second_key_of_a_method, options_key_of_a_method};
 ghost use Rattle.es_rows.specs.witnesses.KeyReadLate.{source_key_read_late, output_key_read_late, generated_key_read_late, options_key_read_late};
 ghost use Rattle.es_rows.specs.witnesses.KeyReadTwice.{source_key_read_twice, output_key_read_twice, generated_key_read_twice, options_key_read_twice};
@@ -149,6 +162,7 @@ ghost use Rattle.es_rows.specs.witnesses.LooseMemberReadOnce.{first_loose_member
 ghost use Rattle.es_rows.specs.witnesses.MapsInLooseMode.{source_maps_in_loose_mode, output_maps_in_loose_mode, generated_maps_in_loose_mode, options_maps_in_loose_mode};
 ghost use Rattle.es_rows.specs.witnesses.MemberOfAnObject.{source_member_of_an_object, output_member_of_an_object, generated_member_of_an_object, options_member_of_an_object};
 ghost use Rattle.es_rows.specs.witnesses.MethodAssignedInAnotherFunction.{source_method_assigned_in_another_function, output_method_assigned_in_another_function, generated_method_assigned_in_another_function, options_method_assigned_in_another_function};
+ghost use Rattle.es_rows.specs.witnesses.MethodGivenBehindItsCalls.{source_method_given_behind_its_calls, output_method_given_behind_its_calls, generated_method_given_behind_its_calls, options_method_given_behind_its_calls};
 ghost use Rattle.es_rows.specs.witnesses.MethodWithoutBrand.{source_method_without_brand, output_method_without_brand, generated_method_without_brand, options_method_without_brand};
 ghost use Rattle.es_rows.specs.witnesses.NameOfNoMember.{source_name_of_no_member, output_name_of_no_member, generated_name_of_no_member, options_name_of_no_member};
 ghost use Rattle.es_rows.specs.witnesses.NameTwice.{source_name_twice, output_name_twice, generated_name_twice, options_name_twice};
@@ -160,6 +174,7 @@ ghost use Rattle.es_rows.specs.witnesses.OwnNameOfAClassBehindAWrite.{first_own_
 ghost use Rattle.es_rows.specs.witnesses.OwnNamesExchanged.{first_own_names_exchanged, second_own_names_exchanged, options_own_names_exchanged};
 ghost use Rattle.es_rows.specs.witnesses.ParameterInFront.{source_parameter_in_front, output_parameter_in_front, generated_parameter_in_front, options_parameter_in_front};
 ghost use Rattle.es_rows.specs.witnesses.ParameterOfANewConstructor.{source_parameter_of_a_new_constructor, output_parameter_of_a_new_constructor, generated_parameter_of_a_new_constructor, options_parameter_of_a_new_constructor};
+ghost use Rattle.es_rows.specs.witnesses.ParameterReadLater.{source_parameter_read_later, output_parameter_read_later, generated_parameter_read_later, options_parameter_read_later};
 ghost use Rattle.es_rows.specs.witnesses.ParametersExchanged.{first_parameters_exchanged, second_parameters_exchanged, options_parameters_exchanged};
 ghost use Rattle.es_rows.specs.witnesses.ParentConstructedTwice.{source_parent_constructed_twice, output_parent_constructed_twice, generated_parent_constructed_twice, options_parent_constructed_twice};
 ghost use Rattle.es_rows.specs.witnesses.ParentNeverConstructed.{source_parent_never_constructed, output_parent_never_constructed, generated_parent_never_constructed, options_parent_never_constructed};
@@ -180,11 +195,14 @@ ghost use Rattle.es_rows.specs.witnesses.ReturnInAnArrow.{source_return_in_an_ar
 ghost use Rattle.es_rows.specs.witnesses.ScriptInAnArrow.{source_script_in_an_arrow, output_script_in_an_arrow, generated_script_in_an_arrow, options_script_in_an_arrow};
 ghost use Rattle.es_rows.specs.witnesses.SpreadForAParameter.{source_spread_for_a_parameter, output_spread_for_a_parameter, generated_spread_for_a_parameter, options_spread_for_a_parameter};
 ghost use Rattle.es_rows.specs.witnesses.StatementOfAnIf.{first_statement_of_an_if, second_statement_of_an_if, options_statement_of_an_if};
+ghost use Rattle.es_rows.specs.witnesses.StatementOfAnotherCase.{source_statement_of_another_case, output_statement_of_another_case, generated_statement_of_another_case, options_statement_of_another_case};
+ghost use Rattle.es_rows.specs.witnesses.StatementsOfACaseExchanged.{source_statements_of_a_case_exchanged, output_statements_of_a_case_exchanged, generated_statements_of_a_case_exchanged, options_statements_of_a_case_exchanged};
 ghost use Rattle.es_rows.specs.witnesses.StaticConstructor.{source_static_constructor, output_static_constructor, generated_static_constructor, options_static_constructor};
 ghost use Rattle.es_rows.specs.witnesses.StaticFieldBeforeItsClass.{source_static_field_before_its_class, output_static_field_before_its_class, generated_static_field_before_its_class, options_static_field_before_its_class};
 ghost use Rattle.es_rows.specs.witnesses.StaticFieldDropped.{source_static_field_dropped, output_static_field_dropped, generated_static_field_dropped, options_static_field_dropped};
 ghost use Rattle.es_rows.specs.witnesses.StaticGetterOrMethod.{first_static_getter_or_method, second_static_getter_or_method, options_static_getter_or_method};
 ghost use Rattle.es_rows.specs.witnesses.StaticKeyReadLate.{source_static_key_read_late, output_static_key_read_late, generated_static_key_read_late, options_static_key_read_late};
+ghost use Rattle.es_rows.specs.witnesses.SuperFunctionBehindACall.{source_super_function_behind_a_call, output_super_function_behind_a_call, generated_super_function_behind_a_call, options_super_function_behind_a_call};
 ghost use Rattle.es_rows.specs.witnesses.SuperFunctionBehindItsCalls.{source_super_function_behind_its_calls, output_super_function_behind_its_calls, generated_super_function_behind_its_calls, options_super_function_behind_its_calls};
 ghost use Rattle.es_rows.specs.witnesses.SuperGivesZero.{source_super_gives_zero, output_super_gives_zero, generated_super_gives_zero, options_super_gives_zero};
 ghost use Rattle.es_rows.specs.witnesses.SuperKeyThatStays.{first_super_key_that_stays, second_super_key_that_stays, options_super_key_that_stays};
@@ -192,13 +210,19 @@ ghost use Rattle.es_rows.specs.witnesses.SuspendedClassWritten.{first_suspended_
 ghost use Rattle.es_rows.specs.witnesses.SuspendingConstructor.{source_suspending_constructor, output_suspending_constructor, generated_suspending_constructor, options_suspending_constructor};
 ghost use Rattle.es_rows.specs.witnesses.TailOfATemplate.{first_tail_of_a_template, second_tail_of_a_template, options_tail_of_a_template};
 ghost use Rattle.es_rows.specs.witnesses.TemplateKey.{first_template_key, second_template_key, options_template_key};
+ghost use Rattle.es_rows.specs.witnesses.TemporaryGivenAgain.{source_temporary_given_again, output_temporary_given_again, generated_temporary_given_again, options_temporary_given_again};
+ghost use Rattle.es_rows.specs.witnesses.TemporaryGivenAgainInALoop.{source_temporary_given_again_in_a_loop, output_temporary_given_again_in_a_loop, generated_temporary_given_again_in_a_loop, options_temporary_given_again_in_a_loop};
+ghost use Rattle.es_rows.specs.witnesses.TemporaryGivenBehindACall.{source_temporary_given_behind_a_call, output_temporary_given_behind_a_call, generated_temporary_given_behind_a_call, options_temporary_given_behind_a_call};
 ghost use Rattle.es_rows.specs.witnesses.TemporaryGivenLate.{source_temporary_given_late, output_temporary_given_late, generated_temporary_given_late, options_temporary_given_late};
 ghost use Rattle.es_rows.specs.witnesses.TemporaryNeverGiven.{source_temporary_never_given, output_temporary_never_given, generated_temporary_never_given, options_temporary_never_given};
+ghost use Rattle.es_rows.specs.witnesses.TemporaryOfAHoistedFunction.{source_temporary_of_a_hoisted_function, output_temporary_of_a_hoisted_function, generated_temporary_of_a_hoisted_function, options_temporary_of_a_hoisted_function};
+ghost use Rattle.es_rows.specs.witnesses.TemporaryOfTheProgram.{source_temporary_of_the_program, output_temporary_of_the_program, generated_temporary_of_the_program, options_temporary_of_the_program};
 ghost use Rattle.es_rows.specs.witnesses.TestOfAnotherObject.{source_test_of_another_object, output_test_of_another_object, generated_test_of_another_object, options_test_of_another_object};
 ghost use Rattle.es_rows.specs.witnesses.TestOfOneNull.{source_test_of_one_null, output_test_of_one_null, generated_test_of_one_null, options_test_of_one_null};
 ghost use Rattle.es_rows.specs.witnesses.TestedName.{first_tested_name, second_tested_name, options_tested_name};
 ghost use Rattle.es_rows.specs.witnesses.TwoConstructors.{source_two_constructors, output_two_constructors, generated_two_constructors, options_two_constructors};
 ghost use Rattle.es_rows.specs.witnesses.ValueAsAKey.{source_value_as_a_key, output_value_as_a_key, generated_value_as_a_key, options_value_as_a_key};
+ghost use Rattle.es_rows.specs.witnesses.VarArguments.{first_var_arguments, second_var_arguments, options_var_arguments};
 ghost use Rattle.es_rows.specs.witnesses.VoidOfATemplate.{first_void_of_a_template, second_void_of_a_template, options_void_of_a_template};
 ghost use Rattle.es_rows.specs.witnesses.WeakMapInAnotherFunction.{source_weak_map_in_another_function, output_weak_map_in_another_function, generated_weak_map_in_another_function, options_weak_map_in_another_function};
 
@@ -323,6 +347,7 @@ pub fn programs_are_told_apart()
     ensures tail_of_a_template { TellsApart options_tail_of_a_template first_tail_of_a_template second_tail_of_a_template }
     ensures template_key { TellsApart options_template_key first_template_key second_template_key }
     ensures tested_name { TellsApart options_tested_name first_tested_name second_tested_name }
+    ensures var_arguments { TellsApart options_var_arguments first_var_arguments second_var_arguments }
     ensures void_of_a_template { TellsApart options_void_of_a_template first_void_of_a_template second_void_of_a_template }
 {}
 
@@ -333,6 +358,7 @@ pub fn wrong_outputs_are_told_apart()
     ensures arguments_of_another { Refused options_arguments_of_another generated_arguments_of_another source_arguments_of_another output_arguments_of_another }
     ensures arrow_out_of_a_loop { Refused options_arrow_out_of_a_loop generated_arrow_out_of_a_loop source_arrow_out_of_a_loop output_arrow_out_of_a_loop }
     ensures async_constructor { Refused options_async_constructor generated_async_constructor source_async_constructor output_async_constructor }
+    ensures binding_in_a_temporary { Refused options_binding_in_a_temporary generated_binding_in_a_temporary source_binding_in_a_temporary output_binding_in_a_temporary }
     ensures binding_not_renamed { Refused options_binding_not_renamed generated_binding_not_renamed source_binding_not_renamed output_binding_not_renamed }
     ensures block_behind_fields { Refused options_block_behind_fields generated_block_behind_fields source_block_behind_fields output_block_behind_fields }
     ensures body_dropped { Refused options_body_dropped generated_body_dropped source_body_dropped output_body_dropped }
@@ -355,6 +381,7 @@ pub fn wrong_outputs_are_told_apart()
     ensures getter_made_a_method { Refused options_getter_made_a_method generated_getter_made_a_method source_getter_made_a_method output_getter_made_a_method }
     ensures heritage_read_late { Refused options_heritage_read_late generated_heritage_read_late source_heritage_read_late output_heritage_read_late }
     ensures key_given_behind_the_fields { Refused options_key_given_behind_the_fields generated_key_given_behind_the_fields source_key_given_behind_the_fields output_key_given_behind_the_fields }
+    ensures key_of_a_binding_in_a_temporary { Refused options_key_of_a_binding_in_a_temporary generated_key_of_a_binding_in_a_temporary source_key_of_a_binding_in_a_temporary output_key_of_a_binding_in_a_temporary }
     ensures key_read_late { Refused options_key_read_late generated_key_read_late source_key_read_late output_key_read_late }
     ensures key_read_twice { Refused options_key_read_twice generated_key_read_twice source_key_read_twice output_key_read_twice }
     ensures maps_in_loose_mode { Refused options_maps_in_loose_mode generated_maps_in_loose_mode source_maps_in_loose_mode output_maps_in_loose_mode }
@@ -384,6 +411,7 @@ pub fn wrong_outputs_are_told_apart()
     ensures static_key_read_late { Refused options_static_key_read_late generated_static_key_read_late source_static_key_read_late output_static_key_read_late }
     ensures super_gives_zero { Refused options_super_gives_zero generated_super_gives_zero source_super_gives_zero output_super_gives_zero }
     ensures suspending_constructor { Refused options_suspending_constructor generated_suspending_constructor source_suspending_constructor output_suspending_constructor }
+    ensures temporary_given_behind_a_call { Refused options_temporary_given_behind_a_call generated_temporary_given_behind_a_call source_temporary_given_behind_a_call output_temporary_given_behind_a_call }
     ensures temporary_given_late { Refused options_temporary_given_late generated_temporary_given_late source_temporary_given_late output_temporary_given_late }
     ensures temporary_never_given { Refused options_temporary_never_given generated_temporary_never_given source_temporary_never_given output_temporary_never_given }
     ensures test_of_another_object { Refused options_test_of_another_object generated_test_of_another_object source_test_of_another_object output_test_of_another_object }
@@ -394,11 +422,15 @@ pub fn wrong_outputs_are_told_apart()
 
 /// Wrong outputs of worked rows that have a meaning, which is not that of their sources.
 pub fn wrong_outputs_mean_another_program()
+    ensures arrow_moved_into_parameters { MeansOther options_arrow_moved_into_parameters generated_arrow_moved_into_parameters source_arrow_moved_into_parameters output_arrow_moved_into_parameters }
     ensures block_behind_a_kept_field { MeansOther options_block_behind_a_kept_field generated_block_behind_a_kept_field source_block_behind_a_kept_field output_block_behind_a_kept_field }
     ensures block_dropped { MeansOther options_block_dropped generated_block_dropped source_block_dropped output_block_dropped }
     ensures branch_of_a_key_of_another { MeansOther options_branch_of_a_key_of_another generated_branch_of_a_key_of_another source_branch_of_a_key_of_another output_branch_of_a_key_of_another }
     ensures elements_dropped { MeansOther options_elements_dropped generated_elements_dropped source_elements_dropped output_elements_dropped }
+    ensures import_read_early { MeansOther options_import_read_early generated_import_read_early source_import_read_early output_import_read_early }
     ensures read_moved { MeansOther options_read_moved generated_read_moved source_read_moved output_read_moved }
+    ensures statement_of_another_case { MeansOther options_statement_of_another_case generated_statement_of_another_case source_statement_of_another_case output_statement_of_another_case }
+    ensures statements_of_a_case_exchanged { MeansOther options_statements_of_a_case_exchanged generated_statements_of_a_case_exchanged source_statements_of_a_case_exchanged output_statements_of_a_case_exchanged }
     ensures static_field_dropped { MeansOther options_static_field_dropped generated_static_field_dropped source_static_field_dropped output_static_field_dropped }
 {}
 
@@ -414,10 +446,12 @@ pub fn wrong_outputs_behind_parameters_are_told_apart()
 pub fn clauses_are_not_met()
     ensures another_literal_of_a_written_class { definitions_stand (nodes source_another_literal_of_a_written_class) options_another_literal_of_a_written_class generated_another_literal_of_a_written_class (private_members source_another_literal_of_a_written_class) source_another_literal_of_a_written_class output_another_literal_of_a_written_class ≡ false }
     ensures body_dropped { definitions_stand (nodes source_body_dropped) options_body_dropped generated_body_dropped (private_members source_body_dropped) source_body_dropped output_body_dropped ≡ false }
+    ensures body_in_an_arrow { homes_kept options_body_in_an_arrow source_body_in_an_arrow output_body_in_an_arrow ≡ false }
     ensures break_in_an_arrow { is_printable output_break_in_an_arrow ≡ false }
     ensures class_behind_its_use { lists_kept options_class_behind_its_use source_class_behind_its_use output_class_behind_its_use ≡ false }
     ensures class_in_a_constructor { lists_kept options_class_in_a_constructor source_class_in_a_constructor output_class_in_a_constructor ≡ false }
     ensures class_temporary_before_its_class { names_timely (nodes source_class_temporary_before_its_class) generated_class_temporary_before_its_class output_class_temporary_before_its_class ≡ false }
+    ensures class_temporary_of_another_case { names_timely (nodes source_class_temporary_of_another_case) generated_class_temporary_of_another_case output_class_temporary_of_another_case ≡ false }
     ensures closure_before_its_class { names_timely (nodes source_closure_before_its_class) generated_closure_before_its_class output_closure_before_its_class ≡ false }
     ensures constant_temporary { declarations_accounted (nodes source_constant_temporary) generated_constant_temporary source_constant_temporary output_constant_temporary ≡ false }
     ensures dead_temporary { names_timely (nodes source_dead_temporary) generated_dead_temporary output_dead_temporary ≡ false }
@@ -425,23 +459,36 @@ pub fn clauses_are_not_met()
     ensures field_of_a_written_class_doubled { definitions_stand (nodes source_field_of_a_written_class_doubled) options_field_of_a_written_class_doubled generated_field_of_a_written_class_doubled (private_members source_field_of_a_written_class_doubled) source_field_of_a_written_class_doubled output_field_of_a_written_class_doubled ≡ false }
     ensures field_of_a_written_class_dropped { definitions_stand (nodes source_field_of_a_written_class_dropped) options_field_of_a_written_class_dropped generated_field_of_a_written_class_dropped (private_members source_field_of_a_written_class_dropped) source_field_of_a_written_class_dropped output_field_of_a_written_class_dropped ≡ false }
     ensures fields_of_a_written_class_exchanged { definitions_stand (nodes source_fields_of_a_written_class_exchanged) options_fields_of_a_written_class_exchanged generated_fields_of_a_written_class_exchanged (private_members source_fields_of_a_written_class_exchanged) source_fields_of_a_written_class_exchanged output_fields_of_a_written_class_exchanged ≡ false }
+    ensures function_out_of_its_block { lists_kept options_function_out_of_its_block source_function_out_of_its_block output_function_out_of_its_block ≡ false }
     ensures hidden_body { conforms Place.Program output_hidden_body ≡ false }
     ensures method_assigned_in_another_function { names_timely (nodes source_method_assigned_in_another_function) generated_method_assigned_in_another_function output_method_assigned_in_another_function ≡ false }
+    ensures method_given_behind_its_calls { initializations_stand (nodes source_method_given_behind_its_calls) generated_method_given_behind_its_calls (private_members source_method_given_behind_its_calls) output_method_given_behind_its_calls generated_method_given_behind_its_calls ≡ false }
     ensures name_of_no_member { initializations_stand (nodes source_name_of_no_member) generated_name_of_no_member (private_members source_name_of_no_member) output_name_of_no_member generated_name_of_no_member ≡ false }
     ensures name_twice { names_declared (nodes source_name_twice) generated_name_twice output_name_twice ≡ false }
+    ensures parameter_read_later { temporaries_steady (nodes source_parameter_read_later) generated_parameter_read_later output_parameter_read_later ≡ false }
     ensures private_name_twice { names_declared (nodes source_private_name_twice) generated_private_name_twice output_private_name_twice ≡ false }
+    ensures super_function_behind_a_call { names_timely (nodes source_super_function_behind_a_call) generated_super_function_behind_a_call output_super_function_behind_a_call ≡ false }
     ensures super_function_behind_its_calls { names_timely (nodes source_super_function_behind_its_calls) generated_super_function_behind_its_calls output_super_function_behind_its_calls ≡ false }
+    ensures temporary_given_again { temporaries_steady (nodes source_temporary_given_again) generated_temporary_given_again output_temporary_given_again ≡ false }
+    ensures temporary_given_again_in_a_loop { temporaries_steady (nodes source_temporary_given_again_in_a_loop) generated_temporary_given_again_in_a_loop output_temporary_given_again_in_a_loop ≡ false }
+    ensures temporary_of_a_hoisted_function { temporaries_steady (nodes source_temporary_of_a_hoisted_function) generated_temporary_of_a_hoisted_function output_temporary_of_a_hoisted_function ≡ false }
+    ensures temporary_of_the_program { temporaries_steady (nodes source_temporary_of_the_program) generated_temporary_of_the_program output_temporary_of_the_program ≡ false }
     ensures weak_map_in_another_function { names_timely (nodes source_weak_map_in_another_function) generated_weak_map_in_another_function output_weak_map_in_another_function ≡ false }
 {}
 
 /// Outputs that mean what their sources mean, though a name or a value in them looks like another one.
 pub fn outputs_mean_their_sources()
     ensures branch_of_a_key { Means options_branch_of_a_key generated_branch_of_a_key source_branch_of_a_key output_branch_of_a_key }
+    ensures class_in_a_case { Means options_class_in_a_case generated_class_in_a_case source_class_in_a_case output_class_in_a_case }
+    ensures key_of_a_binding_for_a_name { Means options_key_of_a_binding_for_a_name generated_key_of_a_binding_for_a_name source_key_of_a_binding_for_a_name output_key_of_a_binding_for_a_name }
     ensures private_name_beside_a_name { Means options_private_name_beside_a_name generated_private_name_beside_a_name source_private_name_beside_a_name output_private_name_beside_a_name }
 {}
 
 /// Pairs of programs that have different shapes.
 pub fn shapes_are_told()
+    ensures imported_key { HaveShapes options_imported_key first_imported_key (4 ∷ []) second_imported_key ([]) }
+    ensures imported_key_of_a_method { HaveShapes options_imported_key_of_a_method first_imported_key_of_a_method (4 ∷ []) second_imported_key_of_a_method ([]) }
+    ensures imported_object { HaveShapes options_imported_object first_imported_object (4 ∷ []) second_imported_object ([]) }
     ensures loose_member_read_once { HaveShapes options_loose_member_read_once first_loose_member_read_once ([]) second_loose_member_read_once (4 ∷ []) }
     ensures super_key_that_stays { HaveShapes options_super_key_that_stays first_super_key_that_stays ([]) second_super_key_that_stays (4 ∷ []) }
     ensures suspended_class_written { HaveShapes options_suspended_class_written first_suspended_class_written (6 ∷ []) second_suspended_class_written ([]) }

@@ -5,7 +5,7 @@ use Rattle.es_base.specs.declared.kind.Kind.{Kind}
 use Rattle.es_node.specs.View.{kind_of}
 use Rattle.es_steps.specs.LoweredClasses.{constructor_function}
 use Rattle.es_steps.specs.Scopes.{is_binding_identifier}
-use Rattle.es_steps.specs.Shapes.{is_simple_parameter}
+use Rattle.es_steps.specs.Parts.{is_simple_parameter}
 
 pub no_method : (t : Tree) → (kind_of t ≡ Kind.MethodDefinition → ⊥) → (rest : Parts) → constructor_function (more (child t) rest) ≡ constructor_function rest
 no_method (Node Kind.MethodDefinition m span semantic_id ps) other rest = absurd (other refl)

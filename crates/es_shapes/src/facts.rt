@@ -3,7 +3,7 @@
 ghost use Rattle.std.specs.Prelude.{◌≡◌, option_map};
 ghost use Rattle.es_base.specs.Tree.{Tree};
 ghost use Rattle.es_steps.specs.LoweredClasses.{referent_of};
-ghost use Rattle.es_steps.specs.References.{resolve, written, assigned, has_number};
+ghost use Rattle.es_steps.specs.References.{resolve, written, imported, varying, assigned, has_number};
 ghost use Rattle.es_steps.specs.declared.options.Options.{Options};
 ghost use Rattle.es_shapes.specs.Heritages.{heritage_events};
 ghost use Rattle.es_shapes.specs.Names.{bound_number};
@@ -23,6 +23,14 @@ pub trait NameFacts: Drop {
     /// identifier declares it, or it is a `var` of a for-in or for-of head.
     fn is_written(&self, binding: NodeId) -> bool
         ensures { result ≡ has_number binding.0 (written (program self.now)) };
+
+    /// Whether an import declares the binding.
+    fn is_imported(&self, binding: NodeId) -> bool
+        ensures { result ≡ has_number binding.0 (imported (program self.now)) };
+
+    /// Whether the binding is written or imported.
+    fn is_varying(&self, binding: NodeId) -> bool
+        ensures { result ≡ has_number binding.0 (varying (program self.now)) };
 
     /// Whether a reference writes the binding.
     fn is_assigned(&self, binding: NodeId) -> bool

@@ -93,7 +93,7 @@ fn moves_before_heritage<F: NameFacts>(options: &Options, facts: &F, class: Clas
 
 /// Whether a computed key among these needs a temporary.
 #[tactic(auto, using(crate::proofs::NameScopes::any_first))]
-fn any_hoisted_key<F: NameFacts>(facts: &F, elements: &[Node]) -> bool
+pub fn any_hoisted_key<F: NameFacts>(facts: &F, elements: &[Node]) -> bool
     ensures { result ≡ any_element (is_hoisted_key (written (F.program facts.now)) (resolve (F.program facts.now))) (elements_in (trees elements.now)) }
 {
     for element in elements {

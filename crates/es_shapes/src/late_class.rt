@@ -5,9 +5,9 @@ ghost use Rattle.es_base.specs.Preorder.{preorder};
 ghost use Rattle.es_base.specs.Tree.{Parts, child, more, nullable, trees, nullable_trees};
 ghost use Rattle.es_node.specs.View.{kind_of, part_of};
 ghost use Rattle.es_steps.specs.LoweredClasses.{constructor_function};
-ghost use Rattle.es_steps.specs.Parts.{items};
+ghost use Rattle.es_steps.specs.Parts.{items, is_simple_parameter, has_pattern};
 ghost use Rattle.es_steps.specs.Scopes.{is_binding_identifier};
-ghost use Rattle.es_steps.specs.Shapes.{lowered_classes, is_simple_parameter, has_pattern, has_pattern_parameter, is_late_class, has_shape_2};
+ghost use Rattle.es_steps.specs.Shapes.{lowered_classes, has_pattern_parameter, is_late_class, has_shape_2};
 ghost use Rattle.es_shapes.specs.Classes.{class_view, is_lowered, is_lowered_with};
 ghost use Rattle.es_shapes.specs.Parameters.{child_or};
 

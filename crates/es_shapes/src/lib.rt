@@ -7,6 +7,7 @@ mod class;
 mod element;
 pub mod facts;
 pub mod heritage;
+mod imported_key;
 pub mod kept_block;
 pub mod late_class;
 mod name_scope;

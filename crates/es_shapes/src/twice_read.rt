@@ -1,17 +1,19 @@
-// Whether a written name is read twice.
+// Whether a written or imported name is read twice.
 
 ghost use Rattle.std.specs.Prelude.{◌≡◌, false};
+ghost use Rattle.es_base.specs.Preorder.{preorder};
 ghost use Rattle.es_base.specs.Tree.{child, nullable, trees, nullable_trees};
 ghost use Rattle.es_node.specs.View.{kind_of, part_of, parts_in};
 ghost use Rattle.es_base.specs.Words.{assignment_operator_string};
 ghost use Rattle.es_steps.specs.Expressions.{is_logical};
-ghost use Rattle.es_steps.specs.References.{resolve, written};
-ghost use Rattle.es_steps.specs.Shapes.{is_written_name, private_object, super_key, any_written, moved_in, is_private_function, reads_twice, reads_twice_in, reads_twice_at, reads_twice_of, has_shape_4};
+ghost use Rattle.es_steps.specs.References.{resolve, varying};
+ghost use Rattle.es_steps.specs.Shapes.{lowered_classes, is_written_name, private_object, super_key, any_written, moved_in, is_private_function, reads_twice, reads_twice_in, reads_twice_at, reads_twice_of, has_shape_4};
 ghost use Rattle.es_shapes.specs.Twice.{reads_twice_here, target_parts, is_super_kind};
 
 use crate::asked::{keeps_privates_as_properties, lowers_blocks, lowers_fields};
 use crate::element::is_private_key;
 use crate::facts::NameFacts;
+use crate::imported_key::has_imported_key;
 use es_base::kind::Kind;
 use es_base::operator::AssignmentOperator;
 use es_node::node::{Node, Part};
@@ -22,18 +24,28 @@ use es_tree::expression::{
     TaggedTemplateExpressionRef, UpdateExpressionRef,
 };
 
-/// Whether a written name is read twice, with class properties on: as the object of a private member that
-/// is written by an operator, updated, called, a tag or behind `?.`, or as the key of a `super` member in
-/// moved code that is written by an operator or updated: shape S4.
+/// Whether a written or imported name is read twice, with class properties on: as the object of a private
+/// member that is written by an operator, updated, called, a tag or behind `?.`, or as the key of a `super`
+/// member in moved code that is written by an operator or updated; or an imported name is a computed key that
+/// is read at another time: shape S4.
 pub fn has_twice_read_name<F: NameFacts>(program: &Node, options: &Options, facts: &F) -> bool
     requires { F.program facts.now ≡ program.now }
-    ensures { result ≡ has_shape_4 options.now program.now }
+    ensures { result ≡ has_shape_4 options.now program.now (lowered_classes options.now (preorder program.now)) }
+{
+    lowers_fields(options)
+        && (any_twice_read(program, options, facts) || has_imported_key(program, options, facts))
+}
+
+/// Whether a node of the program reads such a name twice.
+fn any_twice_read<F: NameFacts>(program: &Node, options: &Options, facts: &F) -> bool
+    requires { F.program facts.now ≡ program.now }
+    ensures { result ≡ reads_twice options.now (varying program.now) (resolve program.now) false false program.now }
 {
     let at_top = Moves {
         moved: false,
         of_method: false,
     };
-    lowers_fields(options) && reads_twice(options, facts, at_top, program)
+    reads_twice(options, facts, at_top, program)
 }
 
 /// Whether code moves at a place, and whether a function there is that of a private method.
@@ -46,7 +58,7 @@ struct Moves {
 #[cycle(twice)]
 #[tactic(auto, using(crate::proofs::Twice::reads_twice_node, es_node::proofs::Below::nodes_in))]
 fn reads_twice<F: NameFacts>(options: &Options, facts: &F, moves: Moves, node: &Node) -> bool
-    ensures { result ≡ reads_twice options.now (written (F.program facts.now)) (resolve (F.program facts.now)) moves.moved moves.of_method node.now }
+    ensures { result ≡ reads_twice options.now (varying (F.program facts.now)) (resolve (F.program facts.now)) moves.moved moves.of_method node.now }
 {
     reads_twice_here(options, facts, moves.moved, node)
         || reads_twice_in(options, facts, moves, node)
@@ -56,7 +68,7 @@ fn reads_twice<F: NameFacts>(options: &Options, facts: &F, moves: Moves, node: &
 #[cycle(twice)]
 #[tactic(auto, using(crate::proofs::Twice::next_part, crate::proofs::Twice::all_parts))]
 fn reads_twice_in<F: NameFacts>(options: &Options, facts: &F, moves: Moves, node: &Node) -> bool
-    ensures { result ≡ reads_twice_in options.now (written (F.program facts.now)) (resolve (F.program facts.now)) (moved_in options.now moves.moved moves.of_method (kind_of node.now) (parts_in node.now)) (is_private_function (kind_of node.now) (parts_in node.now)) (parts_in node.now) }
+    ensures { result ≡ reads_twice_in options.now (varying (F.program facts.now)) (resolve (F.program facts.now)) (moved_in options.now moves.moved moves.of_method (kind_of node.now) (parts_in node.now)) (is_private_function (kind_of node.now) (parts_in node.now)) (parts_in node.now) }
 {
     let parts = node.parts();
     for (i, part) in parts.iter().enumerate() {
@@ -69,7 +81,7 @@ fn reads_twice_in<F: NameFacts>(options: &Options, facts: &F, moves: Moves, node
 
 #[cycle(twice)]
 fn reads_twice_at<F: NameFacts>(options: &Options, facts: &F, moves: Moves, part: &Part) -> bool
-    ensures { result ≡ reads_twice_at options.now (written (F.program facts.now)) (resolve (F.program facts.now)) moves.moved moves.of_method (part_of part.now) }
+    ensures { result ≡ reads_twice_at options.now (varying (F.program facts.now)) (resolve (F.program facts.now)) moves.moved moves.of_method (part_of part.now) }
 {
     match part {
         Part::Child(node) => reads_twice(options, facts, moves, node),
@@ -88,7 +100,7 @@ fn reads_twice_of_list<F: NameFacts>(
     moved: bool,
     nodes: &[Node],
 ) -> bool
-    ensures { result ≡ reads_twice_of options.now (written (F.program facts.now)) (resolve (F.program facts.now)) moved (trees nodes.now) }
+    ensures { result ≡ reads_twice_of options.now (varying (F.program facts.now)) (resolve (F.program facts.now)) moved (trees nodes.now) }
 {
     let moves = Moves {
         moved,
@@ -109,7 +121,7 @@ fn reads_twice_of_list_with_holes<F: NameFacts>(
     moved: bool,
     nodes: &[Option<Node>],
 ) -> bool
-    ensures { result ≡ reads_twice_of options.now (written (F.program facts.now)) (resolve (F.program facts.now)) moved (nullable_trees nodes.now) }
+    ensures { result ≡ reads_twice_of options.now (varying (F.program facts.now)) (resolve (F.program facts.now)) moved (nullable_trees nodes.now) }
 {
     for node in nodes {
         if reads_twice_of_hole(options, facts, moved, node) {
@@ -126,7 +138,7 @@ fn reads_twice_of_hole<F: NameFacts>(
     moved: bool,
     node: &Option<Node>,
 ) -> bool
-    ensures { result ≡ reads_twice_at options.now (written (F.program facts.now)) (resolve (F.program facts.now)) moved false (nullable node.now) }
+    ensures { result ≡ reads_twice_at options.now (varying (F.program facts.now)) (resolve (F.program facts.now)) moved false (nullable node.now) }
 {
     let moves = Moves {
         moved,
@@ -182,10 +194,10 @@ fn is_private_function(node: &Node, i: usize) -> bool
     }
 }
 
-/// Whether the node by itself reads a written name twice.
+/// Whether the node by itself reads a written or imported name twice.
 #[tactic(auto, using(crate::proofs::Twice::no_twice))]
 fn reads_twice_here<F: NameFacts>(options: &Options, facts: &F, moved: bool, node: &Node) -> bool
-    ensures { result ≡ reads_twice_here options.now (written (F.program facts.now)) (resolve (F.program facts.now)) moved node.now }
+    ensures { result ≡ reads_twice_here options.now (varying (F.program facts.now)) (resolve (F.program facts.now)) moved node.now }
 {
     let is_loose = keeps_privates_as_properties(options);
     match node.kind() {
@@ -219,17 +231,17 @@ fn reads_twice_here<F: NameFacts>(options: &Options, facts: &F, moved: bool, nod
 }
 
 /// Whether the object of a private member that counts, or the key of a `super` member in moved code, is a
-/// written name.
+/// written or imported name.
 fn is_target_written<F: NameFacts>(facts: &F, counts: bool, moved: bool, target: &Node) -> bool
-    ensures { result ≡ any_written (written (F.program facts.now)) (resolve (F.program facts.now)) (target_parts counts moved (child target.now)) }
+    ensures { result ≡ any_written (varying (F.program facts.now)) (resolve (F.program facts.now)) (target_parts counts moved (child target.now)) }
 {
     (counts && is_object_written(facts, target)) || (moved && is_super_key_written(facts, target))
 }
 
-/// Whether the node is a private member, and its object a written name.
+/// Whether the node is a private member, and its object a written or imported name.
 #[tactic(auto, using(crate::proofs::Twice::no_private))]
 fn is_object_written<F: NameFacts>(facts: &F, node: &Node) -> bool
-    ensures { result ≡ is_written_name (written (F.program facts.now)) (resolve (F.program facts.now)) (private_object (child node.now)) }
+    ensures { result ≡ is_written_name (varying (F.program facts.now)) (resolve (F.program facts.now)) (private_object (child node.now)) }
 {
     match node.kind() {
         // o.#x
@@ -238,10 +250,10 @@ fn is_object_written<F: NameFacts>(facts: &F, node: &Node) -> bool
     }
 }
 
-/// Whether the node is a computed member of `super`, and its key a written name.
+/// Whether the node is a computed member of `super`, and its key a written or imported name.
 #[tactic(auto, using(crate::proofs::Twice::no_member, crate::proofs::Twice::member_key))]
 fn is_super_key_written<F: NameFacts>(facts: &F, node: &Node) -> bool
-    ensures { result ≡ is_written_name (written (F.program facts.now)) (resolve (F.program facts.now)) (super_key (child node.now)) }
+    ensures { result ≡ is_written_name (varying (F.program facts.now)) (resolve (F.program facts.now)) (super_key (child node.now)) }
 {
     match node.kind() {
         // super[k]
@@ -259,14 +271,14 @@ fn is_super(node: &Node) -> bool
     matches!(node.kind(), Kind::Super)
 }
 
-/// Whether the node is a name that is written.
+/// Whether the node is a name that is written or imported.
 #[tactic(auto, using(crate::proofs::Twice::no_name, crate::proofs::Twice::written_name))]
 fn is_written_name<F: NameFacts>(facts: &F, node: &Node) -> bool
-    ensures { result ≡ is_written_name (written (F.program facts.now)) (resolve (F.program facts.now)) (child node.now) }
+    ensures { result ≡ is_written_name (varying (F.program facts.now)) (resolve (F.program facts.now)) (child node.now) }
 {
     match node.kind() {
         Kind::IdentifierReference => match facts.binding_of(node.node_id()) {
-            Some(binding) => facts.is_written(binding),
+            Some(binding) => facts.is_varying(binding),
             None => false,
         },
         _ => false,

@@ -6,7 +6,7 @@ use Rattle.es_base.specs.Tree.{Tree, Part, Parts, Node, end, more, child, list}
 use Rattle.es_base.specs.declared.kind.Kind.{Kind}
 use Rattle.es_base.specs.declared.ledger.GeneratedKind.{GeneratedKind}
 use Rattle.es_base.specs.declared.ledger.LedgerEntry.{LedgerEntry}
-use Rattle.es_steps.specs.Context.{NameKind, Fixed, Changing, MeansClass, Generated, FunctionRole, a_function, constructor_of, method_on, super_function_of, Context, is_private_entry, generated_as, is_private_for, is_generated_private, unless_written, declared_kind, found_kind, generated_or, name_kind, is_function, is_super_call, holds_super, part_holds_super, parts_hold_super, rest_among, super_statement, first_super, initializing_call, Frame, function_frame, arrow_frame, class_frame, field_frame, method_frame, static_block_frame, object_frame, property_frame, assignment_frame, declarator_frame, same_frame, frame_of, in_function, in_element, is_constructor, method_role, property_role, role_of_generated, name_in, let_class_of, framed, role_in, inside}
+use Rattle.es_steps.specs.Context.{NameKind, Fixed, Changing, MeansClass, Generated, FunctionRole, a_function, constructor_of, method_on, super_function_of, Context, is_private_entry, generated_as, is_private_for, is_generated_private, unless_varying, declared_kind, found_kind, generated_or, name_kind, is_function, is_super_call, holds_super, part_holds_super, parts_hold_super, rest_among, super_statement, first_super, initializing_call, Frame, function_frame, arrow_frame, class_frame, field_frame, method_frame, static_block_frame, object_frame, property_frame, assignment_frame, declarator_frame, same_frame, frame_of, in_function, in_element, is_constructor, method_role, property_role, role_of_generated, name_in, let_class_of, framed, role_in, inside}
 use Rattle.es_steps.specs.Meaning.{Terms, start}
 use Rattle.es_steps.specs.Parts.{at, items, block_items, string_of, is_true, is_present}
 use Rattle.es_steps.specs.PrivateNames.{seen_members}
@@ -16,7 +16,7 @@ use Rattle.es_steps.specs.Values.{String, Bound, Home, OfClass, OfPrototype}
 use Rattle.es_steps.proofs.Mapped.{mapped, mapped_part, mapped_parts, mapped_class_name, mapped_declaration, mapped_option, mapped_generated, mapped_ledger, mapped_name_kind, mapped_private, mapped_home, mapped_role, mapped_pair, mapped_context, mapped_terms, Renames}
 use Rattle.es_steps.proofs.PartsMapped.{cond-mapped, append-mapped, at-mapped, items_at-mapped, block_items-mapped, block_items_at-mapped, string_at-mapped, is_true_at-mapped, is_present_at-mapped, number_of-mapped}
 use Rattle.es_steps.proofs.PrivatesMapped.{seen_members-mapped}
-use Rattle.es_steps.proofs.ReferencesMapped.{declared-mapped, has_number-mapped, resolve-mapped, writes_free-mapped, written-mapped}
+use Rattle.es_steps.proofs.ReferencesMapped.{declared-mapped, has_number-mapped, resolve-mapped, writes_free-mapped, varying-mapped}
 use Rattle.es_steps.proofs.ScopesMapped.{names_at-mapped, class_in-mapped}
 
 -- ---- the ledger
@@ -127,21 +127,21 @@ module _ {first : ℕ} {f : ℕ → ℕ} (r : Renames first f) where
   is_generated_private-mapped s n [] = refl
   is_generated_private-mapped s n (e ∷ es) = rw (is_private_for-mapped n e.kind, is_generated_private-mapped s n es) refl
 
-  unless_written-mapped : (written : List ℕ) (b : ℕ) (kind : NameKind) → unless_written (map f written) (f b) (mapped_name_kind f kind) ≡ mapped_name_kind f (unless_written written b kind)
-  unless_written-mapped written b kind = rw (has_number-mapped r b written) (cond-mapped (mapped_name_kind f) (has_number b written) (Changing (Bound b)) kind refl refl)
+  unless_varying-mapped : (varying : List ℕ) (b : ℕ) (kind : NameKind) → unless_varying (map f varying) (f b) (mapped_name_kind f kind) ≡ mapped_name_kind f (unless_varying varying b kind)
+  unless_varying-mapped varying b kind = rw (has_number-mapped r b varying) (cond-mapped (mapped_name_kind f) (has_number b varying) (Changing (Bound b)) kind refl refl)
 
   let_kind-mapped : (m n b : ℕ) → cond (is_new first (f m)) (MeansClass (f n) (f b)) (Fixed (f b)) ≡ mapped_name_kind f (cond (is_new first m) (MeansClass n b) (Fixed b))
   let_kind-mapped m n b = rw (r.new m) (cond-mapped (mapped_name_kind f) (is_new first m) (MeansClass n b) (Fixed b) refl refl)
 
-  declared_kind-mapped : (written : List ℕ) (b : ℕ) (name : ClassName) → declared_kind first (map f written) (f b) (mapped_class_name f name) ≡ mapped_name_kind f (declared_kind first written b name)
-  declared_kind-mapped written b no_class = unless_written-mapped written b (Fixed b)
-  declared_kind-mapped written b (declares n) = unless_written-mapped written b (MeansClass n b)
-  declared_kind-mapped written b (own_name n) = refl
-  declared_kind-mapped written b (let_names m n) = ap (unless_written (map f written) (f b)) (let_kind-mapped m n b) ∙ unless_written-mapped written b (cond (is_new first m) (MeansClass n b) (Fixed b))
+  declared_kind-mapped : (varying : List ℕ) (b : ℕ) (name : ClassName) → declared_kind first (map f varying) (f b) (mapped_class_name f name) ≡ mapped_name_kind f (declared_kind first varying b name)
+  declared_kind-mapped varying b no_class = unless_varying-mapped varying b (Fixed b)
+  declared_kind-mapped varying b (declares n) = unless_varying-mapped varying b (MeansClass n b)
+  declared_kind-mapped varying b (own_name n) = refl
+  declared_kind-mapped varying b (let_names m n) = ap (unless_varying (map f varying) (f b)) (let_kind-mapped m n b) ∙ unless_varying-mapped varying b (cond (is_new first m) (MeansClass n b) (Fixed b))
 
-  found_kind-mapped : (written : List ℕ) (s : String) (d : Option Declaration) → found_kind first (map f written) s (mapped_option (mapped_declaration f) d) ≡ mapped_name_kind f (found_kind first written s d)
-  found_kind-mapped written s None = refl
-  found_kind-mapped written s (Some d) = declared_kind-mapped written d.number d.class_name
+  found_kind-mapped : (varying : List ℕ) (s : String) (d : Option Declaration) → found_kind first (map f varying) s (mapped_option (mapped_declaration f) d) ≡ mapped_name_kind f (found_kind first varying s d)
+  found_kind-mapped varying s None = refl
+  found_kind-mapped varying s (Some d) = declared_kind-mapped varying d.number d.class_name
 
   generated_or-mapped : (g : Option GeneratedKind) (kind : NameKind) → generated_or (mapped_option (mapped_generated f) g) (mapped_name_kind f kind) ≡ mapped_name_kind f (generated_or g kind)
   generated_or-mapped (Some g) kind = refl
@@ -149,8 +149,8 @@ module _ {first : ℕ} {f : ℕ → ℕ} (r : Renames first f) where
 
   pub name_kind-mapped : (c : Context) → c.first_new ≡ first → (s : String) → name_kind (mapped_context f c) s ≡ mapped_name_kind f (name_kind c s)
   name_kind-mapped c e s =
-      rw (generated_as-mapped f s c.ledger, declared-mapped f s c.names, e, found_kind-mapped c.written s (declared s c.names))
-      (generated_or-mapped (generated_as s c.ledger) (found_kind first c.written s (declared s c.names)))
+      rw (generated_as-mapped f s c.ledger, declared-mapped f s c.names, e, found_kind-mapped c.varying s (declared s c.names))
+      (generated_or-mapped (generated_as s c.ledger) (found_kind first c.varying s (declared s c.names)))
 
   pub new_here-mapped : (c : Context) → c.first_new ≡ first → (m : ℕ) → is_new c.first_new (f m) ≡ is_new c.first_new m
   new_here-mapped c e m = rw e (r.new m)
@@ -182,7 +182,7 @@ module _ {first : ℕ} {f : ℕ → ℕ} (r : Renames first f) where
   -- ---- the start
 
   pub start-mapped : (o : Terms) (t : Tree) → start (mapped_terms f o) (mapped f t) ≡ mapped_context f (start o t)
-  start-mapped o t = rw (number_of-mapped f t, written-mapped f t, resolve-mapped f t, writes_free-mapped f (codes "arguments") (resolve t)) refl
+  start-mapped o t = rw (number_of-mapped f t, varying-mapped f t, resolve-mapped f t, writes_free-mapped f (codes "arguments") (resolve t)) refl
 
 -- where new numbers begin stays
 either-first : (b : Bool) (c d : Context) → d.first_new ≡ c.first_new → (cond b d c).first_new ≡ c.first_new

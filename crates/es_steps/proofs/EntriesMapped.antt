@@ -4,15 +4,14 @@ use Rattle.std.proofs.Common.{refl, ap, ap₂, ◌∙◌}
 use Rattle.es_base.specs.declared.ledger.GeneratedKind.{GeneratedKind}
 use Rattle.es_steps.specs.Code.{Code, Codes, Target, Callee, FunctionForm, Opened, InitializersOf, nothing, binding, rest, member, private_member, super_member, private_in, assign, compound, logical, logical_assign, update, call, tag, construct, super_call, sequence, template, operation, chain, short, tested, pattern, takes, steps, gives_to, export_default, function, new_function, class_code, field, private_field, method, private_method, constructor, static_block, generated_element, from_call, from_member, key_of, define, private_initialize, call_arrow, call_closure, give_function, give_class, to_name, to_member, to_private, to_super, to_setter, to_pattern, to_default, plain, on_member, on_private, on_super, with_receiver, checked, on_chain, behind_test, done, and}
 use Rattle.es_steps.specs.Context.{NameKind, Generated}
-use Rattle.es_steps.specs.Entries.{Parameter, Identifier, RestIdentifier, Pattern, Method, Listed, Entry, is_string_among, without, parameter_of, parameters_of, constructor_form, constructor_parameters, no_constructor, if_one, in_order, ev_parameter, ev_parameters, ev_body, ev_construction, listed, value_in, after_run, function_entry, class_entry, some_value, method_with, Entries, heritage_in, same_nullable, behind_key, methods_in, keys_stay, behind_code, behind_all, behind_target, behind_callee, behind_arguments, behind_parameters, behind_fields, own_function, entries, target_entries, pattern_entries, taken_entries, take_entries, callee_entries, all_entries, held_entries, parameter_entries, key_entries, key_entry, static_entries, static_entry, field_entries, field_entry, function_entries, element_function}
+use Rattle.es_steps.specs.Entries.{Parameter, Identifier, RestIdentifier, Pattern, Method, Listed, Entry, is_string_among, without, parameter_of, parameters_of, constructor_form, constructor_parameters, no_constructor, if_one, in_order, is_identifier, all_identifiers, entered, ev_parameter, ev_parameters, ev_given, ev_body, ev_construction, listed, value_in, after_run, function_entry, class_entry, some_value, method_with, Entries, heritage_in, same_nullable, behind_key, methods_in, keys_stay, behind_code, behind_all, behind_target, behind_callee, behind_arguments, behind_parameters, behind_fields, own_function, entries, target_entries, pattern_entries, taken_entries, take_entries, callee_entries, all_entries, held_entries, parameter_entries, key_entries, key_entry, static_entries, static_entry, field_entries, field_entry, function_entries, element_function}
 use Rattle.es_steps.specs.Evaluation.{Environment, Run, Evaluation, no_meaning, gives, event, bind, write_ready, bind_parameters, ev, ev_all, ev_target, ev_take, ev_callee, ev_key, ev_keys, ev_static, ev_field, ev_initializers}
-use Rattle.es_steps.specs.Events.{Take, Index, Rest, Operate, SuperCallWithAll}
-use Rattle.es_steps.specs.GeneratedForms.{opened_body, is_plain}
+use Rattle.es_steps.specs.Events.{Take, Index, Rest, Operate, SuperCallWithAll, EnterBody}
+use Rattle.es_steps.specs.GeneratedForms.{is_plain}
 use Rattle.es_steps.specs.Opening.{all_arguments, assigned_in, assigned_in_all}
 use Rattle.es_steps.specs.References.{has_number}
 use Rattle.es_steps.specs.Values.{String, Value, Undefined, ThisOf, ResultOf, as_key}
 use Rattle.es_steps.proofs.EvaluationMapped.{as_key-mapped, same_value-mapped, Follows, ReadyFollows, no_meaning-follows, gives-follows, event-follows, bind-follows, value_behind-mapped, bind_parameters-follows, ev-follows, ev_target-follows, ev_take-follows, ev_callee-follows, ev_all-follows, ev_keys-follows, ev_key-follows, ev_static-follows, ev_field-follows, ev_initializers-follows}
-use Rattle.es_steps.proofs.FormsMapped.{opened_body-mapped}
 use Rattle.es_steps.proofs.Mapped.{Renames, mapped_option, mapped_generated, mapped_name_kind, mapped_value, mapped_nullable, mapped_environment, mapped_runs, mapped_opened, mapped_code, mapped_target, mapped_callee, mapped_codes, mapped_listed, mapped_parameter, mapped_parameters, mapped_method, mapped_methods, mapped_entry, mapped_nullable_entry, mapped_entries}
 use Rattle.es_steps.proofs.OpeningMapped.{all_arguments-mapped, assigned_in-mapped, assigned_in_all-mapped}
 use Rattle.es_steps.proofs.PartsMapped.{cond-mapped, append-mapped}
@@ -34,6 +33,19 @@ module _ (f : ℕ → ℕ) where
   pub parameters_of-mapped : (cs : Codes) → parameters_of (mapped_codes f cs) ≡ mapped_parameters f (parameters_of cs)
   parameters_of-mapped done = refl
   parameters_of-mapped (and c cs) = append-mapped (mapped_parameter f) _ _ (parameter_of-mapped c) (parameters_of-mapped cs)
+
+  is_identifier-mapped : (p : Parameter) → is_identifier (mapped_parameter f p) ≡ is_identifier p
+  is_identifier-mapped Pattern = refl
+  is_identifier-mapped (Identifier b) = refl
+  is_identifier-mapped (RestIdentifier b) = refl
+
+  all_identifiers-mapped : (ps : List Parameter) → all_identifiers (mapped_parameters f ps) ≡ all_identifiers ps
+  all_identifiers-mapped [] = refl
+  all_identifiers-mapped (p ∷ ps) = ap₂ (λ a b. a && b) (is_identifier-mapped p) (all_identifiers-mapped ps)
+
+  entered-follows : (plain : Bool) → Follows f (entered plain) (entered plain)
+  entered-follows true = gives-follows f Undefined
+  entered-follows false = event-follows f EnterBody Undefined
 
   constructor_form-mapped : (cs : Codes) → constructor_form (mapped_codes f cs) ≡ constructor_form cs
   constructor_form-mapped done = refl
@@ -116,14 +128,17 @@ module _ {first : ℕ} {f : ℕ → ℕ} (r : Renames first f) (opens there : Op
   ev_parameters-follows i done = gives-follows f _
   ev_parameters-follows i (and c cs) = bind-follows f _ _ (ev_parameter-follows i c) (λ v. ev_parameters-follows (suc i) cs)
 
+  ev_given-follows : (cs : Codes) → Follows f (ev_given opens first late cs) (ev_given there first later (mapped_codes f cs))
+  ev_given-follows cs = bind-follows f _ _ (ev_parameters-follows 0 cs) (λ v. rw (parameters_of-mapped f cs, all_identifiers-mapped f (parameters_of cs)) (entered-follows f (all_identifiers (parameters_of cs))))
+
   ev_body-follows : (ps : Codes) (body : Code) → Follows f (ev_body opens first late ps body) (ev_body there first later (mapped_codes f ps) (mapped_code f body))
-  ev_body-follows ps body = bind-follows f _ _ (ev_parameters-follows 0 ps) (λ v. ev-follows r opens there follow body)
+  ev_body-follows ps body = bind-follows f _ _ (ev_given-follows ps) (λ v. ev-follows r opens there follow body)
 
   initializers-follow : (n : ℕ) (es : Codes) → Follows f (ev_initializers opens n es) (ev_initializers there (f n) (mapped_codes f es))
   initializers-follow n es = ev_initializers-follows r opens there follow n es
 
-  base-follows : (n : ℕ) (all ps es : Codes) (body : Code) → Follows f (if_one (no_constructor es) (in_order (has_number n late) (ev_initializers opens n all) (ev_parameters opens first late 0 ps) (ev opens body))) (if_one (no_constructor (mapped_codes f es)) (in_order (has_number (f n) later) (ev_initializers there (f n) (mapped_codes f all)) (ev_parameters there first later 0 (mapped_codes f ps)) (ev there (mapped_code f body))))
-  base-follows n all ps es body = rw (no_constructor-mapped f es, has_number-mapped r n late) (if_one-follows f (no_constructor es) (in_order-follows f (has_number n late) (initializers-follow n all) (ev_parameters-follows 0 ps) (ev-follows r opens there follow body)))
+  base-follows : (n : ℕ) (all ps es : Codes) (body : Code) → Follows f (if_one (no_constructor es) (in_order (has_number n late) (ev_initializers opens n all) (ev_given opens first late ps) (ev opens body))) (if_one (no_constructor (mapped_codes f es)) (in_order (has_number (f n) later) (ev_initializers there (f n) (mapped_codes f all)) (ev_given there first later (mapped_codes f ps)) (ev there (mapped_code f body))))
+  base-follows n all ps es body = rw (no_constructor-mapped f es, has_number-mapped r n late) (if_one-follows f (no_constructor es) (in_order-follows f (has_number n late) (initializers-follow n all) (ev_given-follows ps) (ev-follows r opens there follow body)))
 
   derived-follows : (ps es : Codes) (body : Code) → Follows f (if_one (no_constructor es) (ev_body opens first late ps body)) (if_one (no_constructor (mapped_codes f es)) (ev_body there first later (mapped_codes f ps) (mapped_code f body)))
   derived-follows ps es body = rw (no_constructor-mapped f es) (if_one-follows f (no_constructor es) (ev_body-follows ps body))
@@ -190,7 +205,7 @@ module _ {first : ℕ} {f : ℕ → ℕ} (r : Renames first f) (opens there : Op
   behind_arguments-mapped s ss es = after-follows f (ev_all-follows r opens there follow es _ _ (λ vs. bind_parameters-follows f ss vs)) s
 
   behind_parameters-mapped : (s : Environment) (ps : Codes) → behind_parameters there first later (mapped_environment f s) (mapped_codes f ps) ≡ mapped_environment f (behind_parameters opens first late s ps)
-  behind_parameters-mapped s ps = after-follows f (ev_parameters-follows 0 ps) s
+  behind_parameters-mapped s ps = after-follows f (ev_given-follows ps) s
 
   behind_fields-mapped : (s : Environment) (n : ℕ) (h es : Codes) → behind_fields there first later (mapped_environment f s) (f n) (mapped_codes f h) (mapped_codes f es) ≡ mapped_environment f (behind_fields opens first late s n h es)
   behind_fields-mapped s n done es = after-follows f (initializers-follow n es) s
@@ -212,149 +227,145 @@ module _ {first : ℕ} {f : ℕ → ℕ} (r : Renames first f) (opens there : Op
   entry_of_class-mapped n declared h es s a i = rw (keys_stay-mapped a i es, constructor_form-mapped f es, constructor_parameters-mapped f es, heritage_in-mapped s h, methods_in-mapped a es, listed-follows f (ev_construction-follows n h es es) i) (class_entry-mapped f (keys_stay opens first late a i es) declared (constructor_form es) (constructor_parameters es) (heritage_in opens first late s h) (methods_in opens first late a es) (listed (ev_construction opens first late n h es es i)))
 
   mutual
-    pub entries-mapped : (s e : Environment) (c : Code) → entries there first later (mapped_environment f s) (mapped_environment f e) (mapped_code f c) ≡ mapped_entries f (entries opens first late s e c)
-    entries-mapped s e (member m o k) = rw (behind_code-mapped s o) (joined-entries f _ _ (entries-mapped s e o) (entries-mapped (behind_code opens first late s o) e k))
-    entries-mapped s e (private_member m x o) = entries-mapped s e o
-    entries-mapped s e (super_member m home k this) = entries-mapped s e k
-    entries-mapped s e (private_in m test o) = entries-mapped s e o
-    entries-mapped s e (assign to q) =
+    pub entries-mapped : (s : Environment) (c : Code) → entries there first later (mapped_environment f s) (mapped_code f c) ≡ mapped_entries f (entries opens first late s c)
+    entries-mapped s (member m o k) = rw (behind_code-mapped s o) (joined-entries f _ _ (entries-mapped s o) (entries-mapped (behind_code opens first late s o) k))
+    entries-mapped s (private_member m x o) = entries-mapped s o
+    entries-mapped s (super_member m home k this) = entries-mapped s k
+    entries-mapped s (private_in m test o) = entries-mapped s o
+    entries-mapped s (assign to q) =
         let a : Environment = behind_target opens first late s to in
-        rw (behind_target-mapped s to, behind_code-mapped a q) (joined-entries f _ _ (joined-entries f _ _ (target_entries-mapped s e to) (entries-mapped a e q)) (pattern_entries-mapped (behind_code opens first late a q) e to))
-    entries-mapped s e (compound m op to q) = rw (behind_target-mapped s to) (joined-entries f _ _ (target_entries-mapped s e to) (entries-mapped (behind_target opens first late s to) e q))
-    entries-mapped s e (logical m op l q) =
+        rw (behind_target-mapped s to, behind_code-mapped a q) (joined-entries f _ _ (joined-entries f _ _ (target_entries-mapped s to) (entries-mapped a q)) (pattern_entries-mapped (behind_code opens first late a q) to))
+    entries-mapped s (compound m op to q) = rw (behind_target-mapped s to) (joined-entries f _ _ (target_entries-mapped s to) (entries-mapped (behind_target opens first late s to) q))
+    entries-mapped s (logical m op l q) =
         let a : Environment = behind_code opens first late s l in
-        rw (behind_code-mapped s l, behind_code-mapped a q) (joined-entries f _ _ (entries-mapped s e l) (entries-mapped a (behind_code opens first late a q) q))
-    entries-mapped s e (logical_assign m op to q) =
+        rw (behind_code-mapped s l) (joined-entries f _ _ (entries-mapped s l) (entries-mapped a q))
+    entries-mapped s (logical_assign m op to q) =
         let a : Environment = behind_target opens first late s to in
-        rw (behind_target-mapped s to, behind_code-mapped a q) (joined-entries f _ _ (target_entries-mapped s e to) (entries-mapped a (behind_code opens first late a q) q))
-    entries-mapped s e (update m op prefix to) = target_entries-mapped s e to
-    entries-mapped s e (call m g es) = rw (behind_callee-mapped s g) (joined-entries f _ _ (callee_entries-mapped s e g) (all_entries-mapped (behind_callee opens first late s g) e es))
-    entries-mapped s e (tag m g ts es) = rw (behind_callee-mapped s g) (joined-entries f _ _ (callee_entries-mapped s e g) (all_entries-mapped (behind_callee opens first late s g) e es))
-    entries-mapped s e (construct m g es) = rw (behind_code-mapped s g) (joined-entries f _ _ (entries-mapped s e g) (all_entries-mapped (behind_code opens first late s g) e es))
-    entries-mapped s e (super_call m n o es) = all_entries-mapped s e es
-    entries-mapped s e (sequence es) = all_entries-mapped s e es
-    entries-mapped s e (template m ts es) = all_entries-mapped s e es
-    entries-mapped s e (operation m op es parts) = rw (behind_all-mapped s es) (joined-entries f _ _ (all_entries-mapped s e es) (held_entries-mapped (behind_all opens first late s es) parts))
-    entries-mapped s e (chain m c) = rw (behind_code-mapped s c) (entries-mapped s (behind_code opens first late s c) c)
-    entries-mapped s e (short c) = entries-mapped s e c
-    entries-mapped s e (tested o again c) =
+        rw (behind_target-mapped s to) (joined-entries f _ _ (target_entries-mapped s to) (entries-mapped a q))
+    entries-mapped s (update m op prefix to) = target_entries-mapped s to
+    entries-mapped s (call m g es) = rw (behind_callee-mapped s g) (joined-entries f _ _ (callee_entries-mapped s g) (all_entries-mapped (behind_callee opens first late s g) es))
+    entries-mapped s (tag m g ts es) = rw (behind_callee-mapped s g) (joined-entries f _ _ (callee_entries-mapped s g) (all_entries-mapped (behind_callee opens first late s g) es))
+    entries-mapped s (construct m g es) = rw (behind_code-mapped s g) (joined-entries f _ _ (entries-mapped s g) (all_entries-mapped (behind_code opens first late s g) es))
+    entries-mapped s (super_call m n o es) = all_entries-mapped s es
+    entries-mapped s (sequence es) = all_entries-mapped s es
+    entries-mapped s (template m ts es) = all_entries-mapped s es
+    entries-mapped s (operation m op es parts) = rw (behind_all-mapped s es) (joined-entries f _ _ (all_entries-mapped s es) (held_entries-mapped (behind_all opens first late s es) parts))
+    entries-mapped s (chain m c) = entries-mapped s c
+    entries-mapped s (short c) = entries-mapped s c
+    entries-mapped s (tested o again c) =
         let a : Environment = behind_code opens first late s o in
-        rw (behind_code-mapped s o) (joined-entries f _ _ (joined-entries f _ _ (entries-mapped s e o) (all_entries-mapped a e again)) (entries-mapped a e c))
-    entries-mapped s e (steps es) = all_entries-mapped s e es
-    entries-mapped s e (gives_to m to) = joined-entries f _ _ (target_entries-mapped s e to) (pattern_entries-mapped s e to)
-    entries-mapped s e (export_default c) = entries-mapped s e c
-    entries-mapped s e (function g form own ps body) =
-        let start : Environment = without (assigned_in_all ps ++ assigned_in body) e in
-        let inner : Environment = after_run start (ev_body opens first late ps body start) in
-        rw (body_start-mapped e ps body, parameters_of-mapped f ps, listed-follows f (ev_body-follows ps body) start, function_entry-mapped f form own (parameters_of ps) (listed (ev_body opens first late ps body start)), after-follows f (ev_body-follows ps body) start, behind_parameters-mapped start ps)
-        (ap (λ rest. mapped_nullable_entry f (g, function_entry form own (parameters_of ps) (listed (ev_body opens first late ps body start))) ∷ rest) (joined-entries f _ _ (parameter_entries-mapped start inner ps) (entries-mapped (behind_parameters opens first late start ps) inner body)))
-    entries-mapped s e (class_code n declared h es) =
-        let start : Environment = without (assigned_in_all es) e in
-        let inner : Environment = after_run start (ev_construction opens first late n h es es start) in
+        rw (behind_code-mapped s o) (joined-entries f _ _ (joined-entries f _ _ (entries-mapped s o) (all_entries-mapped a again)) (entries-mapped a c))
+    entries-mapped s (steps es) = all_entries-mapped s es
+    entries-mapped s (gives_to m to) = joined-entries f _ _ (target_entries-mapped s to) (pattern_entries-mapped s to)
+    entries-mapped s (export_default c) = entries-mapped s c
+    entries-mapped s (function g form own ps body) =
+        let start : Environment = without (assigned_in_all ps ++ assigned_in body) s in
+        rw (body_start-mapped s ps body, listed-follows f (ev_body-follows ps body) start, behind_parameters-mapped start ps, parameters_of-mapped f ps, function_entry-mapped f form own (parameters_of ps) (listed (ev_body opens first late ps body start)))
+        (ap (λ rest. mapped_nullable_entry f (g, function_entry form own (parameters_of ps) (listed (ev_body opens first late ps body start))) ∷ rest) (joined-entries f _ _ (parameter_entries-mapped start ps) (entries-mapped (behind_parameters opens first late start ps) body)))
+    entries-mapped s (class_code n declared h es) =
+        let start : Environment = without (assigned_in_all es) s in
         let a : Environment = behind_all opens first late s h in
         let b : Environment = after_run a (ev_keys opens es (λ ks. gives Undefined) a) in
-        rw (elements_start-mapped e es, behind_all-mapped s h, entry_of_class-mapped n declared h es s a start, after-follows f (ev_construction-follows n h es es) start, after-follows f (ev_keys-follows r opens there follow es (λ ks. gives Undefined) (λ ks. gives Undefined) (λ ks. gives-follows f Undefined)) a, behind_fields-mapped start n h es)
-        (ap (λ rest. mapped_nullable_entry f (n, class_entry (keys_stay opens first late a start es) declared (constructor_form es) (constructor_parameters es) (heritage_in opens first late s h) (methods_in opens first late a es) (listed (ev_construction opens first late n h es es start))) ∷ rest) (joined-entries f _ _ (joined-entries f _ _ (joined-entries f _ _ (joined-entries f _ _ (all_entries-mapped s e h) (key_entries-mapped a e es)) (static_entries-mapped n b e es)) (field_entries-mapped n start inner es)) (function_entries-mapped (behind_fields opens first late start n h es) inner e es)))
-    entries-mapped s e (from_call c) = entries-mapped s e c
-    entries-mapped s e (from_member c) = entries-mapped s e c
-    entries-mapped s e (key_of c) = entries-mapped s e c
-    entries-mapped s e (define m o k q) = rw (behind_code-mapped s k) (joined-entries f _ _ (entries-mapped s e k) (entries-mapped (behind_code opens first late s k) e q))
-    entries-mapped s e (private_initialize m d o q) = entries-mapped s e q
-    entries-mapped s e (call_arrow ss body es) = rw (behind_arguments-mapped s ss es) (joined-entries f _ _ (all_entries-mapped s e es) (entries-mapped (behind_arguments opens first late s ss es) e body))
-    entries-mapped s e (call_closure x es) = all_entries-mapped s e es
-    entries-mapped s e (give_function m x g (new_function k form ps body)) =
-        let start : Environment = without (assigned_in body) e in
-        rw (given_start-mapped e body, opened_body-mapped f body, behind_code-mapped start (opened_body body)) (entries-mapped start (behind_code opens first late start (opened_body body)) body)
-    entries-mapped s e (give_function m x g (function k form own ps body)) = entries-mapped s e (function k form own ps body)
-    entries-mapped s e (give_function m x g c) = entries-mapped s e c
-    entries-mapped s e (give_class n c) = entries-mapped s e c
-    entries-mapped s e c = refl
+        rw (elements_start-mapped s es, behind_all-mapped s h, entry_of_class-mapped n declared h es s a start, after-follows f (ev_keys-follows r opens there follow es (λ ks. gives Undefined) (λ ks. gives Undefined) (λ ks. gives-follows f Undefined)) a, behind_fields-mapped start n h es)
+        (ap (λ rest. mapped_nullable_entry f (n, class_entry (keys_stay opens first late a start es) declared (constructor_form es) (constructor_parameters es) (heritage_in opens first late s h) (methods_in opens first late a es) (listed (ev_construction opens first late n h es es start))) ∷ rest) (joined-entries f _ _ (joined-entries f _ _ (joined-entries f _ _ (joined-entries f _ _ (all_entries-mapped s h) (key_entries-mapped a es)) (static_entries-mapped n b es)) (field_entries-mapped n start es)) (function_entries-mapped s (behind_fields opens first late start n h es) es)))
+    entries-mapped s (from_call c) = entries-mapped s c
+    entries-mapped s (from_member c) = entries-mapped s c
+    entries-mapped s (key_of c) = entries-mapped s c
+    entries-mapped s (define m o k q) = rw (behind_code-mapped s k) (joined-entries f _ _ (entries-mapped s k) (entries-mapped (behind_code opens first late s k) q))
+    entries-mapped s (private_initialize m d o q) = entries-mapped s q
+    entries-mapped s (call_arrow ss body es) = rw (behind_arguments-mapped s ss es) (joined-entries f _ _ (all_entries-mapped s es) (entries-mapped (behind_arguments opens first late s ss es) body))
+    entries-mapped s (call_closure x es) = all_entries-mapped s es
+    entries-mapped s (give_function m x g (new_function k form ps body)) = rw (given_start-mapped s body) (entries-mapped (without (assigned_in body) s) body)
+    entries-mapped s (give_function m x g (function k form own ps body)) = entries-mapped s (function k form own ps body)
+    entries-mapped s (give_function m x g c) = entries-mapped s c
+    entries-mapped s (give_class n c) = entries-mapped s c
+    entries-mapped s c = refl
 
-    target_entries-mapped : (s e : Environment) (to : Target) → target_entries there first later (mapped_environment f s) (mapped_environment f e) (mapped_target f to) ≡ mapped_entries f (target_entries opens first late s e to)
-    target_entries-mapped s e (to_member m o k) = rw (behind_code-mapped s o) (joined-entries f _ _ (entries-mapped s e o) (entries-mapped (behind_code opens first late s o) e k))
-    target_entries-mapped s e (to_private m x o) = entries-mapped s e o
-    target_entries-mapped s e (to_super m home k this) = entries-mapped s e k
-    target_entries-mapped s e (to_setter m d o) = entries-mapped s e o
-    target_entries-mapped s e (to_default m to d) = target_entries-mapped s e to
-    target_entries-mapped s e to = refl
+    target_entries-mapped : (s : Environment) (to : Target) → target_entries there first later (mapped_environment f s) (mapped_target f to) ≡ mapped_entries f (target_entries opens first late s to)
+    target_entries-mapped s (to_member m o k) = rw (behind_code-mapped s o) (joined-entries f _ _ (entries-mapped s o) (entries-mapped (behind_code opens first late s o) k))
+    target_entries-mapped s (to_private m x o) = entries-mapped s o
+    target_entries-mapped s (to_super m home k this) = entries-mapped s k
+    target_entries-mapped s (to_setter m d o) = entries-mapped s o
+    target_entries-mapped s (to_default m to d) = target_entries-mapped s to
+    target_entries-mapped s to = refl
 
-    pattern_entries-mapped : (s e : Environment) (to : Target) → pattern_entries there first later (mapped_environment f s) (mapped_environment f e) (mapped_target f to) ≡ mapped_entries f (pattern_entries opens first late s e to)
-    pattern_entries-mapped s e (to_pattern m kind cs) = taken_entries-mapped s e cs
-    pattern_entries-mapped s e (to_default m to d) = rw (behind_code-mapped s d) (joined-entries f _ _ (entries-mapped s (behind_code opens first late s d) d) (pattern_entries-mapped s e to))
-    pattern_entries-mapped s e to = refl
+    pattern_entries-mapped : (s : Environment) (to : Target) → pattern_entries there first later (mapped_environment f s) (mapped_target f to) ≡ mapped_entries f (pattern_entries opens first late s to)
+    pattern_entries-mapped s (to_pattern m kind cs) = taken_entries-mapped s cs
+    pattern_entries-mapped s (to_default m to d) = joined-entries f _ _ (entries-mapped s d) (pattern_entries-mapped s to)
+    pattern_entries-mapped s to = refl
 
-    taken_entries-mapped : (s e : Environment) (cs : Codes) → taken_entries there first later (mapped_environment f s) (mapped_environment f e) (mapped_codes f cs) ≡ mapped_entries f (taken_entries opens first late s e cs)
-    taken_entries-mapped s e done = refl
-    taken_entries-mapped s e (and c cs) = rw (after-follows f (ev_take-follows r opens there follow Undefined c) s) (joined-entries f _ _ (take_entries-mapped s e c) (taken_entries-mapped (after_run s (ev_take opens Undefined c s)) e cs))
+    taken_entries-mapped : (s : Environment) (cs : Codes) → taken_entries there first later (mapped_environment f s) (mapped_codes f cs) ≡ mapped_entries f (taken_entries opens first late s cs)
+    taken_entries-mapped s done = refl
+    taken_entries-mapped s (and c cs) = rw (after-follows f (ev_take-follows r opens there follow Undefined c) s) (joined-entries f _ _ (take_entries-mapped s c) (taken_entries-mapped (after_run s (ev_take opens Undefined c s)) cs))
 
-    take_entries-mapped : (s e : Environment) (c : Code) → take_entries there first later (mapped_environment f s) (mapped_environment f e) (mapped_code f c) ≡ mapped_entries f (take_entries opens first late s e c)
-    take_entries-mapped s e (takes m ds k to) =
+    take_entries-mapped : (s : Environment) (c : Code) → take_entries there first later (mapped_environment f s) (mapped_code f c) ≡ mapped_entries f (take_entries opens first late s c)
+    take_entries-mapped s (takes m ds k to) =
         let a : Environment = behind_all opens first late s k in
-        rw (behind_all-mapped s k, behind_target-mapped a to) (joined-entries f _ _ (joined-entries f _ _ (all_entries-mapped s e k) (target_entries-mapped a e to)) (pattern_entries-mapped (behind_target opens first late a to) e to))
-    take_entries-mapped s e c = refl
+        rw (behind_all-mapped s k, behind_target-mapped a to) (joined-entries f _ _ (joined-entries f _ _ (all_entries-mapped s k) (target_entries-mapped a to)) (pattern_entries-mapped (behind_target opens first late a to) to))
+    take_entries-mapped s c = refl
 
-    callee_entries-mapped : (s e : Environment) (callee : Callee) → callee_entries there first later (mapped_environment f s) (mapped_environment f e) (mapped_callee f callee) ≡ mapped_entries f (callee_entries opens first late s e callee)
-    callee_entries-mapped s e (plain c) = entries-mapped s e c
-    callee_entries-mapped s e (on_member m o k) = rw (behind_code-mapped s o) (joined-entries f _ _ (entries-mapped s e o) (entries-mapped (behind_code opens first late s o) e k))
-    callee_entries-mapped s e (on_private m x o) = entries-mapped s e o
-    callee_entries-mapped s e (on_super m home k this) = entries-mapped s e k
-    callee_entries-mapped s e (with_receiver g o) = rw (behind_code-mapped s g) (joined-entries f _ _ (entries-mapped s e g) (entries-mapped (behind_code opens first late s g) e o))
-    callee_entries-mapped s e (checked g) = callee_entries-mapped s e g
-    callee_entries-mapped s e (on_chain m g) = rw (behind_callee-mapped s g) (callee_entries-mapped s (behind_callee opens first late s g) g)
-    callee_entries-mapped s e (behind_test o again g) =
+    callee_entries-mapped : (s : Environment) (callee : Callee) → callee_entries there first later (mapped_environment f s) (mapped_callee f callee) ≡ mapped_entries f (callee_entries opens first late s callee)
+    callee_entries-mapped s (plain c) = entries-mapped s c
+    callee_entries-mapped s (on_member m o k) = rw (behind_code-mapped s o) (joined-entries f _ _ (entries-mapped s o) (entries-mapped (behind_code opens first late s o) k))
+    callee_entries-mapped s (on_private m x o) = entries-mapped s o
+    callee_entries-mapped s (on_super m home k this) = entries-mapped s k
+    callee_entries-mapped s (with_receiver g o) = rw (behind_code-mapped s g) (joined-entries f _ _ (entries-mapped s g) (entries-mapped (behind_code opens first late s g) o))
+    callee_entries-mapped s (checked g) = callee_entries-mapped s g
+    callee_entries-mapped s (on_chain m g) = callee_entries-mapped s g
+    callee_entries-mapped s (behind_test o again g) =
         let a : Environment = behind_code opens first late s o in
-        rw (behind_code-mapped s o) (joined-entries f _ _ (joined-entries f _ _ (entries-mapped s e o) (all_entries-mapped a e again)) (callee_entries-mapped a e g))
+        rw (behind_code-mapped s o) (joined-entries f _ _ (joined-entries f _ _ (entries-mapped s o) (all_entries-mapped a again)) (callee_entries-mapped a g))
 
-    all_entries-mapped : (s e : Environment) (cs : Codes) → all_entries there first later (mapped_environment f s) (mapped_environment f e) (mapped_codes f cs) ≡ mapped_entries f (all_entries opens first late s e cs)
-    all_entries-mapped s e done = refl
-    all_entries-mapped s e (and c cs) = rw (behind_code-mapped s c) (joined-entries f _ _ (entries-mapped s e c) (all_entries-mapped (behind_code opens first late s c) e cs))
+    all_entries-mapped : (s : Environment) (cs : Codes) → all_entries there first later (mapped_environment f s) (mapped_codes f cs) ≡ mapped_entries f (all_entries opens first late s cs)
+    all_entries-mapped s done = refl
+    all_entries-mapped s (and c cs) = rw (behind_code-mapped s c) (joined-entries f _ _ (entries-mapped s c) (all_entries-mapped (behind_code opens first late s c) cs))
 
     held_entries-mapped : (s : Environment) (cs : Codes) → held_entries there first later (mapped_environment f s) (mapped_codes f cs) ≡ mapped_entries f (held_entries opens first late s cs)
     held_entries-mapped s done = refl
-    held_entries-mapped s (and c cs) = rw (behind_code-mapped s c) (joined-entries f _ _ (entries-mapped s (behind_code opens first late s c) c) (held_entries-mapped s cs))
+    held_entries-mapped s (and c cs) = joined-entries f _ _ (entries-mapped s c) (held_entries-mapped s cs)
 
-    parameter_entries-mapped : (s e : Environment) (cs : Codes) → parameter_entries there first later (mapped_environment f s) (mapped_environment f e) (mapped_codes f cs) ≡ mapped_entries f (parameter_entries opens first late s e cs)
-    parameter_entries-mapped s e done = refl
-    parameter_entries-mapped s e (and (pattern m to) cs) = joined-entries f _ _ (joined-entries f _ _ (target_entries-mapped s e to) (pattern_entries-mapped s e to)) (parameter_entries-mapped s e cs)
-    parameter_entries-mapped s e (and (rest to) cs) = joined-entries f _ _ (joined-entries f _ _ (target_entries-mapped s e to) (pattern_entries-mapped s e to)) (parameter_entries-mapped s e cs)
-    parameter_entries-mapped s e (and c cs) = parameter_entries-mapped s e cs
+    parameter_entries-mapped : (s : Environment) (cs : Codes) → parameter_entries there first later (mapped_environment f s) (mapped_codes f cs) ≡ mapped_entries f (parameter_entries opens first late s cs)
+    parameter_entries-mapped s done = refl
+    parameter_entries-mapped s (and (pattern m to) cs) = joined-entries f _ _ (joined-entries f _ _ (target_entries-mapped s to) (pattern_entries-mapped s to)) (parameter_entries-mapped s cs)
+    parameter_entries-mapped s (and (rest to) cs) = joined-entries f _ _ (joined-entries f _ _ (target_entries-mapped s to) (pattern_entries-mapped s to)) (parameter_entries-mapped s cs)
+    parameter_entries-mapped s (and c cs) = parameter_entries-mapped s cs
 
-    key_entries-mapped : (s e : Environment) (cs : Codes) → key_entries there first later (mapped_environment f s) (mapped_environment f e) (mapped_codes f cs) ≡ mapped_entries f (key_entries opens first late s e cs)
-    key_entries-mapped s e done = refl
-    key_entries-mapped s e (and c cs) = rw (behind_key-mapped s c) (joined-entries f _ _ (key_entry-mapped s e c) (key_entries-mapped (behind_key opens first late s c) e cs))
+    key_entries-mapped : (s : Environment) (cs : Codes) → key_entries there first later (mapped_environment f s) (mapped_codes f cs) ≡ mapped_entries f (key_entries opens first late s cs)
+    key_entries-mapped s done = refl
+    key_entries-mapped s (and c cs) = rw (behind_key-mapped s c) (joined-entries f _ _ (key_entry-mapped s c) (key_entries-mapped (behind_key opens first late s c) cs))
 
-    key_entry-mapped : (s e : Environment) (c : Code) → key_entry there first later (mapped_environment f s) (mapped_environment f e) (mapped_code f c) ≡ mapped_entries f (key_entry opens first late s e c)
-    key_entry-mapped s e (field is_static form k q) = entries-mapped s e k
-    key_entry-mapped s e (method is_static kind k g) = entries-mapped s e k
-    key_entry-mapped s e c = refl
+    key_entry-mapped : (s : Environment) (c : Code) → key_entry there first later (mapped_environment f s) (mapped_code f c) ≡ mapped_entries f (key_entry opens first late s c)
+    key_entry-mapped s (field is_static form k q) = entries-mapped s k
+    key_entry-mapped s (method is_static kind k g) = entries-mapped s k
+    key_entry-mapped s c = refl
 
-    static_entries-mapped : (n : ℕ) (s e : Environment) (cs : Codes) → static_entries there first later (f n) (mapped_environment f s) (mapped_environment f e) (mapped_codes f cs) ≡ mapped_entries f (static_entries opens first late n s e cs)
-    static_entries-mapped n s e done = refl
-    static_entries-mapped n s e (and c cs) = rw (after-follows f (ev_static-follows r opens there follow n Undefined c) s) (joined-entries f _ _ (static_entry-mapped s e c) (static_entries-mapped n (after_run s (ev_static opens n Undefined c s)) e cs))
+    static_entries-mapped : (n : ℕ) (s : Environment) (cs : Codes) → static_entries there first later (f n) (mapped_environment f s) (mapped_codes f cs) ≡ mapped_entries f (static_entries opens first late n s cs)
+    static_entries-mapped n s done = refl
+    static_entries-mapped n s (and c cs) = rw (after-follows f (ev_static-follows r opens there follow n Undefined c) s) (joined-entries f _ _ (static_entry-mapped s c) (static_entries-mapped n (after_run s (ev_static opens n Undefined c s)) cs))
 
-    static_entry-mapped : (s e : Environment) (c : Code) → static_entry there first later (mapped_environment f s) (mapped_environment f e) (mapped_code f c) ≡ mapped_entries f (static_entry opens first late s e c)
-    static_entry-mapped s e (field true form k q) = entries-mapped s e q
-    static_entry-mapped s e (private_field true d q) = entries-mapped s e q
-    static_entry-mapped s e (static_block cs) = all_entries-mapped s e cs
-    static_entry-mapped s e (generated_element x q) = entries-mapped s e q
-    static_entry-mapped s e c = refl
+    static_entry-mapped : (s : Environment) (c : Code) → static_entry there first later (mapped_environment f s) (mapped_code f c) ≡ mapped_entries f (static_entry opens first late s c)
+    static_entry-mapped s (field true form k q) = entries-mapped s q
+    static_entry-mapped s (private_field true d q) = entries-mapped s q
+    static_entry-mapped s (static_block cs) = all_entries-mapped s cs
+    static_entry-mapped s (generated_element x q) = entries-mapped s q
+    static_entry-mapped s c = refl
 
-    field_entries-mapped : (n : ℕ) (s e : Environment) (cs : Codes) → field_entries there first later (f n) (mapped_environment f s) (mapped_environment f e) (mapped_codes f cs) ≡ mapped_entries f (field_entries opens first late n s e cs)
-    field_entries-mapped n s e done = refl
-    field_entries-mapped n s e (and c cs) = rw (after-follows f (ev_field-follows r opens there follow n c) s) (joined-entries f _ _ (field_entry-mapped s e c) (field_entries-mapped n (after_run s (ev_field opens n c s)) e cs))
+    field_entries-mapped : (n : ℕ) (s : Environment) (cs : Codes) → field_entries there first later (f n) (mapped_environment f s) (mapped_codes f cs) ≡ mapped_entries f (field_entries opens first late n s cs)
+    field_entries-mapped n s done = refl
+    field_entries-mapped n s (and c cs) = rw (after-follows f (ev_field-follows r opens there follow n c) s) (joined-entries f _ _ (field_entry-mapped s c) (field_entries-mapped n (after_run s (ev_field opens n c s)) cs))
 
-    field_entry-mapped : (s e : Environment) (c : Code) → field_entry there first later (mapped_environment f s) (mapped_environment f e) (mapped_code f c) ≡ mapped_entries f (field_entry opens first late s e c)
-    field_entry-mapped s e (field false form k q) = entries-mapped s e q
-    field_entry-mapped s e (private_field false d q) = entries-mapped s e q
-    field_entry-mapped s e c = refl
+    field_entry-mapped : (s : Environment) (c : Code) → field_entry there first later (mapped_environment f s) (mapped_code f c) ≡ mapped_entries f (field_entry opens first late s c)
+    field_entry-mapped s (field false form k q) = entries-mapped s q
+    field_entry-mapped s (private_field false d q) = entries-mapped s q
+    field_entry-mapped s c = refl
 
-    function_entries-mapped : (s i e : Environment) (cs : Codes) → function_entries there first later (mapped_environment f s) (mapped_environment f i) (mapped_environment f e) (mapped_codes f cs) ≡ mapped_entries f (function_entries opens first late s i e cs)
-    function_entries-mapped s i e done = refl
-    function_entries-mapped s i e (and c cs) = joined-entries f _ _ (element_function-mapped s i e c) (function_entries-mapped s i e cs)
+    function_entries-mapped : (s i : Environment) (cs : Codes) → function_entries there first later (mapped_environment f s) (mapped_environment f i) (mapped_codes f cs) ≡ mapped_entries f (function_entries opens first late s i cs)
+    function_entries-mapped s i done = refl
+    function_entries-mapped s i (and c cs) = joined-entries f _ _ (element_function-mapped s i c) (function_entries-mapped s i cs)
 
-    element_function-mapped : (s i e : Environment) (c : Code) → element_function there first later (mapped_environment f s) (mapped_environment f i) (mapped_environment f e) (mapped_code f c) ≡ mapped_entries f (element_function opens first late s i e c)
-    element_function-mapped s i e (method is_static kind k g) = entries-mapped e e g
-    element_function-mapped s i e (private_method is_static d g) = entries-mapped e e g
-    element_function-mapped s i e (constructor (function g form own ps body)) = rw (behind_parameters-mapped s ps) (joined-entries f _ _ (parameter_entries-mapped s i ps) (entries-mapped (behind_parameters opens first late s ps) i body))
-    element_function-mapped s i e (constructor (new_function g form ps body)) = rw (behind_parameters-mapped s ps) (joined-entries f _ _ (parameter_entries-mapped s i ps) (entries-mapped (behind_parameters opens first late s ps) i body))
-    element_function-mapped s i e c = refl
+    element_function-mapped : (s i : Environment) (c : Code) → element_function there first later (mapped_environment f s) (mapped_environment f i) (mapped_code f c) ≡ mapped_entries f (element_function opens first late s i c)
+    element_function-mapped s i (method is_static kind k g) = entries-mapped s g
+    element_function-mapped s i (private_method is_static d g) = entries-mapped s g
+    element_function-mapped s i (constructor (function g form own ps body)) = rw (behind_parameters-mapped i ps) (joined-entries f _ _ (parameter_entries-mapped i ps) (entries-mapped (behind_parameters opens first late i ps) body))
+    element_function-mapped s i (constructor (new_function g form ps body)) = rw (behind_parameters-mapped i ps) (joined-entries f _ _ (parameter_entries-mapped i ps) (entries-mapped (behind_parameters opens first late i ps) body))
+    element_function-mapped s i c = refl

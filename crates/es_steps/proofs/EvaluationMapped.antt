@@ -5,7 +5,7 @@ use Rattle.es_base.specs.declared.ledger.GeneratedKind.{GeneratedKind}
 use Rattle.es_steps.proofs.Mapped.{Renames, mapped_option, mapped_generated, mapped_name_kind, mapped_value, mapped_values, mapped_nullable, mapped_event, mapped_events, mapped_environment, mapped_run, mapped_runs, mapped_opened, mapped_code, mapped_target, mapped_callee, mapped_codes}
 use Rattle.es_steps.specs.Code.{Code, Codes, Target, Callee, FieldForm, defines, sets, leaves_out, TemplateString, Opened, InitializersOf, BodyOf, CalledBodyOf, nothing, no_rule, value, spelled, private_name, binding, rest, name, super, member, private_member, super_member, private_in, assign, compound, logical, logical_assign, update, call, tag, construct, super_call, super_call_with_all, sequence, template_string, template, operation, piece, chain, short, tested, pattern, takes, steps, gives_to, export_default, function, new_function, new_return, class_code, field, private_field, method, private_method, constructor, static_block, generated_element, from_call, from_member, key_of, helper, helper_call, throw, define, private_initialize, add_brand, bound, setter, private_value, call_arrow, call_closure, initializers, give_function, give_class, to_name, to_member, to_private, to_super, to_setter, to_pattern, to_default, no_target, plain, on_member, on_private, on_super, with_receiver, checked, on_chain, behind_test, done, and}
 use Rattle.es_steps.specs.Context.{NameKind, Fixed, Changing, MeansClass, Generated, StaticMethod}
-use Rattle.es_steps.specs.Evaluation.{Environment, Run, Evaluation, no_meaning, gives, event, run_behind, go_on, bind, settle_run, settle, held_run, held, quiet_run, quiet, is_none, same_run, stays, class_run, gives_class, this_run, gives_this, found, give_found, read_given, read_generated, read_name, stands_for, write_generated, write_name, private_key, default_key, read_private, write_private, Ready, ready_name, ready_member, ready_private, ready_super, ready_setter, ready_pattern, read_ready, write_ready, initialized, last_of, operator_step, new_or_former, nullable_gives, has_receiver, receiver_in, template_constant, ev_template, tag_values, bind_parameters, tested_then, has_instance_methods, brand_first, declared_first, ev_behind, ev, ev_target, ev_taken, ev_take, ev_callee, ev_again, ev_all, ev_held, ev_keys, ev_key, ev_statics, ev_static, ev_fields, ev_field, ev_initializers}
+use Rattle.es_steps.specs.Evaluation.{is_binding_value, kept_as, given_as, Environment, Run, Evaluation, no_meaning, gives, event, run_behind, go_on, bind, settle_run, settle, held_run, held, quiet_run, quiet, is_none, same_run, stays, class_run, gives_class, this_run, gives_this, found, give_found, read_given, read_generated, read_name, stands_for, write_generated, write_name, private_key, default_key, read_private, write_private, Ready, ready_name, ready_member, ready_private, ready_super, ready_setter, ready_pattern, read_ready, write_ready, initialized, last_of, operator_step, new_or_former, nullable_gives, has_receiver, receiver_in, template_constant, ev_template, tag_values, bind_parameters, tested_then, has_instance_methods, brand_first, declared_first, ev_behind, ev, ev_target, ev_taken, ev_take, ev_callee, ev_again, ev_all, ev_held, ev_keys, ev_key, ev_statics, ev_static, ev_fields, ev_field, ev_initializers}
 use Rattle.es_steps.specs.Events.{Operation, OfKind, Take, Place, RightOf, Default, Part, Event, AddBrand, SuperCall, SuperCallWithAll, InitializeClass, Update, Throw, Events, none, then, is_throw, throws, behind, value_behind, Short, Operate}
 use Rattle.es_steps.specs.SameValues.{same_value}
 use Rattle.es_steps.specs.Values.{String, Value, ConstantOf, Undefined, BindingOf, FunctionOf, ClassOf, ThisOf, ArgumentsOf, NewTargetOf, ResultOf, FormerOf, KeyOf, TagString, as_key, is_class_value}
@@ -117,19 +117,39 @@ module _ (f : ℕ → ℕ) where
   read_name-follows m t (Generated g) = read_generated-follows g t
   read_name-follows m t (StaticMethod d n) = event-follows _ _
 
+  is_binding_value-mapped : (v : Value) → is_binding_value (mapped_value f v) ≡ is_binding_value v
+  is_binding_value-mapped (BindingOf b) = refl
+  is_binding_value-mapped (KeyOf v) = is_binding_value-mapped v
+  is_binding_value-mapped v = refl
+
   pub stands_for-follows : (t : String) (v : Value) → Follows f (stands_for t v) (stands_for t (mapped_value f v))
   stands_for-follows t v = record { on = λ s. refl }
 
-  write_generated-follows : (g : GeneratedKind) (t : String) (v : Value) → Follows f (write_generated g t v) (write_generated (mapped_generated f g) t (mapped_value f v))
-  write_generated-follows GeneratedKind.Temp t v = stands_for-follows t v
-  write_generated-follows g t v = no_meaning-follows
+  pub kept_as-follows : (t : String) (v : Value) → Follows f (kept_as t v) (kept_as t (mapped_value f v))
+  kept_as-follows t v = rw (is_binding_value-mapped v) (kept (is_binding_value v))
+    where
+      kept : (holds : Bool) → Follows f (cond holds no_meaning (stands_for t v)) (cond holds no_meaning (stands_for t (mapped_value f v)))
+      kept true = no_meaning-follows
+      kept false = stands_for-follows t v
 
-  pub write_name-follows : (t : String) (kind : NameKind) (v : Value) → Follows f (write_name t kind v) (write_name t (mapped_name_kind f kind) (mapped_value f v))
-  write_name-follows t (Fixed b) v = event-follows _ _
-  write_name-follows t (Changing x) v = event-follows _ _
-  write_name-follows t (MeansClass n b) v = event-follows _ _
-  write_name-follows t (Generated g) v = write_generated-follows g t v
-  write_name-follows t (StaticMethod d n) v = no_meaning-follows
+  given_as-follows : (m : ℕ) (t : String) (v : Value) → Follows f (given_as m t v) (given_as (f m) t (mapped_value f v))
+  given_as-follows m t (KeyOf v) = rw (is_binding_value-mapped v) (either (is_binding_value v))
+    where
+      either : (holds : Bool) → Follows f (stands_for t (cond holds (ResultOf m) (KeyOf v))) (stands_for t (cond holds (ResultOf (f m)) (KeyOf (mapped_value f v))))
+      either true = stands_for-follows t (ResultOf m)
+      either false = stands_for-follows t (KeyOf v)
+  given_as-follows m t v = kept_as-follows t v
+
+  write_generated-follows : (m : ℕ) (g : GeneratedKind) (t : String) (v : Value) → Follows f (write_generated m g t v) (write_generated (f m) (mapped_generated f g) t (mapped_value f v))
+  write_generated-follows m GeneratedKind.Temp t v = given_as-follows m t v
+  write_generated-follows m g t v = no_meaning-follows
+
+  pub write_name-follows : (m : ℕ) (t : String) (kind : NameKind) (v : Value) → Follows f (write_name m t kind v) (write_name (f m) t (mapped_name_kind f kind) (mapped_value f v))
+  write_name-follows m t (Fixed b) v = event-follows _ _
+  write_name-follows m t (Changing x) v = event-follows _ _
+  write_name-follows m t (MeansClass n b) v = event-follows _ _
+  write_name-follows m t (Generated g) v = write_generated-follows m g t v
+  write_name-follows m t (StaticMethod d n) v = no_meaning-follows
 
   read_private-follows : (m : ℕ) (d : Option ℕ) (o : Value) → Follows f (read_private m d o) (read_private (f m) (mapped_option f d) (mapped_value f o))
   read_private-follows m None o = event-follows _ _
@@ -382,7 +402,7 @@ module _ {first : ℕ} {f : ℕ → ℕ} (r : Renames first f) where
       ev-follows (give_class n e) = gives_class-follows n (ev-follows e)
 
       pub ev_target-follows : (to : Target) (g h : Ready → Evaluation) → ((t u : Ready) → ReadyFollows t u → Follows f (g t) (h u)) → Follows f (ev_target opens to g) (ev_target there (mapped_target f to) h)
-      ev_target-follows (to_name m s kind) g h next = next _ _ (record { reads = read_name-follows f m s kind; writes = write_name-follows f s kind })
+      ev_target-follows (to_name m s kind) g h next = next _ _ (record { reads = read_name-follows f m s kind; writes = write_name-follows f m s kind })
       ev_target-follows (to_member m o k) g h next = bind-follows f _ _ (ev-follows o) (λ a. bind-follows f _ _ (ev-follows k) (λ b. next (ready_member m a b) (ready_member (f m) (mapped_value f a) (mapped_value f b)) (record { reads = event-follows f _ _; writes = λ v. event-follows f _ _ })))
       ev_target-follows (to_private m x o) g h next = bind-follows f _ _ (ev-follows o) (λ a. next (ready_private m x.reads x.writes a) (ready_private (f m) (mapped_option f x.reads) (mapped_option f x.writes) (mapped_value f a)) (record { reads = read_private-follows f m x.reads a; writes = write_private-follows f x.writes a }))
       ev_target-follows (to_super m home k this) g h next = bind-follows f _ _ (ev-follows k) (λ b. next _ _ (record { reads = event-follows f _ _; writes = λ v. event-follows f _ _ }))
@@ -450,7 +470,7 @@ module _ {first : ℕ} {f : ℕ → ℕ} (r : Renames first f) where
       ev_static-follows n a (field true form k e) = bind-follows f _ _ (ev-follows e) (λ v. initialized-follows f form (ClassOf n) a v)
       ev_static-follows n a (private_field true d e) = bind-follows f _ _ (ev-follows e) (λ v. event-follows f _ _)
       ev_static-follows n a (static_block es) = ev_all-follows es _ _ (λ vs. gives-follows f Undefined)
-      ev_static-follows n a (generated_element s e) = bind-follows f _ _ (ev-follows e) (λ v. stands_for-follows f (private_key s) v)
+      ev_static-follows n a (generated_element s e) = bind-follows f _ _ (ev-follows e) (λ v. kept_as-follows f (private_key s) v)
       ev_static-follows n a e = gives-follows f _
 
       pub ev_fields-follows : (n : ℕ) (es : Codes) → Follows f (ev_fields opens n es) (ev_fields there (f n) (mapped_codes f es))

@@ -15,7 +15,7 @@ use Rattle.es_base.specs.declared.table.Place.{Place}
 use Rattle.es_base.specs.declared.table.Sort.{Sort}
 use Rattle.es_base.specs.declared.table.Words.{Words}
 use Rattle.es_steps.specs.Code.{Code, Codes, Opened, value, spelled, name, steps, done, and, joined}
-use Rattle.es_steps.specs.Context.{Context, NameKind, Fixed, Changing, MeansClass, found_kind, declared_kind, unless_written, inside}
+use Rattle.es_steps.specs.Context.{Context, NameKind, Fixed, Changing, MeansClass, found_kind, declared_kind, unless_varying, inside}
 use Rattle.es_steps.specs.Expressions.{constant_of, is_arguments, name_or_arguments, name_code}
 use Rattle.es_steps.specs.FirstForm.{is_plain_value, is_plain_key, is_plain_field, is_new_name, unless, element_breaches, elements_breaches, body_breaches, statement_breaches, statements_breaches, class_names, breaches, no_numbers, most_nodes}
 use Rattle.es_steps.specs.Law.{FirstFormLaw}
@@ -52,26 +52,26 @@ unless_true false m h = no_false h
 
 -- ---- values and keys
 
-not_generated-unless_written : (written : List ℕ) (b : ℕ) (kind : NameKind) → IsNotGenerated kind → IsNotGenerated (unless_written written b kind)
-not_generated-unless_written written b kind h = chosen (has_number b written)
+not_generated-unless_varying : (varying : List ℕ) (b : ℕ) (kind : NameKind) → IsNotGenerated kind → IsNotGenerated (unless_varying varying b kind)
+not_generated-unless_varying varying b kind h = chosen (has_number b varying)
   where
     chosen : (w : Bool) → IsNotGenerated (cond w (Changing (Bound b)) kind)
     chosen true = changing (Bound b)
     chosen false = h
 
-not_generated-declared : (first : ℕ) (written : List ℕ) (b : ℕ) (name : ClassName) → IsNotGenerated (declared_kind first written b name)
-not_generated-declared first written b no_class = not_generated-unless_written written b (Fixed b) (fixed b)
-not_generated-declared first written b (declares n) = not_generated-unless_written written b (MeansClass n b) (means_class n b)
-not_generated-declared first written b (own_name n) = means_class n b
-not_generated-declared first written b (let_names m n) = not_generated-unless_written written b (cond (is_new first m) (MeansClass n b) (Fixed b)) (chosen (is_new first m))
+not_generated-declared : (first : ℕ) (varying : List ℕ) (b : ℕ) (name : ClassName) → IsNotGenerated (declared_kind first varying b name)
+not_generated-declared first varying b no_class = not_generated-unless_varying varying b (Fixed b) (fixed b)
+not_generated-declared first varying b (declares n) = not_generated-unless_varying varying b (MeansClass n b) (means_class n b)
+not_generated-declared first varying b (own_name n) = means_class n b
+not_generated-declared first varying b (let_names m n) = not_generated-unless_varying varying b (cond (is_new first m) (MeansClass n b) (Fixed b)) (chosen (is_new first m))
   where
     chosen : (new : Bool) → IsNotGenerated (cond new (MeansClass n b) (Fixed b))
     chosen true = means_class n b
     chosen false = fixed b
 
-pub not_generated-found : (first : ℕ) (written : List ℕ) (s : String) (d : Option Declaration) → IsNotGenerated (found_kind first written s d)
-not_generated-found first written s None = changing (Free s)
-not_generated-found first written s (Some d) = not_generated-declared first written d.number d.class_name
+pub not_generated-found : (first : ℕ) (varying : List ℕ) (s : String) (d : Option Declaration) → IsNotGenerated (found_kind first varying s d)
+not_generated-found first varying s None = changing (Free s)
+not_generated-found first varying s (Some d) = not_generated-declared first varying d.number d.class_name
 
 pub plain-name : (c : Context) (m : ℕ) (s : String) (kind : NameKind) → IsNotGenerated kind → IsPlain (name_or_arguments c m s kind)
 plain-name c m s kind (fixed b) = a_name m s (Fixed b) (fixed b)
@@ -85,7 +85,7 @@ plain-name c m s kind (means_class n b) = a_name m s (MeansClass n b) (means_cla
 
 -- no name was generated
 plain-name_code : (c : Context) (m : ℕ) (s : String) → c.ledger ≡ [] → IsPlain (name_code c m s)
-plain-name_code c m s l = rw l (plain-name c m s (found_kind c.first_new c.written s (declared s c.names)) (not_generated-found c.first_new c.written s (declared s c.names)))
+plain-name_code c m s l = rw l (plain-name c m s (found_kind c.first_new c.varying s (declared s c.names)) (not_generated-found c.first_new c.varying s (declared s c.names)))
 
 plain-value : (names : List String) (c : Context) (v : Part) → c.ledger ≡ [] → is_plain_value names v ≡ true → IsPlain (value_or_undefined (read_part c v))
 plain-value names c tree.absent l h = a_value Undefined
@@ -312,7 +312,7 @@ with_all-there o t d (Some l) (Some es) ms xs h k p q = rw (p, q) refl
 program-means : (o : Terms) (t : Tree) (c : Code) → o.members ≡ [] → ((x : Context) (env : Environment) → exports_in x env (body_of t) ≡ []) → IsProgram c → has_meaning (means_of o t c) ≡ true
 program-means o t c members exports (classes_alone cs h) =
     let opens : Opened → Evaluation = opening (definitions (steps cs)) in
-    with_all-there o t _ _ _ _ _ (classes-run opens o.first_new o.late cs h) (all-there opens o.first_new o.late [] (after_run [] (ev opens (steps cs) [])) cs h) (ap (member_entries (private_functions (steps cs))) members) (ap all_exports (exports (in_body (start o t) t) (after_run [] (ev opens (steps cs) []))))
+    with_all-there o t _ _ _ _ _ (classes-run opens o.first_new o.late cs h) (all-there opens o.first_new o.late [] cs h) (ap (member_entries (private_functions (steps cs))) members) (ap all_exports (exports (in_body (start o t) t) (after_run [] (ev opens (steps cs) []))))
 
 -- a program of the first form has a meaning, under all options
 pub first_form_law : FirstFormLaw

@@ -1,13 +1,14 @@
 -- Classes that are lowered, and nodes that are kept, under a change of numbers.
-use Rattle.std.specs.Prelude.{◌≡◌, ℕ, List, [], ◌∷◌, map, cond, not, ◌&&◌, ◌||◌, nat_eq, Option, Some, None}
+use Rattle.std.specs.Prelude.{◌≡◌, ℕ, suc, List, [], ◌∷◌, ◌++◌, map, Bool, true, false, cond, not, ◌&&◌, ◌||◌, nat_eq, Option, Some, None}
 use Rattle.std.proofs.Common.{refl, ap, ap₂, ◌∙◌}
 use Rattle.es_base.specs.Preorder.{preorder, number_of}
 use Rattle.es_base.specs.Table.{is_statement}
 use Rattle.es_base.specs.Tree.{Tree, Part, Parts, Node, end, more, child, absent, list, string, no_string, boolean, literal}
 use Rattle.es_base.specs.declared.kind.Kind.{Kind}
 use Rattle.es_steps.specs.Context.{is_constructor}
-use Rattle.es_steps.specs.KeptNodes.{NodeSort, sort_of, is_kept_sort, same_sort, stands_as, all_stand, nodes_kept, is_free_statement, free_statements, free_at, free_in, stands_equal, all_equal, statements_kept, statement_list, declared_classes, class_or_none, given_classes, carried_classes, is_static_block, item_number, item_numbers, free_number, free_numbers, free_lists, free_lists_at, free_lists_in, list_of, is_within, all_within, lists_kept}
+use Rattle.es_steps.specs.KeptNodes.{NodeSort, sort_of, is_kept_sort, same_sort, stands_as, all_stand, nodes_kept, is_free_statement, free_statements, free_at, free_in, stands_equal, all_equal, statements_kept, statement_list, declared_classes, class_or_none, given_classes, carried_classes, is_static_block, item_number, item_numbers, is_function_declaration, free_number, free_numbers, free_lists, free_lists_at, free_lists_in, list_of, is_within, all_within, lists_kept, home_in, is_own_name, has_home, home_of, homes, homes_in, homes_at, homes_of, all_homes, pair_stands, all_pairs_stand, homes_kept}
 use Rattle.es_steps.specs.LoweredClasses.{Element, is_private_key, element_of, elements_in, body_elements, elements_of, is_lowered_element, any_element, is_lowered_class, holds_lowered, has_lowered_class, constructor_function, constructor_in, referent_of, is_fixed, has_no_items, needs_temporary, is_left_out}
+use Rattle.es_steps.specs.Options.{lowers_blocks}
 use Rattle.es_steps.specs.Parts.{at, items, string_of}
 use Rattle.es_steps.specs.PrivateNames.{is_class}
 use Rattle.es_steps.specs.References.{Reference}
@@ -15,7 +16,7 @@ use Rattle.es_steps.specs.SameTrees.{same_kind, same_tree, same_part, same_parts
 use Rattle.es_steps.specs.Scopes.{class_in}
 use Rattle.es_steps.specs.Values.{Referent, Bound, Free}
 use Rattle.es_steps.specs.declared.options.Options.{Options}
-use Rattle.es_steps.proofs.Mapped.{Renames, mapped, mapped_part, mapped_parts, mapped_option, mapped_referent, mapped_reference}
+use Rattle.es_steps.proofs.Mapped.{Renames, mapped, mapped_part, mapped_parts, mapped_option, mapped_pair, mapped_referent, mapped_reference}
 use Rattle.es_steps.proofs.PartsMapped.{cond-mapped, append-mapped, at-mapped, items_at-mapped, string_at-mapped, is_true_at-mapped, is_present-mapped, number_of-mapped, preorder-mapped}
 use Rattle.es_steps.proofs.ReferencesMapped.{has_number-mapped}
 use Rattle.es_steps.proofs.ScopesMapped.{class_in-mapped}
@@ -146,11 +147,15 @@ module _ (f : ℕ → ℕ) where
   item_numbers-mapped end = refl
   item_numbers-mapped (more p ps) = append-mapped f _ _ (item_number-mapped p) (item_numbers-mapped ps)
 
+  pub is_function_declaration-mapped : (t : Tree) → is_function_declaration (mapped f t) ≡ is_function_declaration t
+  is_function_declaration-mapped (Node Kind.FunctionDeclaration m span semantic_id ps) = refl
+  is_function_declaration-mapped t = refl
+
   free_number-mapped : (o : Options) (p : Part) → free_number o (mapped_part f p) ≡ map f (free_number o p)
   free_number-mapped o (child t) = append-mapped f _ _ (own o t) (declared_classes-mapped (child t))
     where
-      own : (o : Options) (t : Tree) → cond (is_free_statement o (mapped f t)) (number_of (mapped f t) ∷ []) [] ≡ map f (cond (is_free_statement o t) (number_of t ∷ []) [])
-      own o t = rw (is_free_statement-mapped o t, number_of-mapped f t) (cond-mapped (map f) (is_free_statement o t) (number_of t ∷ []) [] refl refl)
+      own : (o : Options) (t : Tree) → cond (is_free_statement o (mapped f t) || is_function_declaration (mapped f t)) (number_of (mapped f t) ∷ []) [] ≡ map f (cond (is_free_statement o t || is_function_declaration t) (number_of t ∷ []) [])
+      own o t = rw (is_free_statement-mapped o t, is_function_declaration-mapped t, number_of-mapped f t) (cond-mapped (map f) (is_free_statement o t || is_function_declaration t) (number_of t ∷ []) [] refl refl)
   free_number-mapped o p = refl
 
   free_numbers-mapped : (o : Options) (ps : Parts) → free_numbers o (mapped_parts f ps) ≡ map f (free_numbers o ps)
@@ -181,6 +186,43 @@ module _ (f : ℕ → ℕ) where
     free_lists_in-mapped : (o : Options) (ps : Parts) → free_lists_in o (mapped_parts f ps) ≡ map mapped_list (free_lists_in o ps)
     free_lists_in-mapped o end = refl
     free_lists_in-mapped o (more p ps) = append-mapped mapped_list _ _ (free_lists_at-mapped o p) (free_lists_in-mapped o ps)
+
+  -- ---- homes
+
+  home_in-mapped : (o : Options) (home : Option ℕ) (kind : Kind) (m i : ℕ) → home_in o (mapped_option f home) kind (f m) i ≡ mapped_option f (home_in o home kind m i)
+  home_in-mapped o home Kind.FunctionDeclaration m i = cond-mapped (mapped_option f) (nat_eq i 0) home (Some m) refl refl
+  home_in-mapped o home Kind.StaticBlock m i = cond-mapped (mapped_option f) (lowers_blocks o) None (Some m) refl refl
+  home_in-mapped o home Kind.FunctionExpression m i = refl
+  home_in-mapped o home Kind.ArrowFunctionExpression m i = refl
+  home_in-mapped o home kind m i = refl
+
+  home_of-mapped : (here : Bool) (m : ℕ) (home : Option ℕ) → home_of here (f m) (mapped_option f home) ≡ map (mapped_pair f) (home_of here m home)
+  home_of-mapped true m (Some home) = refl
+  home_of-mapped true m None = refl
+  home_of-mapped false m home = refl
+
+  mutual
+    homes-mapped : (o : Options) (home : Option ℕ) (is_own : Bool) (t : Tree) → homes o (mapped_option f home) is_own (mapped f t) ≡ map (mapped_pair f) (homes o home is_own t)
+    homes-mapped o home is_own (Node kind m span semantic_id ps) =
+        append-mapped (mapped_pair f) _ _ (home_of-mapped (has_home is_own kind) m home) (homes_in-mapped o _ (home_in o home kind m) (home_in-mapped o home kind m) (is_own_name kind) ps)
+
+    homes_in-mapped : (o : Options) (x home : ℕ → Option ℕ) → ((i : ℕ) → x i ≡ mapped_option f (home i)) → (is_own : ℕ → Bool) (ps : Parts) → homes_in o x is_own (mapped_parts f ps) ≡ map (mapped_pair f) (homes_in o home is_own ps)
+    homes_in-mapped o x home same is_own end = refl
+    homes_in-mapped o x home same is_own (more p ps) =
+        append-mapped (mapped_pair f) _ _ (ap (λ h. homes_at o h (is_own 0) (mapped_part f p)) (same 0) ∙ homes_at-mapped o (home 0) (is_own 0) p)
+        (homes_in-mapped o (λ i. x (suc i)) (λ i. home (suc i)) (λ i. same (suc i)) (λ i. is_own (suc i)) ps)
+
+    homes_at-mapped : (o : Options) (home : Option ℕ) (is_own : Bool) (p : Part) → homes_at o (mapped_option f home) is_own (mapped_part f p) ≡ map (mapped_pair f) (homes_at o home is_own p)
+    homes_at-mapped o home is_own (child t) = homes-mapped o home is_own t
+    homes_at-mapped o home is_own (list ps) = homes_of-mapped o home ps
+    homes_at-mapped o home is_own p = refl
+
+    homes_of-mapped : (o : Options) (home : Option ℕ) (ps : Parts) → homes_of o (mapped_option f home) (mapped_parts f ps) ≡ map (mapped_pair f) (homes_of o home ps)
+    homes_of-mapped o home end = refl
+    homes_of-mapped o home (more p ps) = append-mapped (mapped_pair f) _ _ (homes_at-mapped o home false p) (homes_of-mapped o home ps)
+
+  all_homes-mapped : (o : Options) (t : Tree) → all_homes o (mapped f t) ≡ map (mapped_pair f) (all_homes o t)
+  all_homes-mapped o t = ap (λ n. homes o (Some n) false (mapped f t)) (number_of-mapped f t) ∙ homes-mapped o (Some (number_of t)) false t
 
 module _ {first : ℕ} {f : ℕ → ℕ} (r : Renames first f) where
   -- ---- keys
@@ -262,3 +304,16 @@ module _ {first : ℕ} {f : ℕ → ℕ} (r : Renames first f) where
 
   pub lists_kept-mapped : (o : Options) (p q : Tree) → lists_kept o (mapped f p) (mapped f q) ≡ lists_kept o p q
   lists_kept-mapped o p q = ap₂ all_within (free_lists-mapped f o p) (preorder-mapped f q) ∙ all_within-mapped (free_lists o p) (preorder q)
+
+  -- ---- homes
+
+  pair_stands-mapped : (p : ℕ × ℕ) (qs : List (ℕ × ℕ)) → pair_stands (mapped_pair f p) (map (mapped_pair f) qs) ≡ pair_stands p qs
+  pair_stands-mapped p [] = refl
+  pair_stands-mapped p (q ∷ qs) = ap₂ (λ a b. a || b) (ap₂ (λ a b. a && b) (r.apart p.0 q.0) (r.apart p.1 q.1)) (pair_stands-mapped p qs)
+
+  all_pairs_stand-mapped : (ps qs : List (ℕ × ℕ)) → all_pairs_stand (map (mapped_pair f) ps) (map (mapped_pair f) qs) ≡ all_pairs_stand ps qs
+  all_pairs_stand-mapped [] qs = refl
+  all_pairs_stand-mapped (p ∷ ps) qs = ap₂ (λ a b. a && b) (pair_stands-mapped p qs) (all_pairs_stand-mapped ps qs)
+
+  pub homes_kept-mapped : (o : Options) (p q : Tree) → homes_kept o (mapped f p) (mapped f q) ≡ homes_kept o p q
+  homes_kept-mapped o p q = ap₂ all_pairs_stand (all_homes-mapped f o p) (all_homes-mapped f o q) ∙ all_pairs_stand-mapped (all_homes o p) (all_homes o q)

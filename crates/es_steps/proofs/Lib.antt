@@ -26,5 +26,6 @@ pub mod PrintableMapped
 pub mod KeptNodesMapped
 pub mod DefinitionsMapped
 pub mod LoweredMapped
+pub mod TemporariesMapped
 pub mod TimelyMapped
 pub mod Clauses

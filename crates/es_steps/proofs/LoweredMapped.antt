@@ -10,8 +10,8 @@ use Rattle.es_base.specs.declared.ledger.GeneratedKind.{GeneratedKind}
 use Rattle.es_base.specs.declared.ledger.LedgerEntry.{LedgerEntry}
 use Rattle.es_steps.specs.Context.{generated_as}
 use Rattle.es_steps.specs.Definitions.{spelling, field_part, names_class, class_identifiers, all_different, is_among_first}
-use Rattle.es_steps.specs.KeptNodes.{statement_list}
-use Rattle.es_steps.specs.Lowered.{kind_of, none_lowered, nothing_left, declaring_number, declaring_numbers, is_bound_to, all_mean, is_one_new, private_key, private_keys, keys_of_body, keys_of_class, keys_in, is_one, declared_by_kind, same_space, is_named_again, names_declared, is_new_const, is_there, has_branded, belongs, class_name_at, declares_class, own_name_number, own_name_numbers, is_generated, is_accounted, all_accounted, declarations_accounted, spelled_as, is_helper_callee, is_new_of, is_key_call, is_function_part, class_number_in, assignment_number, paired, pairs_behind, all_behind, has_pair, is_class_or_name, is_class_value, is_initial, is_class_kind, is_method_kind, initialization_at, initializations, comes_before, class_of_member, class_before, all_before, needs_none, is_one_initialization, initializations_stand, any_before, keys_before, keys_stand}
+use Rattle.es_steps.specs.KeptNodes.{statement_list, is_function_declaration}
+use Rattle.es_steps.specs.Lowered.{kind_of, none_lowered, nothing_left, declaring_number, declaring_numbers, is_bound_to, all_mean, is_one_new, private_key, private_keys, keys_of_body, keys_of_class, keys_in, is_one, declared_by_kind, same_space, is_named_again, names_declared, is_new_const, is_there, has_branded, belongs, class_name_at, declares_class, own_name_number, own_name_numbers, is_generated, is_accounted, all_accounted, declarations_accounted, spelled_as, is_helper_callee, is_new_of, is_key_call, is_function_part, class_number_in, assignment_number, paired, pairs_behind, all_behind, has_pair, is_class_or_name, is_class_value, is_initial, is_class_kind, is_method_kind, initialization_at, initializations, comes_before, class_of_member, class_before, is_declared_function, all_before, needs_none, is_one_initialization, initializations_stand, any_before, keys_before, keys_stand}
 use Rattle.es_steps.specs.Options.{lowers_fields}
 use Rattle.es_steps.specs.Parts.{at, items, string_of, is_present}
 use Rattle.es_steps.specs.GeneratedForms.{if_member, is_instance_field, is_static_field, is_function_member}
@@ -23,7 +23,7 @@ use Rattle.es_steps.specs.declared.options.Options.{Options}
 use Rattle.es_steps.proofs.ContextMapped.{generated_as-mapped}
 use Rattle.es_steps.proofs.DefinitionsMapped.{mapped_temporary, spelling-mapped, field_part-mapped, class_identifiers-mapped, names_class-mapped}
 use Rattle.es_steps.proofs.FormsMapped.{if_member-mapped}
-use Rattle.es_steps.proofs.KeptNodesMapped.{statement_list-mapped}
+use Rattle.es_steps.proofs.KeptNodesMapped.{statement_list-mapped, is_function_declaration-mapped}
 use Rattle.es_steps.proofs.Mapped.{Renames, mapped, mapped_part, mapped_parts, mapped_option, mapped_generated, mapped_ledger, mapped_ledger_entry, mapped_privates, mapped_private, mapped_pair, mapped_referent, mapped_reference}
 use Rattle.es_steps.proofs.PartsMapped.{cond-mapped, append-mapped, at-mapped, items_at-mapped, string_at-mapped, is_present-mapped, is_present_at-mapped, number_of-mapped, preorder-mapped}
 use Rattle.es_steps.proofs.PrivatesMapped.{member_at-mapped}
@@ -292,6 +292,7 @@ module _ {first : ℕ} {f : ℕ → ℕ} (r : Renames first f) where
 
   class_before-mapped : (g : GeneratedKind) (members : List PrivateMember) → class_before (mapped_generated f g) (mapped_privates f members) ≡ map f (class_before g members)
   class_before-mapped (GeneratedKind.WeakMap d) members = ap class_of_member (member_at-mapped r d.0 members) ∙ class_of_member-mapped (member_at d.0 members)
+  class_before-mapped (GeneratedKind.Method d) members = ap class_of_member (member_at-mapped r d.0 members) ∙ class_of_member-mapped (member_at d.0 members)
   class_before-mapped (GeneratedKind.LooseKey d) members = ap class_of_member (member_at-mapped r d.0 members) ∙ class_of_member-mapped (member_at d.0 members)
   class_before-mapped (GeneratedKind.Brand n) members = refl
   class_before-mapped g members = refl
@@ -299,6 +300,10 @@ module _ {first : ℕ} {f : ℕ → ℕ} (r : Renames first f) where
   all_before-mapped : (m : ℕ) (ns : List ℕ) (ts : List Tree) → all_before (f m) (map f ns) (map (mapped f) ts) ≡ all_before m ns ts
   all_before-mapped m [] ts = refl
   all_before-mapped m (n ∷ ns) ts = ap₂ (λ a b. a && b) (comes_before-mapped m n ts) (all_before-mapped m ns ts)
+
+  is_declared_function-mapped : (m : ℕ) (ts : List Tree) → is_declared_function (f m) (map (mapped f) ts) ≡ is_declared_function m ts
+  is_declared_function-mapped m [] = refl
+  is_declared_function-mapped m (t ∷ ts) = rw (number_of-mapped f t, r.apart m (number_of t), is_function_declaration-mapped f t, is_declared_function-mapped m ts) refl
 
   is_there-mapped : (x : Option PrivateMember) → is_there (mapped_option (mapped_private f) x) ≡ is_there x
   is_there-mapped None = refl
@@ -323,7 +328,9 @@ module _ {first : ℕ} {f : ℕ → ℕ} (r : Renames first f) where
 
   is_one_initialization-mapped : (g : GeneratedKind) (members : List PrivateMember) (q : Tree) (is : List (ℕ × Bool)) → is_one_initialization (mapped_generated f g) (mapped_privates f members) (mapped f q) (map (mapped_initialization f) is) ≡ is_one_initialization g members q is
   is_one_initialization-mapped g members q [] = refl
-  is_one_initialization-mapped g members q (i ∷ []) = ap (λ b. i.1 && b) (ap₂ (all_before (f i.0)) (class_before-mapped g members) (preorder-mapped f q) ∙ all_before-mapped i.0 (class_before g members) (preorder q))
+  is_one_initialization-mapped g members q (i ∷ []) =
+      ap₂ (λ a b. i.1 && (a || b)) (ap (is_declared_function (f i.0)) (preorder-mapped f q) ∙ is_declared_function-mapped i.0 (preorder q))
+      (ap₂ (all_before (f i.0)) (class_before-mapped g members) (preorder-mapped f q) ∙ all_before-mapped i.0 (class_before g members) (preorder q))
   is_one_initialization-mapped g members q (i ∷ j ∷ is) = refl
 
   pub initializations_stand-mapped : (ledger : List LedgerEntry) (members : List PrivateMember) (q : Tree) (es : List LedgerEntry) → initializations_stand first (mapped_ledger f ledger) (mapped_privates f members) (mapped f q) (mapped_ledger f es) ≡ initializations_stand first ledger members q es

@@ -10,7 +10,7 @@ use Rattle.es_steps.specs.Code.{Code, Codes, Target, Callee, Opened, Initializer
 use Rattle.es_steps.specs.Context.{Context, NameKind, Fixed, Changing, MeansClass, Generated, StaticMethod, FunctionRole, a_function, constructor_of, method_on, super_function_of}
 use Rattle.es_steps.specs.Entries.{Parameter, Identifier, RestIdentifier, Pattern, Method, Listed, Entry, FunctionEntry, ClassEntry, Entries}
 use Rattle.es_steps.specs.Evaluation.{Environment, Run}
-use Rattle.es_steps.specs.Events.{Event, ReadName, SetName, Get, Set, Define, Call, Construct, Operate, Update, PrivateGet, PrivateSet, PrivateInitialize, PrivateIn, AddBrand, SuperGet, SuperSet, SuperCall, SuperCallWithAll, InitializeClass, Throw, Short, Held, Events, none, then}
+use Rattle.es_steps.specs.Events.{Event, ReadName, SetName, Get, Set, Define, Call, Construct, Operate, Update, PrivateGet, PrivateSet, PrivateInitialize, PrivateIn, AddBrand, SuperGet, SuperSet, SuperCall, SuperCallWithAll, EnterBody, InitializeClass, Throw, Short, Held, Events, none, then}
 use Rattle.es_steps.specs.Meaning.{Meaning, DeclarationKind, MemberEntry, IsField, FunctionIs, Terms}
 use Rattle.es_steps.specs.Members.{Member, Members, code, absent, list, string, no_string, boolean, literal, end, more}
 use Rattle.es_steps.specs.Modules.{Specifier, Imported, ImportedDefault, ImportedNamespace, Reexported, ReexportedAll, ModuleLink, Export, Exported, ExportedClass, ExportedBinding, ExportedFree, ExportedValue}
@@ -161,6 +161,7 @@ module _ (f : ℕ → ℕ) where
     mapped_event (SuperSet home k v this) = SuperSet (mapped_home home) (mapped_value k) (mapped_value v) (mapped_value this)
     mapped_event (SuperCall m n vs) = SuperCall (f m) (f n) (mapped_values vs)
     mapped_event (SuperCallWithAll n) = SuperCallWithAll (f n)
+    mapped_event EnterBody = EnterBody
     mapped_event (InitializeClass n) = InitializeClass (f n)
     mapped_event Throw = Throw
     mapped_event (Short v) = Short (mapped_value v)
@@ -199,7 +200,7 @@ module _ (f : ℕ → ℕ) where
     ledger = mapped_ledger c.ledger;
     options = c.options;
     members = mapped_privates c.members;
-    written = map f c.written;
+    varying = map f c.varying;
     writes_arguments = c.writes_arguments;
     names = mapped_declarations c.names;
     privates = mapped_privates c.privates;

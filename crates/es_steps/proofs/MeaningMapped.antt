@@ -11,10 +11,10 @@ use Rattle.es_steps.specs.Code.{Code, Opened, private_method, give_function, fun
 use Rattle.es_steps.specs.Context.{Context, generated_as}
 use Rattle.es_steps.specs.Entries.{Entry, Entries, Listed, listed, after_run, entries}
 use Rattle.es_steps.specs.Evaluation.{Environment, Evaluation, Run, ev}
-use Rattle.es_steps.specs.Meaning.{Meaning, Terms, DeclarationKind, ClassDeclared, MemberEntry, IsField, FunctionIs, declarator_kind, declares_at, declaring, declaring_parts, declaring_part, declaring_items, old_names, globals, second_numbers, old_bindings, names_class, unless_generated, declared_function, declared_functions, function_of, private_function_by, private_functions, function_at, member_entry, with_member, member_entries, inserted, by_number, with_entry, whole, with_export, all_exports, source_type_of, body_of, in_body, start, with_all, means_by, means_of, means}
+use Rattle.es_steps.specs.Meaning.{Meaning, Terms, DeclarationKind, ClassDeclared, MemberEntry, IsField, FunctionIs, declarator_kind, declares_at, declared_as, declaring, declaring_parts, declaring_part, declaring_items, old_names, globals, second_numbers, old_bindings, names_class, unless_generated, declared_function, declared_functions, function_of, private_function_by, private_functions, function_at, member_entry, with_member, member_entries, inserted, by_number, with_entry, whole, with_export, all_exports, source_type_of, body_of, in_body, start, with_all, means_by, means_of, means}
 use Rattle.es_steps.specs.Modules.{Export, Exported, links_in, exports_in}
 use Rattle.es_steps.specs.Opening.{Definition, definitions, opening}
-use Rattle.es_steps.specs.Parts.{at, items}
+use Rattle.es_steps.specs.Parts.{at, items, string_of}
 use Rattle.es_steps.specs.PrivateNames.{PrivateMember, PrivateKind, a_field}
 use Rattle.es_steps.specs.Reading.{read}
 use Rattle.es_steps.specs.Repeated.{all_places}
@@ -147,7 +147,7 @@ module _ {first : ℕ} {f : ℕ → ℕ} (r : Renames first f) where
 
   mutual
     declaring-mapped : (d : DeclarationKind) (t : Tree) → declaring first d (mapped f t) ≡ map (mapped_binding f) (declaring first d t)
-    declaring-mapped d (Node kind m span semantic_id ps) = cond-mapped (map (mapped_binding f)) (is_binding_identifier kind) ((m, d) ∷ []) _ refl (declaring_parts-mapped _ (declares_at first kind m ps d) (declares_at-mapped kind m ps d) ps)
+    declaring-mapped d (Node kind m span semantic_id ps) = rw (string_at-mapped f 0 ps) (cond-mapped (map (mapped_binding f)) (is_binding_identifier kind) ((m, declared_as (string_of (at 0 ps)) d) ∷ []) _ refl (declaring_parts-mapped _ (declares_at first kind m ps d) (declares_at-mapped kind m ps d) ps))
 
     declaring_parts-mapped : (d e : ℕ → DeclarationKind) → ((i : ℕ) → d i ≡ e i) → (ps : Parts) → declaring_parts first d (mapped_parts f ps) ≡ map (mapped_binding f) (declaring_parts first e ps)
     declaring_parts-mapped d e same end = refl
@@ -248,10 +248,10 @@ module _ {f : ℕ → ℕ} (o : Terms) (r : Renames o.first_new f) (t : Tree) wh
       ∙ all_exports-mapped f (exports_in body_context env (body_of t))
 
   module _ (opens there : Opened → Evaluation) (follow : (x : Opened) → Follows f (opens x) (there (mapped_opened f x))) where
-    means_by-mapped : (c : Code) → means_by there (mapped_terms f o) (mapped f t) (mapped_code f c) ≡ with_all (mapped_terms f o) (mapped f t) (map (mapped_pair f) (private_functions c)) (mapped_option (mapped_listed f) (listed (ev opens c []))) (mapped_option (map (mapped_numbered_entry f)) (whole (entries opens o.first_new o.late [] (after_run [] (ev opens c [])) c))) (mapped_option (map (mapped_numbered_member f)) (member_entries (private_functions c) o.members)) (mapped_option (map (mapped_named_export f)) (all_exports (exports_in body_context (after_run [] (ev opens c [])) (body_of t))))
+    means_by-mapped : (c : Code) → means_by there (mapped_terms f o) (mapped f t) (mapped_code f c) ≡ with_all (mapped_terms f o) (mapped f t) (map (mapped_pair f) (private_functions c)) (mapped_option (mapped_listed f) (listed (ev opens c []))) (mapped_option (map (mapped_numbered_entry f)) (whole (entries opens o.first_new o.late [] c))) (mapped_option (map (mapped_numbered_member f)) (member_entries (private_functions c) o.members)) (mapped_option (map (mapped_named_export f)) (all_exports (exports_in body_context (after_run [] (ev opens c [])) (body_of t))))
     means_by-mapped c =
         let run : Option Run = ev opens c [] in
-        rw ((ev-follows r opens there follow c).on [], listed-mapped f run, after_run-mapped f [] run, entries-mapped r opens there follow o.late [] (after_run [] run) c, whole-mapped f (entries opens o.first_new o.late [] (after_run [] run) c), private_functions-mapped f c, member_entries-mapped r (private_functions c) o.members, exports-mapped (after_run [] run)) refl
+        rw ((ev-follows r opens there follow c).on [], listed-mapped f run, after_run-mapped f [] run, entries-mapped r opens there follow o.late [] c, whole-mapped f (entries opens o.first_new o.late [] c), private_functions-mapped f c, member_entries-mapped r (private_functions c) o.members, exports-mapped (after_run [] run)) refl
 
   means_of-same : (c : Code) (m : Option Meaning) → means_of o t c ≡ m → mapped_option (mapped_meaning f) m ≡ m → means_of (mapped_terms f o) (mapped f t) (mapped_code f c) ≡ m
   means_of-same c m e still =
@@ -259,7 +259,7 @@ module _ {f : ℕ → ℕ} (o : Terms) (r : Renames o.first_new f) (t : Tree) wh
       let run : Option Run = ev (opening ds) c [] in
       ap (λ es. means_by (opening es) (mapped_terms f o) (mapped f t) (mapped_code f c)) (definitions-mapped r c)
       ∙ means_by-mapped (opening ds) (opening (map (mapped_definition f) ds)) (opening-follows r ds) c
-      ∙ with_all-same (private_functions c) (listed run) (whole (entries (opening ds) o.first_new o.late [] (after_run [] run) c)) (member_entries (private_functions c) o.members) (all_exports (exports_in body_context (after_run [] run) (body_of t))) m e still
+      ∙ with_all-same (private_functions c) (listed run) (whole (entries (opening ds) o.first_new o.late [] c)) (member_entries (private_functions c) o.members) (all_exports (exports_in body_context (after_run [] run) (body_of t))) m e still
 
   pub means-same : (m : Option Meaning) → means o t ≡ m → mapped_option (mapped_meaning f) m ≡ m → means (mapped_terms f o) (mapped f t) ≡ m
   means-same m e still =

@@ -1,10 +1,11 @@
 -- Members, items and strings of parts stand where they stood under other numbers; what is chosen or put together is mapped part by part.
-use Rattle.std.specs.Prelude.{◌≡◌, ℕ, zero, suc, List, ◌∷◌, ◌++◌, map, Bool, true, false, cond, None}
-use Rattle.std.proofs.Common.{refl, sym, ap, ◌∙◌}
+use Rattle.std.specs.Prelude.{◌≡◌, ℕ, zero, suc, List, ◌∷◌, ◌++◌, map, Bool, true, false, cond, not, ◌||◌, None}
+use Rattle.std.proofs.Common.{refl, sym, ap, ap₂, ◌∙◌}
 use Rattle.std.proofs.lemmas.List.{map-append}
 use Rattle.es_base.specs.Preorder.{number_of, preorder, preorder_of_part, preorder_of}
 use Rattle.es_base.specs.Tree.{Tree, Part, Parts, Node, end, more, child, absent, list, string, boolean}
-use Rattle.es_steps.specs.Parts.{at, items, block_items, string_of, is_true, is_present}
+use Rattle.es_base.specs.declared.kind.Kind.{Kind}
+use Rattle.es_steps.specs.Parts.{at, items, block_items, string_of, is_true, is_present, is_simple_parameter, has_pattern}
 use Rattle.es_steps.proofs.Mapped.{mapped, mapped_part, mapped_parts}
 
 -- ---- choices and lists
@@ -59,6 +60,15 @@ module _ (f : ℕ → ℕ) where
 
   pub is_present_at-mapped : (i : ℕ) (ps : Parts) → is_present (at i (mapped_parts f ps)) ≡ is_present (at i ps)
   is_present_at-mapped i ps = ap is_present (at-mapped i ps) ∙ is_present-mapped (at i ps)
+
+  is_simple_parameter-mapped : (p : Part) → is_simple_parameter (mapped_part f p) ≡ is_simple_parameter p
+  is_simple_parameter-mapped (child (Node Kind.BindingIdentifier m span semantic_id ps)) = refl
+  is_simple_parameter-mapped (child (Node Kind.RestElement m span semantic_id (more (child (Node Kind.BindingIdentifier b bspan b_semantic_id bs)) rest))) = refl
+  is_simple_parameter-mapped p = refl
+
+  pub has_pattern-mapped : (ps : Parts) → has_pattern (mapped_parts f ps) ≡ has_pattern ps
+  has_pattern-mapped end = refl
+  has_pattern-mapped (more p ps) = ap₂ (λ a b. not a || b) (is_simple_parameter-mapped p) (has_pattern-mapped ps)
 
   -- ---- preorder
 

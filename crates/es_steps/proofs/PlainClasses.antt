@@ -49,10 +49,6 @@ pub ends-there : (env : Environment) (r : Option Run) → EndsIn env r → IsSom
 ends-there env None h = absurd h
 ends-there env (Some r) h = refl
 
-pub ends-after : (env : Environment) (r : Option Run) → EndsIn env r → after_run env r ≡ env
-ends-after env None h = refl
-ends-after env (Some r) h = h
-
 -- ---- plain values: constants and names that were not generated
 
 pub data IsNotGenerated : NameKind → Type 0 where
@@ -133,9 +129,9 @@ module _ (opens : Opened → Evaluation) (first : ℕ) (late : List ℕ) where
   plain-stays c (a_value v) env = refl
   plain-stays c (a_name m s kind h) env = read_name-stays m s kind h env
 
-  plain-entries : (s e : Environment) (c : Code) → IsPlain c → entries opens first late s e c ≡ []
-  plain-entries s e c (a_value v) = refl
-  plain-entries s e c (a_name m t kind h) = refl
+  plain-entries : (s : Environment) (c : Code) → IsPlain c → entries opens first late s c ≡ []
+  plain-entries s c (a_value v) = refl
+  plain-entries s c (a_name m t kind h) = refl
 
   -- ---- fields
 
@@ -193,38 +189,38 @@ module _ (opens : Opened → Evaluation) (first : ℕ) (late : List ℕ) where
 
   -- ---- entries of a class: behind its own it has none
 
-  key-none : (s e : Environment) (c : Code) → IsField c → key_entry opens first late s e c ≡ []
-  key-none s e c (plain_field form k r p) = refl
+  key-none : (s : Environment) (c : Code) → IsField c → key_entry opens first late s c ≡ []
+  key-none s c (plain_field form k r p) = refl
 
-  keys-none : (s e : Environment) (cs : Codes) → AreFields cs → key_entries opens first late s e cs ≡ []
-  keys-none s e done h = refl
-  keys-none s e (and c cs) h = rw (key-none s e c h.0) (keys-none (after_run s (ev_key opens c s)) e cs h.1)
+  keys-none : (s : Environment) (cs : Codes) → AreFields cs → key_entries opens first late s cs ≡ []
+  keys-none s done h = refl
+  keys-none s (and c cs) h = rw (key-none s c h.0) (keys-none (after_run s (ev_key opens c s)) cs h.1)
 
-  static-none : (s e : Environment) (c : Code) → IsField c → static_entry opens first late s e c ≡ []
-  static-none s e c (plain_field form k r p) = refl
+  static-none : (s : Environment) (c : Code) → IsField c → static_entry opens first late s c ≡ []
+  static-none s c (plain_field form k r p) = refl
 
-  statics-none : (n : ℕ) (s e : Environment) (cs : Codes) → AreFields cs → static_entries opens first late n s e cs ≡ []
-  statics-none n s e done h = refl
-  statics-none n s e (and c cs) h = rw (static-none s e c h.0) (statics-none n (after_run s (ev_static opens n Undefined c s)) e cs h.1)
+  statics-none : (n : ℕ) (s : Environment) (cs : Codes) → AreFields cs → static_entries opens first late n s cs ≡ []
+  statics-none n s done h = refl
+  statics-none n s (and c cs) h = rw (static-none s c h.0) (statics-none n (after_run s (ev_static opens n Undefined c s)) cs h.1)
 
-  field-none : (s e : Environment) (c : Code) → IsField c → field_entry opens first late s e c ≡ []
-  field-none s e c (plain_field form k r p) = plain-entries s e r p
+  field-none : (s : Environment) (c : Code) → IsField c → field_entry opens first late s c ≡ []
+  field-none s c (plain_field form k r p) = plain-entries s r p
 
-  fields-none : (n : ℕ) (s e : Environment) (cs : Codes) → AreFields cs → field_entries opens first late n s e cs ≡ []
-  fields-none n s e done h = refl
-  fields-none n s e (and c cs) h = rw (field-none s e c h.0) (fields-none n (after_run s (ev_field opens n c s)) e cs h.1)
+  fields-none : (n : ℕ) (s : Environment) (cs : Codes) → AreFields cs → field_entries opens first late n s cs ≡ []
+  fields-none n s done h = refl
+  fields-none n s (and c cs) h = rw (field-none s c h.0) (fields-none n (after_run s (ev_field opens n c s)) cs h.1)
 
-  function-none : (s i e : Environment) (c : Code) → IsField c → element_function opens first late s i e c ≡ []
-  function-none s i e c (plain_field form k r p) = refl
+  function-none : (s i : Environment) (c : Code) → IsField c → element_function opens first late s i c ≡ []
+  function-none s i c (plain_field form k r p) = refl
 
-  functions-none : (s i e : Environment) (cs : Codes) → AreFields cs → function_entries opens first late s i e cs ≡ []
-  functions-none s i e done h = refl
-  functions-none s i e (and c cs) h = rw (function-none s i e c h.0) (functions-none s i e cs h.1)
+  functions-none : (s i : Environment) (cs : Codes) → AreFields cs → function_entries opens first late s i cs ≡ []
+  functions-none s i done h = refl
+  functions-none s i (and c cs) h = rw (function-none s i c h.0) (functions-none s i cs h.1)
 
-  class-entries : (n : ℕ) (declared : Option ℕ) (s e : Environment) (cs : Codes) → AreFields cs → IsSome (whole (entries opens first late s e (class_code n declared done cs)))
-  class-entries n declared s e cs h =
-      rw (keys-none _ e cs h, statics-none n _ e cs h, fields-none n _ _ cs h, functions-none _ _ e cs h)
-      (with_entry-there n _ (Some []) (class_entry-there _ declared (constructor_form cs) (constructor_parameters cs) _ _ (keys-fields s (without (assigned_in_all cs) e) cs h) (methods-fields s cs h) (ends-there _ _ (construction-stays n cs h (without (assigned_in_all cs) e)))) refl)
+  class-entries : (n : ℕ) (declared : Option ℕ) (s : Environment) (cs : Codes) → AreFields cs → IsSome (whole (entries opens first late s (class_code n declared done cs)))
+  class-entries n declared s cs h =
+      rw (keys-none _ cs h, statics-none n _ cs h, fields-none n _ cs h, functions-none _ _ cs h)
+      (with_entry-there n _ (Some []) (class_entry-there _ declared (constructor_form cs) (constructor_parameters cs) _ _ (keys-fields s (without (assigned_in_all cs) s) cs h) (methods-fields s cs h) (ends-there _ _ (construction-stays n cs h (without (assigned_in_all cs) s)))) refl)
 
   -- ---- classes
 
@@ -242,14 +238,14 @@ module _ (opens : Opened → Evaluation) (first : ℕ) (late : List ℕ) where
   ev_all-stays done f h k = k []
   ev_all-stays (and c cs) f h k = bind-stays (ev opens c) (λ v. ev_all opens cs (λ vs. f (v ∷ vs))) (class-stays c h.0) (λ v. ev_all-stays cs (λ vs. f (v ∷ vs)) h.1 (λ vs. k (v ∷ vs)))
 
-  one-there : (s e : Environment) (c : Code) → IsClass c → IsSome (whole (entries opens first late s e c))
-  one-there s e c (plain_class n declared cs h) = class-entries n declared s e cs h
+  one-there : (s : Environment) (c : Code) → IsClass c → IsSome (whole (entries opens first late s c))
+  one-there s c (plain_class n declared cs h) = class-entries n declared s cs h
 
-  pub all-there : (s e : Environment) (cs : Codes) → AreClasses cs → IsSome (whole (entries opens first late s e (steps cs)))
-  all-there s e done h = refl
-  all-there s e (and c cs) h =
+  pub all-there : (s : Environment) (cs : Codes) → AreClasses cs → IsSome (whole (entries opens first late s (steps cs)))
+  all-there s done h = refl
+  all-there s (and c cs) h =
       let t : Environment = after_run s (ev opens c s) in
-      whole-append (entries opens first late s e c) (entries opens first late t e (steps cs)) (one-there s e c h.0) (all-there t e cs h.1)
+      whole-append (entries opens first late s c) (entries opens first late t (steps cs)) (one-there s c h.0) (all-there t cs h.1)
 
   pub classes-run : (cs : Codes) → AreClasses cs → IsSome (listed (ev opens (steps cs) []))
   classes-run cs h =

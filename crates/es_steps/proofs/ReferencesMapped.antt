@@ -4,13 +4,14 @@ use Rattle.std.proofs.Common.{refl, ap, ◌∙◌}
 use Rattle.es_base.specs.Preorder.{preorder}
 use Rattle.es_base.specs.Table.{Field, members_of}
 use Rattle.es_base.specs.Tree.{Tree, Part, Parts, Node, end, more, child, list}
+use Rattle.es_base.specs.declared.kind.Kind.{Kind}
 use Rattle.es_steps.specs.Parts.{at, string_of}
-use Rattle.es_steps.specs.References.{declared, referent, Reference, is_target, is_reference, reference, references, references_in, part_references, item_references, resolve, has_number, numbers_of, if_bound, assigned, is_declared, repeated, is_for_each, written_by, written_by_all, written, is_free, writes_free}
-use Rattle.es_steps.specs.Scopes.{Declaration, names_at, is_body_part, scope_form, scope_names, var_part}
+use Rattle.es_steps.specs.References.{declared, referent, Reference, is_target, is_reference, reference, references, references_in, part_references, item_references, resolve, has_number, numbers_of, if_bound, assigned, is_declared, repeated, is_for_each, written_by, written_by_all, written, imported_by, imported_by_all, imported, varying, is_free, writes_free}
+use Rattle.es_steps.specs.Scopes.{Declaration, no_class, bound_part, names_at, is_body_part, scope_form, scope_names, var_part}
 use Rattle.es_steps.specs.Values.{String, Referent, Bound, Free}
 use Rattle.es_steps.proofs.Mapped.{mapped, mapped_part, mapped_parts, mapped_declaration, mapped_declarations, mapped_option, mapped_reference, mapped_referent, Renames}
 use Rattle.es_steps.proofs.PartsMapped.{cond-mapped, append-mapped, at-mapped, string_at-mapped, preorder-mapped}
-use Rattle.es_steps.proofs.ScopesMapped.{names_at-mapped, scope_names-mapped, var_part-mapped}
+use Rattle.es_steps.proofs.ScopesMapped.{bound_part-mapped, names_at-mapped, scope_names-mapped, var_part-mapped}
 
 module _ (f : ℕ → ℕ) where
   -- ---- resolution
@@ -95,6 +96,17 @@ module _ (f : ℕ → ℕ) where
       append-mapped f (assigned (resolve t)) (written_by_all (preorder t))
       (ap assigned (resolve-mapped t) ∙ assigned-mapped (resolve t))
       (ap written_by_all (preorder-mapped f t) ∙ written_by_all-mapped (preorder t))
+
+  imported_by-mapped : (t : Tree) → imported_by (mapped f t) ≡ map f (imported_by t)
+  imported_by-mapped (Node Kind.ImportDeclaration m span semantic_id ps) = rw (at-mapped f 0 ps, bound_part-mapped f no_class (at 0 ps)) (numbers_of-mapped (bound_part no_class (at 0 ps)))
+  imported_by-mapped t = refl
+
+  imported_by_all-mapped : (ts : List Tree) → imported_by_all (map (mapped f) ts) ≡ map f (imported_by_all ts)
+  imported_by_all-mapped [] = refl
+  imported_by_all-mapped (t ∷ ts) = append-mapped f _ _ (imported_by-mapped t) (imported_by_all-mapped ts)
+
+  pub varying-mapped : (t : Tree) → varying (mapped f t) ≡ map f (varying t)
+  varying-mapped t = append-mapped f (written t) (imported t) (written-mapped t) (ap imported_by_all (preorder-mapped f t) ∙ imported_by_all-mapped (preorder t))
 
   is_free-mapped : (s : String) (to : Referent) → is_free s (mapped_referent f to) ≡ is_free s to
   is_free-mapped s (Bound b) = refl

@@ -4,8 +4,8 @@ use Rattle.std.proofs.Common.{ap, sym, ◌∙◌, rules}
 use Rattle.std.proofs.lemmas.Bool.{and_from, true≢false}
 use Rattle.es_steps.specs.Code.{FunctionForm}
 use Rattle.es_steps.specs.Entries.{Parameter, Identifier, RestIdentifier, Pattern, Method, Listed, Entry, FunctionEntry, ClassEntry}
-use Rattle.es_steps.specs.Events.{Detail, Operand, Empty, Spelled, Flag, Key, Opens, Closes, Prototype, Index, Rest, Operation, OfKind, Delete, Take, Place, RightOf, Default, Part, Event, ReadName, SetName, Get, Set, Define, Call, Construct, Operate, Update, PrivateGet, PrivateSet, PrivateInitialize, PrivateIn, AddBrand, SuperGet, SuperSet, SuperCall, SuperCallWithAll, InitializeClass, Throw, Short, Held, Events, none, then}
-use Rattle.es_steps.specs.Meaning.{Meaning, DeclarationKind, Variable, FunctionName, ParameterName, CaughtName, ImportName, ClassDeclared, MemberEntry, IsField, FunctionIs}
+use Rattle.es_steps.specs.Events.{Detail, Operand, Empty, Spelled, Flag, Key, Opens, Closes, Prototype, Index, Rest, Operation, OfKind, Delete, Take, Place, RightOf, Default, Part, Event, ReadName, SetName, Get, Set, Define, Call, Construct, Operate, Update, PrivateGet, PrivateSet, PrivateInitialize, PrivateIn, AddBrand, SuperGet, SuperSet, SuperCall, SuperCallWithAll, EnterBody, InitializeClass, Throw, Short, Held, Events, none, then}
+use Rattle.es_steps.specs.Meaning.{Meaning, DeclarationKind, Variable, FunctionName, ParameterName, CaughtName, ImportName, ClassDeclared, ArgumentsName, MemberEntry, IsField, FunctionIs}
 use Rattle.es_steps.specs.Modules.{Specifier, Imported, ImportedDefault, ImportedNamespace, Reexported, ReexportedAll, ModuleLink, Exported, ExportedClass, ExportedBinding, ExportedFree, ExportedValue}
 use Rattle.es_steps.specs.SameMeanings.{same_list, same_option, same_detail, same_operation, same_place, same_referent, same_home, same_test, same_event, same_events, same_listed, same_form, same_parameter, same_method, same_entry, same_numbered, same_private_kind, same_member, same_declaration, same_specifier, same_link, same_exported, same_export, same_meaning, same_meanings}
 use Rattle.es_steps.specs.PrivateNames.{PrivateKind, a_field, a_method, a_getter, a_setter}
@@ -123,6 +123,7 @@ mutual
   event-same (SuperSet h k v w) = both (home-same h) (both (value-same k) (both (value-same v) (value-same w)))
   event-same (SuperCall m n vs) = both (number-same m) (both (number-same n) (values-same vs))
   event-same (SuperCallWithAll n) = number-same n
+  event-same EnterBody = refl
   event-same (InitializeClass n) = number-same n
   event-same Throw = refl
   event-same (Short v) = value-same v
@@ -173,6 +174,7 @@ declaration-same ParameterName = refl
 declaration-same CaughtName = refl
 declaration-same ImportName = refl
 declaration-same ClassDeclared = refl
+declaration-same (ArgumentsName d) = declaration-same d
 
 specifier-same : (x : Specifier) → same_specifier x x ≡ true
 specifier-same (Imported s b) = both (string-same s) (number-same b)

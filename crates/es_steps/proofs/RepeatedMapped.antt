@@ -8,13 +8,13 @@ use Rattle.es_base.specs.declared.kind.Kind.{Kind}
 use Rattle.es_base.specs.declared.ledger.GeneratedKind.{GeneratedKind}
 use Rattle.es_base.specs.declared.ledger.LedgerEntry.{LedgerEntry}
 use Rattle.es_steps.specs.Context.{generated_as, is_constructor, is_function, name_in}
-use Rattle.es_steps.specs.Parts.{at, string_of, is_true}
+use Rattle.es_steps.specs.Parts.{at, items, string_of, is_true, has_pattern}
 use Rattle.es_steps.specs.PrivateNames.{is_class}
 use Rattle.es_steps.specs.References.{has_number}
-use Rattle.es_steps.specs.Repeated.{Surroundings, is_loop, is_arrow, super_function, if_here, constructs_at, function_place, place_in, surroundings_in, is_placed, place_of, places, places_in, places_at, places_of, all_places}
+use Rattle.es_steps.specs.Repeated.{Surroundings, is_loop, is_arrow, super_function, if_here, constructs_at, function_place, is_parameters_part, first_number, parameters_place, place_in, around_program, surroundings_in, is_placed, place_of, places, places_in, places_at, places_of, all_places}
 use Rattle.es_steps.proofs.ContextMapped.{generated_as-mapped, name_in-mapped}
 use Rattle.es_steps.proofs.Mapped.{Renames, mapped, mapped_part, mapped_parts, mapped_option, mapped_generated, mapped_ledger, mapped_pair}
-use Rattle.es_steps.proofs.PartsMapped.{cond-mapped, append-mapped, at-mapped, string_at-mapped, is_true_at-mapped, number_of-mapped}
+use Rattle.es_steps.proofs.PartsMapped.{cond-mapped, append-mapped, at-mapped, items_at-mapped, string_at-mapped, is_true_at-mapped, has_pattern-mapped, number_of-mapped}
 use Rattle.es_steps.proofs.ReferencesMapped.{has_number-mapped}
 
 module _ (f : ℕ → ℕ) where
@@ -48,23 +48,35 @@ module _ (f : ℕ → ℕ) where
   class_or-mapped true m n = refl
   class_or-mapped false m n = refl
 
+  first_number-mapped : (ps : Parts) (place : ℕ) → first_number (mapped_parts f ps) (f place) ≡ f (first_number ps place)
+  first_number-mapped (more (child t) ps) place = number_of-mapped f t
+  first_number-mapped (more p ps) place = refl
+  first_number-mapped end place = refl
+
+  parameters_place-mapped : (here : Bool) (ps : Parts) (place : ℕ) → parameters_place here (mapped_parts f ps) (f place) ≡ f (parameters_place here ps place)
+  parameters_place-mapped here ps place = rw (has_pattern-mapped f ps, first_number-mapped ps place) (class_or-mapped (here && has_pattern ps) (first_number ps place) place)
+
+  pub around_program-mapped : (t : Tree) → around_program (mapped f t) ≡ mapped_surroundings (around_program t)
+  around_program-mapped t = rw (number_of-mapped f t) refl
+
 module _ {first : ℕ} {f : ℕ → ℕ} (r : Renames first f) (ledger : List LedgerEntry) where
   abbrev there : Surroundings → Surroundings
   there s = mapped_surroundings f s
 
-  abbrev of_kind : Surroundings → Kind → ℕ → ℕ
-  of_kind s kind m = cond (is_function kind || is_arrow kind) (function_place (is_new first m) s.constructs m s.place) (cond (is_loop kind) m s.place)
+  abbrev of_kind : Surroundings → Kind → ℕ → Parts → ℕ → ℕ
+  of_kind s kind m ps i = cond (is_function kind || is_arrow kind) (parameters_place (is_parameters_part kind i) (items (at i ps)) (function_place (is_new first m) s.constructs m s.place)) (cond (is_loop kind) m s.place)
 
-  of_kind-mapped : (s : Surroundings) (kind : Kind) (m : ℕ) → of_kind (there s) kind (f m) ≡ f (of_kind s kind m)
-  of_kind-mapped s kind m =
-      rw (r.new m)
-      (cond-mapped f (is_function kind || is_arrow kind) (function_place (is_new first m) s.constructs m s.place) (cond (is_loop kind) m s.place) (function_place-mapped f (is_new first m) s.constructs m s.place) (class_or-mapped f (is_loop kind) m s.place))
+  of_kind-mapped : (s : Surroundings) (kind : Kind) (m : ℕ) (ps : Parts) (i : ℕ) → of_kind (there s) kind (f m) (mapped_parts f ps) i ≡ f (of_kind s kind m ps i)
+  of_kind-mapped s kind m ps i =
+      let place : ℕ = function_place (is_new first m) s.constructs m s.place in
+      rw (r.new m, items_at-mapped f i ps, function_place-mapped f (is_new first m) s.constructs m s.place)
+      (cond-mapped f (is_function kind || is_arrow kind) (parameters_place (is_parameters_part kind i) (items (at i ps)) place) (cond (is_loop kind) m s.place) (parameters_place-mapped f (is_parameters_part kind i) (items (at i ps)) place) (class_or-mapped f (is_loop kind) m s.place))
 
   place_in-mapped : (s : Surroundings) (kind : Kind) (m : ℕ) (ps : Parts) (i : ℕ) → place_in first (there s) kind (f m) (mapped_parts f ps) i ≡ f (place_in first s kind m ps i)
   place_in-mapped s Kind.PropertyDefinition m ps i = rw (is_true_at-mapped f 3 ps) (class_or-mapped f (nat_eq i 1 && not (is_true (at 3 ps))) s.class s.place)
-  place_in-mapped s kind m ps i = of_kind-mapped s kind m
+  place_in-mapped s kind m ps i = of_kind-mapped s kind m ps i
 
-  surroundings_in-mapped : (s : Surroundings) (kind : Kind) (m : ℕ) (ps : Parts) (i : ℕ) → surroundings_in first (mapped_ledger f ledger) (there s) kind (f m) (mapped_parts f ps) i ≡ there (surroundings_in first ledger s kind m ps i)
+  pub surroundings_in-mapped : (s : Surroundings) (kind : Kind) (m : ℕ) (ps : Parts) (i : ℕ) → surroundings_in first (mapped_ledger f ledger) (there s) kind (f m) (mapped_parts f ps) i ≡ there (surroundings_in first ledger s kind m ps i)
   surroundings_in-mapped s kind m ps i = rw (place_in-mapped s kind m ps i, constructs_at-mapped f ledger s.class kind ps i, class_or-mapped f (is_class kind && nat_eq i 2) m s.class) refl
 
   module _ (functions : List ℕ) where
@@ -92,4 +104,4 @@ module _ {first : ℕ} {f : ℕ → ℕ} (r : Renames first f) (ledger : List Le
       places_of-mapped s (more p ps) = append-mapped (mapped_pair f) _ _ (places_at-mapped s p) (places_of-mapped s ps)
 
     pub all_places-mapped : (t : Tree) → all_places first (mapped_ledger f ledger) (map f functions) (mapped f t) ≡ map (mapped_pair f) (all_places first ledger functions t)
-    all_places-mapped t = rw (number_of-mapped f t) (places-mapped (record { place = number_of t; class = number_of t; constructs = None }) t)
+    all_places-mapped t = rw (around_program-mapped f t) (places-mapped (around_program t) t)

@@ -28,7 +28,7 @@ module _ (f : ℕ → ℕ) where
   held_from-mapped i kind m ps = rw (details-mapped f ps, before-mapped f i ps, operands-mapped f (before i ps), from-mapped f i ps, codes_in-mapped f (from i ps)) refl
 
   pub case_code-mapped : (m : ℕ) (ps : Members) → case_code (f m) (mapped_members f ps) ≡ mapped_code f (case_code m ps)
-  case_code-mapped m ps = rw (details-mapped f ps, codes_at-mapped f 0 ps, codes_at-mapped f 1 ps, joined-mapped f (codes_of (at 0 ps)) (one (steps (codes_of (at 1 ps))))) refl
+  case_code-mapped m ps = rw (before-mapped f 1 ps, details-mapped f (before 1 ps), codes_at-mapped f 0 ps, codes_at-mapped f 1 ps, joined-mapped f (codes_of (at 0 ps)) (one (steps (codes_of (at 1 ps))))) refl
 
   given_codes-mapped : (m : ℕ) (cs : Codes) → given_codes (f m) (mapped_codes f cs) ≡ mapped_codes f (given_codes m cs)
   given_codes-mapped m done = refl

@@ -6,7 +6,7 @@ use Rattle.es_base.specs.declared.ids.NodeId.{NodeId}
 use Rattle.es_base.specs.declared.ledger.GeneratedKind.{GeneratedKind}
 use Rattle.es_base.specs.declared.ledger.LedgerEntry.{LedgerEntry}
 use Rattle.es_steps.specs.Entries.{Parameter, Identifier, RestIdentifier, Pattern, Method, Listed, Entry, FunctionEntry, ClassEntry}
-use Rattle.es_steps.specs.Events.{Event, ReadName, SetName, Get, Set, Define, Call, Construct, Operate, Update, PrivateGet, PrivateSet, PrivateInitialize, PrivateIn, AddBrand, SuperGet, SuperSet, SuperCall, SuperCallWithAll, InitializeClass, Throw, Short, Held, Events, none, then}
+use Rattle.es_steps.specs.Events.{Event, ReadName, SetName, Get, Set, Define, Call, Construct, Operate, Update, PrivateGet, PrivateSet, PrivateInitialize, PrivateIn, AddBrand, SuperGet, SuperSet, SuperCall, SuperCallWithAll, EnterBody, InitializeClass, Throw, Short, Held, Events, none, then}
 use Rattle.es_steps.specs.Meaning.{Meaning, Terms, DeclarationKind, MemberEntry, IsField, FunctionIs}
 use Rattle.es_steps.specs.Modules.{Specifier, Imported, ImportedDefault, ImportedNamespace, Reexported, ReexportedAll, ModuleLink, Exported, ExportedClass, ExportedBinding, ExportedFree, ExportedValue}
 use Rattle.es_steps.specs.PrivateNames.{PrivateMember}
@@ -141,6 +141,7 @@ module _ (f : ℕ → ℕ) (test : ℕ → Bool) (still : (n : ℕ) → test n �
         let ps = in_three test (m ∷ []) (n ∷ []) (values_numbers vs) all in
         rw (number-still m [] ps.0, number-still n [] ps.1.0, values-still vs ps.1.1) refl
     event-still (SuperCallWithAll n) all = ap SuperCallWithAll (number-still n [] all)
+    event-still EnterBody all = refl
     event-still (InitializeClass n) all = ap InitializeClass (number-still n [] all)
     event-still Throw all = refl
     event-still (Short v) all = ap Short (value-still v all)

@@ -8,9 +8,10 @@ use Rattle.es_base.specs.declared.ledger.GeneratedKind.{GeneratedKind}
 use Rattle.es_base.specs.declared.ledger.LedgerEntry.{LedgerEntry}
 use Rattle.es_steps.specs.Context.{generated_as}
 use Rattle.es_steps.specs.Definitions.{spelling}
+use Rattle.es_steps.specs.KeptNodes.{pair_stands, all_pairs_stand}
 use Rattle.es_steps.specs.Parts.{at, string_of}
 use Rattle.es_steps.specs.References.{has_number}
-use Rattle.es_steps.specs.Timely.{MarkForm, declares, initializes, hoists, uses, Around, Mark, is_held, is_held_arrow, is_callee_of_call, is_instance_value, runs_later, around_in, mark_by, mark, declared_mark, initialized_mark, marks_before, marks_behind, is_given, is_let_declaration, marks, marks_in, marks_at, marks_of, pair_stands, all_around, is_later, gives_by, gives_in_time, any_gives, is_dead_by, is_dead, is_followed, is_use, asks, in_time, names_timely}
+use Rattle.es_steps.specs.Timely.{MarkForm, declares, initializes, hoists, uses, Around, Mark, is_held, is_held_arrow, is_callee_of_call, is_instance_value, runs_later, around_in, mark_by, mark, declared_mark, initialized_mark, marks_before, marks_behind, is_given, is_let_declaration, marks, marks_in, marks_at, marks_of, is_later, gives_by, gives_in_time, any_gives, is_dead_by, is_dead, is_followed, is_use, comes_first, asks, in_time, names_timely}
 use Rattle.es_steps.specs.Values.{String}
 use Rattle.es_steps.proofs.ContextMapped.{generated_as-mapped}
 use Rattle.es_steps.proofs.DefinitionsMapped.{spelling-mapped}
@@ -42,6 +43,12 @@ module _ (f : ℕ → ℕ) where
   is_given-mapped : (first : ℕ) (l k : List LedgerEntry) (kind : Kind) (ps : Parts) (i : ℕ) → is_given first l kind (mapped_parts f ps) i ≡ is_given first k kind ps i
   is_given-mapped first l k Kind.AssignmentExpression ps i = rw (string_at-mapped f 0 ps, spelling_at-mapped 1 ps) refl
   is_given-mapped first l k kind ps i = refl
+
+  comes_first-mapped : (g : Option GeneratedKind) → comes_first (mapped_option (mapped_generated f) g) ≡ comes_first g
+  comes_first-mapped None = refl
+  comes_first-mapped (Some (GeneratedKind.SuperFn n)) = refl
+  comes_first-mapped (Some GeneratedKind.Closure) = refl
+  comes_first-mapped (Some g) = refl
 
   is_followed-mapped : (g : Option GeneratedKind) → is_followed (mapped_option (mapped_generated f) g) ≡ is_followed g
   is_followed-mapped None = refl
@@ -131,16 +138,16 @@ module _ {first : ℕ} {f : ℕ → ℕ} (r : Renames first f) where
   pair_stands-mapped p [] = refl
   pair_stands-mapped p (q ∷ qs) = ap₂ (λ a b. (a && nat_eq p.1 q.1) || b) (r.apart p.0 q.0) (pair_stands-mapped p qs)
 
-  all_around-mapped : (ps qs : List (ℕ × ℕ)) → all_around (map (mapped_held f) ps) (map (mapped_held f) qs) ≡ all_around ps qs
-  all_around-mapped [] qs = refl
-  all_around-mapped (p ∷ ps) qs = ap₂ (λ a b. a && b) (pair_stands-mapped p qs) (all_around-mapped ps qs)
+  all_pairs_stand-mapped : (ps qs : List (ℕ × ℕ)) → all_pairs_stand (map (mapped_held f) ps) (map (mapped_held f) qs) ≡ all_pairs_stand ps qs
+  all_pairs_stand-mapped [] qs = refl
+  all_pairs_stand-mapped (p ∷ ps) qs = ap₂ (λ a b. a && b) (pair_stands-mapped p qs) (all_pairs_stand-mapped ps qs)
 
   is_later-mapped : (fs gs : List ℕ) → is_later (map f fs) (map f gs) ≡ is_later fs gs
   is_later-mapped [] gs = refl
   is_later-mapped (n ∷ ns) gs = ap₂ (λ a b. not a || b) (has_number-mapped r n gs) (is_later-mapped ns gs)
 
   gives_in_time-mapped : (in_front : Bool) (m i : Mark) → gives_in_time in_front (mapped_mark f m) (mapped_mark f i) ≡ gives_in_time in_front m i
-  gives_in_time-mapped in_front m i = ap₂ (λ a b. bytes_eq m.name i.name && (a && gives_by i.form in_front b)) (all_around-mapped i.around.held m.around.held) (is_later-mapped m.around.later i.around.later)
+  gives_in_time-mapped in_front m i = ap₂ (λ a b. bytes_eq m.name i.name && (a && gives_by i.form in_front b)) (all_pairs_stand-mapped i.around.held m.around.held) (is_later-mapped m.around.later i.around.later)
 
   any_gives-mapped : (in_front : Bool) (m : Mark) (is : List Mark) → any_gives in_front (mapped_mark f m) (map (mapped_mark f) is) ≡ any_gives in_front m is
   any_gives-mapped in_front m [] = refl
@@ -153,11 +160,14 @@ module _ {first : ℕ} {f : ℕ → ℕ} (r : Renames first f) where
   asks-mapped : (ledger : List LedgerEntry) (m : Mark) → asks (mapped_ledger f ledger) (mapped_mark f m) ≡ asks ledger m
   asks-mapped ledger m = ap (λ b. is_use m.form && b) (ap is_followed (generated_as-mapped f m.name ledger) ∙ is_followed-mapped f (generated_as m.name ledger))
 
+  comes_first_at-mapped : (ledger : List LedgerEntry) (m : Mark) → comes_first (generated_as m.name (mapped_ledger f ledger)) ≡ comes_first (generated_as m.name ledger)
+  comes_first_at-mapped ledger m = ap comes_first (generated_as-mapped f m.name ledger) ∙ comes_first-mapped f (generated_as m.name ledger)
+
   in_time-mapped : (ledger : List LedgerEntry) (front ms : List Mark) → in_time (mapped_ledger f ledger) (map (mapped_mark f) front) (map (mapped_mark f) ms) ≡ in_time ledger front ms
   in_time-mapped ledger front [] = refl
   in_time-mapped ledger front (m ∷ ms) =
       ap₂ (λ a b. not a && b) (is_dead-mapped m ms)
-      (ap₂ (λ a b. a && b) (ap₂ (λ a b. not a || b) (asks-mapped ledger m) (ap₂ (λ a b. a || b) (any_gives-mapped true m front) (any_gives-mapped false m ms))) (in_time-mapped ledger (m ∷ front) ms))
+      (ap₂ (λ a b. a && b) (ap₂ (λ a b. not a || b) (asks-mapped ledger m) (ap₂ (λ a b. a || b) (any_gives-mapped true m front) (ap₂ (λ a b. not a && b) (comes_first_at-mapped ledger m) (any_gives-mapped false m ms)))) (in_time-mapped ledger (m ∷ front) ms))
 
   pub names_timely-mapped : (ledger : List LedgerEntry) (q : Tree) → names_timely first (mapped_ledger f ledger) (mapped f q) ≡ names_timely first ledger q
   names_timely-mapped ledger q =

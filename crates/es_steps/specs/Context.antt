@@ -14,7 +14,7 @@ use Rattle.es_steps.specs.Scopes.{ClassName, no_class, declares, own_name, let_n
 use Rattle.es_steps.specs.Values.{String, Value, Undefined, ClassOf, ThisOf, ArgumentsOf, NewTargetOf, Referent, Bound, Free, Home, OfClass, OfPrototype, OfObject}
 use Rattle.es_steps.specs.declared.options.Options.{Options}
 
--- What a name is: a binding that is not written, one that is or a free name, the class n by a name that b declares, a
+-- What a name is: a binding that does not vary, one that does or a free name, the class n by a name that b declares, a
 -- generated name, or that of the function of a static private method d of class n.
 pub data NameKind : Type 0 where
   Fixed : (b : ℕ) → NameKind
@@ -39,8 +39,8 @@ pub record Context : Type 0 where
   pub options : Options
   -- the private members of the source
   pub members : List PrivateMember
-  -- the bindings that are written anywhere in the program, and whether a free `arguments` is
-  pub written : List ℕ
+  -- the bindings that are imported or written anywhere in the program, and whether a free `arguments` is written
+  pub varying : List ℕ
   pub writes_arguments : Bool
   -- the names and the private members that are seen, the nearest first
   pub names : List Declaration
@@ -91,26 +91,26 @@ abbrev pub is_generated_private : String → ℕ → List LedgerEntry → Bool
 is_generated_private s n [] = false
 is_generated_private s n (e ∷ es) = (is_private_for n e.kind && bytes_eq s e.name) || is_generated_private s n es
 
-abbrev pub unless_written : List ℕ → ℕ → NameKind → NameKind
-unless_written written b kind = cond (has_number b written) (Changing (Bound b)) kind
+abbrev pub unless_varying : List ℕ → ℕ → NameKind → NameKind
+unless_varying varying b kind = cond (has_number b varying) (Changing (Bound b)) kind
 
 -- a `let` names a class where it is new
 abbrev pub declared_kind : ℕ → List ℕ → ℕ → ClassName → NameKind
-declared_kind first written b no_class = unless_written written b (Fixed b)
-declared_kind first written b (declares n) = unless_written written b (MeansClass n b)
-declared_kind first written b (own_name n) = MeansClass n b
-declared_kind first written b (let_names m n) = unless_written written b (cond (is_new first m) (MeansClass n b) (Fixed b))
+declared_kind first varying b no_class = unless_varying varying b (Fixed b)
+declared_kind first varying b (declares n) = unless_varying varying b (MeansClass n b)
+declared_kind first varying b (own_name n) = MeansClass n b
+declared_kind first varying b (let_names m n) = unless_varying varying b (cond (is_new first m) (MeansClass n b) (Fixed b))
 
 abbrev pub found_kind : ℕ → List ℕ → String → Option Declaration → NameKind
-found_kind first written s None = Changing (Free s)
-found_kind first written s (Some d) = declared_kind first written d.number d.class_name
+found_kind first varying s None = Changing (Free s)
+found_kind first varying s (Some d) = declared_kind first varying d.number d.class_name
 
 abbrev pub generated_or : Option GeneratedKind → NameKind → NameKind
 generated_or (Some g) kind = Generated g
 generated_or None kind = kind
 
 abbrev pub name_kind : Context → String → NameKind
-name_kind c s = generated_or (generated_as s c.ledger) (found_kind c.first_new c.written s (declared s c.names))
+name_kind c s = generated_or (generated_as s c.ledger) (found_kind c.first_new c.varying s (declared s c.names))
 
 -- ---- which `super(..)` of a constructor runs the initializers
 

@@ -3,8 +3,8 @@
 use Rattle.std.specs.Prelude.{ℕ, suc, List, [], ◌∷◌, ◌++◌, Bool, true, false, cond, ◌&&◌, ◌||◌, bytes_eq, Option, Some, None}
 use Rattle.es_steps.specs.Code.{Code, Codes, Target, Callee, FunctionForm, Opened, binding, rest, member, private_member, super_member, private_in, assign, compound, logical, logical_assign, update, call, tag, construct, super_call, sequence, template, operation, chain, short, tested, pattern, takes, steps, gives_to, export_default, function, new_function, class_code, field, private_field, method, private_method, constructor, static_block, generated_element, from_call, from_member, key_of, define, private_initialize, call_arrow, call_closure, give_function, give_class, to_name, to_member, to_private, to_super, to_setter, to_pattern, to_default, plain, on_member, on_private, on_super, with_receiver, checked, on_chain, behind_test, done, and}
 use Rattle.es_steps.specs.Evaluation.{Environment, Run, Evaluation, no_meaning, gives, event, bind, bind_parameters, write_ready, ev, ev_all, ev_target, ev_take, ev_callee, ev_key, ev_keys, ev_static, ev_field, ev_initializers}
-use Rattle.es_steps.specs.Events.{Events, Take, Index, Rest, Operate, SuperCallWithAll, value_behind}
-use Rattle.es_steps.specs.GeneratedForms.{opened_body, is_plain}
+use Rattle.es_steps.specs.Events.{Events, Take, Index, Rest, Operate, SuperCallWithAll, EnterBody, value_behind}
+use Rattle.es_steps.specs.GeneratedForms.{is_plain}
 use Rattle.es_steps.specs.Opening.{assigned_in, assigned_in_all, all_arguments}
 use Rattle.es_steps.specs.References.{has_number}
 use Rattle.es_steps.specs.SameValues.{same_value}
@@ -66,6 +66,19 @@ constructor_parameters done = []
 constructor_parameters (and (constructor (function f form own_name ps body)) cs) = parameters_of ps
 constructor_parameters (and c cs) = constructor_parameters cs
 
+-- whether all are identifiers, alone or as a rest: else the body has an environment of its own (ECMA-262, 10.2.11)
+abbrev pub is_identifier : Parameter → Bool
+is_identifier Pattern = false
+is_identifier p = true
+
+abbrev pub all_identifiers : List Parameter → Bool
+all_identifiers [] = true
+all_identifiers (p ∷ ps) = is_identifier p && all_identifiers ps
+
+abbrev pub entered : Bool → Evaluation
+entered true = gives Undefined
+entered false = event EnterBody Undefined
+
 -- ---- bodies and constructions; `late` are the classes whose parameters come before their fields
 
 abbrev pub no_constructor : Codes → Bool
@@ -94,14 +107,18 @@ module _ (opens : Opened → Evaluation) (first_new : ℕ) (late : List ℕ) whe
   ev_parameters i done = gives Undefined
   ev_parameters i (and c cs) = bind (ev_parameter i c) (λ v. ev_parameters (suc i) cs)
 
+  -- all parameters, and the border between them and the body
+  abbrev pub ev_given : Codes → Evaluation
+  ev_given cs = bind (ev_parameters 0 cs) (λ v. entered (all_identifiers (parameters_of cs)))
+
   -- what a call of a function does
   abbrev pub ev_body : Codes → Code → Evaluation
-  ev_body parameters body = bind (ev_parameters 0 parameters) (λ v. ev opens body)
+  ev_body parameters body = bind (ev_given parameters) (λ v. ev opens body)
 
   -- the construction of a base class initializes its fields before the parameters and the body of its constructor; that of
   -- another constructs its parent with all arguments where it has no constructor
   abbrev pub ev_construction : ℕ → Codes → Codes → Codes → Evaluation
-  ev_construction n done all (and (constructor (function f form own_name ps body)) es) = if_one (no_constructor es) (in_order (has_number n late) (ev_initializers opens n all) (ev_parameters 0 ps) (ev opens body))
+  ev_construction n done all (and (constructor (function f form own_name ps body)) es) = if_one (no_constructor es) (in_order (has_number n late) (ev_initializers opens n all) (ev_given ps) (ev opens body))
   ev_construction n done all (and (constructor (new_function f form done body)) es) = if_one (no_constructor es && is_plain form) (bind (ev_initializers opens n all) (λ v. ev opens body))
   ev_construction n (and h hs) all (and (constructor (function f form own_name ps body)) es) = if_one (no_constructor es) (ev_body ps body)
   ev_construction n (and h hs) all (and (constructor (new_function f form ps body)) es) = if_one (no_constructor es && (is_plain form && all_arguments ps)) (ev opens body)
@@ -147,8 +164,8 @@ same_nullable v w = false
 abbrev pub Entries : Type 0
 Entries = List (ℕ × Option Entry)
 
--- the functions and classes in a code: s is the environment in front of it, e that at the end of its innermost list,
--- with which a function or construction in it is read. Functions that are new have no entry.
+-- the functions and classes in a code: s is the environment in front of it, with which a function or a construction is
+-- read, without the temporaries that it assigns itself. Functions that are new have no entry.
 module _ (opens : Opened → Evaluation) (first_new : ℕ) (late : List ℕ) where
   abbrev pub heritage_in : Environment → Codes → Option (Option Value)
   heritage_in env done = Some None
@@ -186,7 +203,7 @@ module _ (opens : Opened → Evaluation) (first_new : ℕ) (late : List ℕ) whe
   behind_arguments s ss es = after_run s (ev_all opens es (λ vs. bind_parameters ss vs) s)
 
   abbrev pub behind_parameters : Environment → Codes → Environment
-  behind_parameters s ps = after_run s (ev_parameters opens first_new late 0 ps s)
+  behind_parameters s ps = after_run s (ev_given opens first_new late ps s)
 
   -- in front of a constructor's parameters
   abbrev pub behind_fields : Environment → ℕ → Codes → Codes → Environment
@@ -197,141 +214,137 @@ module _ (opens : Opened → Evaluation) (first_new : ℕ) (late : List ℕ) whe
   own_function f form own_name ps l = (f, function_entry form own_name (parameters_of ps) l) ∷ []
 
   abbrev mutual
-    pub entries : Environment → Environment → Code → Entries
-    entries s e (member m o k) = entries s e o ++ entries (behind_code s o) e k
-    entries s e (private_member m r o) = entries s e o
-    entries s e (super_member m home k this) = entries s e k
-    entries s e (private_in m test o) = entries s e o
-    entries s e (assign to r) = let a : Environment = behind_target s to in target_entries s e to ++ entries a e r ++ pattern_entries (behind_code a r) e to
-    entries s e (compound m op to r) = target_entries s e to ++ entries (behind_target s to) e r
-    entries s e (logical m op l r) = let a : Environment = behind_code s l in entries s e l ++ entries a (behind_code a r) r
-    entries s e (logical_assign m op to r) = let a : Environment = behind_target s to in target_entries s e to ++ entries a (behind_code a r) r
-    entries s e (update m op prefix to) = target_entries s e to
-    entries s e (call m f es) = callee_entries s e f ++ all_entries (behind_callee s f) e es
-    entries s e (tag m f ts es) = callee_entries s e f ++ all_entries (behind_callee s f) e es
-    entries s e (construct m f es) = entries s e f ++ all_entries (behind_code s f) e es
-    entries s e (super_call m n o es) = all_entries s e es
-    entries s e (sequence es) = all_entries s e es
-    entries s e (template m ts es) = all_entries s e es
-    entries s e (operation m op es parts) = all_entries s e es ++ held_entries (behind_all s es) parts
-    entries s e (chain m c) = entries s (behind_code s c) c
-    entries s e (short c) = entries s e c
-    entries s e (tested o again c) = let a : Environment = behind_code s o in entries s e o ++ all_entries a e again ++ entries a e c
-    entries s e (steps es) = all_entries s e es
-    entries s e (gives_to m to) = target_entries s e to ++ pattern_entries s e to
-    entries s e (export_default c) = entries s e c
-    entries s e (function f form own_name ps body) =
-        let start : Environment = without (assigned_in_all ps ++ assigned_in body) e in
-        let run : Option Run = ev_body opens first_new late ps body start in
-        own_function f form own_name ps (listed run) ++ parameter_entries start (after_run start run) ps ++ entries (behind_parameters start ps) (after_run start run) body
-    entries s e (class_code n declared h es) =
-        let start : Environment = without (assigned_in_all es) e in
-        let run : Option Run = ev_construction opens first_new late n h es es start in
+    pub entries : Environment → Code → Entries
+    entries s (member m o k) = entries s o ++ entries (behind_code s o) k
+    entries s (private_member m r o) = entries s o
+    entries s (super_member m home k this) = entries s k
+    entries s (private_in m test o) = entries s o
+    entries s (assign to r) = let a : Environment = behind_target s to in target_entries s to ++ entries a r ++ pattern_entries (behind_code a r) to
+    entries s (compound m op to r) = target_entries s to ++ entries (behind_target s to) r
+    entries s (logical m op l r) = let a : Environment = behind_code s l in entries s l ++ entries a r
+    entries s (logical_assign m op to r) = let a : Environment = behind_target s to in target_entries s to ++ entries a r
+    entries s (update m op prefix to) = target_entries s to
+    entries s (call m f es) = callee_entries s f ++ all_entries (behind_callee s f) es
+    entries s (tag m f ts es) = callee_entries s f ++ all_entries (behind_callee s f) es
+    entries s (construct m f es) = entries s f ++ all_entries (behind_code s f) es
+    entries s (super_call m n o es) = all_entries s es
+    entries s (sequence es) = all_entries s es
+    entries s (template m ts es) = all_entries s es
+    entries s (operation m op es parts) = all_entries s es ++ held_entries (behind_all s es) parts
+    entries s (chain m c) = entries s c
+    entries s (short c) = entries s c
+    entries s (tested o again c) = let a : Environment = behind_code s o in entries s o ++ all_entries a again ++ entries a c
+    entries s (steps es) = all_entries s es
+    entries s (gives_to m to) = target_entries s to ++ pattern_entries s to
+    entries s (export_default c) = entries s c
+    entries s (function f form own_name ps body) =
+        let start : Environment = without (assigned_in_all ps ++ assigned_in body) s in
+        own_function f form own_name ps (listed (ev_body opens first_new late ps body start)) ++ parameter_entries start ps ++ entries (behind_parameters start ps) body
+    entries s (class_code n declared h es) =
+        let start : Environment = without (assigned_in_all es) s in
         let a : Environment = behind_all s h in
         let b : Environment = after_run a (ev_keys opens es (λ ks. gives Undefined) a) in
-        ((n, class_entry (keys_stay a start es) declared (constructor_form es) (constructor_parameters es) (heritage_in s h) (methods_in a es) (listed run)) ∷ all_entries s e h)
-        ++ key_entries a e es ++ static_entries n b e es ++ field_entries n start (after_run start run) es ++ function_entries (behind_fields start n h es) (after_run start run) e es
-    entries s e (from_call c) = entries s e c
-    entries s e (from_member c) = entries s e c
-    entries s e (key_of c) = entries s e c
-    entries s e (define m o k r) = entries s e k ++ entries (behind_code s k) e r
-    entries s e (private_initialize m d o r) = entries s e r
-    entries s e (call_arrow ss body es) = all_entries s e es ++ entries (behind_arguments s ss es) e body
-    entries s e (call_closure f es) = all_entries s e es
-    entries s e (give_function m f g (new_function k form ps body)) =
-        let start : Environment = without (assigned_in body) e in
-        entries start (behind_code start (opened_body body)) body
-    entries s e (give_function m f g c) = entries s e c
-    entries s e (give_class n c) = entries s e c
-    entries s e c = []
+        ((n, class_entry (keys_stay a start es) declared (constructor_form es) (constructor_parameters es) (heritage_in s h) (methods_in a es) (listed (ev_construction opens first_new late n h es es start))) ∷ all_entries s h)
+        ++ key_entries a es ++ static_entries n b es ++ field_entries n start es ++ function_entries s (behind_fields start n h es) es
+    entries s (from_call c) = entries s c
+    entries s (from_member c) = entries s c
+    entries s (key_of c) = entries s c
+    entries s (define m o k r) = entries s k ++ entries (behind_code s k) r
+    entries s (private_initialize m d o r) = entries s r
+    entries s (call_arrow ss body es) = all_entries s es ++ entries (behind_arguments s ss es) body
+    entries s (call_closure f es) = all_entries s es
+    entries s (give_function m f g (new_function k form ps body)) = entries (without (assigned_in body) s) body
+    entries s (give_function m f g c) = entries s c
+    entries s (give_class n c) = entries s c
+    entries s c = []
 
-    pub target_entries : Environment → Environment → Target → Entries
-    target_entries s e (to_member m o k) = entries s e o ++ entries (behind_code s o) e k
-    target_entries s e (to_private m r o) = entries s e o
-    target_entries s e (to_super m home k this) = entries s e k
-    target_entries s e (to_setter m d o) = entries s e o
-    target_entries s e (to_default m to d) = target_entries s e to
-    target_entries s e to = []
+    pub target_entries : Environment → Target → Entries
+    target_entries s (to_member m o k) = entries s o ++ entries (behind_code s o) k
+    target_entries s (to_private m r o) = entries s o
+    target_entries s (to_super m home k this) = entries s k
+    target_entries s (to_setter m d o) = entries s o
+    target_entries s (to_default m to d) = target_entries s to
+    target_entries s to = []
 
     -- what a pattern does when its value is there: a default value is a held part
-    pub pattern_entries : Environment → Environment → Target → Entries
-    pattern_entries s e (to_pattern m kind cs) = taken_entries s e cs
-    pattern_entries s e (to_default m to d) = entries s (behind_code s d) d ++ pattern_entries s e to
-    pattern_entries s e to = []
+    pub pattern_entries : Environment → Target → Entries
+    pattern_entries s (to_pattern m kind cs) = taken_entries s cs
+    pattern_entries s (to_default m to d) = entries s d ++ pattern_entries s to
+    pattern_entries s to = []
 
-    pub taken_entries : Environment → Environment → Codes → Entries
-    taken_entries s e done = []
-    taken_entries s e (and c cs) = take_entries s e c ++ taken_entries (after_run s (ev_take opens Undefined c s)) e cs
+    pub taken_entries : Environment → Codes → Entries
+    taken_entries s done = []
+    taken_entries s (and c cs) = take_entries s c ++ taken_entries (after_run s (ev_take opens Undefined c s)) cs
 
-    pub take_entries : Environment → Environment → Code → Entries
-    take_entries s e (takes m ds k to) = let a : Environment = behind_all s k in all_entries s e k ++ target_entries a e to ++ pattern_entries (behind_target a to) e to
-    take_entries s e c = []
+    pub take_entries : Environment → Code → Entries
+    take_entries s (takes m ds k to) = let a : Environment = behind_all s k in all_entries s k ++ target_entries a to ++ pattern_entries (behind_target a to) to
+    take_entries s c = []
 
-    pub callee_entries : Environment → Environment → Callee → Entries
-    callee_entries s e (plain c) = entries s e c
-    callee_entries s e (on_member m o k) = entries s e o ++ entries (behind_code s o) e k
-    callee_entries s e (on_private m r o) = entries s e o
-    callee_entries s e (on_super m home k this) = entries s e k
-    callee_entries s e (with_receiver f o) = entries s e f ++ entries (behind_code s f) e o
-    callee_entries s e (checked f) = callee_entries s e f
-    callee_entries s e (on_chain m f) = callee_entries s (behind_callee s f) f
-    callee_entries s e (behind_test o again f) = let a : Environment = behind_code s o in entries s e o ++ all_entries a e again ++ callee_entries a e f
+    pub callee_entries : Environment → Callee → Entries
+    callee_entries s (plain c) = entries s c
+    callee_entries s (on_member m o k) = entries s o ++ entries (behind_code s o) k
+    callee_entries s (on_private m r o) = entries s o
+    callee_entries s (on_super m home k this) = entries s k
+    callee_entries s (with_receiver f o) = entries s f ++ entries (behind_code s f) o
+    callee_entries s (checked f) = callee_entries s f
+    callee_entries s (on_chain m f) = callee_entries s f
+    callee_entries s (behind_test o again f) = let a : Environment = behind_code s o in entries s o ++ all_entries a again ++ callee_entries a f
 
-    pub all_entries : Environment → Environment → Codes → Entries
-    all_entries s e done = []
-    all_entries s e (and c cs) = entries s e c ++ all_entries (behind_code s c) e cs
+    pub all_entries : Environment → Codes → Entries
+    all_entries s done = []
+    all_entries s (and c cs) = entries s c ++ all_entries (behind_code s c) cs
 
     -- parts with lists of their own
     pub held_entries : Environment → Codes → Entries
     held_entries s done = []
-    held_entries s (and c cs) = entries s (behind_code s c) c ++ held_entries s cs
+    held_entries s (and c cs) = entries s c ++ held_entries s cs
 
-    -- parameters: s and e are the environments in front of them and at the end of the list
-    pub parameter_entries : Environment → Environment → Codes → Entries
-    parameter_entries s e done = []
-    parameter_entries s e (and (pattern m to) cs) = target_entries s e to ++ pattern_entries s e to ++ parameter_entries s e cs
-    parameter_entries s e (and (rest to) cs) = target_entries s e to ++ pattern_entries s e to ++ parameter_entries s e cs
-    parameter_entries s e (and c cs) = parameter_entries s e cs
+    -- parameters, all in the environment in front of the first
+    pub parameter_entries : Environment → Codes → Entries
+    parameter_entries s done = []
+    parameter_entries s (and (pattern m to) cs) = target_entries s to ++ pattern_entries s to ++ parameter_entries s cs
+    parameter_entries s (and (rest to) cs) = target_entries s to ++ pattern_entries s to ++ parameter_entries s cs
+    parameter_entries s (and c cs) = parameter_entries s cs
 
     -- of the elements of a class: their keys, then the static ones
-    pub key_entries : Environment → Environment → Codes → Entries
-    key_entries s e done = []
-    key_entries s e (and c cs) = key_entry s e c ++ key_entries (behind_key s c) e cs
+    pub key_entries : Environment → Codes → Entries
+    key_entries s done = []
+    key_entries s (and c cs) = key_entry s c ++ key_entries (behind_key s c) cs
 
-    pub key_entry : Environment → Environment → Code → Entries
-    key_entry s e (field is_static form k r) = entries s e k
-    key_entry s e (method is_static kind k f) = entries s e k
-    key_entry s e c = []
+    pub key_entry : Environment → Code → Entries
+    key_entry s (field is_static form k r) = entries s k
+    key_entry s (method is_static kind k f) = entries s k
+    key_entry s c = []
 
-    pub static_entries : ℕ → Environment → Environment → Codes → Entries
-    static_entries n s e done = []
-    static_entries n s e (and c cs) = static_entry s e c ++ static_entries n (after_run s (ev_static opens n Undefined c s)) e cs
+    pub static_entries : ℕ → Environment → Codes → Entries
+    static_entries n s done = []
+    static_entries n s (and c cs) = static_entry s c ++ static_entries n (after_run s (ev_static opens n Undefined c s)) cs
 
-    pub static_entry : Environment → Environment → Code → Entries
-    static_entry s e (field true form k r) = entries s e r
-    static_entry s e (private_field true d r) = entries s e r
-    static_entry s e (static_block cs) = all_entries s e cs
-    static_entry s e (generated_element x r) = entries s e r
-    static_entry s e c = []
+    pub static_entry : Environment → Code → Entries
+    static_entry s (field true form k r) = entries s r
+    static_entry s (private_field true d r) = entries s r
+    static_entry s (static_block cs) = all_entries s cs
+    static_entry s (generated_element x r) = entries s r
+    static_entry s c = []
 
-    -- instance fields: s and e are the environments in front of the construction and at its end
-    pub field_entries : ℕ → Environment → Environment → Codes → Entries
-    field_entries n s e done = []
-    field_entries n s e (and c cs) = field_entry s e c ++ field_entries n (after_run s (ev_field opens n c s)) e cs
+    -- instance fields: s is the environment in front of the construction
+    pub field_entries : ℕ → Environment → Codes → Entries
+    field_entries n s done = []
+    field_entries n s (and c cs) = field_entry s c ++ field_entries n (after_run s (ev_field opens n c s)) cs
 
-    pub field_entry : Environment → Environment → Code → Entries
-    field_entry s e (field false form k r) = entries s e r
-    field_entry s e (private_field false d r) = entries s e r
-    field_entry s e c = []
+    pub field_entry : Environment → Code → Entries
+    field_entry s (field false form k r) = entries s r
+    field_entry s (private_field false d r) = entries s r
+    field_entry s c = []
 
-    -- methods, which are read at the end of the class's list, and what stands in the constructor
-    pub function_entries : Environment → Environment → Environment → Codes → Entries
-    function_entries s i e done = []
-    function_entries s i e (and c cs) = element_function s i e c ++ function_entries s i e cs
+    -- methods, and what stands in the constructor: s is the environment in front of the class, i that behind the fields
+    pub function_entries : Environment → Environment → Codes → Entries
+    function_entries s i done = []
+    function_entries s i (and c cs) = element_function s i c ++ function_entries s i cs
 
-    pub element_function : Environment → Environment → Environment → Code → Entries
-    element_function s i e (method is_static kind k f) = entries e e f
-    element_function s i e (private_method is_static d f) = entries e e f
-    element_function s i e (constructor (function f form own_name ps body)) = parameter_entries s i ps ++ entries (behind_parameters s ps) i body
-    element_function s i e (constructor (new_function f form ps body)) = parameter_entries s i ps ++ entries (behind_parameters s ps) i body
-    element_function s i e c = []
+    pub element_function : Environment → Environment → Code → Entries
+    element_function s i (method is_static kind k f) = entries s f
+    element_function s i (private_method is_static d f) = entries s f
+    element_function s i (constructor (function f form own_name ps body)) = parameter_entries i ps ++ entries (behind_parameters i ps) body
+    element_function s i (constructor (new_function f form ps body)) = parameter_entries i ps ++ entries (behind_parameters i ps) body
+    element_function s i c = []

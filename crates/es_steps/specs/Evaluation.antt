@@ -125,16 +125,31 @@ read_name m s (StaticMethod d n) = event (PrivateGet m d (ClassOf n)) (ResultOf 
 abbrev pub stands_for : String → Value → Evaluation
 stands_for s v env = Some (record { events = none; value = v; after = (s, v) ∷ env })
 
-abbrev pub write_generated : GeneratedKind → String → Value → Evaluation
-write_generated GeneratedKind.Temp s v = stands_for s v
-write_generated g s v = no_meaning
+-- what a binding holds is no value of a temporary, which may be read where the binding holds another one
+abbrev pub is_binding_value : Value → Bool
+is_binding_value (BindingOf b) = true
+is_binding_value (KeyOf v) = is_binding_value v
+is_binding_value v = false
 
-abbrev pub write_name : String → NameKind → Value → Evaluation
-write_name s (Fixed b) v = event (SetName (Bound b) v) v
-write_name s (Changing r) v = event (SetName r v) v
-write_name s (MeansClass n b) v = event (SetName (Bound b) v) v
-write_name s (Generated g) v = write_generated g s v
-write_name s (StaticMethod d n) v = no_meaning
+abbrev pub kept_as : String → Value → Evaluation
+kept_as s v = cond (is_binding_value v) no_meaning (stands_for s v)
+
+-- nor is its key, of which a temporary of number m only tells that it is one: it stands for a value that nothing of the
+-- source has, and may still name a function or a class, which asks for no value
+abbrev pub given_as : ℕ → String → Value → Evaluation
+given_as m s (KeyOf v) = stands_for s (cond (is_binding_value v) (ResultOf m) (KeyOf v))
+given_as m s v = kept_as s v
+
+abbrev pub write_generated : ℕ → GeneratedKind → String → Value → Evaluation
+write_generated m GeneratedKind.Temp s v = given_as m s v
+write_generated m g s v = no_meaning
+
+abbrev pub write_name : ℕ → String → NameKind → Value → Evaluation
+write_name m s (Fixed b) v = event (SetName (Bound b) v) v
+write_name m s (Changing r) v = event (SetName r v) v
+write_name m s (MeansClass n b) v = event (SetName (Bound b) v) v
+write_name m s (Generated g) v = write_generated m g s v
+write_name m s (StaticMethod d n) v = no_meaning
 
 -- what a generated private element and a default export hold stands under names that no identifier has
 abbrev pub private_key : String → String
@@ -173,7 +188,7 @@ read_ready (ready_setter d o) = no_meaning
 read_ready (ready_pattern write) = no_meaning
 
 abbrev pub write_ready : Ready → Value → Evaluation
-write_ready (ready_name m s kind) v = write_name s kind v
+write_ready (ready_name m s kind) v = write_name m s kind v
 write_ready (ready_member m o k) v = event (Set o k v) v
 write_ready (ready_private m reads writes o) v = write_private writes o v
 write_ready (ready_super m home k this) v = event (SuperSet home k v this) v
@@ -412,7 +427,7 @@ module _ (opens : Opened → Evaluation) where
     ev_static n a (field true form k e) = bind (ev e) (λ v. initialized form (ClassOf n) a v)
     ev_static n a (private_field true d e) = bind (ev e) (λ v. event (PrivateInitialize d (ClassOf n) v) Undefined)
     ev_static n a (static_block es) = ev_all es (λ vs. gives Undefined)
-    ev_static n a (generated_element s e) = bind (ev e) (λ v. stands_for (private_key s) v)
+    ev_static n a (generated_element s e) = bind (ev e) (λ v. kept_as (private_key s) v)
     ev_static n a e = gives Undefined
 
     -- instance fields in order, each its value and then its definition

@@ -56,6 +56,8 @@ mutual
     -- the parent of class n is constructed, with these arguments or with all
     SuperCall : (m n : ℕ) (arguments : List Value) → Event
     SuperCallWithAll : (n : ℕ) → Event
+    -- behind the parameters of a function, where its body has an environment of its own (ECMA-262, 10.2.11)
+    EnterBody : Event
     -- the class n, which a declaration declares, gets its name (ECMA-262, 15.7.14)
     InitializeClass : (n : ℕ) → Event
     -- an access that always throws

@@ -1,10 +1,11 @@
 -- Which nodes of the source stand in a lowered program. (Our own.)
-use Rattle.std.specs.Prelude.{ℕ, List, [], ◌∷◌, ◌++◌, Bool, true, false, cond, not, ◌&&◌, ◌||◌, nat_eq, Option, Some, None}
+use Rattle.std.specs.Prelude.{ℕ, suc, List, [], ◌∷◌, ◌++◌, Bool, true, false, cond, not, ◌&&◌, ◌||◌, nat_eq, Option, Some, None}
 use Rattle.es_base.specs.Preorder.{preorder, number_of}
 use Rattle.es_base.specs.Table.{is_statement}
 use Rattle.es_base.specs.Tree.{Tree, Part, Parts, Node, end, more, child, list}
 use Rattle.es_base.specs.declared.kind.Kind.{Kind}
 use Rattle.es_steps.specs.LoweredClasses.{is_lowered_class, has_lowered_class}
+use Rattle.es_steps.specs.Options.{lowers_blocks}
 use Rattle.es_steps.specs.Parts.{at, items}
 use Rattle.es_steps.specs.SameTrees.{same_tree}
 use Rattle.es_steps.specs.Scopes.{class_in}
@@ -122,8 +123,13 @@ abbrev pub item_numbers : Parts → List ℕ
 item_numbers end = []
 item_numbers (more p ps) = item_number p ++ item_numbers ps
 
+-- a function declaration stays where it is also where it holds a lowered class
+abbrev pub is_function_declaration : Tree → Bool
+is_function_declaration (Node Kind.FunctionDeclaration m span semantic_id ps) = true
+is_function_declaration t = false
+
 abbrev pub free_number : Options → Part → List ℕ
-free_number o (child t) = cond (is_free_statement o t) (number_of t ∷ []) [] ++ declared_classes (child t)
+free_number o (child t) = cond (is_free_statement o t || is_function_declaration t) (number_of t ∷ []) [] ++ declared_classes (child t)
 free_number o p = []
 
 abbrev pub free_numbers : Options → Parts → List ℕ
@@ -166,3 +172,61 @@ all_within (l ∷ ls) qs = is_within l.1 (list_of l.0 qs) && all_within ls qs
 
 abbrev pub lists_kept : Options → Tree → Tree → Bool
 lists_kept o p q = all_within (free_lists o p) (preorder q)
+
+-- ---- declaring identifiers and lists of statements stay in their function, also where a new one would be transparent to
+-- the meaning: a `var`, and a function in a block of sloppy code (ECMA-262, B.3.2), are seen in all of it
+
+-- the function around the i-th part of a node, or its static block; none in a static block that is lowered
+abbrev pub home_in : Options → Option ℕ → Kind → ℕ → ℕ → Option ℕ
+home_in o home Kind.FunctionDeclaration m i = cond (nat_eq i 0) home (Some m)
+home_in o home Kind.FunctionExpression m i = Some m
+home_in o home Kind.ArrowFunctionExpression m i = Some m
+home_in o home Kind.StaticBlock m i = cond (lowers_blocks o) None (Some m)
+home_in o home kind m i = home
+
+-- but for the own name of a class expression, which the class may take with it
+abbrev pub is_own_name : Kind → ℕ → Bool
+is_own_name Kind.ClassExpression i = nat_eq i 0
+is_own_name kind i = false
+
+abbrev pub has_home : Bool → Kind → Bool
+has_home is_own Kind.BindingIdentifier = not is_own
+has_home is_own Kind.BlockStatement = true
+has_home is_own Kind.SwitchCase = true
+has_home is_own kind = false
+
+abbrev pub home_of : Bool → ℕ → Option ℕ → List (ℕ × ℕ)
+home_of true m (Some home) = (m, home) ∷ []
+home_of here m home = []
+
+module _ (o : Options) where
+  abbrev mutual
+    pub homes : Option ℕ → Bool → Tree → List (ℕ × ℕ)
+    homes home is_own (Node kind m span semantic_id ps) = home_of (has_home is_own kind) m home ++ homes_in (home_in o home kind m) (is_own_name kind) ps
+
+    pub homes_in : (ℕ → Option ℕ) → (ℕ → Bool) → Parts → List (ℕ × ℕ)
+    homes_in home is_own end = []
+    homes_in home is_own (more p ps) = homes_at (home 0) (is_own 0) p ++ homes_in (λ i. home (suc i)) (λ i. is_own (suc i)) ps
+
+    pub homes_at : Option ℕ → Bool → Part → List (ℕ × ℕ)
+    homes_at home is_own (child t) = homes home is_own t
+    homes_at home is_own (list ps) = homes_of home ps
+    homes_at home is_own p = []
+
+    pub homes_of : Option ℕ → Parts → List (ℕ × ℕ)
+    homes_of home end = []
+    homes_of home (more p ps) = homes_at home false p ++ homes_of home ps
+
+  abbrev pub all_homes : Tree → List (ℕ × ℕ)
+  all_homes t = homes (Some (number_of t)) false t
+
+abbrev pub pair_stands : ℕ × ℕ → List (ℕ × ℕ) → Bool
+pair_stands p [] = false
+pair_stands p (q ∷ qs) = (nat_eq p.0 q.0 && nat_eq p.1 q.1) || pair_stands p qs
+
+abbrev pub all_pairs_stand : List (ℕ × ℕ) → List (ℕ × ℕ) → Bool
+all_pairs_stand [] qs = true
+all_pairs_stand (p ∷ ps) qs = pair_stands p qs && all_pairs_stand ps qs
+
+abbrev pub homes_kept : Options → Tree → Tree → Bool
+homes_kept o p q = all_pairs_stand (all_homes o p) (all_homes o q)

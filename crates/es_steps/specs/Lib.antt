@@ -32,6 +32,7 @@ pub mod Scopes
 pub mod Shapes
 pub mod Statements
 pub mod Standing
+pub mod Temporaries
 pub mod Timely
 pub mod Told
 pub mod Values

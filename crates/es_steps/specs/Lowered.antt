@@ -12,7 +12,7 @@ use Rattle.es_base.specs.declared.ledger.LedgerEntry.{LedgerEntry}
 use Rattle.es_steps.specs.Context.{generated_as}
 use Rattle.es_steps.specs.Definitions.{spelling, field_part, names_class, class_identifiers, definitions_stand, all_temporaries, all_different, elements_kept}
 use Rattle.es_steps.specs.GeneratedForms.{if_member, is_instance_field, is_static_field, is_function_member}
-use Rattle.es_steps.specs.KeptNodes.{statement_list, nodes_kept, statements_kept, lists_kept}
+use Rattle.es_steps.specs.KeptNodes.{statement_list, is_function_declaration, nodes_kept, statements_kept, lists_kept, homes_kept}
 use Rattle.es_steps.specs.LoweredClasses.{has_lowered_class}
 use Rattle.es_steps.specs.Options.{lowers_fields, lowers_blocks}
 use Rattle.es_steps.specs.Parts.{at, items, string_of, is_present}
@@ -20,6 +20,7 @@ use Rattle.es_steps.specs.Printable.{is_printable}
 use Rattle.es_steps.specs.PrivateNames.{PrivateMember, private_members, member_at, is_a_field}
 use Rattle.es_steps.specs.References.{Reference, resolve, has_number}
 use Rattle.es_steps.specs.Scopes.{is_binding_identifier, class_in}
+use Rattle.es_steps.specs.Temporaries.{temporaries_steady}
 use Rattle.es_steps.specs.Timely.{names_timely}
 use Rattle.es_steps.specs.Values.{String, Referent, Bound}
 use Rattle.es_steps.specs.declared.options.Options.{Options}
@@ -256,12 +257,18 @@ abbrev pub class_of_member : Option PrivateMember → List ℕ
 class_of_member None = []
 class_of_member (Some x) = x.class ∷ []
 
--- the class in front of which a name of this kind is initialized
+-- the class in front of which a name of this kind is initialized, but for a function that is declared, which is there from
+-- the head of its list on
 abbrev pub class_before : GeneratedKind → List PrivateMember → List ℕ
 class_before (GeneratedKind.WeakMap d) members = class_of_member (member_at d.0 members)
+class_before (GeneratedKind.Method d) members = class_of_member (member_at d.0 members)
 class_before (GeneratedKind.LooseKey d) members = class_of_member (member_at d.0 members)
 class_before (GeneratedKind.Brand n) members = n.0 ∷ []
 class_before g members = []
+
+abbrev pub is_declared_function : ℕ → List Tree → Bool
+is_declared_function m [] = false
+is_declared_function m (t ∷ ts) = (nat_eq m (number_of t) && is_function_declaration t) || is_declared_function m ts
 
 abbrev pub all_before : ℕ → List ℕ → List Tree → Bool
 all_before m [] qs = true
@@ -292,7 +299,7 @@ belongs members (GeneratedKind.LooseKey d) = is_there (if_member (λ x. is_a_fie
 belongs members g = true
 
 abbrev pub is_one_initialization : GeneratedKind → List PrivateMember → Tree → List (ℕ × Bool) → Bool
-is_one_initialization g members q (i ∷ []) = i.1 && all_before i.0 (class_before g members) (preorder q)
+is_one_initialization g members q (i ∷ []) = i.1 && (is_declared_function i.0 (preorder q) || all_before i.0 (class_before g members) (preorder q))
 is_one_initialization g members q is = false
 
 abbrev pub initializations_stand : ℕ → List LedgerEntry → List PrivateMember → Tree → List LedgerEntry → Bool
@@ -320,10 +327,12 @@ pub record MeetsClauses (first : ℕ) (o : Options) (ledger : List LedgerEntry) 
   pub accounted : declarations_accounted first ledger p q ≡ true
   pub initialized : initializations_stand first ledger (private_members p) q ledger ≡ true
   pub timely : names_timely first ledger q ≡ true
+  pub temporaries : temporaries_steady first ledger q ≡ true
   pub keys : keys_stand first o ledger (private_members p) q (all_temporaries first o ledger (private_members p) q (preorder q)) ≡ true
   pub nodes : nodes_kept p q ≡ true
   pub statements : statements_kept o p q ≡ true
   pub lists : lists_kept o p q ≡ true
+  pub homes : homes_kept o p q ≡ true
   pub definitions : definitions_stand first o ledger (private_members p) p q ≡ true
   pub elements : elements_kept o (preorder p) (preorder q) ≡ true
   pub printable : (not (is_printable p) || is_printable q) ≡ true

@@ -16,7 +16,7 @@ use Rattle.es_steps.specs.Opening.{gather, definitions, opening}
 use Rattle.es_steps.specs.Parts.{at, items, string_of}
 use Rattle.es_steps.specs.PrivateNames.{PrivateMember, PrivateKind, a_field, private_members}
 use Rattle.es_steps.specs.Reading.{read}
-use Rattle.es_steps.specs.References.{resolve, written, writes_free}
+use Rattle.es_steps.specs.References.{resolve, varying, writes_free}
 use Rattle.es_steps.specs.Repeated.{all_places}
 use Rattle.es_steps.specs.Scopes.{Declaration, is_binding_identifier, class_in, body_names}
 use Rattle.es_steps.specs.Values.{String, ThisOf, ArgumentsOf, NewTargetOf}
@@ -31,6 +31,8 @@ pub data DeclarationKind : Type 0 where
   CaughtName : DeclarationKind
   ImportName : DeclarationKind
   ClassDeclared : DeclarationKind
+  -- the same of a name spelled `arguments`, which a function may have by itself (ECMA-262, 10.2.11)
+  ArgumentsName : (d : DeclarationKind) → DeclarationKind
 
 -- a new declarator with a class in its initializer declares that class
 abbrev pub declarator_kind : Bool → Option ℕ → DeclarationKind → DeclarationKind
@@ -52,11 +54,14 @@ declares_at first Kind.ClassDeclaration m ps d i = ClassDeclared
 declares_at first Kind.ClassExpression m ps d i = ClassDeclared
 declares_at first kind m ps d i = d
 
+abbrev pub declared_as : String → DeclarationKind → DeclarationKind
+declared_as s d = cond (bytes_eq s (codes "arguments")) (ArgumentsName d) d
+
 -- the declaring identifiers in preorder, each with what it declares
 module _ (first : ℕ) where
   abbrev mutual
     pub declaring : DeclarationKind → Tree → List (ℕ × DeclarationKind)
-    declaring d (Node kind m span semantic_id ps) = cond (is_binding_identifier kind) ((m, d) ∷ []) (declaring_parts (declares_at first kind m ps d) ps)
+    declaring d (Node kind m span semantic_id ps) = cond (is_binding_identifier kind) ((m, declared_as (string_of (at 0 ps)) d) ∷ []) (declaring_parts (declares_at first kind m ps d) ps)
 
     pub declaring_parts : (ℕ → DeclarationKind) → Parts → List (ℕ × DeclarationKind)
     declaring_parts d end = []
@@ -73,6 +78,7 @@ module _ (first : ℕ) where
 
 abbrev pub names_class : DeclarationKind → Bool
 names_class ClassDeclared = true
+names_class (ArgumentsName d) = names_class d
 names_class d = false
 
 -- those that are not new and name no class
@@ -195,7 +201,7 @@ start o t = record {
   ledger = o.ledger;
   options = o.options;
   members = o.members;
-  written = written t;
+  varying = varying t;
   writes_arguments = writes_free (codes "arguments") (resolve t);
   names = [];
   privates = [];
@@ -245,12 +251,12 @@ with_all o t d (Some l) (Some es) (Some ms) (Some xs) = Some (record {
 })
 with_all o t d l es ms xs = None
 
--- the meaning of a code: entries are read in the environment at its end
+-- the meaning of a code; env is the environment at its end
 abbrev pub means_by : (Opened → Evaluation) → Terms → Tree → Code → Option Meaning
 means_by opens o t c =
     let run : Option Run = ev opens c [] in
     let env : Environment = after_run [] run in
-    with_all o t (private_functions c) (listed run) (whole (entries opens o.first_new o.late [] env c)) (member_entries (private_functions c) o.members) (all_exports (exports_in (in_body (start o t) t) env (body_of t)))
+    with_all o t (private_functions c) (listed run) (whole (entries opens o.first_new o.late [] c)) (member_entries (private_functions c) o.members) (all_exports (exports_in (in_body (start o t) t) env (body_of t)))
 
 abbrev pub means_of : Terms → Tree → Code → Option Meaning
 means_of o t c = means_by (opening (definitions c)) o t c

@@ -1,6 +1,7 @@
 -- The members of a node by their places in the table.
-use Rattle.std.specs.Prelude.{ℕ, zero, suc, List, [], Bool, true, false}
+use Rattle.std.specs.Prelude.{ℕ, zero, suc, List, [], Bool, true, false, not, ◌||◌}
 use Rattle.es_base.specs.Tree.{Part, Parts, Node, end, more, child, absent, list, string, boolean}
+use Rattle.es_base.specs.declared.kind.Kind.{Kind}
 
 -- the i-th member
 abbrev pub at : ℕ → Parts → Part
@@ -28,3 +29,13 @@ is_true p = false
 abbrev pub is_present : Part → Bool
 is_present absent = false
 is_present p = true
+
+-- whether a parameter among these is neither an identifier nor an identifier as a rest
+abbrev pub is_simple_parameter : Part → Bool
+is_simple_parameter (child (Node Kind.BindingIdentifier m span semantic_id ps)) = true
+is_simple_parameter (child (Node Kind.RestElement m span semantic_id (more (child (Node Kind.BindingIdentifier b bspan b_semantic_id bs)) rest))) = true
+is_simple_parameter p = false
+
+abbrev pub has_pattern : Parts → Bool
+has_pattern end = false
+has_pattern (more p ps) = not (is_simple_parameter p) || has_pattern ps

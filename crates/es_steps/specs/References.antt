@@ -8,7 +8,7 @@ use Rattle.es_base.specs.Preorder.{preorder}
 use Rattle.es_base.specs.declared.kind.Kind.{Kind}
 use Rattle.es_base.specs.declared.table.Sort.{Sort}
 use Rattle.es_steps.specs.Parts.{at, string_of}
-use Rattle.es_steps.specs.Scopes.{Declaration, names_at, is_body_part, scope_form, scope_names, var_part}
+use Rattle.es_steps.specs.Scopes.{Declaration, no_class, bound_part, names_at, is_body_part, scope_form, scope_names, var_part}
 use Rattle.es_steps.specs.Values.{String, Referent, Bound, Free}
 
 -- the first of this spelling: of the nearest scope, and there of the first declaring identifier
@@ -111,6 +111,22 @@ written_by_all (t ∷ ts) = written_by t ++ written_by_all ts
 -- the numbers of the bindings that are written anywhere in a program
 abbrev pub written : Tree → List ℕ
 written t = assigned (resolve t) ++ written_by_all (preorder t)
+
+-- the identifiers that imports declare: what such a name holds changes without a write here (ECMA-262, 9.1.1.5)
+abbrev pub imported_by : Tree → List ℕ
+imported_by (Node Kind.ImportDeclaration m span semantic_id ps) = numbers_of (bound_part no_class (at 0 ps))
+imported_by t = []
+
+abbrev pub imported_by_all : List Tree → List ℕ
+imported_by_all [] = []
+imported_by_all (t ∷ ts) = imported_by t ++ imported_by_all ts
+
+abbrev pub imported : Tree → List ℕ
+imported t = imported_by_all (preorder t)
+
+-- the bindings that are written anywhere, and those that are imported
+abbrev pub varying : Tree → List ℕ
+varying t = written t ++ imported t
 
 -- whether a free name of this spelling is written
 abbrev pub writes_free : String → List Reference → Bool

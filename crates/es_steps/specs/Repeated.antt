@@ -9,13 +9,13 @@ use Rattle.es_base.specs.declared.kind.Kind.{Kind}
 use Rattle.es_base.specs.declared.ledger.GeneratedKind.{GeneratedKind}
 use Rattle.es_base.specs.declared.ledger.LedgerEntry.{LedgerEntry}
 use Rattle.es_steps.specs.Context.{generated_as, is_constructor, is_function, name_in}
-use Rattle.es_steps.specs.Parts.{at, string_of, is_true}
+use Rattle.es_steps.specs.Parts.{at, items, string_of, is_true, has_pattern}
 use Rattle.es_steps.specs.PrivateNames.{is_class}
 use Rattle.es_steps.specs.References.{has_number}
 use Rattle.es_steps.specs.Scopes.{is_binding_identifier}
 
--- around a part: the nearest function or loop, or the class whose construction it is; the nearest class whose body is
--- around; and the class whose construction a function here belongs to
+-- around a part: the nearest function or loop, the class whose construction it is, or the parameters; the nearest class
+-- whose body is around; and the class whose construction a function here belongs to
 pub record Surroundings : Type 0 where
   pub place : ℕ
   pub class : ℕ
@@ -53,16 +53,35 @@ function_place new (Some n) m place = n
 function_place true None m place = place
 function_place false None m place = m
 
+-- parameters that are not all identifiers have an environment beside that of the body (10.2.11): they are known by the
+-- number of the first
+abbrev pub is_parameters_part : Kind → ℕ → Bool
+is_parameters_part Kind.FunctionDeclaration i = nat_eq i 1
+is_parameters_part Kind.FunctionExpression i = nat_eq i 1
+is_parameters_part Kind.ArrowFunctionExpression i = nat_eq i 0
+is_parameters_part kind i = false
+
+abbrev pub first_number : Parts → ℕ → ℕ
+first_number (more (child t) ps) place = number_of t
+first_number ps place = place
+
+abbrev pub parameters_place : Bool → Parts → ℕ → ℕ
+parameters_place here ps place = cond (here && has_pattern ps) (first_number ps place) place
+
 -- where the i-th part of a node stands
 abbrev pub place_in : ℕ → Surroundings → Kind → ℕ → Parts → ℕ → ℕ
 place_in first s Kind.PropertyDefinition m ps i = cond (nat_eq i 1 && not (is_true (at 3 ps))) s.class s.place
-place_in first s kind m ps i = cond (is_function kind || is_arrow kind) (function_place (is_new first m) s.constructs m s.place) (cond (is_loop kind) m s.place)
+place_in first s kind m ps i = cond (is_function kind || is_arrow kind) (parameters_place (is_parameters_part kind i) (items (at i ps)) (function_place (is_new first m) s.constructs m s.place)) (cond (is_loop kind) m s.place)
 
 abbrev pub surroundings_in : ℕ → List LedgerEntry → Surroundings → Kind → ℕ → Parts → ℕ → Surroundings
 surroundings_in first ledger s kind m ps i = record { place = place_in first s kind m ps i; class = cond (is_class kind && nat_eq i 2) m s.class; constructs = constructs_at ledger s.class kind ps i }
 
 abbrev pub is_placed : Kind → Bool
 is_placed kind = is_function kind || (is_arrow kind || (is_class kind || is_binding_identifier kind))
+
+-- around a program
+abbrev pub around_program : Tree → Surroundings
+around_program t = record { place = number_of t; class = number_of t; constructs = None }
 
 -- old functions, classes and declaring identifiers, but the functions of private methods, each with its place
 module _ (first : ℕ) (ledger : List LedgerEntry) (private_functions : List ℕ) where
@@ -87,4 +106,4 @@ module _ (first : ℕ) (ledger : List LedgerEntry) (private_functions : List ℕ
     places_of s (more p ps) = places_at s p ++ places_of s ps
 
   abbrev pub all_places : Tree → List (ℕ × ℕ)
-  all_places t = places (record { place = number_of t; class = number_of t; constructs = None }) t
+  all_places t = places (around_program t) t

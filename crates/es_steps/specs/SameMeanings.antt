@@ -2,8 +2,8 @@
 use Rattle.std.specs.Prelude.{ℕ, List, [], ◌∷◌, Bool, true, false, ◌&&◌, bytes_eq, nat_eq, Option, Some, None}
 use Rattle.es_steps.specs.Code.{FunctionForm}
 use Rattle.es_steps.specs.Entries.{Parameter, Identifier, RestIdentifier, Pattern, Method, Listed, Entry, FunctionEntry, ClassEntry}
-use Rattle.es_steps.specs.Events.{Detail, Operand, Empty, Spelled, Flag, Key, Opens, Closes, Prototype, Index, Rest, Operation, OfKind, Delete, Take, Place, RightOf, Default, Part, Event, ReadName, SetName, Get, Set, Define, Call, Construct, Operate, Update, PrivateGet, PrivateSet, PrivateInitialize, PrivateIn, AddBrand, SuperGet, SuperSet, SuperCall, SuperCallWithAll, InitializeClass, Throw, Short, Held, Events, none, then}
-use Rattle.es_steps.specs.Meaning.{Meaning, DeclarationKind, Variable, FunctionName, ParameterName, CaughtName, ImportName, ClassDeclared, MemberEntry, IsField, FunctionIs}
+use Rattle.es_steps.specs.Events.{Detail, Operand, Empty, Spelled, Flag, Key, Opens, Closes, Prototype, Index, Rest, Operation, OfKind, Delete, Take, Place, RightOf, Default, Part, Event, ReadName, SetName, Get, Set, Define, Call, Construct, Operate, Update, PrivateGet, PrivateSet, PrivateInitialize, PrivateIn, AddBrand, SuperGet, SuperSet, SuperCall, SuperCallWithAll, EnterBody, InitializeClass, Throw, Short, Held, Events, none, then}
+use Rattle.es_steps.specs.Meaning.{Meaning, DeclarationKind, Variable, FunctionName, ParameterName, CaughtName, ImportName, ClassDeclared, ArgumentsName, MemberEntry, IsField, FunctionIs}
 use Rattle.es_steps.specs.Modules.{Specifier, Imported, ImportedDefault, ImportedNamespace, Reexported, ReexportedAll, ModuleLink, Exported, ExportedClass, ExportedBinding, ExportedFree, ExportedValue}
 use Rattle.es_steps.specs.PrivateNames.{PrivateKind, a_field, a_method, a_getter, a_setter}
 use Rattle.es_steps.specs.SameTrees.{same_kind}
@@ -84,6 +84,7 @@ abbrev mutual
   same_event (SuperSet h k v x) (SuperSet g l w y) = same_home h g && (same_value k l && (same_value v w && same_value x y))
   same_event (SuperCall m n vs) (SuperCall k l ws) = nat_eq m k && (nat_eq n l && same_list same_value vs ws)
   same_event (SuperCallWithAll n) (SuperCallWithAll k) = nat_eq n k
+  same_event EnterBody EnterBody = true
   same_event (InitializeClass n) (InitializeClass k) = nat_eq n k
   same_event Throw Throw = true
   same_event (Short v) (Short w) = same_value v w
@@ -139,6 +140,7 @@ same_declaration ParameterName ParameterName = true
 same_declaration CaughtName CaughtName = true
 same_declaration ImportName ImportName = true
 same_declaration ClassDeclared ClassDeclared = true
+same_declaration (ArgumentsName d) (ArgumentsName e) = same_declaration d e
 same_declaration d e = false
 
 -- ---- modules

@@ -14,10 +14,10 @@ use Rattle.es_steps.specs.Meaning.{Meaning, start, source_terms, means}
 use Rattle.es_steps.specs.NameScopes.{is_suspended_scope}
 use Rattle.es_steps.specs.Opening.{gather, definitions, opening}
 use Rattle.es_steps.specs.Options.{lowers_fields, lowers_blocks, keeps_privates_as_properties}
-use Rattle.es_steps.specs.Parts.{at, items, string_of, is_true, is_present}
+use Rattle.es_steps.specs.Parts.{at, items, string_of, is_true, is_present, has_pattern}
 use Rattle.es_steps.specs.PrivateNames.{PrivateMember, PrivateReference, seen_members, private_reference}
 use Rattle.es_steps.specs.Reading.{read}
-use Rattle.es_steps.specs.References.{Reference, resolve, written, has_number}
+use Rattle.es_steps.specs.References.{Reference, resolve, written, imported, varying, has_number}
 use Rattle.es_steps.specs.Scopes.{is_class_expression}
 use Rattle.es_steps.specs.Values.{Undefined, Referent, Bound, Free}
 use Rattle.es_steps.specs.declared.options.Options.{Options}
@@ -75,15 +75,6 @@ has_shape_1 o t c ks = lowers_fields o && any_class (λ k. heritage_has_events c
 
 -- ---- 2: fields or private methods of instances of a base class, and a parameter that is no identifier
 
-abbrev pub is_simple_parameter : Part → Bool
-is_simple_parameter (child (Node Kind.BindingIdentifier m span semantic_id ps)) = true
-is_simple_parameter (child (Node Kind.RestElement m span semantic_id (more (child (Node Kind.BindingIdentifier b bspan b_semantic_id bs)) rest))) = true
-is_simple_parameter p = false
-
-abbrev pub has_pattern : Parts → Bool
-has_pattern end = false
-has_pattern (more p ps) = not (is_simple_parameter p) || has_pattern ps
-
 abbrev pub has_pattern_parameter : Part → Bool
 has_pattern_parameter (child (Node kind f span semantic_id ps)) = has_pattern (items (at 1 ps))
 has_pattern_parameter p = false
@@ -113,9 +104,11 @@ keeps_block k = any_element (λ e. e.is_block) k.elements && any_element (λ e. 
 abbrev pub has_shape_3 : Options → List ClassAt → Bool
 has_shape_3 o ks = lowers_fields o && (not (lowers_blocks o) && any_class keeps_block ks)
 
--- ---- 4: a written bound name that is read twice: the object of a private member that is written by an operator, updated,
--- called, a tag or behind `?.`, or the key of a `super` member in moved code that is written by an operator or updated. A
--- private member that is kept as a property is read once but where a logical operator writes it, and behind `?.`.
+-- ---- 4: a written or imported bound name that is read twice: the object of a private member that is written by an
+-- operator, updated, called, a tag or behind `?.`, or the key of a `super` member in moved code that is written by an
+-- operator or updated. A private member that is kept as a property is read once but where a logical operator writes it, and
+-- behind `?.`. And an imported name as a computed key of a lowered class that is read at another time: that of a field,
+-- where the field is defined; and any, where other keys are evaluated in front of the class.
 
 abbrev pub is_written_name : List ℕ → List Reference → Part → Bool
 is_written_name written references (child (Node Kind.IdentifierReference m span semantic_id ps)) = is_written_binding written (referent_of m references)
@@ -185,8 +178,16 @@ module _ (o : Options) (written : List ℕ) (references : List Reference) where
     reads_twice_of moved end = false
     reads_twice_of moved (more p ps) = reads_twice_at moved false p || reads_twice_of moved ps
 
-abbrev pub has_shape_4 : Options → Tree → Bool
-has_shape_4 o t = lowers_fields o && reads_twice o (written t) (resolve t) false false t
+-- an imported name as a computed key, which has no temporary: that of a field, or one that stays behind keys in front of the
+-- class
+abbrev pub is_imported_key : Bool → List ℕ → List Reference → Element → Bool
+is_imported_key hoists imported references e = e.computed && (is_written_name imported references e.key && (e.is_field || hoists))
+
+abbrev pub has_imported_key : List ℕ → List ℕ → List Reference → ClassAt → Bool
+has_imported_key written imported references k = any_element (is_imported_key (any_element (is_hoisted_key written references) k.elements) imported references) k.elements
+
+abbrev pub has_shape_4 : Options → Tree → List ClassAt → Bool
+has_shape_4 o t ks = lowers_fields o && (reads_twice o (varying t) (resolve t) false false t || any_class (has_imported_key (written t) (imported t) (resolve t)) ks)
 
 -- ---- 5: a private member without a writing side as a target in a pattern; 8: a private name behind `?.` in one chain
 
@@ -346,7 +347,7 @@ if_has false shape rest = rest
 
 abbrev pub shapes_of : Options → Tree → Code → List ClassAt → List Shape
 shapes_of o t c ks =
-    if_has (has_shape_1 o t c ks) Shape.S1 (if_has (has_shape_2 o ks) Shape.S2 (if_has (has_shape_3 o ks) Shape.S3 (if_has (has_shape_4 o t) Shape.S4
+    if_has (has_shape_1 o t c ks) Shape.S1 (if_has (has_shape_2 o ks) Shape.S2 (if_has (has_shape_3 o ks) Shape.S3 (if_has (has_shape_4 o t ks) Shape.S4
     (if_has (has_shape_5 o t) Shape.S5 (if_has (has_shape_6 o t ks) Shape.S6 (if_has (has_shape_7 t ks) Shape.S7 (if_has (has_shape_8 o t) Shape.S8 [])))))))
 
 abbrev pub shapes : Options → Tree → List Shape

@@ -4,7 +4,7 @@ use Rattle.es_base.specs.Numbered.{is_old}
 use Rattle.es_base.specs.declared.ledger.GeneratedKind.{GeneratedKind}
 use Rattle.es_base.specs.declared.ledger.LedgerEntry.{LedgerEntry}
 use Rattle.es_steps.specs.Entries.{Parameter, Identifier, RestIdentifier, Pattern, Method, Listed, Entry, FunctionEntry, ClassEntry}
-use Rattle.es_steps.specs.Events.{Event, ReadName, SetName, Get, Set, Define, Call, Construct, Operate, Update, PrivateGet, PrivateSet, PrivateInitialize, PrivateIn, AddBrand, SuperGet, SuperSet, SuperCall, SuperCallWithAll, InitializeClass, Throw, Short, Held, Events, none, then}
+use Rattle.es_steps.specs.Events.{Event, ReadName, SetName, Get, Set, Define, Call, Construct, Operate, Update, PrivateGet, PrivateSet, PrivateInitialize, PrivateIn, AddBrand, SuperGet, SuperSet, SuperCall, SuperCallWithAll, EnterBody, InitializeClass, Throw, Short, Held, Events, none, then}
 use Rattle.es_steps.specs.Meaning.{Meaning, Terms, DeclarationKind, MemberEntry, IsField, FunctionIs}
 use Rattle.es_steps.specs.Modules.{Specifier, Imported, ImportedDefault, ImportedNamespace, Reexported, ReexportedAll, ModuleLink, Exported, ExportedClass, ExportedBinding, ExportedFree, ExportedValue}
 use Rattle.es_steps.specs.PrivateNames.{PrivateMember}
@@ -65,6 +65,7 @@ abbrev mutual
   event_numbers (SuperSet home k v this) = home_numbers home ++ value_numbers k ++ value_numbers v ++ value_numbers this
   event_numbers (SuperCall m n vs) = m ∷ n ∷ values_numbers vs
   event_numbers (SuperCallWithAll n) = n ∷ []
+  event_numbers EnterBody = []
   event_numbers (InitializeClass n) = n ∷ []
   event_numbers Throw = []
   event_numbers (Short v) = value_numbers v

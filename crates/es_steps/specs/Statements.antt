@@ -20,9 +20,9 @@ use Rattle.es_steps.specs.declared.options.Options.{Options}
 abbrev pub held_from : ℕ → Kind → ℕ → Members → Code
 held_from i kind m ps = operation m (OfKind kind (details ps)) (operands (before i ps)) (codes_in (from i ps))
 
--- a case: its test, and its statements in order
+-- a case: its test, and its statements in order, which are one part as those of a block
 abbrev pub case_code : ℕ → Members → Code
-case_code m ps = operation m (OfKind Kind.SwitchCase (details ps)) done (joined (codes_of (at 0 ps)) (one (steps (codes_of (at 1 ps)))))
+case_code m ps = operation m (OfKind Kind.SwitchCase (details (before 1 ps))) done (joined (codes_of (at 0 ps)) (one (steps (codes_of (at 1 ps)))))
 
 -- the parameter of a catch is given what was caught
 abbrev pub given_codes : ℕ → Codes → Codes

@@ -8,6 +8,7 @@ use Rattle.es_base.specs.declared.ledger.GeneratedKind.{GeneratedKind}
 use Rattle.es_base.specs.declared.ledger.LedgerEntry.{LedgerEntry}
 use Rattle.es_steps.specs.Context.{generated_as, is_function}
 use Rattle.es_steps.specs.Definitions.{spelling}
+use Rattle.es_steps.specs.KeptNodes.{all_pairs_stand}
 use Rattle.es_steps.specs.Parts.{at, string_of, is_true, is_present}
 use Rattle.es_steps.specs.PrivateNames.{is_class}
 use Rattle.es_steps.specs.References.{has_number}
@@ -43,6 +44,7 @@ is_held Kind.LogicalExpression i = nat_eq i 2
 is_held Kind.ConditionalExpression i = nat_le 1 i
 is_held Kind.IfStatement i = nat_le 1 i
 is_held Kind.SwitchStatement i = nat_eq i 1
+is_held Kind.SwitchCase i = true
 is_held Kind.TryStatement i = true
 is_held Kind.LabeledStatement i = true
 is_held Kind.ForStatement i = nat_le 1 i
@@ -133,28 +135,20 @@ module _ (first : ℕ) (ledger : List LedgerEntry) where
 
 -- ---- each stands in time
 
-abbrev pub pair_stands : ℕ × ℕ → List (ℕ × ℕ) → Bool
-pair_stands p [] = false
-pair_stands p (q ∷ qs) = (nat_eq p.0 q.0 && nat_eq p.1 q.1) || pair_stands p qs
-
--- what may run or not around the one is around the other too
-abbrev pub all_around : List (ℕ × ℕ) → List (ℕ × ℕ) → Bool
-all_around [] qs = true
-all_around (p ∷ ps) qs = pair_stands p qs && all_around ps qs
-
 -- a function is around the one that is not around the other
 abbrev pub is_later : List ℕ → List ℕ → Bool
 is_later [] there = false
 is_later (f ∷ fs) there = not (has_number f there) || is_later fs there
 
--- whether i is an initialization that m may rely on: it stands in front, or m runs later, or it is hoisted
+-- whether i is an initialization that m may rely on: what may run or not around it is around m too, and it stands in front,
+-- or m runs later, or it is hoisted
 abbrev pub gives_by : MarkForm → Bool → Bool → Bool
 gives_by initializes in_front later = in_front || later
 gives_by hoists in_front later = true
 gives_by form in_front later = false
 
 abbrev pub gives_in_time : Bool → Mark → Mark → Bool
-gives_in_time in_front m i = bytes_eq m.name i.name && (all_around i.around.held m.around.held && gives_by i.form in_front (is_later m.around.later i.around.later))
+gives_in_time in_front m i = bytes_eq m.name i.name && (all_pairs_stand i.around.held m.around.held && gives_by i.form in_front (is_later m.around.later i.around.later))
 
 abbrev pub any_gives : Bool → Mark → List Mark → Bool
 any_gives in_front m [] = false
@@ -175,6 +169,12 @@ is_followed (Some GeneratedKind.Param) = false
 is_followed (Some GeneratedKind.Args) = false
 is_followed g = true
 
+-- a name of a closure or of what stands for `super(..)` is given in front of each use, also of those that run later
+abbrev pub comes_first : Option GeneratedKind → Bool
+comes_first (Some (GeneratedKind.SuperFn n)) = true
+comes_first (Some GeneratedKind.Closure) = true
+comes_first g = false
+
 abbrev pub is_use : MarkForm → Bool
 is_use uses = true
 is_use form = false
@@ -186,7 +186,7 @@ module _ (ledger : List LedgerEntry) where
   -- the marks in front, the nearest first, and those from here on
   abbrev pub in_time : List Mark → List Mark → Bool
   in_time front [] = true
-  in_time front (m ∷ ms) = not (is_dead m ms) && ((not (asks m) || (any_gives true m front || any_gives false m ms)) && in_time (m ∷ front) ms)
+  in_time front (m ∷ ms) = not (is_dead m ms) && ((not (asks m) || (any_gives true m front || (not (comes_first (generated_as m.name ledger)) && any_gives false m ms))) && in_time (m ∷ front) ms)
 
 abbrev pub names_timely : ℕ → List LedgerEntry → Tree → Bool
 names_timely first ledger q = in_time ledger [] (marks first ledger (record { held = []; later = []; is_called = false }) false q)

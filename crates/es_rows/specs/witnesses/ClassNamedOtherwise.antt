@@ -1,7 +1,8 @@
 -- Printed by tools/rows/witnesses.js.
-use Rattle.std.specs.Prelude.{[], ◌∷◌, false, codes, None}
+use Rattle.std.specs.Prelude.{ℕ, List, [], ◌∷◌, false, codes, None}
 use Rattle.es_base.specs.Tree.{Tree, end, more, child, absent, list, string, no_string, trees}
 use Rattle.es_base.specs.declared.kind.Kind.{Kind}
+use Rattle.es_base.specs.declared.ledger.LedgerEntry.{LedgerEntry}
 use Rattle.es_steps.specs.Generated.{node}
 use Rattle.es_steps.specs.Options.{options_of}
 use Rattle.es_steps.specs.declared.options.Options.{Options}

@@ -1,5 +1,5 @@
 -- Printed by tools/rows/witnesses.js.
-use Rattle.std.specs.Prelude.{List, [], ◌∷◌, false, codes, Some, None}
+use Rattle.std.specs.Prelude.{ℕ, List, [], ◌∷◌, false, codes, Some, None}
 use Rattle.es_base.specs.Tree.{Tree, end, more, child, absent, list, string, no_string, boolean, literal, trees}
 use Rattle.es_base.specs.declared.kind.Kind.{Kind}
 use Rattle.es_base.specs.declared.ledger.LedgerEntry.{LedgerEntry}

@@ -7,6 +7,9 @@ returns-clause-another_literal_of_a_written_class c = refl
 pub returns-clause-body_dropped : goal.returns-clause-body_dropped
 returns-clause-body_dropped c = refl
 
+pub returns-clause-body_in_an_arrow : goal.returns-clause-body_in_an_arrow
+returns-clause-body_in_an_arrow c = refl
+
 pub returns-clause-break_in_an_arrow : goal.returns-clause-break_in_an_arrow
 returns-clause-break_in_an_arrow c = refl
 
@@ -18,6 +21,9 @@ returns-clause-class_in_a_constructor c = refl
 
 pub returns-clause-class_temporary_before_its_class : goal.returns-clause-class_temporary_before_its_class
 returns-clause-class_temporary_before_its_class c = refl
+
+pub returns-clause-class_temporary_of_another_case : goal.returns-clause-class_temporary_of_another_case
+returns-clause-class_temporary_of_another_case c = refl
 
 pub returns-clause-closure_before_its_class : goal.returns-clause-closure_before_its_class
 returns-clause-closure_before_its_class c = refl
@@ -40,11 +46,17 @@ returns-clause-field_of_a_written_class_dropped c = refl
 pub returns-clause-fields_of_a_written_class_exchanged : goal.returns-clause-fields_of_a_written_class_exchanged
 returns-clause-fields_of_a_written_class_exchanged c = refl
 
+pub returns-clause-function_out_of_its_block : goal.returns-clause-function_out_of_its_block
+returns-clause-function_out_of_its_block c = refl
+
 pub returns-clause-hidden_body : goal.returns-clause-hidden_body
 returns-clause-hidden_body c = refl
 
 pub returns-clause-method_assigned_in_another_function : goal.returns-clause-method_assigned_in_another_function
 returns-clause-method_assigned_in_another_function c = refl
+
+pub returns-clause-method_given_behind_its_calls : goal.returns-clause-method_given_behind_its_calls
+returns-clause-method_given_behind_its_calls c = refl
 
 pub returns-clause-name_of_no_member : goal.returns-clause-name_of_no_member
 returns-clause-name_of_no_member c = refl
@@ -52,11 +64,29 @@ returns-clause-name_of_no_member c = refl
 pub returns-clause-name_twice : goal.returns-clause-name_twice
 returns-clause-name_twice c = refl
 
+pub returns-clause-parameter_read_later : goal.returns-clause-parameter_read_later
+returns-clause-parameter_read_later c = refl
+
 pub returns-clause-private_name_twice : goal.returns-clause-private_name_twice
 returns-clause-private_name_twice c = refl
 
+pub returns-clause-super_function_behind_a_call : goal.returns-clause-super_function_behind_a_call
+returns-clause-super_function_behind_a_call c = refl
+
 pub returns-clause-super_function_behind_its_calls : goal.returns-clause-super_function_behind_its_calls
 returns-clause-super_function_behind_its_calls c = refl
+
+pub returns-clause-temporary_given_again : goal.returns-clause-temporary_given_again
+returns-clause-temporary_given_again c = refl
+
+pub returns-clause-temporary_given_again_in_a_loop : goal.returns-clause-temporary_given_again_in_a_loop
+returns-clause-temporary_given_again_in_a_loop c = refl
+
+pub returns-clause-temporary_of_a_hoisted_function : goal.returns-clause-temporary_of_a_hoisted_function
+returns-clause-temporary_of_a_hoisted_function c = refl
+
+pub returns-clause-temporary_of_the_program : goal.returns-clause-temporary_of_the_program
+returns-clause-temporary_of_the_program c = refl
 
 pub returns-clause-weak_map_in_another_function : goal.returns-clause-weak_map_in_another_function
 returns-clause-weak_map_in_another_function c = refl

@@ -61,5 +61,8 @@ returns-clause-template_key c = (refl, refl, refl)
 pub returns-clause-tested_name : goal.returns-clause-tested_name
 returns-clause-tested_name c = (refl, refl, refl)
 
+pub returns-clause-var_arguments : goal.returns-clause-var_arguments
+returns-clause-var_arguments c = (refl, refl, refl)
+
 pub returns-clause-void_of_a_template : goal.returns-clause-void_of_a_template
 returns-clause-void_of_a_template c = (refl, refl, refl)

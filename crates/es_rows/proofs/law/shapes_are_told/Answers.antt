@@ -1,6 +1,15 @@
 use Rattle.std.specs.Prelude.{refl}
 use Rattle.es_rows.proofs.law.shapes_are_told.Goals as goal
 
+pub returns-clause-imported_key : goal.returns-clause-imported_key
+returns-clause-imported_key c = (refl, refl)
+
+pub returns-clause-imported_key_of_a_method : goal.returns-clause-imported_key_of_a_method
+returns-clause-imported_key_of_a_method c = (refl, refl)
+
+pub returns-clause-imported_object : goal.returns-clause-imported_object
+returns-clause-imported_object c = (refl, refl)
+
 pub returns-clause-loose_member_read_once : goal.returns-clause-loose_member_read_once
 returns-clause-loose_member_read_once c = (refl, refl)
 

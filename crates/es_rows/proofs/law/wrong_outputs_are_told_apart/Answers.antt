@@ -16,6 +16,9 @@ returns-clause-arrow_out_of_a_loop c = refl
 pub returns-clause-async_constructor : goal.returns-clause-async_constructor
 returns-clause-async_constructor c = refl
 
+pub returns-clause-binding_in_a_temporary : goal.returns-clause-binding_in_a_temporary
+returns-clause-binding_in_a_temporary c = refl
+
 pub returns-clause-binding_not_renamed : goal.returns-clause-binding_not_renamed
 returns-clause-binding_not_renamed c = refl
 
@@ -81,6 +84,9 @@ returns-clause-heritage_read_late c = refl
 
 pub returns-clause-key_given_behind_the_fields : goal.returns-clause-key_given_behind_the_fields
 returns-clause-key_given_behind_the_fields c = refl
+
+pub returns-clause-key_of_a_binding_in_a_temporary : goal.returns-clause-key_of_a_binding_in_a_temporary
+returns-clause-key_of_a_binding_in_a_temporary c = refl
 
 pub returns-clause-key_read_late : goal.returns-clause-key_read_late
 returns-clause-key_read_late c = refl
@@ -168,6 +174,9 @@ returns-clause-super_gives_zero c = refl
 
 pub returns-clause-suspending_constructor : goal.returns-clause-suspending_constructor
 returns-clause-suspending_constructor c = refl
+
+pub returns-clause-temporary_given_behind_a_call : goal.returns-clause-temporary_given_behind_a_call
+returns-clause-temporary_given_behind_a_call c = refl
 
 pub returns-clause-temporary_given_late : goal.returns-clause-temporary_given_late
 returns-clause-temporary_given_late c = refl

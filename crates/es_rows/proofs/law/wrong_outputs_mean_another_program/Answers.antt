@@ -1,6 +1,9 @@
 use Rattle.std.specs.Prelude.{refl}
 use Rattle.es_rows.proofs.law.wrong_outputs_mean_another_program.Goals as goal
 
+pub returns-clause-arrow_moved_into_parameters : goal.returns-clause-arrow_moved_into_parameters
+returns-clause-arrow_moved_into_parameters c = (refl, refl)
+
 pub returns-clause-block_behind_a_kept_field : goal.returns-clause-block_behind_a_kept_field
 returns-clause-block_behind_a_kept_field c = (refl, refl)
 
@@ -13,8 +16,17 @@ returns-clause-branch_of_a_key_of_another c = (refl, refl)
 pub returns-clause-elements_dropped : goal.returns-clause-elements_dropped
 returns-clause-elements_dropped c = (refl, refl)
 
+pub returns-clause-import_read_early : goal.returns-clause-import_read_early
+returns-clause-import_read_early c = (refl, refl)
+
 pub returns-clause-read_moved : goal.returns-clause-read_moved
 returns-clause-read_moved c = (refl, refl)
+
+pub returns-clause-statement_of_another_case : goal.returns-clause-statement_of_another_case
+returns-clause-statement_of_another_case c = (refl, refl)
+
+pub returns-clause-statements_of_a_case_exchanged : goal.returns-clause-statements_of_a_case_exchanged
+returns-clause-statements_of_a_case_exchanged c = (refl, refl)
 
 pub returns-clause-static_field_dropped : goal.returns-clause-static_field_dropped
 returns-clause-static_field_dropped c = (refl, refl)

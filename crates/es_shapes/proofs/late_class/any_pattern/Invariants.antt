@@ -1,6 +1,6 @@
 use Rattle.std.proofs.Common.{◌≡◌, drop}
 use Rattle.es_base.specs.Tree.{trees}
-use Rattle.es_steps.specs.Shapes.{has_pattern}
+use Rattle.es_steps.specs.Parts.{has_pattern}
 use Rattle.es_shapes.proofs.late_class.any_pattern.Given as goal
 
 abbrev pub invariant-loop-parameter : goal.invariant-loop-parameter

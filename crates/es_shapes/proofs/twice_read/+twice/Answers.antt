@@ -3,7 +3,7 @@ use Rattle.es_base.specs.Preorder.{nodes, nodes_of, nodes_of_part}
 use Rattle.es_base.specs.Tree.{nullable}
 use Rattle.es_node.specs.View.{kind_of, part_of, parts_in, parts_of}
 use Rattle.es_node.proofs.Below.{part_below, tree_below, hole_below}
-use Rattle.es_steps.specs.References.{resolve, written}
+use Rattle.es_steps.specs.References.{resolve, varying}
 use Rattle.es_steps.specs.Shapes.{moved_in, is_private_function, reads_twice_in}
 use Rattle.es_shapes.proofs.Twice.{from, all_parts, passes_over}
 use Rattle.es_shapes.proofs.twice_read.+twice.Goals as goal
@@ -20,7 +20,7 @@ reads_twice_of_list_with_holes-reads_twice_of_hole-requires g t c κs within = (
 pub reads_twice_in-loop-i-init : goal.reads_twice_in-loop-i-init
 reads_twice_in-loop-i-init g t c =
     let o = c.args.options.now in
-    let w = written (g.F.NameFacts.program c.args.facts.now) in
+    let w = varying (g.F.NameFacts.program c.args.facts.now) in
     let r = resolve (g.F.NameFacts.program c.args.facts.now) in
     let moved = moved_in o c.args.moves.moved c.args.moves.of_method (kind_of c.args.node.now) (parts_in c.args.node.now) in
     let of_method = is_private_function (kind_of c.args.node.now) (parts_in c.args.node.now) in
@@ -29,7 +29,7 @@ reads_twice_in-loop-i-init g t c =
 pub reads_twice_in-loop-i-preserved : goal.reads_twice_in-loop-i-preserved
 reads_twice_in-loop-i-preserved g t c =
     let o = c.args.options.now in
-    let w = written (g.F.NameFacts.program c.args.facts.now) in
+    let w = varying (g.F.NameFacts.program c.args.facts.now) in
     let r = resolve (g.F.NameFacts.program c.args.facts.now) in
     let moved = moved_in o c.args.moves.moved c.args.moves.of_method (kind_of c.args.node.now) (parts_in c.args.node.now) in
     let of_method = is_private_function (kind_of c.args.node.now) (parts_in c.args.node.now) in
@@ -42,7 +42,7 @@ reads_twice_in-loop-i-preserved g t c =
 pub reads_twice_in-returns-then-reads_twice_at : goal.reads_twice_in-returns-then-reads_twice_at
 reads_twice_in-returns-then-reads_twice_at g t c =
     let o = c.args.options.now in
-    let w = written (g.F.NameFacts.program c.args.facts.now) in
+    let w = varying (g.F.NameFacts.program c.args.facts.now) in
     let r = resolve (g.F.NameFacts.program c.args.facts.now) in
     let moved = moved_in o c.args.moves.moved c.args.moves.of_method (kind_of c.args.node.now) (parts_in c.args.node.now) in
     let of_method = is_private_function (kind_of c.args.node.now) (parts_in c.args.node.now) in

@@ -2,7 +2,7 @@ use Rattle.std.proofs.Common.{◌≡◌, ◌+◌, ◌*◌, drop}
 use Rattle.es_base.specs.Preorder.{nodes, nodes_of, nodes_of_part}
 use Rattle.es_base.specs.Tree.{trees, nullable, nullable_trees}
 use Rattle.es_node.specs.View.{kind_of, part_of, parts_in, parts_of}
-use Rattle.es_steps.specs.References.{resolve, written}
+use Rattle.es_steps.specs.References.{resolve, varying}
 use Rattle.es_steps.specs.Shapes.{moved_in, is_private_function, reads_twice_in, reads_twice_of}
 use Rattle.es_shapes.proofs.Twice.{from}
 use Rattle.es_shapes.proofs.twice_read.+twice.Given as goal
@@ -26,14 +26,14 @@ abbrev pub decreases-reads_twice_of_hole : goal.decreases-reads_twice_of_hole
 decreases-reads_twice_of_hole g l = 5 * nodes_of_part (nullable l.node.now) + 1
 
 abbrev pub invariant-reads_twice_of_list-loop-node : goal.invariant-reads_twice_of_list-loop-node
-invariant-reads_twice_of_list-loop-node g l = reads_twice_of l.options (written (g.F.NameFacts.program l.facts)) (resolve (g.F.NameFacts.program l.facts)) l.moved (trees (drop l.node-index l.nodes)) ≡ reads_twice_of l.options (written (g.F.NameFacts.program l.facts)) (resolve (g.F.NameFacts.program l.facts)) l.moved (trees l.nodes)
+invariant-reads_twice_of_list-loop-node g l = reads_twice_of l.options (varying (g.F.NameFacts.program l.facts)) (resolve (g.F.NameFacts.program l.facts)) l.moved (trees (drop l.node-index l.nodes)) ≡ reads_twice_of l.options (varying (g.F.NameFacts.program l.facts)) (resolve (g.F.NameFacts.program l.facts)) l.moved (trees l.nodes)
 
 abbrev pub invariant-reads_twice_of_list_with_holes-loop-node : goal.invariant-reads_twice_of_list_with_holes-loop-node
-invariant-reads_twice_of_list_with_holes-loop-node g l = reads_twice_of l.options (written (g.F.NameFacts.program l.facts)) (resolve (g.F.NameFacts.program l.facts)) l.moved (nullable_trees (drop l.node-index l.nodes)) ≡ reads_twice_of l.options (written (g.F.NameFacts.program l.facts)) (resolve (g.F.NameFacts.program l.facts)) l.moved (nullable_trees l.nodes)
+invariant-reads_twice_of_list_with_holes-loop-node g l = reads_twice_of l.options (varying (g.F.NameFacts.program l.facts)) (resolve (g.F.NameFacts.program l.facts)) l.moved (nullable_trees (drop l.node-index l.nodes)) ≡ reads_twice_of l.options (varying (g.F.NameFacts.program l.facts)) (resolve (g.F.NameFacts.program l.facts)) l.moved (nullable_trees l.nodes)
 
 abbrev pub invariant-reads_twice_in-loop-i : goal.invariant-reads_twice_in-loop-i
 invariant-reads_twice_in-loop-i g l =
-    let written = written (g.F.NameFacts.program l.facts) in
+    let written = varying (g.F.NameFacts.program l.facts) in
     let references = resolve (g.F.NameFacts.program l.facts) in
     let moved = moved_in l.options l.moves.moved l.moves.of_method (kind_of l.node) (parts_in l.node) in
     let of_method = is_private_function (kind_of l.node) (parts_in l.node) in

@@ -1,0 +1,136 @@
+-- A temporary holds one value wherever it is read. (Our own. That no other evaluation of the same class, function or
+-- construction comes between, where a temporary stands outside of it, is a premise: docs/MEANING.md.)
+use Rattle.std.specs.Prelude.{ℕ, suc, List, [], ◌∷◌, ◌++◌, Bool, true, false, cond, not, ◌&&◌, ◌||◌, nat_eq, bytes_eq, Option, Some, None}
+use Rattle.es_base.specs.Numbered.{is_new}
+use Rattle.es_base.specs.Preorder.{number_of}
+use Rattle.es_base.specs.Table.{Field, members_of}
+use Rattle.es_base.specs.Tree.{Tree, Part, Parts, Node, end, more, child, list}
+use Rattle.es_base.specs.declared.kind.Kind.{Kind}
+use Rattle.es_base.specs.declared.ledger.GeneratedKind.{GeneratedKind}
+use Rattle.es_base.specs.declared.ledger.LedgerEntry.{LedgerEntry}
+use Rattle.es_steps.specs.Parts.{at, string_of, is_present}
+use Rattle.es_steps.specs.References.{is_target}
+use Rattle.es_steps.specs.Repeated.{Surroundings, surroundings_in, around_program}
+use Rattle.es_steps.specs.Scopes.{binds, is_body_part}
+use Rattle.es_steps.specs.Values.{String}
+
+-- Where a name is declared, given a value, or read: in which part that is evaluated again (specs/Repeated.antt); in which
+-- function declaration, which may be called in front of where it stands; and in which body.
+pub record Touch : Type 0 where
+  pub name : String
+  pub declares : Bool
+  pub gives : Bool
+  pub place : ℕ
+  pub declaration : ℕ
+  pub home : ℕ
+
+pub record Spot : Type 0 where
+  pub around : Surroundings
+  pub declaration : ℕ
+  pub home : ℕ
+
+abbrev pub touch : String → Bool → Bool → Spot → List Touch
+touch s declares gives x = record { name = s; declares = declares; gives = gives; place = x.around.place; declaration = x.declaration; home = x.home } ∷ []
+
+-- a reference reads, but where something is assigned to; an identifier that declares is given a value, but that of a
+-- declarator without one
+abbrev pub touch_of : Bool → Spot → Kind → Parts → List Touch
+touch_of gives x Kind.IdentifierReference ps = touch (string_of (at 0 ps)) false gives x
+touch_of gives x Kind.BindingIdentifier ps = touch (string_of (at 0 ps)) true gives x
+touch_of gives x kind ps = []
+
+abbrev pub is_bare : Kind → Parts → Bool
+is_bare Kind.VariableDeclarator ps = not (is_present (at 1 ps))
+is_bare kind ps = false
+
+abbrev pub declaration_in : Kind → ℕ → ℕ → ℕ
+declaration_in Kind.FunctionDeclaration m declaration = m
+declaration_in kind m declaration = declaration
+
+-- A body is one of statements, of a function of the source that is no constructor. What stands in parameters, in a field, or
+-- in the expression that is a body may have its names declared around, where a list of statements is.
+abbrev pub is_block : Part → Bool
+is_block (child (Node Kind.BlockStatement m span semantic_id ps)) = true
+is_block p = false
+
+abbrev pub is_of_class : Option ℕ → Bool
+is_of_class None = false
+is_of_class (Some n) = true
+
+abbrev pub home_in : ℕ → Spot → Kind → ℕ → Parts → ℕ → ℕ
+home_in first x kind m ps i = cond (is_body_part kind i && (is_block (at i ps) && not (is_new first m || is_of_class x.around.constructs))) m x.home
+
+module _ (first : ℕ) (ledger : List LedgerEntry) where
+  abbrev pub spot_in : Spot → Kind → ℕ → Parts → ℕ → Spot
+  spot_in x kind m ps i = record { around = surroundings_in first ledger x.around kind m ps i; declaration = declaration_in kind m x.declaration; home = home_in first x kind m ps i }
+
+  abbrev mutual
+    pub touches : Spot → Bool → Tree → List Touch
+    touches x gives (Node kind m span semantic_id ps) = touch_of gives x kind ps ++ touches_in (spot_in x kind m ps) (is_bare kind ps) (members_of kind) ps
+
+    pub touches_in : (ℕ → Spot) → Bool → List Field → Parts → List Touch
+    touches_in x bare fs end = []
+    touches_in x bare [] (more p ps) = []
+    touches_in x bare (f ∷ fs) (more p ps) = touches_at (x 0) (is_target f.sort || (binds f.sort && not bare)) p ++ touches_in (λ i. x (suc i)) bare fs ps
+
+    pub touches_at : Spot → Bool → Part → List Touch
+    touches_at x gives (child t) = touches x gives t
+    touches_at x gives (list ps) = touches_of x gives ps
+    touches_at x gives p = []
+
+    pub touches_of : Spot → Bool → Parts → List Touch
+    touches_of x gives end = []
+    touches_of x gives (more p ps) = touches_at x gives p ++ touches_of x gives ps
+
+  abbrev pub all_touches : Tree → List Touch
+  all_touches t = touches (record { around = around_program t; declaration = number_of t; home = number_of t }) false t
+
+-- ---- those of one name
+
+abbrev pub chosen : (Touch → Bool) → String → List Touch → List Touch
+chosen test s [] = []
+chosen test s (t ∷ ts) = cond (test t && bytes_eq s t.name) (t ∷ []) [] ++ chosen test s ts
+
+abbrev pub all_touched : (Touch → Bool) → List Touch → Bool
+all_touched test [] = true
+all_touched test (t ∷ ts) = test t && all_touched test ts
+
+abbrev pub is_none : List Touch → Bool
+is_none [] = true
+is_none (t ∷ ts) = false
+
+abbrev pub declarations_of : String → List Touch → List Touch
+declarations_of s ts = chosen (λ t. t.declares) s ts
+
+abbrev pub gifts_of : String → List Touch → List Touch
+gifts_of s ts = chosen (λ t. t.gives) s ts
+
+abbrev pub reads_of : String → List Touch → List Touch
+reads_of s ts = chosen (λ t. not (t.declares || t.gives)) s ts
+
+-- a temporary is given at one place, and read there; or it is given once, and read in no function declaration around
+abbrev pub is_steady : List Touch → List Touch → Bool
+is_steady [] reads = true
+is_steady (g ∷ gs) reads = all_touched (λ t. nat_eq g.place t.place) gs && (all_touched (λ t. nat_eq g.place t.place) reads || (is_none gs && all_touched (λ t. nat_eq g.declaration t.declaration) reads))
+
+-- a parameter that stands for an argument is read where its arrow is called
+abbrev pub is_at_call : List Touch → List Touch → Bool
+is_at_call [] reads = true
+is_at_call (g ∷ gs) reads = is_none gs && all_touched (λ t. nat_eq g.place t.place) reads
+
+-- a name is declared in the body in which it is given
+abbrev pub is_near : List Touch → List Touch → Bool
+is_near [] gifts = true
+is_near (d ∷ ds) gifts = all_touched (λ t. nat_eq d.home t.home) gifts && is_near ds gifts
+
+abbrev pub is_steady_name : GeneratedKind → String → List Touch → Bool
+is_steady_name GeneratedKind.Temp s ts = is_steady (gifts_of s ts) (reads_of s ts)
+is_steady_name GeneratedKind.Param s ts = is_at_call (gifts_of s ts) (reads_of s ts)
+is_steady_name kind s ts = true
+
+abbrev pub all_steady : List LedgerEntry → List Touch → Bool
+all_steady [] ts = true
+all_steady (e ∷ es) ts = (is_steady_name e.kind e.name ts && is_near (declarations_of e.name ts) (gifts_of e.name ts)) && all_steady es ts
+
+abbrev pub temporaries_steady : ℕ → List LedgerEntry → Tree → Bool
+temporaries_steady first ledger q = all_steady ledger (all_touches first ledger q)

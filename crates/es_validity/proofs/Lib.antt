@@ -1,0 +1,4 @@
+pub mod Firsts
+pub mod OfKinds
+pub mod Strings
+pub mod Walked

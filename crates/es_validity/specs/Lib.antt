@@ -1,0 +1,10 @@
+pub mod Around
+pub mod Facts
+pub mod Faults
+pub mod Found
+pub mod Known
+pub mod Labels
+pub mod Names
+pub mod Owners
+pub mod Rules
+pub mod Validity

@@ -1,0 +1,4 @@
+pub mod Along
+pub mod InOrder
+pub mod Nodes
+pub mod Rows

@@ -1,0 +1,4 @@
+pub mod Bare
+pub mod Law
+pub mod Reading
+pub mod Roles

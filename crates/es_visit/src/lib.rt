@@ -1,0 +1,7 @@
+// Visitors: hooks that are called at the nodes of a tree, and the walks that call them. docs/WALK.md says
+// what they promise.
+#![tactic(auto)]
+
+pub mod law;
+pub mod roles;
+pub mod visit;
