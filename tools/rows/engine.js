@@ -39,6 +39,12 @@ class Log {
     this.lines.push(text);
   }
 
+  // What a free name logs. A program that goes on without end is cut off, the source as the output.
+  told(text) {
+    if (this.lines.length >= 2000) throw new RangeError('too many lines');
+    this.line(text);
+  }
+
   attempt(text, action) {
     try {
       const value = action();
@@ -55,14 +61,14 @@ class Log {
 const stub = (name, log) => {
   let calls = 0;
   const stubbed = function (...args) {
-    log.line(`${new.target ? 'new ' : ''}${name}(${args.map(value => log.show(value)).join(', ')})`);
+    log.told(`${new.target ? 'new ' : ''}${name}(${args.map(value => log.show(value)).join(', ')})`);
     calls += 1;
     return new.target ? undefined : `${name}${calls}`;
   };
   stubbed.p = `static ${name}.p`;
   stubbed.prototype.p = `${name}.p`;
   stubbed.prototype.f = function (...args) {
-    log.line(`${name}.f(${args.map(value => log.show(value)).join(', ')}) on ${log.show(this)}`);
+    log.told(`${name}.f(${args.map(value => log.show(value)).join(', ')}) on ${log.show(this)}`);
     return this;
   };
   return stubbed;
@@ -122,11 +128,12 @@ const observe = (text, names) => {
   return log.lines;
 };
 
-// `export` is left out, and `export default` becomes a `let`.
+// `export` is left out, `export default` becomes a `let`, and an imported name is a free one.
 const withoutExports = text => {
   const { body } = acorn.parse(text, { ecmaVersion: 2022, sourceType: 'module' });
   const slice = ({ start, end }) => text.slice(start, end);
   const scripts = {
+    ImportDeclaration: () => '',
     ExportNamedDeclaration: item => slice(item.declaration),
     ExportDefaultDeclaration: item => `let _default = ${slice(item.declaration)};`,
   };

@@ -16,7 +16,7 @@ use Rattle.es_steps.specs.Repeated.{Surroundings, places_of, all_places}
 use Rattle.es_steps.specs.Scopes.{Declaration, lexical_part, lexical_items, var_part, body_names}
 use Rattle.es_steps.specs.Values.{String}
 use Rattle.class_properties.proofs.Numbered.{definitions_from, lowered_elements, statement_size, lowered_statements, lowered_from}
-use Rattle.class_properties.proofs.Standing.{still_new}
+use Rattle.es_unchanged.proofs.Standing.{still_new}
 use Rattle.class_properties.proofs.Shaped.{no_value, a_literal, a_reference, a_key, a_field, AreFields, a_body, a_name, a_class, AreClasses, IsProgram, a_program}
 
 -- ---- names: none in a constructor

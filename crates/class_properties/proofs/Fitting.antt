@@ -17,7 +17,7 @@ use Rattle.es_steps.specs.References.{Reference}
 use Rattle.class_properties.proofs.Declared.{two_ends, four_ends}
 use Rattle.class_properties.proofs.Numbered.{key_string, value_from, field_size, definitions_from, lowered_elements, statement_size, lowered_statements, lowered_from}
 use Rattle.class_properties.proofs.Shaped.{no_value, a_literal, a_reference, a_key, a_field, AreFields, a_body, a_name, a_class, AreClasses, IsProgram, a_program}
-use Rattle.class_properties.proofs.Standing.{still_new, both, or_left, stands-equal, here, apart-sym}
+use Rattle.es_unchanged.proofs.Standing.{still_new, both, or_left, stands-equal, here, apart-sym}
 
 -- ---- the numbers of classes rise
 

@@ -11,6 +11,7 @@ use Rattle.es_base.specs.declared.kind.Kind.{Kind}
 use Rattle.es_steps.specs.Lowered.{is_lowered_kind, kind_of, none_lowered, is_new_const, all_accounted}
 use Rattle.es_steps.specs.Options.{class_properties_alone}
 use Rattle.es_steps.specs.Scopes.{is_binding_identifier}
+use Rattle.es_unchanged.proofs.Unchanged.{old-no_const}
 
 -- kinds of nodes that declare names, kinds that stay, and kinds of new nodes
 abbrev pub declares_names : Kind → Bool
@@ -86,11 +87,7 @@ laid-left (none lh e) = refl
 laid-left (kept a b s rest) = rw (s, laid-left rest) refl
 laid-left {ts = t ∷ ts} (generated e s rest) = rw ((and_parts (stays (kind_of t)) (not (declares_names (kind_of t))) s).0, laid-left rest) refl
 
--- an old node is no new constant, and neither is a node that declares no name
-pub old-no_const : (first : ℕ) (t : Tree) → is_new first (number_of t) ≡ false → is_new_const first t ≡ false
-old-no_const first (Node Kind.VariableDeclaration m span semantic_id ps) e = rw e refl
-old-no_const first t e = refl
-
+-- a node that declares no name is no new constant either
 fresh-no_const : (first : ℕ) (t : Tree) → declares_names (kind_of t) ≡ false → is_new_const first t ≡ false
 fresh-no_const first (Node Kind.VariableDeclaration m span semantic_id ps) e = absurd (true≢false e)
 fresh-no_const first t e = refl

@@ -3,12 +3,10 @@ pub mod Conforming
 pub mod Constructions
 pub mod Declared
 pub mod Fitting
-pub mod Kept
 pub mod OfKinds
 pub mod Laid
 pub mod Leasts
 pub mod Mapped
-pub mod NameSets
 pub mod Numbered
 pub mod Owed
 pub mod Printed
@@ -19,6 +17,4 @@ pub mod SameNames
 pub mod Shaped
 pub mod Shapeless
 pub mod Small
-pub mod Standing
 pub mod Steps
-pub mod Unmarked

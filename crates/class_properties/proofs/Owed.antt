@@ -18,8 +18,8 @@ use Rattle.class_properties.proofs.Numbered as numbered
 use Rattle.class_properties.proofs.Renumbered.{lowered-numbered}
 use Rattle.class_properties.proofs.Printed.{printable-lowered}
 use Rattle.class_properties.proofs.Remaining.{Remains, remains}
-use Rattle.class_properties.proofs.Standing.{temporaries-none}
-use Rattle.class_properties.proofs.Unmarked.{names-timely}
+use Rattle.es_unchanged.proofs.Standing.{temporaries-none}
+use Rattle.es_unchanged.proofs.Unmarked.{names-timely}
 use Rattle.class_properties.specs.Lowering.{lowered}
 
 -- with no nodes behind

@@ -6,7 +6,7 @@ use Rattle.es_base.specs.declared.kind.Kind.{Kind}
 use Rattle.es_steps.specs.Printable.{any_optional, has_bad, bad_at, bad_in, Jumps, no_jumps, has_stray, stray_in, is_printable}
 use Rattle.class_properties.proofs.Numbered.{definitions_from, lowered_elements, statement_size, lowered_statements, lowered_from}
 use Rattle.class_properties.proofs.Shaped.{no_value, a_literal, a_reference, a_key, a_field, AreFields, a_body, a_name, a_class, AreClasses, IsProgram, a_program}
-use Rattle.class_properties.proofs.Standing.{none_of}
+use Rattle.es_unchanged.proofs.Standing.{none_of}
 
 -- ---- no chain
 

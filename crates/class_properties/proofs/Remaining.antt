@@ -15,7 +15,7 @@ use Rattle.es_steps.specs.PrivateNames.{is_class}
 use Rattle.class_properties.proofs.Declared.{two_ends}
 use Rattle.class_properties.proofs.Numbered.{lowered_elements, statement_size, lowered_statements, lowered_from}
 use Rattle.class_properties.proofs.Shaped.{no_value, a_literal, a_reference, a_key, a_field, AreFields, a_body, a_name, a_class, AreClasses, IsProgram, a_program}
-use Rattle.class_properties.proofs.Standing.{both, here, later, in-left, in-right, Among, stands_as-in, stands-equal, within-more, within-both, all_within-append, pairs-both, pairs-behind}
+use Rattle.es_unchanged.proofs.Standing.{both, here, later, in-left, in-right, Among, stands_as-in, stands-equal, within-more, within-both, all_within-append, pairs-both, pairs-behind}
 
 -- ---- classes
 

@@ -38,7 +38,7 @@ use Rattle.class_properties.proofs.Shaped.{IsValue, no_value, a_literal, a_refer
 use Rattle.class_properties.proofs.Numbered.{key_string, value_from, definitions_from, lowered_elements, lowered_statements}
 use Rattle.class_properties.proofs.Numbered as numbered
 use Rattle.class_properties.proofs.Renumbered.{lowered-numbered}
-use Rattle.class_properties.proofs.Standing.{still_new}
+use Rattle.es_unchanged.proofs.Standing.{still_new}
 use Rattle.class_properties.specs.Lowering.{lowered}
 
 -- ---- contexts: what of one the value of a field reads

@@ -1,5 +1,5 @@
 -- Lists that have the same names give the same breaches.
-use Rattle.std.proofs.Common.{◌≡◌, refl, sym, ap, ◌∙◌, List, [], ◌∷◌, ◌++◌, Bool, true, false, not, ◌&&◌, ◌||◌}
+use Rattle.std.proofs.Common.{◌≡◌, refl, ap, ◌∙◌, List, ◌++◌, false, not, ◌&&◌, ◌||◌}
 use Rattle.std.specs.Prelude.{bytes_eq, codes}
 use Rattle.es_base.specs.Conforms.{is_among}
 use Rattle.es_base.specs.Tree.{Part, Parts, Node, end, more, child, string, boolean, literal}
@@ -7,20 +7,8 @@ use Rattle.es_base.specs.declared.kind.Kind.{Kind}
 use Rattle.es_steps.specs.FirstForm.{is_plain_name, is_plain_key, is_plain_value, is_plain_field, is_field, unless, element_breaches, elements_breaches, body_breaches, helper_names, is_new_name, class_names, statement_breaches, statements_breaches}
 use Rattle.es_steps.specs.Parts.{items, is_present}
 use Rattle.es_steps.specs.Values.{String}
-use Rattle.class_properties.specs.Names.{HaveSame}
-
--- ---- lists of names
-
-or_regrouped : (a b c : Bool) → ((a || b) || c) ≡ (a || (b || c))
-or_regrouped true b c = refl
-or_regrouped false b c = refl
-
-pub is_among-append : (s : String) (xs ys : List String) → is_among s (xs ++ ys) ≡ (is_among s xs || is_among s ys)
-is_among-append s [] ys = refl
-is_among-append s (x ∷ xs) ys = ap (λ b. bytes_eq x s || b) (is_among-append s xs ys) ∙ sym (or_regrouped (bytes_eq x s) (is_among s xs) (is_among s ys))
-
-pub HaveSame-append : (front xs ys : List String) → HaveSame xs ys → HaveSame (front ++ xs) (front ++ ys)
-HaveSame-append front xs ys same = λ s. is_among-append s front xs ∙ ap (λ b. is_among s front || b) (same s) ∙ sym (is_among-append s front ys)
+use Rattle.es_name_set.proofs.NameSets.{HaveSame-append}
+use Rattle.es_name_set.specs.Names.{HaveSame}
 
 -- ---- fields
 

@@ -24,7 +24,7 @@ use Rattle.es_steps.specs.Shapes.{ClassAt, class_at, lowered_classes, any_class,
 use Rattle.es_steps.specs.declared.options.Options.{Options}
 use Rattle.class_properties.proofs.Declared.{two_ends}
 use Rattle.class_properties.proofs.Shaped.{no_value, a_literal, a_reference, a_key, a_field, AreFields, a_body, a_name, a_class, AreClasses, IsProgram, a_program, first_form-shaped}
-use Rattle.class_properties.proofs.Standing.{none_of}
+use Rattle.es_unchanged.proofs.Standing.{none_of}
 
 -- ---- the classes that are lowered
 

@@ -12,9 +12,10 @@ use Rattle.es_steps.specs.FirstForm.{most_nodes, unless, class_names, name_in, s
 use Rattle.es_steps.specs.Values.{String}
 use Rattle.es_tree.specs.Program.{program}
 use Rattle.class_properties.specs.Least.{least_with}
-use Rattle.class_properties.specs.Names.{HaveSame}
+use Rattle.es_name_set.specs.Names.{HaveSame}
 use Rattle.class_properties.proofs.Leasts.{least_with_append, least_is}
-use Rattle.class_properties.proofs.SameNames.{is_among-append, statements_breaches-same}
+use Rattle.es_name_set.proofs.NameSets.{is_among-append}
+use Rattle.class_properties.proofs.SameNames.{statements_breaches-same}
 
 -- ---- names of classes
 

@@ -1,4 +1,3 @@
 pub mod Form
 pub mod Least
 pub mod Lowering
-pub mod Names

@@ -8,13 +8,13 @@ ghost use Rattle.es_base.specs.Words.{source_type_string};
 ghost use Rattle.es_base.specs.declared.table.Place.{Place};
 ghost use Rattle.es_steps.specs.FirstForm.{class_names, statements_breaches, not_yet};
 ghost use Rattle.class_properties.specs.Least.{number_in, least_with};
-ghost use Rattle.class_properties.specs.Names.{HaveSame};
+ghost use Rattle.es_name_set.specs.Names.{HaveSame};
 
 use crate::not_yet::class::{class_name, statement_breaches};
 use crate::not_yet::least::{least_of, unless};
-use crate::not_yet::names::Names;
 use es_base::ids::NodeId;
 use es_base::operator::SourceType;
+use es_name_set::Names;
 use es_node::node::Node;
 use es_tree::program::ProgramRef;
 use std::alloc::{AllocError, Global};
@@ -22,7 +22,6 @@ use std::alloc::{AllocError, Global};
 mod class;
 mod field;
 mod least;
-mod names;
 
 /// A program has at most this many nodes.
 const MOST_NODES: u32 = 1048576;

@@ -1,3 +1,6 @@
+pub mod ArrowBehindParameters
+pub mod ArrowBesideAPattern
+pub mod ArrowInAParameter
 pub mod AssumedSetField
 pub mod AwaitedAtTop
 pub mod BlockBeforeField
@@ -15,8 +18,10 @@ pub mod DeletePrivateChain
 pub mod DeletedThis
 pub mod DerivedClass
 pub mod EmptyClass
+pub mod ImportedKeyThatStays
 pub mod InstanceField
 pub mod KeptBlock
+pub mod KeyInALoop
 pub mod KeyOfExpression
 pub mod LoosePrivateField
 pub mod LoosePrivateStaticField
@@ -52,11 +57,15 @@ pub mod PrivateStaticMethodOnClass
 pub mod PrivateStaticOfExpression
 pub mod PrivateStaticWrite
 pub mod PrivateTag
+pub mod PrivateUpdateInAnArrow
 pub mod PrivateUpdateInModule
+pub mod PrivateWriteInAField
 pub mod RemovedField
 pub mod SetField
 pub mod SetStaticName
 pub mod SetThisKey
+pub mod StaticFieldInACase
+pub mod StaticFieldInAParameter
 pub mod StaticKeyAndBlock
 pub mod StaticOfExpression
 pub mod StaticOwnName

@@ -28,6 +28,11 @@ ghost use Rattle.es_rows.specs.rows.TargetInField.{source_target_in_field, outpu
 ghost use Rattle.es_rows.specs.rows.WrittenClassName.{source_written_class_name, output_written_class_name, generated_written_class_name, options_written_class_name, outside_written_class_name};
 ghost use Rattle.es_rows.specs.rows.AssumedSetField.{source_assumed_set_field, output_assumed_set_field, generated_assumed_set_field, options_assumed_set_field, outside_assumed_set_field};
 ghost use Rattle.es_rows.specs.rows.LoosePrivateWrites.{source_loose_private_writes, output_loose_private_writes, generated_loose_private_writes, options_loose_private_writes, outside_loose_private_writes};
+ghost use Rattle.es_rows.specs.rows.KeyInALoop.{source_key_in_a_loop, output_key_in_a_loop, generated_key_in_a_loop, options_key_in_a_loop, outside_key_in_a_loop};
+ghost use Rattle.es_rows.specs.rows.ArrowBesideAPattern.{source_arrow_beside_a_pattern, output_arrow_beside_a_pattern, generated_arrow_beside_a_pattern, options_arrow_beside_a_pattern, outside_arrow_beside_a_pattern};
+ghost use Rattle.es_rows.specs.rows.ArrowInAParameter.{source_arrow_in_a_parameter, output_arrow_in_a_parameter, generated_arrow_in_a_parameter, options_arrow_in_a_parameter, outside_arrow_in_a_parameter};
+ghost use Rattle.es_rows.specs.rows.ImportedKeyThatStays.{source_imported_key_that_stays, output_imported_key_that_stays, generated_imported_key_that_stays, options_imported_key_that_stays, outside_imported_key_that_stays};
+ghost use Rattle.es_rows.specs.rows.ArrowBehindParameters.{source_arrow_behind_parameters, output_arrow_behind_parameters, generated_arrow_behind_parameters, options_arrow_behind_parameters, outside_arrow_behind_parameters};
 ghost use Rattle.es_rows.specs.rows.SuperInBranches.{source_super_in_branches, output_super_in_branches, generated_super_in_branches, options_super_in_branches, outside_super_in_branches};
 ghost use Rattle.es_rows.specs.rows.SuperInParameters.{source_super_in_parameters, output_super_in_parameters, generated_super_in_parameters, options_super_in_parameters, outside_super_in_parameters};
 ghost use Rattle.es_rows.specs.rows.StaticSuperMember.{source_static_super_member, output_static_super_member, generated_static_super_member, options_static_super_member, outside_static_super_member};
@@ -49,6 +54,8 @@ ghost use Rattle.es_rows.specs.rows.LoosePrivateStaticField.{source_loose_privat
 ghost use Rattle.es_rows.specs.rows.BlockOfStatements.{source_block_of_statements, output_block_of_statements, generated_block_of_statements, options_block_of_statements, outside_block_of_statements};
 ghost use Rattle.es_rows.specs.rows.DeletedThis.{source_deleted_this, output_deleted_this, generated_deleted_this, options_deleted_this, outside_deleted_this};
 ghost use Rattle.es_rows.specs.rows.NestedStaticClasses.{source_nested_static_classes, output_nested_static_classes, generated_nested_static_classes, options_nested_static_classes, outside_nested_static_classes};
+ghost use Rattle.es_rows.specs.rows.StaticFieldInAParameter.{source_static_field_in_a_parameter, output_static_field_in_a_parameter, generated_static_field_in_a_parameter, options_static_field_in_a_parameter, outside_static_field_in_a_parameter};
+ghost use Rattle.es_rows.specs.rows.StaticFieldInACase.{source_static_field_in_a_case, output_static_field_in_a_case, generated_static_field_in_a_case, options_static_field_in_a_case, outside_static_field_in_a_case};
 ghost use Rattle.es_rows.specs.rows.PrivateCompoundWrite.{source_private_compound_write, output_private_compound_write, generated_private_compound_write, options_private_compound_write, outside_private_compound_write};
 ghost use Rattle.es_rows.specs.rows.PrivateAccessors.{source_private_accessors, output_private_accessors, generated_private_accessors, options_private_accessors, outside_private_accessors};
 ghost use Rattle.es_rows.specs.rows.PrivateUpdateInModule.{source_private_update_in_module, output_private_update_in_module, generated_private_update_in_module, options_private_update_in_module, outside_private_update_in_module};
@@ -72,6 +79,8 @@ ghost use Rattle.es_rows.specs.rows.PrivateSetterRead.{source_private_setter_rea
 ghost use Rattle.es_rows.specs.rows.PrivateSetterTargets.{source_private_setter_targets, output_private_setter_targets, generated_private_setter_targets, options_private_setter_targets, outside_private_setter_targets};
 ghost use Rattle.es_rows.specs.rows.PrivateStaticOfExpression.{source_private_static_of_expression, output_private_static_of_expression, generated_private_static_of_expression, options_private_static_of_expression, outside_private_static_of_expression};
 ghost use Rattle.es_rows.specs.rows.PrivateMethodBehindStatement.{source_private_method_behind_statement, output_private_method_behind_statement, generated_private_method_behind_statement, options_private_method_behind_statement, outside_private_method_behind_statement};
+ghost use Rattle.es_rows.specs.rows.PrivateUpdateInAnArrow.{source_private_update_in_an_arrow, output_private_update_in_an_arrow, generated_private_update_in_an_arrow, options_private_update_in_an_arrow, outside_private_update_in_an_arrow};
+ghost use Rattle.es_rows.specs.rows.PrivateWriteInAField.{source_private_write_in_a_field, output_private_write_in_a_field, generated_private_write_in_a_field, options_private_write_in_a_field, outside_private_write_in_a_field};
 ghost use Rattle.es_rows.specs.rows.DeletePrivateChain.{source_delete_private_chain, output_delete_private_chain, generated_delete_private_chain, options_delete_private_chain, outside_delete_private_chain};
 ghost use Rattle.es_rows.specs.rows.PrivateChainCall.{source_private_chain_call, output_private_chain_call, generated_private_chain_call, options_private_chain_call, outside_private_chain_call};
 ghost use Rattle.es_rows.specs.rows.PrivateChainCallNoDocumentAll.{source_private_chain_call_no_document_all, output_private_chain_call_no_document_all, generated_private_chain_call_no_document_all, options_private_chain_call_no_document_all, outside_private_chain_call_no_document_all};
@@ -243,6 +252,11 @@ pub fn instance_fields_keep_their_meaning()
     ensures written_class_name { Owed options_written_class_name generated_written_class_name source_written_class_name output_written_class_name outside_written_class_name }
     ensures assumed_set_field { Kept options_assumed_set_field generated_assumed_set_field source_assumed_set_field output_assumed_set_field outside_assumed_set_field }
     ensures loose_private_writes { Kept options_loose_private_writes generated_loose_private_writes source_loose_private_writes output_loose_private_writes outside_loose_private_writes }
+    ensures key_in_a_loop { Kept options_key_in_a_loop generated_key_in_a_loop source_key_in_a_loop output_key_in_a_loop outside_key_in_a_loop }
+    ensures arrow_beside_a_pattern { Kept options_arrow_beside_a_pattern generated_arrow_beside_a_pattern source_arrow_beside_a_pattern output_arrow_beside_a_pattern outside_arrow_beside_a_pattern }
+    ensures arrow_in_a_parameter { Kept options_arrow_in_a_parameter generated_arrow_in_a_parameter source_arrow_in_a_parameter output_arrow_in_a_parameter outside_arrow_in_a_parameter }
+    ensures imported_key_that_stays { Kept options_imported_key_that_stays generated_imported_key_that_stays source_imported_key_that_stays output_imported_key_that_stays outside_imported_key_that_stays }
+    ensures arrow_behind_parameters { KeptAfter options_arrow_behind_parameters generated_arrow_behind_parameters source_arrow_behind_parameters output_arrow_behind_parameters outside_arrow_behind_parameters }
 {}
 
 /// Classes with a heritage: where fields stand behind `super(..)`, and `super` members.
@@ -272,6 +286,8 @@ pub fn static_elements_keep_their_meaning()
     ensures block_of_statements { Kept options_block_of_statements generated_block_of_statements source_block_of_statements output_block_of_statements outside_block_of_statements }
     ensures deleted_this { Kept options_deleted_this generated_deleted_this source_deleted_this output_deleted_this outside_deleted_this }
     ensures nested_static_classes { Kept options_nested_static_classes generated_nested_static_classes source_nested_static_classes output_nested_static_classes outside_nested_static_classes }
+    ensures static_field_in_a_parameter { Kept options_static_field_in_a_parameter generated_static_field_in_a_parameter source_static_field_in_a_parameter output_static_field_in_a_parameter outside_static_field_in_a_parameter }
+    ensures static_field_in_a_case { Kept options_static_field_in_a_case generated_static_field_in_a_case source_static_field_in_a_case output_static_field_in_a_case outside_static_field_in_a_case }
 {}
 
 /// Private fields, methods and accessors, static and not, in all their uses.
@@ -299,6 +315,8 @@ pub fn private_members_keep_their_meaning()
     ensures private_setter_targets { Kept options_private_setter_targets generated_private_setter_targets source_private_setter_targets output_private_setter_targets outside_private_setter_targets }
     ensures private_static_of_expression { Kept options_private_static_of_expression generated_private_static_of_expression source_private_static_of_expression output_private_static_of_expression outside_private_static_of_expression }
     ensures private_method_behind_statement { Kept options_private_method_behind_statement generated_private_method_behind_statement source_private_method_behind_statement output_private_method_behind_statement outside_private_method_behind_statement }
+    ensures private_update_in_an_arrow { Kept options_private_update_in_an_arrow generated_private_update_in_an_arrow source_private_update_in_an_arrow output_private_update_in_an_arrow outside_private_update_in_an_arrow }
+    ensures private_write_in_a_field { Kept options_private_write_in_a_field generated_private_write_in_a_field source_private_write_in_a_field output_private_write_in_a_field outside_private_write_in_a_field }
 {}
 
 /// Private names in optional chains.

@@ -7,3 +7,16 @@ pub mod TableLemmas
 pub mod TreeLemmas
 pub mod Worked
 pub mod WrittenLemmas
+pub mod AgreementLemmas
+pub mod AlikeLemmas
+pub mod BindingOrder
+pub mod NumberShown
+pub mod OrderLemmas
+pub mod ReferenceOrder
+pub mod TableShown
+pub mod TableSteps
+pub mod BindSteps
+pub mod ScopeOrder
+pub mod EachScope
+pub mod HeldNames
+pub mod HeldTable

@@ -1,5 +1,5 @@
 -- Rows by their numbers: one changed, and one added.
-use Rattle.std.proofs.Common.{◌≡◌, ◌≢◌, refl, sym, ap, ◌∙◌, ℕ, zero, suc, ◌<◌, List, [], ◌∷◌, ◌++◌, map, length, take, drop, set, get_or, Option, Some, None, true, false, true≢false, nat_eq, ◌⊎◌, inl, inr, arith}
+use Rattle.std.proofs.Common.{◌≡◌, ◌≢◌, refl, sym, ap, ◌∙◌, ℕ, zero, suc, ◌<◌, ◌≤◌, List, [], ◌∷◌, ◌++◌, map, length, take, drop, set, get_or, Option, Some, None, true, false, true≢false, nat_eq, ◌⊎◌, inl, inr, arith}
 use Rattle.std.specs.Prelude.{slice_get, option_map, is_some}
 use Rattle.std.specs.Option.{option_and_then}
 use Rattle.std.proofs.Math.Seq.{take-append_seam}
@@ -87,7 +87,12 @@ mapped-step f (y ∷ xs) (suc i) x v within at is = ap (λ l. f y ∷ l) (mapped
 pub written_back : {X : Type 0} (n : ℕ) (new old : List X) → length new ≡ n → take n (new ++ drop (length new) old) ≡ new
 written_back n new old e = ap (λ m. take m (new ++ drop (length new) old)) (sym e) ∙ take-append_seam new (drop (length new) old)
 
-pub set-constant : {X : Type 0} (v : X) (i : ℕ) (xs : List X) → i < length xs → set xs i v ≡ changed_at (λ x. v) i xs
-set-constant v i [] within = absurd (omega arith)
-set-constant v zero (x ∷ xs) within = refl
-set-constant v (suc i) (x ∷ xs) within = ap (λ l. x ∷ l) (set-constant v i xs (omega arith))
+pub set_constant : {X : Type 0} (v : X) (i : ℕ) (xs : List X) → i < length xs → set xs i v ≡ changed_at (λ x. v) i xs
+set_constant v i [] within = absurd (omega arith)
+set_constant v zero (x ∷ xs) within = refl
+set_constant v (suc i) (x ∷ xs) within = ap (λ l. x ∷ l) (set_constant v i xs (omega arith))
+
+pub changed_at_beyond : {X : Type 0} (f : X → X) (i : ℕ) (xs : List X) → length xs ≤ i → changed_at f i xs ≡ xs
+changed_at_beyond f i [] beyond = refl
+changed_at_beyond f zero (x ∷ xs) beyond = absurd (omega arith)
+changed_at_beyond f (suc i) (x ∷ xs) beyond = ap (λ l. x ∷ l) (changed_at_beyond f i xs (omega arith))

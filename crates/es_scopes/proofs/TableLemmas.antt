@@ -12,7 +12,7 @@ use Rattle.std.proofs.lemmas.List.{length-append, length-map}
 use Rattle.es_base.specs.declared.ids.ScopeId.{ScopeId}
 use Rattle.es_base.specs.declared.ids.SymbolId.{SymbolId}
 use Rattle.es_scopes.specs.Bindings.{lookup}
-use Rattle.es_scopes.specs.Table.{Table, changed_at, row_at, parents, names_of_row, AreTrees, AreNamed, HaveTargets, AreListed, IsTable, listed, ends, ends_from, chain, scope_flagged, below, symbol_flagged, reference_flagged, targeted, listing, unlisting, new_scope, with_new_reference, lifted, is_scope, parent_of, without_scope}
+use Rattle.es_scopes.specs.Table.{Table, changed_at, row_at, parents, names_of_row, AreTrees, AreNamed, HaveTargets, AreListed, IsTable, listed, ends, ends_from, chain, scope_flagged, below, symbol_flagged, marked, reference_flagged, targeted, listing, unlisting, new_scope, with_new_reference, lifted, is_scope, parent_of, without_scope}
 use Rattle.es_scopes.specs.declared.flags.ScopeFlags.{ScopeFlags}
 use Rattle.es_scopes.specs.declared.flags.SymbolFlags.{SymbolFlags}
 use Rattle.es_scopes.specs.declared.flags.ReferenceFlags.{ReferenceFlags}
@@ -130,6 +130,9 @@ module _ (t : Table) (h : IsTable t) where
 
   pub IsTable-symbol_flags : (i : ℕ) (f : SymbolFlags) → IsTable (record t { symbols = changed_at (symbol_flagged f) i t.symbols })
   IsTable-symbol_flags i f = IsTable-symbol (symbol_flagged f) i (λ x. refl) (λ x. refl) (λ x r held. inl held)
+
+  pub IsTable-marked : (i : ℕ) → IsTable (record t { symbols = changed_at marked i t.symbols })
+  IsTable-marked i = IsTable-symbol marked i (λ x. refl) (λ x. refl) (λ x r held. inl held)
 
   pub IsTable-listing : (i r : ℕ) → r < length t.references → IsTable (record t { symbols = changed_at (listing r) i t.symbols })
   IsTable-listing i r within = IsTable-symbol (listing r) i (λ x. refl) (λ x. refl) (λ x q held.

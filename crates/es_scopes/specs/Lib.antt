@@ -1,8 +1,17 @@
+pub mod Agreement
 pub mod Bindings
+pub mod Built
+pub mod Entries
+pub mod Held
+pub mod Law
 pub mod NodeBindings
 pub mod NodeReferences
 pub mod NodeScopes
 pub mod ReferenceNumbers
+pub mod Opened
 pub mod References
 pub mod Row
+pub mod Shown
+pub mod Surroundings
 pub mod Table
+pub mod Tables

@@ -5,7 +5,7 @@ use Rattle.es_base.specs.Tree.{Tree, Part, Parts, Node, end, more, child, absent
 use Rattle.es_base.specs.declared.kind.Kind.{Kind}
 use Rattle.es_scopes.specs.declared.flags.ScopeFlags.{ScopeFlags}
 use Rattle.es_scopes.specs.declared.flags.TheConstants.ScopeFlags as flag
-use Rattle.es_steps.specs.Parts.{at, items, block_items, string_of}
+use Rattle.es_steps.specs.Parts.{at, items, string_of}
 
 -- ---- which nodes have a scope
 
@@ -58,14 +58,19 @@ abbrev pub has_use_strict : Parts → Bool
 has_use_strict end = false
 has_use_strict (more p ps) = is_use_strict p || has_use_strict ps
 
+-- the statements of a function's body
+abbrev pub directives : Part → Parts
+directives (child (Node Kind.BlockStatement m span id ps)) = items (at 0 ps)
+directives p = end
+
 -- what makes the code of a node strict: a module, a class, and a program or function with the directive
 abbrev pub makes_strict : Kind → Parts → Bool
 makes_strict Kind.Program ps = bytes_eq (string_of (at 0 ps)) (codes "module") || has_use_strict (items (at 1 ps))
 makes_strict Kind.ClassDeclaration ps = true
 makes_strict Kind.ClassExpression ps = true
-makes_strict Kind.FunctionDeclaration ps = has_use_strict (block_items (at 2 ps))
-makes_strict Kind.FunctionExpression ps = has_use_strict (block_items (at 2 ps))
-makes_strict Kind.ArrowFunctionExpression ps = has_use_strict (block_items (at 1 ps))
+makes_strict Kind.FunctionDeclaration ps = has_use_strict (directives (at 2 ps))
+makes_strict Kind.FunctionExpression ps = has_use_strict (directives (at 2 ps))
+makes_strict Kind.ArrowFunctionExpression ps = has_use_strict (directives (at 1 ps))
 makes_strict kind ps = false
 
 -- ---- flags

@@ -159,6 +159,13 @@ symbol_flagged f x = record x { flags = f }
 abbrev pub with_symbol_flags : Table → SymbolId → SymbolFlags → Table
 with_symbol_flags t y f = with_symbol t y (symbol_flagged f)
 
+-- with the mark
+abbrev pub marked : Symbol → Symbol
+marked x = record x { is_marked = true }
+
+abbrev pub with_mark : Table → SymbolId → Table
+with_mark t y = with_symbol t y marked
+
 -- other flags of a reference
 abbrev pub reference_flagged : ReferenceFlags → Reference → Reference
 reference_flagged f x = record x { flags = f }

@@ -1,6 +1,6 @@
 // The flags of scopes, symbols and references.
 
-ghost use Rattle.std.specs.Prelude.{⊤, [], ◌∷◌, codes};
+ghost use Rattle.std.specs.Prelude.{⊤, ◌≡◌, [], ◌∷◌, bit_or, codes};
 
 use bitflags::{Flag, Flags, bitflag_items};
 
@@ -18,6 +18,18 @@ bitflag_items! {
         const GET = 32;
         const SET = 64;
         const STRICT = 128;
+    }
+}
+
+impl ScopeFlags {
+    /// None of the flags.
+    pub const NONE: ScopeFlags = ScopeFlags(0);
+
+    /// The flags of both.
+    pub fn with(self, other: ScopeFlags) -> ScopeFlags
+        ensures { result.0 ≡ bit_or self.0 other.0 }
+    {
+        ScopeFlags(self.0 | other.0)
     }
 }
 
@@ -61,6 +73,18 @@ bitflag_items! {
     }
 }
 
+impl SymbolFlags {
+    /// None of the flags.
+    pub const NONE: SymbolFlags = SymbolFlags(0);
+
+    /// The flags of both.
+    pub fn with(self, other: SymbolFlags) -> SymbolFlags
+        ensures { result.0 ≡ bit_or self.0 other.0 }
+    {
+        SymbolFlags(self.0 | other.0)
+    }
+}
+
 impl Flags for SymbolFlags {
     type Bits = u8;
 
@@ -92,6 +116,18 @@ bitflag_items! {
     impl ReferenceFlags: u8 {
         const READ = 1;
         const WRITE = 2;
+    }
+}
+
+impl ReferenceFlags {
+    /// None of the flags.
+    pub const NONE: ReferenceFlags = ReferenceFlags(0);
+
+    /// The flags of both.
+    pub fn with(self, other: ReferenceFlags) -> ReferenceFlags
+        ensures { result.0 ≡ bit_or self.0 other.0 }
+    {
+        ReferenceFlags(self.0 | other.0)
     }
 }
 

@@ -5,9 +5,14 @@
 #![tactic(auto)]
 
 pub mod bindings;
+pub mod declare;
+pub mod entry;
 pub mod flags;
+pub mod law;
+pub mod refer;
 pub mod reference_set;
 pub mod rows;
 pub mod scope_ancestors;
 pub mod scoping;
+pub mod surroundings;
 pub mod table;

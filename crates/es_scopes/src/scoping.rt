@@ -1,9 +1,9 @@
 // The scope table.
 
-ghost use Rattle.std.specs.Prelude.{◌≡◌, ◌↔◌, ◌⊎◌, ◌-◌, ◌^◌, ◌<◌, [], ◌∷◌, true, length, map, option_map, IsTrue, IsSome, IfOk, OnOk, OnErr, IfSome, All, Some, None};
+ghost use Rattle.std.specs.Prelude.{◌≡◌, ◌↔◌, ◌⊎◌, ◌-◌, ◌^◌, ◌<◌, [], ◌∷◌, true, length, map, option_map, is_some, IsTrue, IsSome, IfOk, OnOk, OnErr, IfSome, All, Some, None};
 ghost use Rattle.std.specs.Option.{ForSome};
 ghost use Rattle.std.specs.Str.{chars};
-ghost use Rattle.es_scopes.specs.Table.{Table, IsTable, HasScope, HasSymbol, HasReference, HasScopeIfAny, HasRoom, scope_at, symbol_at, reference_at, names_at, parent_of, IsNamed, Holds, IsMutated, scope_ancestors, ancestors_from, IsWithin, get_binding, find_binding, with_scope_flags, with_parent, with_new_scope, without_scope, with_binding, with_name, with_symbol_flags, with_created_reference, with_reference_flags, with_target, with_listed, without_listed};
+ghost use Rattle.es_scopes.specs.Table.{Table, IsTable, HasScope, HasSymbol, HasReference, HasScopeIfAny, HasRoom, scope_at, symbol_at, reference_at, names_at, parent_of, IsNamed, Holds, IsMutated, scope_ancestors, ancestors_from, IsWithin, get_binding, find_binding, with_scope_flags, with_parent, with_new_scope, without_scope, with_binding, with_name, with_symbol_flags, with_mark, with_created_reference, with_reference_flags, with_target, with_listed, without_listed};
 
 use crate::bindings::Bindings;
 use crate::flags::{ReferenceFlags, ScopeFlags, SymbolFlags};
@@ -60,11 +60,27 @@ impl Scoping {
         }
     }
 
+    /// Whether there may be one more scope, symbol and reference.
+    pub fn has_room(&self) -> bool
+        ensures { IsTrue result ↔ (HasRoom self.now.scopes × HasRoom self.now.symbols × HasRoom self.now.references) }
+    {
+        let most = u32::MAX as usize;
+        self.scopes.len() < most && self.symbols.len() < most && self.references.len() < most
+    }
+
     /// The scope of the program, which is numbered first.
     pub fn root_scope_id(&self) -> ScopeId
         ensures { result.0 ≡ 0 }
     {
         ScopeId(0)
+    }
+
+    /// Whether the table has this scope.
+    pub fn has_scope(&self, scope_id: ScopeId) -> bool
+        ensures { result ≡ is_some (scope_at self.now scope_id) }
+    {
+        let i = scope_id.0 as usize;
+        i < self.scopes.len() && self.scopes[i].is_some()
     }
 
     /// The row of a scope.
@@ -250,6 +266,13 @@ impl Scoping {
         Ok(())
     }
 
+    /// Whether the table has this symbol.
+    pub fn has_symbol(&self, symbol_id: SymbolId) -> bool
+        ensures { result ≡ is_some (symbol_at self.now symbol_id) }
+    {
+        (symbol_id.0 as usize) < self.symbols.len()
+    }
+
     /// The name of the symbol.
     pub fn symbol_name(&self, symbol_id: SymbolId) -> &str
         requires { HasSymbol self.now symbol_id }
@@ -282,6 +305,14 @@ impl Scoping {
         self.symbols[symbol_id.0 as usize].flags = flags;
     }
 
+    /// Marks the symbol: it changes without any reference that writes.
+    pub fn mark_symbol(&mut self, symbol_id: SymbolId)
+        requires { HasSymbol self.old symbol_id }
+        ensures { self.new ≡ with_mark self.old symbol_id }
+    {
+        self.symbols[symbol_id.0 as usize].is_marked = true;
+    }
+
     /// Whether the symbol is marked, or a reference on its list writes.
     pub fn symbol_is_mutated(&self, symbol_id: SymbolId) -> bool
         requires { HasSymbol self.now symbol_id }
@@ -311,6 +342,13 @@ impl Scoping {
             self.add_resolved_reference(symbol_id, id)?;
         }
         Ok(id)
+    }
+
+    /// Whether the table has this reference.
+    pub fn has_reference(&self, reference_id: ReferenceId) -> bool
+        ensures { result ≡ is_some (reference_at self.now reference_id) }
+    {
+        (reference_id.0 as usize) < self.references.len()
     }
 
     /// The reference.

@@ -1,11 +1,10 @@
--- Faults of names: declarations that repeat a name, private names, and calls of `eval`. They need the scopes of the whole
--- program. (ECMA-262, 14.2.1, 14.7.4.1, 14.12.1, 15.2.1, 15.7.1, 16.1.1, 16.2.1.1)
-use Rattle.std.specs.Prelude.{ℕ, List, [], ◌∷◌, ◌++◌, filter, Bool, true, false, cond, not, ◌&&◌, ◌||◌, nat_lt, bytes_eq, codes, Option, Some, None}
+-- Faults of names: declarations that repeat a name, and calls of `eval`. They need the scopes of the whole program.
+-- (ECMA-262, 14.2.1, 14.7.4.1, 14.12.1, 15.2.1, 16.1.1, 16.2.1.1)
+use Rattle.std.specs.Prelude.{ℕ, List, [], ◌∷◌, ◌++◌, filter, Bool, false, cond, not, ◌&&◌, ◌||◌, nat_lt, bytes_eq, codes}
 use Rattle.es_base.specs.Preorder.{preorder}
 use Rattle.es_base.specs.Tree.{Tree, Part, Parts, Node, child}
 use Rattle.es_base.specs.declared.kind.Kind.{Kind}
 use Rattle.es_steps.specs.Parts.{at, items}
-use Rattle.es_steps.specs.PrivateNames.{PrivateKind, a_getter, a_setter, PrivateMember, elements_members, PrivateUse, resolve_privates}
 use Rattle.es_steps.specs.References.{Reference, resolve, is_free, has_number, numbers_of}
 use Rattle.es_steps.specs.Scopes.{Declaration, no_class, ScopeForm, block_scope, loop_scope, switch_scope, catch_scope, scope_form, scope_names, bound_part, lexical_part, var_part, var_items, body_names, is_var}
 
@@ -62,55 +61,6 @@ repeats_of_all lexical branches (Node kind m span semantic_id ps ∷ ts) = repea
 abbrev pub repeated_names : Tree → List ℕ
 repeated_names t = let ts = preorder t in repeats_of_all (lexical_identifiers ts) (branch_names ts) ts
 
--- ---- private names that a class body declares again, but for one getter and one setter (ECMA-262, 15.7.1)
-
-abbrev pub is_pair : PrivateKind → PrivateKind → Bool
-is_pair a_getter a_setter = true
-is_pair a_setter a_getter = true
-is_pair kind other = false
-
-abbrev pub same : Bool → Bool → Bool
-same true b = b
-same false b = not b
-
-abbrev pub completes : PrivateMember → PrivateMember → Bool
-completes x y = is_pair x.kind y.kind && same x.is_static y.is_static
-
--- of a member and the earlier ones of its spelling
-abbrev pub is_duplicate : PrivateMember → List PrivateMember → Bool
-is_duplicate x [] = false
-is_duplicate x (y ∷ []) = not (completes x y)
-is_duplicate x ys = true
-
-abbrev pub is_spelled_as : PrivateMember → PrivateMember → Bool
-is_spelled_as x y = bytes_eq x.spelling y.spelling
-
--- the keys of members behind these
-abbrev pub duplicates : List PrivateMember → List PrivateMember → List ℕ
-duplicates earlier [] = []
-duplicates earlier (x ∷ xs) = cond (is_duplicate x (filter (is_spelled_as x) earlier)) (x.number ∷ []) [] ++ duplicates (x ∷ earlier) xs
-
-abbrev pub duplicates_of_all : List Tree → List ℕ
-duplicates_of_all [] = []
-duplicates_of_all (Node Kind.ClassBody m span semantic_id ps ∷ ts) = duplicates [] (elements_members m (items (at 0 ps))) ++ duplicates_of_all ts
-duplicates_of_all (t ∷ ts) = duplicates_of_all ts
-
-abbrev pub duplicate_privates : Tree → List ℕ
-duplicate_privates t = duplicates_of_all (preorder t)
-
--- ---- private names that no class body around declares (ECMA-262, 15.7.1, 16.1.1)
-
-abbrev pub if_undeclared : ℕ → Option ℕ → List ℕ
-if_undeclared m None = m ∷ []
-if_undeclared m (Some n) = []
-
-abbrev pub undeclared_of_all : List PrivateUse → List ℕ
-undeclared_of_all [] = []
-undeclared_of_all (u ∷ us) = if_undeclared u.number u.class ++ undeclared_of_all us
-
-abbrev pub undeclared_privates : Tree → List ℕ
-undeclared_privates t = undeclared_of_all (resolve_privates t)
-
 -- ---- `eval(..)`, where the name is free (ECMA-262, 13.3.6.1)
 
 abbrev pub free_evals : List Reference → List ℕ
@@ -133,9 +83,7 @@ eval_calls t = eval_calls_of_all (free_evals (resolve t)) (preorder t)
 
 pub record Facts : Type 0 where
   pub repeated_names : List ℕ
-  pub duplicate_privates : List ℕ
-  pub undeclared_privates : List ℕ
   pub eval_calls : List ℕ
 
 abbrev pub facts_of : Tree → Facts
-facts_of t = record { repeated_names = repeated_names t; duplicate_privates = duplicate_privates t; undeclared_privates = undeclared_privates t; eval_calls = eval_calls t }
+facts_of t = record { repeated_names = repeated_names t; eval_calls = eval_calls t }

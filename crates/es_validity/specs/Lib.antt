@@ -6,5 +6,7 @@ pub mod Known
 pub mod Labels
 pub mod Names
 pub mod Owners
+pub mod Privates
+pub mod Reached
 pub mod Rules
 pub mod Validity

@@ -6,7 +6,5 @@ use Rattle.es_validity.specs.declared.check.Facts.{Facts}
 abbrev pub facts_in : Facts → known.Facts
 facts_in facts = record {
   repeated_names = map (λ n. n.0) facts.repeated_names.now;
-  duplicate_privates = map (λ n. n.0) facts.duplicate_privates.now;
-  undeclared_privates = map (λ n. n.0) facts.undeclared_privates.now;
   eval_calls = map (λ n. n.0) facts.eval_calls.now;
 }

@@ -1,11 +1,12 @@
 -- Which programs are valid, and the first fault of one that is not.
-use Rattle.std.specs.Prelude.{◌≡◌, ℕ, ◌≤◌, ◌<◌, List, ◌++◌, map, Bool, ◌&&◌, nat_le, is_none, Option, Some}
+use Rattle.std.specs.Prelude.{◌≡◌, ℕ, ◌≤◌, ◌<◌, List, [], ◌++◌, map, Bool, false, ◌&&◌, nat_le, is_none, Option, Some}
 use Rattle.es_base.specs.Preorder.{nodes}
 use Rattle.es_base.specs.Tree.{Tree}
 use Rattle.es_steps.specs.FirstForm.{most_nodes}
 use Rattle.es_steps.specs.declared.options.Options.{Options}
 use Rattle.es_validity.specs.Facts.{Facts, facts_of}
 use Rattle.es_validity.specs.Faults.{FaultAt, fault_at, first_of_all, tree_faults}
+use Rattle.es_validity.specs.Privates.{private_faults}
 use Rattle.es_validity.specs.declared.error.LowerError.{LowerError}
 use Rattle.es_validity.specs.declared.fault.Cause.{Cause}
 use Rattle.es_validity.specs.declared.fault.LeftOut.{LeftOut}
@@ -13,14 +14,11 @@ use Rattle.es_validity.specs.declared.fault.TreeRule.{TreeRule}
 
 abbrev pub fact_faults : Facts → List FaultAt
 fact_faults facts =
-    map (fault_at (Cause.BadTree TreeRule.RepeatedName)) facts.repeated_names
-    ++ (map (fault_at Cause.DuplicatePrivate) facts.duplicate_privates
-    ++ (map (fault_at Cause.UndeclaredPrivate) facts.undeclared_privates
-    ++ map (fault_at (Cause.Unsupported LeftOut.Eval)) facts.eval_calls))
+    map (fault_at (Cause.BadTree TreeRule.RepeatedName)) facts.repeated_names ++ map (fault_at (Cause.Unsupported LeftOut.Eval)) facts.eval_calls
 
 -- the faults of a program, whose nodes of these numbers have members outside the table, with these facts on its names
 abbrev pub all_faults : Options → List ℕ → Facts → Tree → List FaultAt
-all_faults o foreign facts t = tree_faults o t ++ (fact_faults facts ++ map (fault_at (Cause.Unsupported LeftOut.Foreign)) foreign)
+all_faults o foreign facts t = tree_faults o t ++ (private_faults [] false t ++ (fact_faults facts ++ map (fault_at (Cause.Unsupported LeftOut.Foreign)) foreign))
 
 abbrev pub first_fault_by : Facts → Options → List ℕ → Tree → Option FaultAt
 first_fault_by facts o foreign t = first_of_all (all_faults o foreign facts t)
@@ -47,7 +45,7 @@ IsErrorOf m cause (LowerError.Unsupported node what) = (node.0 ≡ m) × (Cause.
 IsErrorOf m cause e = ⊥
 
 abbrev pub IsRefusedBy : Facts → Options → List ℕ → Tree → LowerError → Type 0
-IsRefusedBy facts o foreign t LowerError.NoMemory = ⊥
+IsRefusedBy facts o foreign t LowerError.NoMemory = Unit {0}
 IsRefusedBy facts o foreign t (LowerError.Unsupported node what) = IsFirst facts o foreign t node.0 (Cause.Unsupported what)
 IsRefusedBy facts o foreign t (LowerError.UndeclaredPrivate node) = IsFirst facts o foreign t node.0 Cause.UndeclaredPrivate
 IsRefusedBy facts o foreign t (LowerError.DuplicatePrivate node) = IsFirst facts o foreign t node.0 Cause.DuplicatePrivate

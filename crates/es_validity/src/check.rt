@@ -1,6 +1,6 @@
 // Whether a program is valid.
 
-ghost use Rattle.std.specs.Prelude.{◌≡◌, ◌<◌, ◌^◌, map, is_ok, IfErr};
+ghost use Rattle.std.specs.Prelude.{◌≡◌, ◌<◌, ◌^◌, map, true, IfOk, OnOk, IfErr};
 ghost use Rattle.es_base.specs.Preorder.{nodes};
 ghost use Rattle.es_validity.specs.Faults.{first_with};
 ghost use Rattle.es_validity.specs.Found.{found};
@@ -10,10 +10,12 @@ ghost use Rattle.es_validity.specs.Validity.{fact_faults, first_fault_by, is_val
 use crate::error::LowerError;
 use crate::fault::{Cause, Fault, LeftOut, TreeRule};
 use crate::first::each;
+use crate::privates::private_faults;
 use crate::walk::tree_faults;
 use es_base::ids::NodeId;
 use es_node::node::Node;
 use es_steps::options::Options;
+use std::alloc::{AllocError, Global};
 
 /// A program has at most this many nodes.
 const MOST_NODES: u32 = 1048576;
@@ -23,28 +25,26 @@ const MOST_NODES: u32 = 1048576;
 pub struct Facts<'a> {
     /// Identifiers that declare a name again, where one of both is by `let`, `const`, `class` or `import`.
     pub repeated_names: &'a [NodeId],
-    /// Keys that declare a private name again.
-    pub duplicate_privates: &'a [NodeId],
-    /// Private names that no class body around declares.
-    pub undeclared_privates: &'a [NodeId],
     /// Calls of the free name `eval`.
     pub eval_calls: &'a [NodeId],
 }
 
 /// The first fault of a program with these facts on its names: that of the least node, and at one node the first in the order
-/// of rules. `foreign` are the numbers of nodes that have members outside the table. Allocates nothing.
+/// of rules. `foreign` are the numbers of nodes that have members outside the table. Fails on allocation failure alone.
 #[tactic(auto, using(crate::proofs::Firsts::first_with_append))]
 pub fn first_fault(
+    alloc: Global,
     program: &Node,
     foreign: &[NodeId],
     facts: &Facts,
     options: &Options,
-) -> Option<Fault>
-    ensures { found result ≡ first_fault_by (facts_in facts.now) options.now (map (λ n. n.0) foreign.now) program.now }
+) -> Result<Option<Fault>, AllocError>
+    ensures { IfOk result (λ r. found r ≡ first_fault_by (facts_in facts.now) options.now (map (λ n. n.0) foreign.now) program.now) }
 {
     let first = tree_faults(options, program, None);
+    let first = private_faults(alloc, program, first)?;
     let first = fact_faults(facts, first);
-    each(first, foreign, Cause::Unsupported(LeftOut::Foreign))
+    Ok(each(first, foreign, Cause::Unsupported(LeftOut::Foreign)))
 }
 
 /// The first of the faults that these facts tell, and of the one that was first before.
@@ -57,22 +57,21 @@ fn fact_faults(facts: &Facts, first: Option<Fault>) -> Option<Fault>
         facts.repeated_names,
         Cause::BadTree(TreeRule::RepeatedName),
     );
-    let first = each(first, facts.duplicate_privates, Cause::DuplicatePrivate);
-    let first = each(first, facts.undeclared_privates, Cause::UndeclaredPrivate);
     each(first, facts.eval_calls, Cause::Unsupported(LeftOut::Eval))
 }
 
 /// Whether a program is valid, where these are the facts on its names: it has no more than 1,048,576 nodes, and no fault. The
 /// error is `TooLarge`, or its first fault. `foreign` are the numbers of nodes that have members outside the table. Takes time
-/// in proportion to the program, but for labels of labels. Allocates nothing.
+/// in proportion to the program, but for labels of labels and classes in classes. `NoMemory` comes on allocation failure alone.
 pub fn check_valid(
+    alloc: Global,
     program: &Node,
     foreign: &[NodeId],
     facts: &Facts,
     options: &Options,
 ) -> Result<(), LowerError>
     requires { nodes program.now < 2 ^ 32 }
-    ensures valid { is_ok result ≡ is_valid_by (facts_in facts.now) options.now (map (λ n. n.0) foreign.now) program.now }
+    ensures valid { OnOk result (is_valid_by (facts_in facts.now) options.now (map (λ n. n.0) foreign.now) program.now ≡ true) }
     ensures refused { IfErr result (IsRefusedBy (facts_in facts.now) options.now (map (λ n. n.0) foreign.now) program.now) }
 {
     if !program.has_at_most(MOST_NODES) {
@@ -80,7 +79,7 @@ pub fn check_valid(
             nodes: program.nodes(),
         });
     }
-    match first_fault(program, foreign, facts, options) {
+    match first_fault(alloc, program, foreign, facts, options)? {
         None => Ok(()),
         Some(fault) => Err(refusal(fault)),
     }

@@ -12,6 +12,7 @@ pub mod inside;
 pub mod jumps;
 pub mod names;
 pub mod parts;
+pub mod privates;
 pub mod rules;
 pub mod unsupported;
 pub mod walk;

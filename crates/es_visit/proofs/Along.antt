@@ -2,6 +2,7 @@
 use Rattle.std.specs.Prelude.{◌≡◌, ℕ, ◌+◌, ◌<◌, ◌≤◌, List, [], ◌∷◌, ◌++◌, take, drop, length, refl}
 use Rattle.std.proofs.Common.{sym, ◌∙◌, ap, get_or, set, arith}
 use Rattle.std.proofs.lemmas.List.{take_more_set, drop-set-lt, drop_more, take_all, drop_all}
+use Rattle.es_base.specs.Preorder.{nodes_of, nodes_of_part}
 use Rattle.es_base.specs.Tree.{Part, Parts, end, more}
 
 -- the parts of one list, and then those of another
@@ -12,6 +13,10 @@ joined (more p ps) rest = more p (joined ps rest)
 -- the first i items have been walked, and are those of xs
 pub record Along {S X : Type 0} (all : List X → Parts) (Walked : ℕ → S → Parts → S → Parts → Type 0) (first : S) (xs0 : List X) (now : S) (xs : List X) (i : ℕ) : Type 0 where
   pub so_far : (e : S) (qs : Parts) → Walked i now (all (drop i xs)) e qs → Walked 0 first (all xs0) e (joined (all (take i xs)) qs)
+
+-- what is left of a list has no more nodes than all of it had
+pub record Left {X : Type 0} (all : List X → Parts) (xs0 xs : List X) (i : ℕ) : Type 0 where
+  pub below : nodes_of (all (drop i xs)) ≤ nodes_of (all xs0)
 
 module _ {X : Type 0} (one : X → Part) (all : List X → Parts) (nil : all [] ≡ end) (cons : (x : X) (xs : List X) → all (x ∷ xs) ≡ more (one x) (all xs)) where
   joined-push : (xs : List X) (y : X) (qs : Parts) → joined (all (xs ++ y ∷ [])) qs ≡ joined (all xs) (more (one y) qs)
@@ -27,6 +32,12 @@ module _ {X : Type 0} (one : X → Part) (all : List X → Parts) (nil : all [] 
 
   pub behind : (xs : List X) (i : ℕ) (y : X) → all (drop (i + 1) (set xs i y)) ≡ all (drop (i + 1) xs)
   behind xs i y = ap all (drop-set-lt (i + 1) xs i y (omega arith))
+
+  pub left_item : (xs0 xs : List X) (i : ℕ) (d : X) → i < length xs → Left all xs0 xs i → nodes_of_part (one (get_or xs i d)) ≤ nodes_of (all xs0)
+  left_item xs0 xs i d within l = omega (arith, ap nodes_of (from_here xs i d within), l.below)
+
+  pub left_next : (xs0 xs : List X) (i : ℕ) (d y : X) → i < length xs → Left all xs0 xs i → Left all xs0 (set xs i y) (i + 1)
+  left_next xs0 xs i d y within l = record { below = omega (arith, ap nodes_of (behind xs i y), ap nodes_of (from_here xs i d within), l.below) }
 
   module _ {S : Type 0} (One : ℕ → S → Part → S → Part → Type 0) (Walked : ℕ → S → Parts → S → Parts → Type 0)
       (stop : (i : ℕ) (s : S) → Walked i s end s end)

@@ -1,4 +1,6 @@
 pub mod Bare
+pub mod Changed
 pub mod Law
 pub mod Reading
 pub mod Roles
+pub mod Visited

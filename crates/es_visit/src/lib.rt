@@ -5,3 +5,4 @@
 pub mod law;
 pub mod roles;
 pub mod visit;
+pub mod visit_mut;

@@ -6,7 +6,6 @@ use Rattle.std.specs.Ordering.{nat_cmp, ordering_reverse}
 use Rattle.std.specs.declared.cmp.Ordering.{Ordering}
 use Rattle.std.proofs.lemmas.Str.{IsUtf8-from_ascii, chars-append, chars-IsAscii}
 use lib.Utf8.{encode}
-use Rattle.es_base.specs.declared.ids.NodeId.{NodeId}
 use Rattle.es_base.specs.declared.ledger.GeneratedKind.{GeneratedKind}
 use Rattle.es_base.specs.declared.ledger.LedgerEntry.{LedgerEntry}
 use Rattle.es_writing.specs.Lowered.{is_private, signed, written_name}
@@ -50,8 +49,8 @@ module _ (e f : LedgerEntry) (xs ys : List ℕ) (first : IsUtf8 xs) (second : Is
   signs_alike same = alike (is_private f.kind) same refl
 
 -- the string of a private name, put together
-pub sign_put : (e : LedgerEntry) (id : NodeId) (sign name string : List ℕ) → e.kind ≡ GeneratedKind.Private id → IsUtf8 name → chars name ≡ e.name → sign ≡ codes "#" → string ≡ sign ++ name → string ≡ encode_utf8_all (written_name e)
-sign_put e id sign name string is utf8 name_is sign_is put_in = put_in ∙ ap (λ (bs : List ℕ). bs ++ name) sign_is ∙ sym (private_bytes e name utf8 name_is (ap is_private is))
+pub sign_put : (e : LedgerEntry) (sign name string : List ℕ) → is_private e.kind ≡ true → IsUtf8 name → chars name ≡ e.name → sign ≡ codes "#" → string ≡ sign ++ name → string ≡ encode_utf8_all (written_name e)
+sign_put e sign name string private utf8 name_is sign_is put_in = put_in ∙ ap (λ (bs : List ℕ). bs ++ name) sign_is ∙ sym (private_bytes e name utf8 name_is private)
 
 -- the written name of an entry in code is one that UTF-8 keeps
 sign_ascii : IsAscii (35 ∷ [])

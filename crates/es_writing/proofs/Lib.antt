@@ -1,7 +1,11 @@
 pub mod Arranging
 pub mod Comparing
+pub mod InOrder
 pub mod Keeping
 pub mod Parts
+pub mod Places
 pub mod Preorder
+pub mod Rows
 pub mod Sizes
+pub mod Tokens
 pub mod Whole

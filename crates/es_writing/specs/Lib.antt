@@ -1,3 +1,4 @@
 pub mod Kept
 pub mod Lowered
+pub mod Slots
 pub mod Writing

@@ -9,6 +9,7 @@ use Rattle.std.specs.Str.{encode_utf8_all}
 use Rattle.serde_json.specs.Data.{Data, string as json_string, array, object}
 use Rattle.serde_json.specs.View.{view}
 pub use Rattle.serde_json.specs.View.{items_of}
+use Rattle.serde_json.specs.Written.{compact_text}
 use Rattle.serde_json.specs.declared.value.Value.{Value}
 use Rattle.es_base.specs.Tree.{Tree}
 use Rattle.es_base.specs.Carried.{span_of}
@@ -143,3 +144,13 @@ pub record Writes (v : Value) (t : Tree) (ledger : List LedgerEntry) (warnings :
   pub names_fit : NamesFit names
   pub warnings_fit : WarningsFit ordered
   pub written : view v ≡ write_lowered t names ordered shapes
+
+-- the text is that of such a value
+pub record WritesText (text : List ℕ) (t : Tree) (ledger : List LedgerEntry) (warnings : List Diagnostic) (shapes : List Shape) : Type 0 where
+  pub names : List LedgerEntry
+  pub ordered : List Diagnostic
+  pub names_in_order : IsArranged entry_cmp ledger names
+  pub warnings_in_order : IsArranged warning_cmp warnings ordered
+  pub names_fit : NamesFit names
+  pub warnings_fit : WarningsFit ordered
+  pub written : text ≡ compact_text (write_lowered t names ordered shapes)

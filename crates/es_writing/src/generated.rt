@@ -1,7 +1,8 @@
 // The generated names.
 
-ghost use Rattle.std.specs.Prelude.{◌≡◌, ◌<◌, ◌^◌, IfOk, OnOk, map};
-ghost use Rattle.es_writing.specs.Lowered.{NamesFit, WritesInOrder, entry_cmp, entry_value, kind_word, number_entries, number_in, written_name};
+ghost use Rattle.std.specs.Prelude.{◌≡◌, ◌<◌, ◌^◌, IfOk, OnOk, map, string_bytes, true};
+ghost use Rattle.std.specs.Str.{encode_utf8_all};
+ghost use Rattle.es_writing.specs.Lowered.{NamesFit, WritesInOrder, entry_cmp, entry_value, is_private, kind_word, number_entries, number_in, written_name};
 ghost use Rattle.es_writing.specs.Kept.{IsString};
 ghost use Rattle.es_writing.specs.Writing.{Puts, string_of};
 ghost use Rattle.serde_json.specs.View.{view};
@@ -26,7 +27,7 @@ pub fn write_names(alloc: Global, entries: &[LedgerEntry]) -> Result<Value, Allo
 }
 
 /// Visits each name and its number: JSON can hold them all. Takes no memory.
-fn visit_names(entries: &[&LedgerEntry])
+pub fn visit_names(entries: &[&LedgerEntry])
     ensures { NamesFit (map (λ e. e.now) entries.now) }
 {
     for entry in entries {
@@ -60,17 +61,23 @@ fn written_name(alloc: Global, entry: &LedgerEntry) -> Result<Value, AllocError>
     ensures { IfOk result (λ v. view v ≡ string_of (written_name entry.now)) }
 {
     match entry.kind {
-        GeneratedKind::Private(_) => {
-            let mut string = String::from_str(alloc, "#")?;
-            string.push_str(entry.name.as_str())?;
-            Ok(Value::from(string))
-        }
+        GeneratedKind::Private(_) => Ok(Value::from(signed_name(alloc, entry)?)),
         _ => string_of(alloc, &entry.name),
     }
 }
 
+/// The string of a private name, with its `#`.
+pub fn signed_name(alloc: Global, entry: &LedgerEntry) -> Result<String, AllocError>
+    requires { is_private entry.now.kind ≡ true }
+    ensures { IfOk result (λ s. string_bytes s ≡ encode_utf8_all (written_name entry.now)) }
+{
+    let mut string = String::from_str(alloc, "#")?;
+    string.push_str(entry.name.as_str())?;
+    Ok(string)
+}
+
 /// The word for what a name stands for.
-fn kind_word(kind: GeneratedKind) -> &'static str
+pub fn kind_word(kind: GeneratedKind) -> &'static str
     ensures { result.now ≡ kind_word kind }
 {
     match kind {

@@ -54,7 +54,7 @@ pub fn put_more(
 
 /// Whether the body of an arrow, its second part, is a block.
 #[tactic(auto, using(crate::proofs::Parts::block_short, crate::proofs::Parts::block_long))]
-fn is_block(parts: &[Part]) -> bool
+pub fn is_block(parts: &[Part]) -> bool
     ensures { result ≡ is_block (parts_of parts.now) }
 {
     match parts {

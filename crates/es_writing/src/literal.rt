@@ -72,7 +72,7 @@ fn regex_of(alloc: Global, pattern: &Name, flags: &Name) -> Result<Value, AllocE
 }
 
 /// The source text of a boolean.
-fn boolean_string(boolean: bool) -> &'static str
+pub fn boolean_string(boolean: bool) -> &'static str
     ensures { result.now ≡ boolean_string boolean }
 {
     if boolean { "true" } else { "false" }

@@ -11,7 +11,8 @@ use es_base::diagnostic::Diagnostic;
 use serde_json::{Map, Value};
 use std::alloc::{AllocError, Global};
 
-const MESSAGE: &str = "Top-level await is not available in the configured target environment.";
+/// What a warning says.
+pub const MESSAGE: &str = "Top-level await is not available in the configured target environment.";
 
 /// The list of the values of the warnings, in order (our own). Fails on allocation failure alone.
 pub fn write_warnings(alloc: Global, warnings: &[Diagnostic]) -> Result<Value, AllocError>
@@ -27,7 +28,7 @@ pub fn write_warnings(alloc: Global, warnings: &[Diagnostic]) -> Result<Value, A
 }
 
 /// Visits each warning: JSON can hold them all. Takes no memory.
-fn visit_warnings(warnings: &[Diagnostic])
+pub fn visit_warnings(warnings: &[Diagnostic])
     ensures { WarningsFit warnings.now }
 {
     for warning in warnings {
@@ -41,7 +42,7 @@ fn visit_warning(_warning: Diagnostic)
 {}
 
 /// The warnings in the order of the numbers of their nodes; equal ones in the order that they had.
-fn by_node(alloc: Global, warnings: &[Diagnostic]) -> Result<Vec<Diagnostic>, AllocError>
+pub fn by_node(alloc: Global, warnings: &[Diagnostic]) -> Result<Vec<Diagnostic>, AllocError>
     ensures { IfOk result (λ v. IsArranged warning_cmp warnings.now v.items) }
 {
     let mut ordered = Vec::from_slice(alloc, warnings)?;

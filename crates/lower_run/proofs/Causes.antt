@@ -12,15 +12,6 @@ use Rattle.lower_run.specs.Outcome.{IsOutputOfBytes, IsOutputOfSource, Cause, Co
 use Rattle.lower_run.specs.declared.status.Status.{Status}
 use Rattle.lower_io.specs.Held.{Extends}
 
--- what was said and written whole is the cause of its status
-pub written-cause : (o : Option Options) (left : Option (List ℕ)) (before now : ℕ) (held after : Option (List ℕ)) (first last : ℕ) (status : Status) (text : List ℕ)
-    → IsOutputOfSource o left before now status text → Extends held after text → Cause o left before now held after first last status
-written-cause None left before now held after first last Status.BadArguments text output gained = record { text = text; output = output; gained = gained }
-written-cause None left before now held after first last status text output gained = absurd output
-written-cause (Some o) left before now held after first last Status.WriteFault text output gained = absurd output
-written-cause (Some o) left before now held after first last Status.NoMemory text output gained = absurd output
-written-cause (Some o) left before now held after first last status text output gained = record { text = text; output = output; gained = gained }
-
 -- ---- completeness
 
 same_some : {A : Type 0} {a b : A} → Some a ≡ Some b → a ≡ b

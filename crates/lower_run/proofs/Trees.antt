@@ -3,20 +3,24 @@ use Rattle.std.proofs.Common.{◌≡◌, refl, sym, ap, ◌∙◌, subst, ℕ, L
 use Rattle.serde_json.specs.Written.{compact_text}
 use Rattle.es_base.specs.Conforms.{conforms}
 use Rattle.es_base.specs.Preorder.{nodes, numbered_from}
-use Rattle.es_base.specs.Tree.{Tree}
+use Rattle.es_base.specs.Tree.{Tree, Node}
+use Rattle.es_base.specs.declared.kind.Kind.{Kind}
 use Rattle.es_base.specs.declared.table.Place.{Place}
+use Rattle.es_node.specs.View.{kind_of}
 use Rattle.es_writing.specs.Kept.{IsKept}
 use Rattle.es_writing.specs.Lowered.{write_lowered}
 use Rattle.es_steps.proofs.FirstMeaning.{first_form_law}
 use Rattle.es_steps.specs.FirstForm.{is_first_form}
 use Rattle.es_steps.specs.Lowered.{IsLowered, IsUnchanged}
 use Rattle.es_steps.specs.Meaning.{Meaning, has_meaning, lowered_means, source_means}
+use Rattle.es_steps.specs.Options.{no_options}
 use Rattle.es_steps.specs.Told.{warnings_of}
 use Rattle.class_properties.proofs.Conforming.{lowered-conforms, lowered-unchanged}
-use Rattle.class_properties.proofs.Kept.{source-owes}
 use Rattle.class_properties.proofs.Owed.{lowered-owes}
 use Rattle.class_properties.proofs.Same.{lowered-means}
 use Rattle.class_properties.proofs.Shapeless.{first_form-shapes}
+use Rattle.es_unchanged.proofs.Unchanged.{unchanged-owes}
+use Rattle.es_unchanged.proofs.Unlowered.{no_lowered_class, nothing_asked}
 use Rattle.lower_run.specs.Lines.{line}
 use Rattle.lower_run.specs.Outcome.{IsLoweredTree}
 use Rattle.lower_run.specs.Arguments.{options_for, lowered_by}
@@ -33,7 +37,7 @@ module _ (t : Tree) (fits : conforms Place.Program t ≡ true) (turn : t ≡ num
   lowered-program Lowering.ClassProperties = lowered-conforms t fits form turn
 
   lowered-owed : (l : Lowering) → IsLowered (nodes t) (options_for l) [] t (lowered_by l t)
-  lowered-owed Lowering.Nothing = source-owes t turn
+  lowered-owed Lowering.Nothing = unchanged-owes no_options t turn (no_lowered_class no_options t (nothing_asked t)) (nothing_asked t)
   lowered-owed Lowering.ClassProperties = lowered-owes t fits form turn
 
   lowered-same : (l : Lowering) → lowered_means (options_for l) [] t (lowered_by l t) ≡ source_means (options_for l) t
@@ -70,3 +74,12 @@ pub lowered-text : (l : Lowering) (t r : Tree) (text : List ℕ) → conforms Pl
     → r ≡ lowered_by l t → IsKept r → text ≡ line (compact_text (write_lowered r [] [] [])) → IsLoweredTree (options_for l) t [] text
 lowered-text l t r text fits turn form is kept written =
     lowered-tree t fits turn form l text (subst IsKept is kept) (written ∙ ap (λ u. line (compact_text (write_lowered u [] [] []))) is)
+
+-- what stands as a program is one
+program_kind : (t : Tree) → conforms Place.Program t ≡ true → kind_of t ≡ Kind.Program
+program_kind (Node Kind.Program m span semantic_id ps) f = refl
+program_kind (Node kind m span semantic_id ps) f = absurd (true≢false (sym f))
+
+-- what is written is a program
+pub lowered-kind : (l : Lowering) (t r : Tree) → conforms Place.Program t ≡ true → t ≡ numbered_from 0 t → is_first_form t [] ≡ true → r ≡ lowered_by l t → kind_of r ≡ Kind.Program
+lowered-kind l t r fits turn form is = ap kind_of is ∙ program_kind (lowered_by l t) (lowered-program t fits turn form l)

@@ -1,9 +1,11 @@
 // The output for the bytes of a source: the lowered tree, or why there is none.
 
-ghost use Rattle.std.specs.Prelude.{◌≡◌, ◌≤◌, ◌<◌, ◌+◌, ◌^◌, IfOk, IfErr, Ok, [], length, string_bytes, true, false};
+ghost use Rattle.std.specs.Prelude.{◌≡◌, ◌≤◌, ◌<◌, ◌+◌, ◌^◌, IfOk, IfErr, Ok, [], length, true, false};
 ghost use Rattle.es_base.specs.Conforms.{conforms};
 ghost use Rattle.es_base.specs.Preorder.{numbered_from};
+ghost use Rattle.es_base.specs.declared.kind.Kind.{Kind};
 ghost use Rattle.es_base.specs.declared.table.Place.{Place};
+ghost use Rattle.es_node.specs.View.{kind_of};
 ghost use Rattle.es_writing.specs.Kept.{IsKept};
 ghost use Rattle.es_writing.specs.Lowered.{write_lowered};
 ghost use Rattle.es_reading.specs.Reading.{read, root};
@@ -30,15 +32,16 @@ use es_reading::fault::ReadError;
 use es_reading::numbers::Numbers;
 use es_reading::tree::read_tree;
 use es_steps::error::LowerError;
-use es_writing::lowered::write_lowered;
+use es_writing::program::lowered_text;
 use serde_json::Value;
 use std::alloc::{AllocError, Global};
+use std::mem::forget;
 
 /// The output for these bytes, of which there are at most 67,108,864: the lowered tree with the status
 /// `Done`, or why there is none with `NotATree` or `Refused`. Fails on allocation failure alone.
 pub fn answer(alloc: Global, lowering: Lowering, bytes: &[u8]) -> Result<Output, AllocError>
     requires { length bytes.now ≤ most_bytes }
-    ensures { IfOk result (λ s. IsOutputOfBytes (options_for lowering) bytes.now s.status (string_bytes s.text)) }
+    ensures { IfOk result (λ s. IsOutputOfBytes (options_for lowering) bytes.now s.status (s.text.items)) }
 {
     match Value::from_slice(alloc, bytes) {
         Ok(value) => of_value(alloc, lowering, value),
@@ -48,7 +51,7 @@ pub fn answer(alloc: Global, lowering: Lowering, bytes: &[u8]) -> Result<Output,
 
 /// That the bytes are no JSON, unless there was not enough memory to know.
 fn of_error(alloc: Global, is_memory: bool) -> Result<Output, AllocError>
-    ensures { IfOk result (λ s. (is_memory ≡ false) × ((s.status ≡ Status.NotATree) × (string_bytes s.text ≡ json_line))) }
+    ensures { IfOk result (λ s. (is_memory ≡ false) × ((s.status ≡ Status.NotATree) × (s.text.items ≡ json_line))) }
 {
     if is_memory {
         return Err(AllocError);
@@ -59,7 +62,7 @@ fn of_error(alloc: Global, is_memory: bool) -> Result<Output, AllocError>
 /// The output for a value.
 fn of_value(alloc: Global, lowering: Lowering, value: Value) -> Result<Output, AllocError>
     requires { values (view value) + 1 < 2 ^ 32 }
-    ensures { IfOk result (λ s. IsOutputOfValue (options_for lowering) (view value) s.status (string_bytes s.text)) }
+    ensures { IfOk result (λ s. IsOutputOfValue (options_for lowering) (view value) s.status (s.text.items)) }
 {
     match tree_of(alloc, value) {
         Ok((tree, foreign)) => of_tree(alloc, lowering, tree, foreign.as_slice()),
@@ -81,7 +84,7 @@ fn tree_of(alloc: Global, value: Value) -> Result<(Node, List<NodeId>), ReadErro
 
 /// The fault of a value that is no program.
 fn of_fault(alloc: Global, error: ReadError) -> Result<Output, AllocError>
-    ensures { IfOk result (λ s. (s.status ≡ Status.NotATree) × IsLineOf error (string_bytes s.text)) }
+    ensures { IfOk result (λ s. (s.status ≡ Status.NotATree) × IsLineOf error (s.text.items)) }
 {
     let text = match error {
         ReadError::NoMemory => return Err(AllocError),
@@ -90,7 +93,7 @@ fn of_fault(alloc: Global, error: ReadError) -> Result<Output, AllocError>
     };
     Ok(Output {
         status: Status::NotATree,
-        text,
+        text: text.into_bytes(),
     })
 }
 
@@ -103,7 +106,7 @@ fn of_tree(
 ) -> Result<Output, AllocError>
     requires conforms { conforms Place.Program tree ≡ true }
     requires preorder { tree ≡ numbered_from 0 tree }
-    ensures { IfOk result (λ s. IsOutputOfTree (options_for lowering) tree (ids foreign.now) s.status (string_bytes s.text)) }
+    ensures { IfOk result (λ s. IsOutputOfTree (options_for lowering) tree (ids foreign.now) s.status (s.text.items)) }
 {
     match lower_form(alloc, lowering, tree, foreign) {
         Ok(lowered) => Ok(Output {
@@ -112,7 +115,7 @@ fn of_tree(
         }),
         Err(LowerError::NotYet { node }) => Ok(Output {
             status: Status::Refused,
-            text: not_yet_line(alloc, node)?,
+            text: not_yet_line(alloc, node)?.into_bytes(),
         }),
         Err(LowerError::NoMemory) => Err(AllocError),
     }
@@ -146,23 +149,18 @@ fn lower_by(alloc: Global, lowering: Lowering, tree: Node) -> Result<Node, Alloc
     }
 }
 
-/// The text of a lowered program with no generated name, warning or shape, and a line feed.
-fn text_of(alloc: Global, tree: Node) -> Result<String, AllocError>
-    ensures text { IfOk result (λ s. string_bytes s ≡ line (compact_text (write_lowered tree [] [] []))) }
-    ensures kept { IfOk result (λ _. IsKept tree) }
-{
-    let mut text = value_of(alloc, tree)?.to_string(alloc)?;
-    text.push('\n')?;
-    Ok(text)
-}
-
-/// The value of such a program. The tree is let go.
-fn value_of(alloc: Global, tree: Node) -> Result<Value, AllocError>
-    ensures value { IfOk result (λ v. view v ≡ write_lowered tree [] [] []) }
+/// The text of a lowered program with no generated name, warning or shape, and a line feed. The tree is not
+/// let go: the program ends soon.
+fn text_of(alloc: Global, tree: Node) -> Result<Vec<u8>, AllocError>
+    requires { kind_of tree ≡ Kind.Program }
+    ensures text { IfOk result (λ s. s.items ≡ line (compact_text (write_lowered tree [] [] []))) }
     ensures kept { IfOk result (λ _. IsKept tree) }
 {
     let ledger = Ledger {
         entries: List::new(alloc),
     };
-    write_lowered(alloc, &tree, &ledger, &[], &[])
+    let mut text = lowered_text(alloc, &tree, &ledger, &[], &[])?;
+    text.push(b'\n')?;
+    forget(tree);
+    Ok(text)
 }

@@ -1,6 +1,6 @@
 // What is written, and the status with which it is.
 
-ghost use Rattle.std.specs.Prelude.{◌≡◌, IfOk, string_bytes};
+ghost use Rattle.std.specs.Prelude.{◌≡◌, IfOk};
 
 use crate::status::Status;
 use std::alloc::{AllocError, Global};
@@ -9,15 +9,15 @@ use std::alloc::{AllocError, Global};
 #[derive(Drop)]
 pub struct Output {
     pub status: Status,
-    pub text: String,
+    pub text: Vec<u8>,
 }
 
 /// This text with this status. Fails on allocation failure alone.
 pub fn output_with(alloc: Global, status: Status, text: &str) -> Result<Output, AllocError>
-    ensures { IfOk result (λ s. (s.status ≡ status) × (string_bytes s.text ≡ text.now)) }
+    ensures { IfOk result (λ s. (s.status ≡ status) × (s.text.items ≡ text.now)) }
 {
     Ok(Output {
         status,
-        text: String::from_str(alloc, text)?,
+        text: Vec::from_slice(alloc, text.as_bytes())?,
     })
 }

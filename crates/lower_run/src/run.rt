@@ -57,7 +57,7 @@ fn read_and_write<S: Source, K: Sink>(
         Ok(output) => output,
         Err(_) => return Status::NoMemory,
     };
-    match write_all(sink, output.text.as_bytes()) {
+    match write_all(sink, output.text.as_slice()) {
         Ok(()) => output.status,
         Err(_) => Status::WriteFault,
     }
@@ -69,7 +69,7 @@ fn output_of<S: Source>(
     arguments: &[String],
     source: &mut S,
 ) -> Result<Output, AllocError>
-    ensures output { IfOk result (λ s. IsOutputOfSource (options_of (map string_bytes arguments.now)) (S.left source.old) (S.faults source.old) (S.faults source.new) s.status (string_bytes s.text)) }
+    ensures output { IfOk result (λ s. IsOutputOfSource (options_of (map string_bytes arguments.now)) (S.left source.old) (S.faults source.old) (S.faults source.new) s.status s.text.items) }
     ensures end { IfOk result (λ s. IsReadToEnd (S.left source.old) (S.left source.new) s.status) }
     ensures later { S.faults source.old ≤ S.faults source.new }
 {

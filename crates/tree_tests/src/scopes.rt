@@ -38,6 +38,8 @@ fn names_and_what_they_mean(rt: HostRuntime) -> Result<(), AllocError> {
     assert!(rt; scoping.symbol_scope_id(b) == function);
     scoping.set_symbol_flags(b, SymbolFlags::VAR);
     assert!(rt; scoping.symbol_flags(b) == SymbolFlags::VAR);
+    scoping.mark_symbol(b);
+    assert!(rt; scoping.symbol_is_mutated(b));
     if scoping.get_binding(function, "b") == Some(b)
         && scoping.get_binding(function, "d").is_none()
     {

@@ -13,11 +13,11 @@ ghost use Rattle.class_properties.specs.Least.{number_in, least_with};
 
 use crate::not_yet::field::is_field;
 use crate::not_yet::least::{lower, unless};
-use crate::not_yet::names::Names;
 use es_base::ids::NodeId;
 use es_base::kind::Kind;
 use es_base::name::Name;
 use es_base::strings::is_among;
+use es_name_set::Names;
 use es_node::node::Node;
 use es_tree::class::{ClassBodyRef, ClassDeclarationRef};
 use es_tree::identifier::BindingIdentifierRef;

@@ -6,11 +6,11 @@ ghost use Rattle.es_base.specs.Tree.{child, nullable};
 ghost use Rattle.es_node.specs.View.{kind_of, parts_in};
 ghost use Rattle.es_steps.specs.FirstForm.{is_plain_literal, is_plain_name, is_plain_value, is_plain_key, is_field};
 
-use crate::not_yet::names::Names;
 use es_base::kind::Kind;
 use es_base::literal::LiteralValue;
 use es_base::name::Name;
 use es_base::strings::is_word;
+use es_name_set::Names;
 use es_node::node::Node;
 use es_tree::class::PropertyDefinitionRef;
 use es_tree::identifier::{IdentifierNameRef, IdentifierReferenceRef};

@@ -46,3 +46,18 @@ returns-clause-assumed_set_field c = (refl, refl, lowered refl, refl)
 
 pub returns-clause-loose_private_writes : goal.returns-clause-loose_private_writes
 returns-clause-loose_private_writes c = (refl, refl, lowered refl, refl)
+
+pub returns-clause-key_in_a_loop : goal.returns-clause-key_in_a_loop
+returns-clause-key_in_a_loop c = (refl, refl, lowered refl, refl)
+
+pub returns-clause-arrow_beside_a_pattern : goal.returns-clause-arrow_beside_a_pattern
+returns-clause-arrow_beside_a_pattern c = (refl, refl, lowered refl, refl)
+
+pub returns-clause-arrow_in_a_parameter : goal.returns-clause-arrow_in_a_parameter
+returns-clause-arrow_in_a_parameter c = (refl, refl, lowered refl, refl)
+
+pub returns-clause-imported_key_that_stays : goal.returns-clause-imported_key_that_stays
+returns-clause-imported_key_that_stays c = (refl, refl, lowered refl, refl)
+
+pub returns-clause-arrow_behind_parameters : goal.returns-clause-arrow_behind_parameters
+returns-clause-arrow_behind_parameters c = (refl, refl, lowered refl, refl)

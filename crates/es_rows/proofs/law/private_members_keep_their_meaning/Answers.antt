@@ -70,3 +70,9 @@ returns-clause-private_static_of_expression c = (refl, refl, lowered refl, refl)
 
 pub returns-clause-private_method_behind_statement : goal.returns-clause-private_method_behind_statement
 returns-clause-private_method_behind_statement c = (refl, refl, lowered refl, refl)
+
+pub returns-clause-private_update_in_an_arrow : goal.returns-clause-private_update_in_an_arrow
+returns-clause-private_update_in_an_arrow c = (refl, refl, lowered refl, refl)
+
+pub returns-clause-private_write_in_a_field : goal.returns-clause-private_write_in_a_field
+returns-clause-private_write_in_a_field c = (refl, refl, lowered refl, refl)

@@ -37,3 +37,9 @@ returns-clause-deleted_this c = (refl, refl, lowered refl, refl)
 
 pub returns-clause-nested_static_classes : goal.returns-clause-nested_static_classes
 returns-clause-nested_static_classes c = (refl, refl, lowered refl, refl)
+
+pub returns-clause-static_field_in_a_parameter : goal.returns-clause-static_field_in_a_parameter
+returns-clause-static_field_in_a_parameter c = (refl, refl, lowered refl, refl)
+
+pub returns-clause-static_field_in_a_case : goal.returns-clause-static_field_in_a_case
+returns-clause-static_field_in_a_case c = (refl, refl, lowered refl, refl)

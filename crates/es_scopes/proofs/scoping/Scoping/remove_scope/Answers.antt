@@ -5,7 +5,7 @@ use Rattle.std.proofs.lemmas.List.{length-map}
 use Rattle.es_scopes.specs.Table.{Table, IsTable, scope_at, lifted, names_at, parent_of, without_scope}
 use Rattle.es_scopes.specs.declared.table.Scope.{Scope}
 use Rattle.es_scopes.specs.contracts.scoping.Scoping.{the_view}
-use Rattle.es_scopes.proofs.RowLemmas.{set-constant, written_back}
+use Rattle.es_scopes.proofs.RowLemmas.{set_constant, written_back}
 use Rattle.es_scopes.proofs.TableLemmas.{IsTable-without}
 use Rattle.es_scopes.proofs.WrittenLemmas.{scope-within}
 use Rattle.es_scopes.proofs.scoping.Scoping.remove_scope.Goals as goal
@@ -23,7 +23,7 @@ scopes_are c =
     c.lift_all.ensures ∙ (λ i. map (option_map (lifted s (up i))) (c.deref_mut.ensures.value i)) in
     let within : s.0 < length (map (option_map (lifted s (parent_of t s))) t.scopes) = simp length-map (scope-within t t refl s (ap is_some row)) in
     ap (λ (l : List (Option Scope)). set l s.0 None) (written_back (vec_len c.self.inside.scopes) c.lift_all.new.scopes c.self.inside.scopes.items size ∙ lift_is)
-    ∙ set-constant None s.0 (map (option_map (lifted s (parent_of t s))) t.scopes) within
+    ∙ set_constant None s.0 (map (option_map (lifted s (parent_of t s))) t.scopes) within
 
 pub invariant_of-self : goal.invariant_of-self
 invariant_of-self c =

@@ -1,0 +1,5 @@
+pub mod StrictLemmas
+pub mod Stripped
+pub mod WalkLemmas
+pub mod WriteLemmas
+pub mod BuildLemmas

@@ -1,0 +1,7 @@
+pub mod Quiet
+pub mod Shapeless
+pub mod Standing
+pub mod Staying
+pub mod Unchanged
+pub mod Unlowered
+pub mod Unmarked

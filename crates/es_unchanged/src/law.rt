@@ -1,0 +1,24 @@
+// The laws of programs that have nothing to lower: functions that do nothing.
+
+ghost use Rattle.es_unchanged.specs.Law.{UnloweredLaw, UnchangedLaw, SameLaw, UnshapedLaw};
+
+/// In a program that holds nothing that the options lower, no class is lowered.
+pub fn unchanged_programs_have_no_lowered_class()
+    ensures { UnloweredLaw }
+{}
+
+/// A program that is numbered in preorder and has nothing that the options lower owes nothing as it is, without generated
+/// names.
+pub fn unchanged_programs_owe_nothing()
+    ensures { UnchangedLaw }
+{}
+
+/// And it means as a lowered program what it means as a source, if it has a meaning.
+pub fn unchanged_programs_mean_the_same()
+    ensures { SameLaw }
+{}
+
+/// And it has no shape, where it is a program of the table's grammar and static blocks are not lowered.
+pub fn unchanged_programs_have_no_shape()
+    ensures { UnshapedLaw }
+{}
