@@ -2,7 +2,7 @@
 //! of its events.
 #![tactic(auto)]
 
-mod asked;
+pub mod asked;
 mod class;
 mod element;
 pub mod facts;

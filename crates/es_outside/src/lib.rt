@@ -1,0 +1,4 @@
+//! The shapes that put a program outside the theorem on the order of its events, all of them in one list.
+#![tactic(auto)]
+
+pub mod private_target;
