@@ -1,0 +1,5 @@
+pub mod Hoisted
+pub mod Leasts
+pub mod Named
+pub mod Seen
+pub mod ScopeForms
