@@ -1,1 +1,2 @@
 pub mod PrivateTargets
+pub mod Resolving

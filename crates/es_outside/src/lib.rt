@@ -2,3 +2,4 @@
 #![tactic(auto)]
 
 pub mod private_target;
+pub mod references;
