@@ -1,2 +1,4 @@
+pub mod BoundNames
+pub mod DeclaredNames
 pub mod PrivateTargets
 pub mod Resolving

@@ -1,2 +1,4 @@
+pub mod Bindings
+pub mod Changing
 pub mod Meant
 pub mod PrivateTargets

@@ -1,5 +1,8 @@
 //! The shapes that put a program outside the theorem on the order of its events, all of them in one list.
 #![tactic(auto)]
 
+pub mod bindings;
+pub mod changing;
+pub mod names;
 pub mod private_target;
 pub mod references;
