@@ -1,3 +1,4 @@
+pub mod Ascending
 pub mod BoundNames
 pub mod DeclaredNames
 pub mod PrivateTargets

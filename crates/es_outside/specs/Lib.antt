@@ -1,4 +1,5 @@
 pub mod Bindings
 pub mod Changing
 pub mod Meant
+pub mod Outside
 pub mod PrivateTargets

@@ -4,5 +4,6 @@
 pub mod bindings;
 pub mod changing;
 pub mod names;
+pub mod outside;
 pub mod private_target;
 pub mod references;

@@ -6,8 +6,9 @@ ghost use Rattle.es_base.specs.Tree.{child, nullable, trees};
 ghost use Rattle.es_base.specs.declared.kind.Kind.{Kind};
 ghost use Rattle.es_node.specs.View.{kind_of};
 ghost use Rattle.es_steps.specs.LoweredClasses.{any_element, element_of, elements_in, needs_temporary, is_hoisted_key};
+ghost use Rattle.es_steps.specs.Options.{lowers_fields};
 ghost use Rattle.es_steps.specs.References.{Reference, resolve, written};
-ghost use Rattle.es_steps.specs.Shapes.{lowered_classes, moves_before_heritage, has_shape_1};
+ghost use Rattle.es_steps.specs.Shapes.{any_class, lowered_classes, moves_before_heritage, has_shape_1};
 ghost use Rattle.es_shapes.specs.Classes.{class_view, is_lowered, is_lowered_with};
 ghost use Rattle.es_shapes.specs.Heritages.{program_code, heritage_events, moves_at};
 
@@ -41,6 +42,56 @@ pub fn has_moved_before_heritage<F: NameFacts, H: HeritageFacts>(
         heritages,
     };
     lowers_fields(options) && any_node(&test, program)
+}
+
+/// Whether something moves before the heritage of a lowered class, or would if it had one, with class
+/// properties on: without it there is no shape S1, whatever events heritages have.
+#[tactic(auto, using(crate::proofs::Lowered::any_lowered))]
+pub fn may_move_before_heritage<F: NameFacts>(
+    program: &Node,
+    options: &Options,
+    facts: &F,
+) -> bool
+    requires { F.program facts.now ≡ program.now }
+    ensures { result ≡ (lowers_fields options.now && any_class (moves_before_heritage options.now (written program.now) (resolve program.now)) (lowered_classes options.now (preorder program.now))) }
+{
+    lowers_fields(options) && any_may_move(program, options, facts)
+}
+
+fn any_may_move<F: NameFacts>(program: &Node, options: &Options, facts: &F) -> bool
+    requires { F.program facts.now ≡ program.now }
+    ensures { result ≡ any_class (moves_before_heritage options.now (written program.now) (resolve program.now)) (lowered_classes options.now (preorder program.now)) }
+{
+    let test = MayMove { options, facts };
+    any_node(&test, program)
+}
+
+/// Whether the node is a lowered class in which something moves before the heritage.
+#[derive(Drop)]
+struct MayMove<'a, F> {
+    options: &'a Options,
+    facts: &'a F,
+}
+
+impl<'a, F: NameFacts> NodeTest for MayMove<'a, F> {
+    ghost passes = { λ k t. is_lowered_with k.options.now (moves_before_heritage k.options.now (written (F.program k.facts.now)) (resolve (F.program k.facts.now))) t };
+
+    fn passes(&self, node: &Node) -> bool
+        ensures { result ≡ is_lowered_with self.now.options.now (moves_before_heritage self.now.options.now (written (F.program self.now.facts.now)) (resolve (F.program self.now.facts.now))) node.now }
+    {
+        // class A { [k()] = 1; }
+        match class_of(node) {
+            Some(class) => may_move_in(self.options, self.facts, class),
+            None => false,
+        }
+    }
+}
+
+fn may_move_in<F: NameFacts>(options: &Options, facts: &F, class: ClassRef) -> bool
+    ensures { result ≡ (is_lowered options.now (class_view class.entry) && moves_before_heritage options.now (written (F.program facts.now)) (resolve (F.program facts.now)) (class_view class.entry)) }
+{
+    element_kinds(options, elements_of(class.body)).has_lowered
+        && moves_before_heritage(options, facts, class)
 }
 
 /// Whether the node is a lowered class in which something moves before a heritage that has events.
