@@ -36,8 +36,8 @@ in_order xs b2 b3 b4 b5 b6 b7 b8 =
     ∙ next xs b2 Shape.S2 l3
 
 -- S1 in front
-pub with_first : (o : Options) (t : Tree) → if_has (has_first o t) Shape.S1 [] ++ other_shapes o t ≡ shapes o t
-with_first o t = one (has_first o t) Shape.S1 (other_shapes o t)
+pub with_first : (b : Bool) (rest : List Shape) → if_has b Shape.S1 [] ++ rest ≡ if_has b Shape.S1 rest
+with_first b rest = one b Shape.S1 rest
 
 -- ---- without S1
 

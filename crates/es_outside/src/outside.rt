@@ -1,8 +1,7 @@
 // The shapes of a program.
 
 ghost use Rattle.std.specs.Prelude.{◌≡◌, ◌++◌, [], false, IfOk, OnOk};
-ghost use Rattle.es_base.specs.Preorder.{preorder};
-ghost use Rattle.es_steps.specs.References.{resolve, written};
+ghost use Rattle.es_base.specs.declared.shape.Shape.{Shape};
 ghost use Rattle.es_steps.specs.Shapes.{if_has, shapes};
 ghost use Rattle.es_outside.specs.Outside.{has_first, may_have_first, other_shapes};
 
@@ -34,10 +33,25 @@ pub fn outside_shapes<H: HeritageFacts>(
     ensures { IfOk result (λ r. r.items ≡ shapes options.now program.now) }
 {
     let names = ProgramNames::of(alloc, program)?;
-    let mut shapes = Vec::new(alloc);
     let has_first = has_first(program, options, &names, heritages);
+    shapes_with(alloc, program, options, &names, has_first)
+}
+
+/// The shapes of a program, which has S1 or not.
+#[tactic(auto, using(crate::proofs::Ascending::with_first))]
+fn shapes_with(
+    alloc: Global,
+    program: &Node,
+    options: &Options,
+    names: &ProgramNames,
+    has_first: bool,
+) -> Result<Vec<Shape>, AllocError>
+    requires { names.now.program.now ≡ program.now }
+    ensures { IfOk result (λ r. r.items ≡ if_has has_first Shape.S1 (other_shapes options.now program.now)) }
+{
+    let mut shapes = Vec::new(alloc);
     push_if(has_first, Shape::S1, &mut shapes)?;
-    add_others(program, options, &names, &mut shapes)?;
+    add_others(program, options, names, &mut shapes)?;
     Ok(shapes)
 }
 
@@ -63,10 +77,10 @@ pub fn known_shapes(
     ensures all { IfOk result (λ r. r.may_have_first ≡ false → r.others.items ≡ shapes options.now program.now) }
 {
     let names = ProgramNames::of(alloc, program)?;
-    let mut others = Vec::new(alloc);
-    add_others(program, options, &names, &mut others)?;
+    let may_have_first = may_have_first(program, options, &names);
+    let others = shapes_with(alloc, program, options, &names, false)?;
     Ok(Outside {
-        may_have_first: may_have_first(program, options, &names),
+        may_have_first,
         others,
     })
 }
