@@ -9,7 +9,7 @@ use Rattle.es_steps.specs.Options.{lowers_fields}
 use Rattle.es_steps.specs.References.{resolve, written}
 use Rattle.es_steps.specs.Shapes.{ClassAt, any_class, heritage_at, heritage_by, heritage_has_events, if_has, lowered_classes, moves_before_heritage, shapes}
 use Rattle.es_steps.specs.declared.options.Options.{Options}
-use Rattle.es_outside.specs.Outside.{has_first, may_have_first, other_shapes}
+use Rattle.es_outside.specs.Outside.{may_have_first, other_shapes}
 
 one : (b : Bool) (s : Shape) (rest : List Shape) → if_has b s [] ++ rest ≡ if_has b s rest
 one true s rest = refl

@@ -1,10 +1,10 @@
 -- A map of bindings holds what was added, and of a resolution the first of each number.
-use Rattle.std.proofs.Common.{◌≡◌, refl, sym, ap, ◌∙◌, ℕ, List, [], ◌∷◌, ◌++◌, nat_eq, Bool, true, false, cond, Option, Some, None}
+use Rattle.std.proofs.Common.{◌≡◌, refl, sym, ap, ◌∙◌, ℕ, List, [], ◌∷◌, nat_eq, Bool, true, false, cond, Option, Some}
 use Rattle.std.proofs.lemmas.Bool.{eqb-true}
 use Rattle.std.specs.Map as entries
 use Rattle.indexmap.specs.IndexMap.{insert_entry}
 use Rattle.es_steps.specs.LoweredClasses.{referent_of}
-use Rattle.es_steps.specs.References.{Reference, resolve, if_bound, assigned}
+use Rattle.es_steps.specs.References.{Reference}
 use Rattle.es_steps.specs.Values.{Referent, Bound, Free}
 use Rattle.es_shapes.specs.Names.{bound_number}
 use Rattle.es_outside.specs.Bindings.{binding_in, first_binding, flat, number_of}

@@ -1,10 +1,10 @@
 -- The names that a node declares by itself, by their numbers.
-use Rattle.std.proofs.Common.{◌≡◌, refl, sym, ap, ◌∙◌, ℕ, List, [], ◌∷◌, ◌++◌, append_assoc, map, Bool, true, false, cond, ◌||◌, bytes_eq, Option, Some, None}
+use Rattle.std.proofs.Common.{◌≡◌, refl, sym, ap, ◌∙◌, ℕ, List, [], ◌∷◌, ◌++◌, append_assoc, Bool, true, false, cond, ◌||◌, bytes_eq}
 use Rattle.es_base.specs.Tree.{Tree, Part, Parts, Node}
 use Rattle.es_base.specs.declared.kind.Kind.{Kind}
 use Rattle.es_node.specs.View.{kind_of, number_in, parts_in}
 use Rattle.es_binding_faults.specs.Hoisted.{hoisted_part}
-use Rattle.es_binding_faults.specs.Named.{plain, plain_one}
+use Rattle.es_binding_faults.specs.Named.{plain}
 use Rattle.es_binding_faults.specs.declared.hoisted.Hoist.{Hoist}
 use Rattle.es_binding_faults.proofs.HasNumbers.{has_number-append}
 use Rattle.es_binding_faults.proofs.Hoisting.{var-part}

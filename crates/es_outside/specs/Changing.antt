@@ -1,5 +1,5 @@
 -- Bindings by numbers.
-use Rattle.std.specs.Prelude.{ℕ, List, [], ◌∷◌, ◌++◌, Bool, true, false, map, Option, Some, None}
+use Rattle.std.specs.Prelude.{ℕ, List, [], ◌∷◌, ◌++◌, Bool, true, map, Option, Some}
 use Rattle.es_base.specs.declared.ids.NodeId.{NodeId}
 use Rattle.es_outside.specs.declared.references.Meant.{Meant}
 

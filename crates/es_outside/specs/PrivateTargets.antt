@@ -1,7 +1,6 @@
 -- The private members of the classes around a node, as code holds them.
-use Rattle.std.specs.Prelude.{ℕ, ◌+◌, List, [], ◌∷◌, ◌++◌, Bool, true, false, cond, ◌||◌, ◌&&◌, bytes_eq, nat_eq, Option, Some, None}
-use Rattle.es_base.specs.Tree.{Tree, Part, Parts, Node, end, more, trees}
-use Rattle.es_base.specs.declared.kind.Kind.{Kind}
+use Rattle.std.specs.Prelude.{ℕ, ◌+◌, List, [], ◌∷◌, ◌++◌, Bool, false, cond, ◌||◌, ◌&&◌, bytes_eq, nat_eq}
+use Rattle.es_base.specs.Tree.{Parts, end, more, trees}
 use Rattle.es_steps.specs.PrivateNames.{PrivateMember, elements_members, is_written}
 use Rattle.es_steps.specs.Shapes.{unwritable_part}
 use Rattle.es_steps.specs.Values.{String}

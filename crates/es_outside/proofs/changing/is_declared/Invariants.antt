@@ -1,4 +1,4 @@
-use Rattle.std.proofs.Common.{◌≡◌, ◌++◌, drop}
+use Rattle.std.proofs.Common.{◌≡◌, drop}
 use Rattle.std.specs.Str.{chars}
 use Rattle.es_binding_faults.specs.Named.{named}
 use Rattle.es_steps.specs.References.{is_declared}

@@ -1,12 +1,11 @@
-use Rattle.std.proofs.Common.{◌∙◌, ◌+◌, ◌++◌, ◌||◌, ap, sym, arith, drop}
+use Rattle.std.proofs.Common.{◌∙◌, ◌++◌, ◌||◌, ap, sym, arith}
 use Rattle.es_base.specs.Preorder.{nodes, nodes_of, nodes_of_part}
 use Rattle.es_base.specs.Tree.{nullable, trees}
-use Rattle.es_node.specs.View.{kind_of, part_of, parts_in, parts_of}
+use Rattle.es_node.specs.View.{kind_of, part_of, parts_in}
 use Rattle.es_node.proofs.Below.{part_below, tree_below, hole_below}
 use Rattle.es_steps.specs.PrivateNames.{elements_members, members_at}
-use Rattle.es_steps.specs.Shapes.{unwritable_part}
 use Rattle.es_outside.specs.PrivateTargets.{seen_by, seen_in, unwritable_from}
-use Rattle.es_outside.proofs.PrivateTargets.{next_part, unwritable_node}
+use Rattle.es_outside.proofs.PrivateTargets.{unwritable_node}
 use Rattle.es_outside.proofs.private_target.+unwritable.Goals as goal
 
 pub unwritable_in-unwritable_in_part-requires : goal.unwritable_in-unwritable_in_part-requires
