@@ -8,7 +8,8 @@ use Rattle.es_steps.specs.References.{Reference}
 use Rattle.es_steps.specs.Values.{Referent, Bound, Free}
 use Rattle.es_shapes.specs.Names.{bound_number}
 use Rattle.es_outside.specs.Bindings.{binding_in, first_binding, flat, number_of}
-use Rattle.es_outside.specs.Meant.{binding_of, meant_by_all}
+use Rattle.es_outside.specs.Frames.{binding_of}
+use Rattle.es_outside.specs.Meant.{meant_by_all}
 
 pub looked_up : (m : ℕ) (es : List (ℕ × Option ℕ)) → flat (entries.lookup (nat_eq m) es) ≡ binding_in m es
 looked_up m [] = refl

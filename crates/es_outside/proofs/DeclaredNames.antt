@@ -14,7 +14,8 @@ use Rattle.es_steps.specs.References.{Reference, assigned, if_bound, numbers_of,
 use Rattle.es_steps.specs.Scopes.{Declaration, own_name, no_class, bound_part, var_part, ScopeForm, program_scope, function_scope, own_function_scope, arrow_scope, own_class_scope, block_scope, static_block_scope, loop_scope, switch_scope, catch_scope, no_scope, scope_form, scope_names}
 use Rattle.es_steps.specs.Values.{Referent, Bound, Free}
 use Rattle.es_outside.specs.Changing.{if_written, assigned_in}
-use Rattle.es_outside.specs.Meant.{binding_of, meant_by_all}
+use Rattle.es_outside.specs.Frames.{binding_of}
+use Rattle.es_outside.specs.Meant.{meant_by_all}
 
 pub written_node : (t : Tree) (ns : List ℕ) → (ns ++ repeated (scope_names (scope_form (kind_of t)) (number_in t) (parts_in t))) ++ cond (is_for_each (kind_of t)) (numbers_of (var_part (at 0 (parts_in t)))) [] ≡ ns ++ written_by t
 written_node (Node kind m span semantic_id ps) ns = append_assoc ns (repeated (scope_names (scope_form kind) m ps)) (cond (is_for_each kind) (numbers_of (var_part (at 0 ps))) [])

@@ -13,7 +13,8 @@ use Rattle.es_steps.specs.Parts.{at, string_of}
 use Rattle.es_steps.specs.References.{Reference, declared, referent, is_reference, is_target, reference, references, references_in, part_references, item_references, resolve}
 use Rattle.es_steps.specs.Scopes.{Declaration, own_name, names_at, is_body_part, ScopeForm, program_scope, function_scope, own_function_scope, arrow_scope, own_class_scope, block_scope, static_block_scope, loop_scope, switch_scope, catch_scope, no_scope, scope_of, seen}
 use Rattle.es_steps.specs.Values.{String}
-use Rattle.es_outside.specs.Meant.{binding_of, meant_by, meant_by_all, meant, meant_in, meant_from, meant_at, meant_of, names_inside}
+use Rattle.es_outside.specs.Frames.{binding_of}
+use Rattle.es_outside.specs.Meant.{meant_by, meant_by_all, meant, meant_in, meant_from, meant_at, meant_of, names_inside}
 use Rattle.es_outside.specs.declared.references.Meant.{Meant}
 
 -- ---- what a name means

@@ -1,5 +1,6 @@
 pub mod Bindings
 pub mod Changing
+pub mod Frames
 pub mod Meant
 pub mod Outside
 pub mod PrivateTargets

@@ -2,23 +2,16 @@
 use Rattle.std.specs.Prelude.{ℕ, ◌+◌, List, [], ◌∷◌, ◌++◌, Bool, false, cond, map, Option, Some, None}
 use Rattle.es_base.specs.Table.{Field, members_of}
 use Rattle.es_base.specs.Tree.{Tree, Part, Parts, Node, end, more, child, list}
-use Rattle.es_base.specs.declared.ids.NodeId.{NodeId}
 use Rattle.es_base.specs.declared.kind.Kind.{Kind}
 use Rattle.es_binding_faults.specs.Named.{named, plain}
+use Rattle.es_outside.specs.Frames.{node_id, binding_of}
 use Rattle.es_outside.specs.declared.references.Meant.{Meant}
 use Rattle.es_outside.specs.declared.references.Scope as scope
 use Rattle.es_outside.specs.declared.references.Scope.{Scope}
 use Rattle.es_steps.specs.Parts.{at, string_of}
 use Rattle.es_steps.specs.References.{Reference, declared, referent, is_reference, is_target}
 use Rattle.es_steps.specs.Scopes.{Declaration, names_at, is_body_part}
-use Rattle.es_steps.specs.Values.{String, Referent, Bound, Free}
-
-abbrev pub node_id : ℕ → NodeId
-node_id n = record { 0 = n }
-
-abbrev pub binding_of : Referent → Option NodeId
-binding_of (Bound b) = Some (node_id b)
-binding_of (Free s) = None
+use Rattle.es_steps.specs.Values.{String}
 
 -- a reference without its spelling
 abbrev pub meant_by : Reference → Meant
@@ -30,7 +23,7 @@ meant_by_all rs = map meant_by rs
 -- the names that are seen, the nearest first
 abbrev pub names_in : Scope → List Declaration
 names_in scope.Outside = []
-names_in (scope.Inside' names at outer) = named names.now ++ names_in outer
+names_in (scope.Inside' frame at outer) = named frame.now.names.items ++ names_in outer
 
 abbrev pub meant : List Declaration → Bool → ℕ → String → Meant
 meant names target m s = record { reference = node_id m; binding = binding_of (referent s (declared s names)); writes = target }

@@ -3,6 +3,7 @@
 
 pub mod bindings;
 pub mod changing;
+pub mod frame;
 pub mod names;
 pub mod outside;
 pub mod private_target;

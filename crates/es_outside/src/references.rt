@@ -11,14 +11,14 @@ ghost use Rattle.es_steps.specs.Parts.{at, string_of};
 ghost use Rattle.es_steps.specs.References as spec;
 ghost use Rattle.es_steps.specs.References.{declared, referent};
 ghost use Rattle.es_steps.specs.Scopes.{is_body_part, names_at};
-ghost use Rattle.es_outside.specs.Meant.{binding_of, meant, meant_by_all, meant_in, meant_from, meant_at, meant_of, names_in, names_inside};
+ghost use Rattle.es_outside.specs.Frames.{binding_of};
+ghost use Rattle.es_outside.specs.Meant.{meant, meant_by_all, meant_in, meant_from, meant_at, meant_of, names_in, names_inside};
 
 use es_base::ids::NodeId;
 use es_base::kind::Kind;
 use es_base::places::is_target_place;
-use es_base::strings::is_word;
 use es_base::table::{Member, Sort, members};
-use es_binding_faults::bound::Declared;
+use crate::frame::Frame;
 use es_binding_faults::scopes::{add_seen, is_body_part, scope_in};
 use es_node::node::{Node, Part};
 use es_tree::identifier::IdentifierReferenceRef;
@@ -41,7 +41,7 @@ pub enum Scope<'r, 'a> {
     Outside,
     /// Those of a scope, and those around it.
     Inside {
-        names: &'r [Declared<'a>],
+        frame: &'r Frame<'a>,
         outer: &'r Scope<'r, 'a>,
     },
 }
@@ -140,9 +140,9 @@ fn add_references_of<'a>(
 ) -> Result<(), AllocError>
     ensures { OnOk result (references.new.items ≡ references.old.items ++ meant_at (names_inside (names_in scope.now) around.entry.is_body around.entry.kind (parts_of around.entry.parts.now) i) (spec.is_target sort) (is_body_part around.entry.kind i) (part_of part.now)) }
 {
-    let names = names_seen(alloc, around, i)?;
+    let frame = names_seen(alloc, around, i)?;
     let inner = Scope::Inside {
-        names: names.as_slice(),
+        frame: &frame,
         outer: &*scope,
     };
     let standing = Standing {
@@ -241,8 +241,8 @@ fn names_seen<'a>(
     alloc: Global,
     around: Parent<'a>,
     i: usize,
-) -> Result<Vec<Declared<'a>>, AllocError>
-    ensures { IfOk result (λ r. named r.items ≡ plain (names_at around.entry.is_body around.entry.kind 0 (parts_of around.entry.parts.now) i)) }
+) -> Result<Frame<'a>, AllocError>
+    ensures { IfOk result (λ r. named r.names.items ≡ plain (names_at around.entry.is_body around.entry.kind 0 (parts_of around.entry.parts.now) i)) }
 {
     let mut names = Vec::new(alloc);
     add_seen(
@@ -251,7 +251,7 @@ fn names_seen<'a>(
         i,
         &mut names,
     )?;
-    Ok(names)
+    Frame::of(alloc, names)
 }
 
 /// Whether a member of this sort is assigned to.
@@ -294,21 +294,9 @@ fn binding_of(scope: &Scope, name: &str) -> Option<NodeId>
 {
     match scope {
         Scope::Outside => None,
-        Scope::Inside { names, outer } => match declared_in(names, name) {
+        Scope::Inside { frame, outer } => match frame.get(name) {
             Some(binding) => Some(binding),
             None => binding_of(outer, name),
         },
     }
-}
-
-/// The first of these names that is spelled so.
-fn declared_in(names: &[Declared], name: &str) -> Option<NodeId>
-    ensures { result ≡ binding_of (referent (chars name.now) (declared (chars name.now) (named names.now))) }
-{
-    for declared in names {
-        if is_word(declared.name, name) {
-            return Some(declared.node);
-        }
-    }
-    None
 }
