@@ -1,23 +1,25 @@
 // The bindings that change without a reference that writes them, and those that are assigned to.
 
-ghost use Rattle.std.specs.Prelude.{◌≡◌, ◌++◌, [], ◌∷◌, cond, IfOk, OnOk};
+ghost use Rattle.std.specs.Prelude.{◌≡◌, ℕ, ◌++◌, ◌||◌, [], ◌∷◌, cond, IfOk, OnOk};
 ghost use Rattle.std.specs.Str.{chars};
+ghost use Rattle.es_base.specs.Conforms.{is_among};
 ghost use Rattle.es_binding_faults.specs.Named.{named};
 ghost use Rattle.es_binding_faults.specs.Seen.{seen};
+ghost use Rattle.es_name_set.specs.Names.{HaveSame};
 ghost use Rattle.es_node.specs.View.{kind_of, number_in, parts_in};
 ghost use Rattle.es_steps.specs.Parts.{at};
 ghost use Rattle.es_steps.specs.References as spec;
-ghost use Rattle.es_steps.specs.References.{numbers_of};
+ghost use Rattle.es_steps.specs.References.{has_number, numbers_of};
 ghost use Rattle.es_steps.specs.Scopes.{scope_names, scope_form, var_part};
 ghost use Rattle.es_outside.specs.Changing.{ids, assigned_in, own_number};
 
 use crate::references::Meant;
 use es_base::ids::NodeId;
 use es_base::kind::Kind;
-use es_base::strings::is_word;
 use es_binding_faults::bound::Declared;
 use es_binding_faults::hoisted::{Hoist, add_bound_at};
 use es_binding_faults::scopes::{add_hoisted_at, add_scope_names, scope_form};
+use es_name_set::Names;
 use es_node::node::Node;
 use std::alloc::{AllocError, Global};
 
@@ -50,9 +52,9 @@ fn add_if_written(reference: &Meant, bindings: &mut Vec<NodeId>) -> Result<(), A
 // ---- declared again
 
 /// The bindings that more than one identifier declares in a scope, and those of `var` in the head of a
-/// for-in or for-of. Fails on allocation failure alone.
+/// for-in or for-of, in some order. Fails on allocation failure alone.
 pub fn redeclared(alloc: Global, nodes: &[&Node]) -> Result<Vec<NodeId>, AllocError>
-    ensures { IfOk result (λ r. ids r.items ≡ spec.written_by_all (seen nodes.now)) }
+    ensures { IfOk result (λ r. (n : ℕ) → has_number n (ids r.items) ≡ has_number n (spec.written_by_all (seen nodes.now))) }
 {
     let mut bindings = Vec::new(alloc);
     for node in nodes {
@@ -62,65 +64,67 @@ pub fn redeclared(alloc: Global, nodes: &[&Node]) -> Result<Vec<NodeId>, AllocEr
 }
 
 /// Adds those of one node.
-#[tactic(auto, using(crate::proofs::DeclaredNames::written_node))]
 fn add_redeclared(
     alloc: Global,
     node: &Node,
     bindings: &mut Vec<NodeId>,
 ) -> Result<(), AllocError>
-    ensures { OnOk result (ids bindings.new.items ≡ ids bindings.old.items ++ spec.written_by node.now) }
+    ensures { OnOk result ((n : ℕ) → has_number n (ids bindings.new.items) ≡ (has_number n (ids bindings.old.items) || has_number n (spec.written_by node.now))) }
 {
     add_repeated_in(alloc, node, bindings)?;
     add_heads(alloc, node, bindings)
 }
 
 /// Adds the names that the scope of the node holds more than once.
-#[tactic(auto, using(crate::proofs::DeclaredNames::repeated_scope))]
 fn add_repeated_in(
     alloc: Global,
     node: &Node,
     bindings: &mut Vec<NodeId>,
 ) -> Result<(), AllocError>
-    ensures { OnOk result (ids bindings.new.items ≡ ids bindings.old.items ++ spec.repeated (scope_names (scope_form (kind_of node.now)) (number_in node.now) (parts_in node.now))) }
+    ensures { OnOk result ((n : ℕ) → has_number n (ids bindings.new.items) ≡ (has_number n (ids bindings.old.items) || has_number n (spec.repeated (scope_names (scope_form (kind_of node.now)) (number_in node.now) (parts_in node.now))))) }
+{
+    let names = names_of(alloc, node)?;
+    add_repeated(alloc, names.as_slice(), bindings)
+}
+
+/// The names that the scope of the node holds.
+#[tactic(auto, using(crate::proofs::DeclaredNames::repeated_scope))]
+fn names_of(alloc: Global, node: &Node) -> Result<Vec<Declared<'_>>, AllocError>
+    ensures { IfOk result (λ r. spec.repeated (named r.items) ≡ spec.repeated (scope_names (scope_form (kind_of node.now)) (number_in node.now) (parts_in node.now))) }
 {
     let mut names = Vec::new(alloc);
     add_scope_names(scope_form(node.kind()), node.parts(), &mut names)?;
-    add_repeated(names.as_slice(), bindings)
+    Ok(names)
 }
 
-/// Adds each of these names that stands among those behind it too.
-fn add_repeated(names: &[Declared], bindings: &mut Vec<NodeId>) -> Result<(), AllocError>
-    ensures { OnOk result (ids bindings.new.items ≡ ids bindings.old.items ++ spec.repeated (named names.now)) }
-{
-    for i in 0..names.len() {
-        add_if_among(names[i], &names[i + 1..], bindings)?;
-    }
-    Ok(())
-}
-
-/// Adds the name, if it is one of these too.
-fn add_if_among(
-    declared: Declared,
+/// Adds each of these names that stands among those behind it too, the last first.
+fn add_repeated(
+    alloc: Global,
     names: &[Declared],
     bindings: &mut Vec<NodeId>,
 ) -> Result<(), AllocError>
-    ensures { OnOk result (ids bindings.new.items ≡ ids bindings.old.items ++ cond (spec.is_declared (chars declared.entry.name.now) (named names.now)) (declared.entry.node.0 ∷ []) []) }
+    ensures { OnOk result ((n : ℕ) → has_number n (ids bindings.new.items) ≡ (has_number n (ids bindings.old.items) || has_number n (spec.repeated (named names.now)))) }
 {
-    if is_declared(declared.name, names) {
-        bindings.push(declared.node)?;
+    let mut later = Names::new(alloc);
+    for i in (0..names.len()).rev() {
+        add_if_later(names[i], &mut later, bindings)?;
     }
     Ok(())
 }
 
-fn is_declared(name: &str, names: &[Declared]) -> bool
-    ensures { result ≡ spec.is_declared (chars name.now) (named names.now) }
+/// Adds the name, if it is one of those behind it, and makes it one of these.
+fn add_if_later<'a>(
+    declared: Declared<'a>,
+    later: &mut Names<'a>,
+    bindings: &mut Vec<NodeId>,
+) -> Result<(), AllocError>
+    ensures later { OnOk result (HaveSame later.new (chars declared.entry.name.now ∷ later.old)) }
+    ensures bindings { OnOk result (ids bindings.new.items ≡ ids bindings.old.items ++ cond (is_among (chars declared.entry.name.now) later.old) (declared.entry.node.0 ∷ []) []) }
 {
-    for declared in names {
-        if is_word(declared.name, name) {
-            return true;
-        }
+    if later.has(declared.name) {
+        bindings.push(declared.node)?;
     }
-    false
+    later.insert(declared.name)
 }
 
 /// Adds the names of `var` in the head of a for-in or for-of.

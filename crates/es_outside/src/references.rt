@@ -141,15 +141,19 @@ fn add_references_of<'a>(
     ensures { OnOk result (references.new.items ≡ references.old.items ++ meant_at (names_inside (names_in scope.now) around.entry.is_body around.entry.kind (parts_of around.entry.parts.now) i) (spec.is_target sort) (is_body_part around.entry.kind i) (part_of part.now)) }
 {
     let frame = names_seen(alloc, around, i)?;
-    let inner = Scope::Inside {
-        frame: &frame,
-        outer: &*scope,
-    };
     let standing = Standing {
         is_target: is_target(sort),
         is_body: is_body_part(around.kind, i),
     };
-    add_references_at(alloc, &inner, standing, part, references)
+    if frame.names.is_empty() {
+        add_references_at(alloc, scope, standing, part, references)
+    } else {
+        let inner = Scope::Inside {
+            frame: &frame,
+            outer: &*scope,
+        };
+        add_references_at(alloc, &inner, standing, part, references)
+    }
 }
 
 #[cycle(references)]
