@@ -10,7 +10,8 @@ use Rattle.es_steps.specs.Parts.{at, string_of}
 use Rattle.es_steps.specs.PrivateNames.{PrivateMember, PrivateKind, keyed_member, element_members, elements_members, body_members, members_at, declared_member, first_number, is_written, private_reference, reference_to, class_of}
 use Rattle.es_steps.specs.Shapes.{is_present_number, is_unwritable, private_spelling, is_unwritable_target, holds_unwritable, has_unwritable, unwritable_in, unwritable_part}
 use Rattle.es_steps.specs.Values.{String}
-use Rattle.es_outside.specs.PrivateTargets.{seen_in, unwritable_from, declares, declares_written}
+use Rattle.es_outside.specs.PrivateMembers.{declares, declares_written}
+use Rattle.es_outside.specs.PrivateTargets.{seen_in, unwritable_from}
 
 -- ---- what the kind of a node says
 

@@ -10,7 +10,7 @@ use Rattle.es_outside.specs.declared.private_target.Around.{Around}
 -- the private members that are seen, the nearest first
 abbrev pub seen_by : Around → List PrivateMember
 seen_by around.None = []
-seen_by (around.Class' class elements at outer) = elements_members class.0 (trees elements.now) ++ seen_by outer
+seen_by (around.Class' class names at outer) = elements_members class.0 (trees names.now.elements.now) ++ seen_by outer
 
 -- the same in the i-th part of a class or another node, where `own` are seen in the third
 abbrev pub seen_in : List PrivateMember → List PrivateMember → ℕ → List PrivateMember
@@ -20,13 +20,3 @@ seen_in inner seen i = cond (nat_eq i 2) inner seen
 abbrev pub unwritable_from : (ℕ → List PrivateMember) → ℕ → Parts → Bool
 unwritable_from seen i end = false
 unwritable_from seen i (more p ps) = unwritable_part (seen i) p || unwritable_from seen (i + 1) ps
-
--- whether one of these members has the name
-abbrev pub declares : String → List PrivateMember → Bool
-declares s [] = false
-declares s (x ∷ xs) = bytes_eq s x.spelling || declares s xs
-
--- .. and can be written
-abbrev pub declares_written : String → List PrivateMember → Bool
-declares_written s [] = false
-declares_written s (x ∷ xs) = (is_written x.kind && bytes_eq s x.spelling) || declares_written s xs

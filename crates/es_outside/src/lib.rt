@@ -6,5 +6,6 @@ pub mod changing;
 pub mod frame;
 pub mod names;
 pub mod outside;
+pub mod private_names;
 pub mod private_target;
 pub mod references;

@@ -51,7 +51,7 @@ fn shapes_with(
 {
     let mut shapes = Vec::new(alloc);
     push_if(has_first, Shape::S1, &mut shapes)?;
-    add_others(program, options, names, &mut shapes)?;
+    add_others(alloc, program, options, names, &mut shapes)?;
     Ok(shapes)
 }
 
@@ -109,6 +109,7 @@ fn may_have_first(program: &Node, options: &Options, names: &ProgramNames) -> bo
 /// Adds the shapes but S1.
 #[tactic(auto, using(crate::proofs::Ascending::in_order))]
 fn add_others(
+    alloc: Global,
     program: &Node,
     options: &Options,
     names: &ProgramNames,
@@ -121,7 +122,8 @@ fn add_others(
     push_if(has_kept_block(program, options), Shape::S3, shapes)?;
     let is_read_twice = has_twice_read_name(program, options, names);
     push_if(is_read_twice, Shape::S4, shapes)?;
-    push_if(has_unwritable_target(program, options), Shape::S5, shapes)?;
+    let is_unwritable = has_unwritable_target(alloc, program, options)?;
+    push_if(is_unwritable, Shape::S5, shapes)?;
     push_if(has_written_class(program, options, names), Shape::S6, shapes)?;
     push_if(has_own_name(program, options, names), Shape::S7, shapes)?;
     push_if(has_private_chain(program, options), Shape::S8, shapes)

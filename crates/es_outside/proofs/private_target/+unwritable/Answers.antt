@@ -1,4 +1,5 @@
-use Rattle.std.proofs.Common.{◌∙◌, ◌++◌, ◌||◌, ap, sym, arith}
+use Rattle.std.proofs.Common.{◌≡◌, subst, ◌∙◌, ◌++◌, ◌||◌, ap, sym, arith}
+use Rattle.std.specs.Prelude.{IfOk}
 use Rattle.es_base.specs.Preorder.{nodes, nodes_of, nodes_of_part}
 use Rattle.es_base.specs.Tree.{nullable, trees}
 use Rattle.es_node.specs.View.{kind_of, part_of, parts_in}
@@ -17,11 +18,13 @@ unwritable_in_list-has_unwritable-requires t c = (omega (arith, tree_below c.arg
 pub unwritable_in_list_with_holes-unwritable_in_hole-requires : goal.unwritable_in_list_with_holes-unwritable_in_hole-requires
 unwritable_in_list_with_holes-unwritable_in_hole-requires t c = (omega (arith, hole_below c.args.nodes.now c.loop-node.node-index c.node-item.result c.loop-node-test.true, ap (λ n. nodes_of_part (nullable n)) c.node-item.is, c.decreases), tt)
 
-pub has_unwritable-returns-else-holds_unwritable : goal.has_unwritable-returns-else-holds_unwritable
-has_unwritable-returns-else-holds_unwritable t c =
+pub has_unwritable-returns : goal.has_unwritable-returns
+has_unwritable-returns t c =
     let seen = seen_by c.args.around.now in
-    let own = elements_members c.node_id.result.0 (trees c.private_elements.result.now) in
+    let own = elements_members c.node_id.result.0 (trees c.in_ok-names.names.elements.now) in
     let node = c.args.node.now in
-    c.unwritable_in.ensures
-    ∙ ap (λ b. b || unwritable_from (seen_in (own ++ seen) seen) 0 (parts_in node)) (sym c.if-holds_unwritable.false ∙ c.holds_unwritable.ensures)
-    ∙ sym (unwritable_node seen own node (c.private_elements.ensures c.node_id.result.0 ∙ ap (λ n. members_at (kind_of node) n (parts_in node)) c.node_id.ensures))
+    let below = unwritable_from (seen_in (own ++ seen) seen) 0 (parts_in node) in
+    subst (λ x. IfOk c.unwritable_in.result (λ b. b ≡ x)) (
+    ap (λ b. b || below) (sym c.if-holds_unwritable.false ∙ c.holds_unwritable.ensures)
+    ∙ sym (unwritable_node seen own node (c.in_ok-names.ensures c.node_id.result.0 ∙ ap (λ n. members_at (kind_of node) n (parts_in node)) c.node_id.ensures))
+    ) c.unwritable_in.ensures
