@@ -38,6 +38,7 @@ inserted k v (e ∷ es) m = elim (nat_eq k e.0) as (λ b. nat_eq k e.0 ≡ b →
     twice : (b : Bool) → cond b v (binding_in m es) ≡ cond b v (cond b e.1 (binding_in m es))
     twice true = refl
     twice false = refl
+
     same : k ≡ e.0 → cond (nat_eq m e.0) v (binding_in m es) ≡ cond (nat_eq m k) v (cond (nat_eq m e.0) e.1 (binding_in m es))
     same s = twice (nat_eq m e.0) ∙ ap (λ x. cond (nat_eq m x) v (cond (nat_eq m e.0) e.1 (binding_in m es))) (sym s)
 

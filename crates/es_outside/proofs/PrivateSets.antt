@@ -32,36 +32,8 @@ or_none false = refl
 
 -- ---- an element that is no private member, and one that is
 
-pub none_declared : (s : String) (a : Bool) (xs : List PrivateMember) → spelled xs ≡ [] → a ≡ (a || declares s xs)
-none_declared s a xs e = or_none a ∙ ap (λ b. a || b) (sym (by_spelling s xs ∙ ap (declares_in s) e))
-
-pub none_written : (s : String) (a : Bool) (xs : List PrivateMember) → spelled xs ≡ [] → a ≡ (a || declares_written s xs)
-none_written s a xs e = or_none a ∙ ap (λ b. a || b) (sym (written_by_spelling s xs ∙ ap (declares_written_in s) e))
-
-swapped : (a b : Bool) → (b || a) ≡ (a || (b || false))
-swapped true true = refl
-swapped true false = refl
-swapped false true = refl
-swapped false false = refl
-
-pub one_declared : (s name : String) (w : Bool) (old new : List String) (xs : List PrivateMember) → HaveSame new (name ∷ old) → spelled xs ≡ (name, w) ∷ [] → is_among s new ≡ (is_among s old || declares s xs)
-one_declared s name w old new xs same e =
-    same s
-    ∙ ap (λ b. b || is_among s old) (bytes_eq-flipped name s)
-    ∙ swapped (is_among s old) (bytes_eq s name)
-    ∙ ap (λ b. is_among s old || b) (sym (by_spelling s xs ∙ ap (declares_in s) e))
-
 pub one_written : (s name : String) (w : Bool) (old : List String) (xs : List PrivateMember) → spelled xs ≡ (name, w) ∷ [] → (is_among s old || (w && bytes_eq s name)) ≡ (is_among s old || declares_written s xs)
 one_written s name w old xs e = ap (λ b. is_among s old || b) (or_none (w && bytes_eq s name) ∙ sym (written_by_spelling s xs ∙ ap (declares_written_in s) e))
-
-pub inserted : (s name : String) (old new : List String) → HaveSame new (name ∷ old) → is_among s new ≡ (is_among s old || (true && bytes_eq s name))
-inserted s name old new same = same s ∙ ap (λ b. b || is_among s old) (bytes_eq-flipped name s) ∙ turned (bytes_eq s name) (is_among s old)
-  where
-    turned : (a b : Bool) → (a || b) ≡ (b || a)
-    turned true true = refl
-    turned true false = refl
-    turned false true = refl
-    turned false false = refl
 
 -- ---- one element more
 

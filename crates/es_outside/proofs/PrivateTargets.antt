@@ -86,13 +86,6 @@ unwritable_node seen own (Node kind m span semantic_id ps) e =
     ∙ ap (λ (f : ℕ → List PrivateMember). unwritable_in f ps) (λ x i. seen_same own seen (nat_eq i 2) x)
     ∙ ap (λ (ms : List PrivateMember). unwritable_in (λ i. cond (nat_eq i 2) ms [] ++ seen) ps) e))
 
-pub next_part : (seen : ℕ → List PrivateMember) (parts : List code.Part) (i : ℕ) (p : code.Part) → i < length parts → p ≡ get_or parts i p
-    → unwritable_from seen i (parts_of (drop i parts)) ≡ (unwritable_part (seen i) (part_of p) || unwritable_from seen (i + 1) (parts_of (drop (i + 1) parts)))
-next_part seen parts i p below is =
-    let next : i + 1 ≡ suc i = omega arith in
-    let split : drop i parts ≡ (p ∷ drop (i + 1) parts) = drop-cons parts i p below ∙ ap (λ u. u ∷ drop (suc i) parts) (sym is) ∙ ap (λ k. p ∷ drop k parts) (sym next) in
-    ap (λ xs. unwritable_from seen i (parts_of xs)) split
-
 -- ---- the members of a class, whose number is that of each
 
 or_assoc : (a b c : Bool) → ((a || b) || c) ≡ (a || (b || c))
@@ -166,6 +159,7 @@ writes s k n (x ∷ xs) ys = here (is_written x.kind) (nat_eq k n) (bytes_eq s x
   where
     rest : Bool
     rest = is_present_number (first_number is_written s k (map (with_class n) xs ++ ys))
+
     here : (w b e : Bool) → rest ≡ ((b && declares_written s xs) || is_present_number (first_number is_written s k ys))
         → is_present_number (cond (w && (b && e)) (Some x.number) (first_number is_written s k (map (with_class n) xs ++ ys))) ≡ ((b && ((w && e) || declares_written s xs)) || is_present_number (first_number is_written s k ys))
     here true true true h = refl

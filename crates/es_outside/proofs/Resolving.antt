@@ -80,7 +80,7 @@ mutual
       either (is_reference kind) (reference names target m (string_of (at 0 ps))) (references_in (λ i. names_at is_body kind m ps i ++ names) (is_body_part kind) (members_of kind) ps) (meant (plain names) target m (string_of (at 0 ps)) ∷ []) (meant_from (names_inside (plain names) is_body kind ps) (is_body_part kind) 0 (members_of kind) ps)
       (one names target m (string_of (at 0 ps)))
       (meant-parts (λ i. names_at is_body kind m ps i ++ names) (is_body_part kind) (names_inside (plain names) is_body kind ps) (is_body_part kind) 0 (members_of kind) ps
-          (λ k. inside names is_body kind m ps k ∙ ap (names_inside (plain names) is_body kind ps) (from_zero k)) (λ k. ap (is_body_part kind) (from_zero k)))
+      (λ k. inside names is_body kind m ps k ∙ ap (names_inside (plain names) is_body kind ps) (from_zero k)) (λ k. ap (is_body_part kind) (from_zero k)))
     where
       from_zero : (k : ℕ) → k ≡ 0 + k
       from_zero k = omega arith
@@ -92,7 +92,7 @@ mutual
   meant-parts names parts sees bodies i (f ∷ fs) (more p ps) same are =
       map-append meant_by (part_references (names 0) (is_target f.sort) (parts 0) p) (references_in (λ k. names (suc k)) (λ k. parts (suc k)) fs ps)
       ∙ ap (λ (ms : List Meant). ms ++ meant_by_all (references_in (λ k. names (suc k)) (λ k. parts (suc k)) fs ps))
-        (meant-part (names 0) (is_target f.sort) (parts 0) p ∙ ap (λ ds. meant_at ds (is_target f.sort) (parts 0) p) (same 0 ∙ ap sees (at_once i)) ∙ ap (λ b. meant_at (sees i) (is_target f.sort) b p) (are 0 ∙ ap bodies (at_once i)))
+      (meant-part (names 0) (is_target f.sort) (parts 0) p ∙ ap (λ ds. meant_at ds (is_target f.sort) (parts 0) p) (same 0 ∙ ap sees (at_once i)) ∙ ap (λ b. meant_at (sees i) (is_target f.sort) b p) (are 0 ∙ ap bodies (at_once i)))
       ∙ ap (λ (ms : List Meant). meant_at (sees i) (is_target f.sort) (bodies i) p ++ ms) (meant-parts (λ k. names (suc k)) (λ k. parts (suc k)) sees bodies (i + 1) fs ps (λ k. same (suc k) ∙ ap sees (one_on i k)) (λ k. are (suc k) ∙ ap bodies (one_on i k)))
     where
       at_once : (i : ℕ) → i + 0 ≡ i
@@ -125,10 +125,3 @@ resolved t = sym (meant-tree [] false false t)
 pub no_reference : (kind : Kind) → (kind ≡ Kind.IdentifierReference → ⊥) → is_reference kind ≡ false
 no_reference Kind.IdentifierReference other = absurd (other refl)
 no_reference kind other = refl
-
-pub meant_node : (names : List Declaration) (target is_body : Bool) (t : Tree) → meant_in names target is_body t ≡ cond (is_reference (kind_of t)) (meant names target (number_in t) (string_of (at 0 (parts_in t))) ∷ []) (meant_from (names_inside names is_body (kind_of t) (parts_in t)) (is_body_part (kind_of t)) 0 (members_of (kind_of t)) (parts_in t))
-meant_node names target is_body (Node kind m span semantic_id ps) = refl
-
-pub next_member : (names : ℕ → List Declaration) (bodies : ℕ → Bool) (ms : List Member) (i : ℕ) (m : Member) (p : Part) (ps : Parts) → i < length ms
-    → meant_from names bodies i (map field_of (drop i ms)) (more p ps) ≡ (meant_at (names i) (is_target (get_or ms i m).sort) (bodies i) p ++ meant_from names bodies (i + 1) (map field_of (drop (i + 1) ms)) ps)
-next_member names bodies ms i m p ps below = at_drop_more (λ (xs : List Member). meant_from names bodies i (map field_of xs) (more p ps)) ms i m below

@@ -1,9 +1,8 @@
 -- The private members of the classes around a node, as code holds them.
-use Rattle.std.specs.Prelude.{ℕ, ◌+◌, List, [], ◌∷◌, ◌++◌, Bool, false, cond, ◌||◌, ◌&&◌, bytes_eq, nat_eq}
+use Rattle.std.specs.Prelude.{ℕ, ◌+◌, List, [], ◌++◌, Bool, false, cond, ◌||◌, nat_eq}
 use Rattle.es_base.specs.Tree.{Parts, end, more, trees}
-use Rattle.es_steps.specs.PrivateNames.{PrivateMember, elements_members, is_written}
+use Rattle.es_steps.specs.PrivateNames.{PrivateMember, elements_members}
 use Rattle.es_steps.specs.Shapes.{unwritable_part}
-use Rattle.es_steps.specs.Values.{String}
 use Rattle.es_outside.specs.declared.private_target.Around as around
 use Rattle.es_outside.specs.declared.private_target.Around.{Around}
 

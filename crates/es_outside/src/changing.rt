@@ -64,11 +64,7 @@ pub fn redeclared(alloc: Global, nodes: &[&Node]) -> Result<Vec<NodeId>, AllocEr
 }
 
 /// Adds those of one node.
-fn add_redeclared(
-    alloc: Global,
-    node: &Node,
-    bindings: &mut Vec<NodeId>,
-) -> Result<(), AllocError>
+fn add_redeclared(alloc: Global, node: &Node, bindings: &mut Vec<NodeId>) -> Result<(), AllocError>
     ensures { OnOk result ((n : ℕ) → has_number n (ids bindings.new.items) ≡ (has_number n (ids bindings.old.items) || has_number n (spec.written_by node.now))) }
 {
     add_repeated_in(alloc, node, bindings)?;
@@ -76,11 +72,7 @@ fn add_redeclared(
 }
 
 /// Adds the names that the scope of the node holds more than once.
-fn add_repeated_in(
-    alloc: Global,
-    node: &Node,
-    bindings: &mut Vec<NodeId>,
-) -> Result<(), AllocError>
+fn add_repeated_in(alloc: Global, node: &Node, bindings: &mut Vec<NodeId>) -> Result<(), AllocError>
     ensures { OnOk result ((n : ℕ) → has_number n (ids bindings.new.items) ≡ (has_number n (ids bindings.old.items) || has_number n (spec.repeated (scope_names (scope_form (kind_of node.now)) (number_in node.now) (parts_in node.now))))) }
 {
     let names = names_of(alloc, node)?;
@@ -167,11 +159,7 @@ pub fn imported(alloc: Global, nodes: &[&Node]) -> Result<Vec<NodeId>, AllocErro
 
 /// Adds those of one node.
 #[tactic(auto, using(crate::proofs::DeclaredNames::imports_bound, crate::proofs::DeclaredNames::no_import))]
-fn add_imported(
-    alloc: Global,
-    node: &Node,
-    bindings: &mut Vec<NodeId>,
-) -> Result<(), AllocError>
+fn add_imported(alloc: Global, node: &Node, bindings: &mut Vec<NodeId>) -> Result<(), AllocError>
     ensures { OnOk result (ids bindings.new.items ≡ ids bindings.old.items ++ spec.imported_by node.now) }
 {
     match node.kind() {

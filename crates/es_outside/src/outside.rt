@@ -67,11 +67,7 @@ pub struct Outside {
 
 /// The shapes of a program that do not turn on the events of heritages. Fails on allocation failure alone.
 #[tactic(auto, using(crate::proofs::Ascending::without_first))]
-pub fn known_shapes(
-    alloc: Global,
-    program: &Node,
-    options: &Options,
-) -> Result<Outside, AllocError>
+pub fn known_shapes(alloc: Global, program: &Node, options: &Options) -> Result<Outside, AllocError>
     ensures may_have_first { IfOk result (λ r. r.may_have_first ≡ may_have_first options.now program.now) }
     ensures others { IfOk result (λ r. r.others.items ≡ other_shapes options.now program.now) }
     ensures all { IfOk result (λ r. r.may_have_first ≡ false → r.others.items ≡ shapes options.now program.now) }
@@ -124,7 +120,11 @@ fn add_others(
     push_if(is_read_twice, Shape::S4, shapes)?;
     let is_unwritable = has_unwritable_target(alloc, program, options)?;
     push_if(is_unwritable, Shape::S5, shapes)?;
-    push_if(has_written_class(program, options, names), Shape::S6, shapes)?;
+    push_if(
+        has_written_class(program, options, names),
+        Shape::S6,
+        shapes,
+    )?;
     push_if(has_own_name(program, options, names), Shape::S7, shapes)?;
     push_if(has_private_chain(program, options), Shape::S8, shapes)
 }

@@ -17,13 +17,13 @@ use es_base::kind::Kind;
 use es_base::word::word_str;
 use es_node::node::{Node, Part};
 use es_shapes::asked::lowers_fields;
+use es_steps::options::Options;
 use es_tree::expression::PrivateFieldRef;
 use es_tree::pattern::{
     ArrayAssignmentTargetRef, AssignmentTargetPropertyRef, AssignmentTargetRestRef,
     AssignmentTargetWithDefaultRef,
 };
 use es_tree::statement::{ForInStatementRef, ForOfStatementRef};
-use es_steps::options::Options;
 use std::alloc::{AllocError, Global};
 
 /// The classes whose bodies are around a node.
@@ -217,8 +217,7 @@ fn has_writing_side(around: &Around, name: &str, of: NodeId) -> bool
             names,
             outer,
         } => {
-            (class.0 == of.0 && names.declares_written(name))
-                || has_writing_side(outer, name, of)
+            (class.0 == of.0 && names.declares_written(name)) || has_writing_side(outer, name, of)
         }
     }
 }
@@ -248,9 +247,15 @@ fn holds_unwritable(around: &Around, node: &Node) -> bool
             is_unwritable_target(around, AssignmentTargetRestRef::from_node(node).argument)
         }
         // for (o.#x in v) {}
-        Kind::ForInStatement => is_unwritable_target(around, ForInStatementRef::from_node(node).left),
+        Kind::ForInStatement => is_unwritable_target(
+            around,
+            ForInStatementRef::from_node(node).left,
+        ),
         // for (o.#x of v) {}
-        Kind::ForOfStatement => is_unwritable_target(around, ForOfStatementRef::from_node(node).left),
+        Kind::ForOfStatement => is_unwritable_target(
+            around,
+            ForOfStatementRef::from_node(node).left,
+        ),
         _ => false,
     }
 }
@@ -282,7 +287,10 @@ fn is_unwritable_target(around: &Around, target: &Node) -> bool
 {
     match target.kind() {
         Kind::PrivateField => {
-            is_unwritable_name(around, spelling_of(PrivateFieldRef::from_node(target).property))
+            is_unwritable_name(
+                around,
+                spelling_of(PrivateFieldRef::from_node(target).property),
+            )
         }
         _ => false,
     }

@@ -14,11 +14,11 @@ ghost use Rattle.es_steps.specs.Scopes.{is_body_part, names_at};
 ghost use Rattle.es_outside.specs.Frames.{binding_of};
 ghost use Rattle.es_outside.specs.Meant.{meant, meant_by_all, meant_in, meant_from, meant_at, meant_of, names_in, names_inside};
 
+use crate::frame::Frame;
 use es_base::ids::NodeId;
 use es_base::kind::Kind;
 use es_base::places::is_target_place;
 use es_base::table::{Member, Sort, members};
-use crate::frame::Frame;
 use es_binding_faults::scopes::{add_seen, is_body_part, scope_in};
 use es_node::node::{Node, Part};
 use es_tree::identifier::IdentifierReferenceRef;
@@ -169,7 +169,13 @@ fn add_references_at<'a>(
     match part {
         Part::Child(node) => add_references(alloc, scope, standing, node, references),
         Part::List(nodes) => {
-            add_references_of_list(alloc, scope, standing.is_target, nodes.as_slice(), references)
+            add_references_of_list(
+                alloc,
+                scope,
+                standing.is_target,
+                nodes.as_slice(),
+                references,
+            )
         }
         Part::Holes(nodes) => add_references_of_list_with_holes(
             alloc,
@@ -241,11 +247,7 @@ fn add_references_of_hole<'a>(
 // ---- at a node
 
 /// What the i-th part of a node sees of the names of its scope. Fails on allocation failure alone.
-fn names_seen<'a>(
-    alloc: Global,
-    around: Parent<'a>,
-    i: usize,
-) -> Result<Frame<'a>, AllocError>
+fn names_seen<'a>(alloc: Global, around: Parent<'a>, i: usize) -> Result<Frame<'a>, AllocError>
     ensures { IfOk result (λ r. named r.names.items ≡ plain (names_at around.entry.is_body around.entry.kind 0 (parts_of around.entry.parts.now) i)) }
 {
     let mut names = Vec::new(alloc);

@@ -47,11 +47,7 @@ pub fn has_moved_before_heritage<F: NameFacts, H: HeritageFacts>(
 /// Whether something moves before the heritage of a lowered class, or would if it had one, with class
 /// properties on: without it there is no shape S1, whatever events heritages have.
 #[tactic(auto, using(crate::proofs::Lowered::any_lowered))]
-pub fn may_move_before_heritage<F: NameFacts>(
-    program: &Node,
-    options: &Options,
-    facts: &F,
-) -> bool
+pub fn may_move_before_heritage<F: NameFacts>(program: &Node, options: &Options, facts: &F) -> bool
     requires { F.program facts.now ≡ program.now }
     ensures { result ≡ (lowers_fields options.now && any_class (moves_before_heritage options.now (written program.now) (resolve program.now)) (lowered_classes options.now (preorder program.now))) }
 {

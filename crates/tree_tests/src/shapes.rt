@@ -4,8 +4,8 @@
 use es_json::read::read_program;
 use es_node::node::Node;
 use es_options::assumptions::{BadAssumptions, FromValue};
-use es_reading::count::is_countable;
 use es_outside::outside::known_shapes;
+use es_reading::count::is_countable;
 use es_shapes::warnings::warnings;
 use es_steps::options::{ClassPropertiesOptions, CompilerAssumptions, ES2022Options, Options};
 use serde_json::Value;

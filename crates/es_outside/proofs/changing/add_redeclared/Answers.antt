@@ -14,7 +14,7 @@ returns c =
     let node = c.args.node.now in
     let heads = cond (is_for_each (kind_of node)) (numbers_of (var_part (at 0 (parts_in node)))) [] in
     OnOk-map c.add_heads.result _ _ (λ e n.
-        ap (has_number n) e
-        ∙ has_number-append n (ids c.add_repeated_in.new.bindings.items) heads
-        ∙ ap (λ b. b || has_number n heads) (c.in_ok-add_repeated_in.ensures n)
-        ∙ written_numbers n node (has_number n (ids c.args.bindings.now.items))) c.add_heads.ensures
+    ap (has_number n) e
+    ∙ has_number-append n (ids c.add_repeated_in.new.bindings.items) heads
+    ∙ ap (λ b. b || has_number n heads) (c.in_ok-add_repeated_in.ensures n)
+    ∙ written_numbers n node (has_number n (ids c.args.bindings.now.items))) c.add_heads.ensures
