@@ -28,11 +28,13 @@ fn main(rt: HostRuntime) -> anyhow::Result<()> {
         let start = Instant::now(&rt)?;
         let (mut program, _foreign) = read_program(alloc, &value)?.into_node();
         let read = start.elapsed(&rt)?.as_millis();
-        let start = Instant::now(&rt)?;
-        let scoping = build(alloc, &mut program)?;
-        let built = start.elapsed(&rt)?.as_millis();
-        let room = scoping.has_room();
-        println!(rt; "{read} {built} {room}")?;
+        if program.has_at_most(u32::MAX) {
+            let start = Instant::now(&rt)?;
+            let scoping = build(alloc, &mut program)?;
+            let built = start.elapsed(&rt)?.as_millis();
+            let room = scoping.has_room();
+            println!(rt; "{read} {built} {room}")?;
+        }
     }
     Ok(())
 }

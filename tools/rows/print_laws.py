@@ -77,7 +77,12 @@ for function in SAYS:
 # witnesses whose output does not meet a clause; where it is not that of the definitions, the meanings are equal or are not asked
 LISTS = 'lists_kept options_{n} source_{n} output_{n}'
 DEFINED = 'definitions_stand (nodes source_{n}) options_{n} generated_{n} (private_members source_{n}) source_{n} output_{n}'
-TIMELY = 'names_timely (nodes source_{n}) generated_{n} output_{n}'
+TIMELY = 'names_timely (nodes source_{n}) generated_{n} (private_members source_{n}) output_{n}'
+CALLS = 'helper_calls_fit (nodes source_{n}) generated_{n} (computed_keys (preorder source_{n})) output_{n}'
+HOMES = 'homes_kept (nodes source_{n}) options_{n} source_{n} output_{n}'
+PRINTABLE = 'is_printable output_{n}'
+PRINTED = 'not (is_printable source_{n}) || is_printable output_{n}'
+NAMED = 'names_declared (nodes source_{n}) generated_{n} output_{n}'
 STEADY = 'temporaries_steady (nodes source_{n}) generated_{n} output_{n}'
 INITIALIZED = 'initializations_stand (nodes source_{n}) generated_{n} (private_members source_{n}) output_{n} generated_{n}'
 NOT_MET = {
@@ -89,7 +94,17 @@ NOT_MET = {
     'method_given_behind_its_calls': INITIALIZED,
     'super_function_behind_a_call': TIMELY,
     'class_temporary_of_another_case': TIMELY,
-    'body_in_an_arrow': 'homes_kept options_{n} source_{n} output_{n}',
+    'body_in_an_arrow': HOMES,
+    'block_without_a_function': HOMES,
+    'parameter_renamed': HOMES,
+    'map_made_in_a_branch': TIMELY,
+    'let_of_another_case': TIMELY,
+    'directive_behind_a_name': PRINTABLE,
+    'strict_rest': PRINTABLE,
+    'name_without_a_sign': NAMED,
+    'conversion_of_no_key': CALLS,
+    'name_of_a_named_class': CALLS,
+    'untested_name_of_a_class': CALLS,
     'function_out_of_its_block': LISTS,
     'class_in_a_constructor': LISTS,
     'class_behind_its_use': LISTS,
@@ -105,21 +120,36 @@ NOT_MET = {
     'another_literal_of_a_written_class': DEFINED,
     'elements_of_a_written_class_dropped': DEFINED,
     'body_dropped': DEFINED,
-    'break_in_an_arrow': 'is_printable output_{n}',
+    'break_in_an_arrow': PRINTABLE,
     'hidden_body': 'conforms Place.Program output_{n}',
     'constant_temporary': 'declarations_accounted (nodes source_{n}) generated_{n} source_{n} output_{n}',
-    'private_name_twice': 'names_declared (nodes source_{n}) generated_{n} output_{n}',
-    'name_twice': 'names_declared (nodes source_{n}) generated_{n} output_{n}',
+    'private_name_twice': NAMED,
+    'name_twice': NAMED,
     'name_of_no_member': INITIALIZED,
+    'two_maps': NAMED,
+    'two_functions': NAMED,
+    'two_brands': NAMED,
+    'temporary_given_again_in_a_branch': INITIALIZED,
+    'temporary_given_again_in_a_round': INITIALIZED,
+    'key_given_again': INITIALIZED,
+    'map_made_in_a_pattern': TIMELY,
+    'map_made_in_a_called_arrow': TIMELY,
+    'closure_called_in_a_key': TIMELY,
+    'class_temporary_in_its_class': TIMELY,
+    'unconverted_name_of_a_class': CALLS,
+    'name_given_in_a_closure': CALLS,
+    'break_in_an_arrow_beside_await': PRINTED,
 }
 # the shapes of the two programs
 SHAPES = {'loose_member_read_once': ('[]', '4 ∷ []'), 'super_key_that_stays': ('[]', '4 ∷ []'), 'suspended_class_written': ('6 ∷ []', '[]'), 'imported_object': ('4 ∷ []', '[]'), 'imported_key': ('4 ∷ []', '[]'), 'imported_key_of_a_method': ('4 ∷ []', '[]')}
 # outputs that mean what their sources mean
 RIGHT = ('private_name_beside_a_name', 'branch_of_a_key', 'class_in_a_case', 'key_of_a_binding_for_a_name')
+# outputs that owe nothing either
+OWING_NOTHING = ('tested_name_of_a_class', 'block_of_a_binding')
 # wrong outputs that have a meaning, and those of programs whose parameters come before their fields
-OTHER = ('branch_of_a_key_of_another', 'elements_dropped', 'static_field_dropped', 'block_dropped', 'block_behind_a_kept_field', 'read_moved', 'import_read_early', 'statements_of_a_case_exchanged', 'statement_of_another_case', 'arrow_moved_into_parameters')
+OTHER = ('branch_of_a_key_of_another', 'elements_dropped', 'static_field_dropped', 'block_dropped', 'block_behind_a_kept_field', 'read_moved', 'import_read_early', 'statements_of_a_case_exchanged', 'statement_of_another_case', 'arrow_moved_into_parameters', 'functions_of_a_block_exchanged', 'default_function_expression', 'let_out_of_a_head', 'class_of_a_head', 'class_of_a_right_side', 'conversions_of_a_template', 'let_beside_a_caught_name')
 AFTER = ('field_behind_parameters_dropped', 'field_behind_parameters_doubled', 'fields_behind_parameters_exchanged', 'another_literal_behind_parameters')
-pairs, wrong, kept, not_met, shaped, right, other, after = [], [], [], [], [], [], [], []
+pairs, wrong, kept, not_met, shaped, right, owing_nothing, other, after = [], [], [], [], [], [], [], [], []
 folder = f'{CRATE}/specs/witnesses'
 for f in sorted(os.listdir(folder)):
     text = open(f'{folder}/{f}').read()
@@ -140,6 +170,8 @@ for f in sorted(os.listdir(folder)):
                 wrong.append((n, f'Refused options_{n} generated_{n} source_{n} output_{n}'))
         elif n in RIGHT:
             right.append((n, f'Means options_{n} generated_{n} source_{n} output_{n}'))
+        elif n in OWING_NOTHING:
+            owing_nothing.append((n, f'Kept options_{n} generated_{n} source_{n} output_{n} []'))
         elif n in OTHER:
             other.append((n, f'MeansOther options_{n} generated_{n} source_{n} output_{n}'))
         elif n in AFTER:
@@ -159,17 +191,19 @@ listed('wrong_outputs_mean_another_program', 'Wrong outputs of worked rows that 
 listed('wrong_outputs_behind_parameters_are_told_apart', 'Wrong outputs of a program whose parameters come before its fields do not mean what it then means.', after, '(refl, refl)')
 listed('clauses_are_not_met', 'Wrong outputs that a clause on lowered programs finds, though their meanings may be those of their sources.', not_met, 'refl')
 listed('outputs_mean_their_sources', 'Outputs that mean what their sources mean, though a name or a value in them looks like another one.', right, '(refl, refl)')
+listed('outputs_owe_nothing', 'Outputs that mean what their sources mean and owe nothing, though they look like wrong ones.', owing_nothing, '(refl, refl, lowered refl, refl)')
 listed('shapes_are_told', 'Pairs of programs that have different shapes.', shaped, '(refl, refl)')
 listed('the_same_in_other_words', 'A template and a string are one key; the own name of a class is no step.', kept, 'refl')
 
 text = '''// Worked rows and witnesses: functions that do nothing. Printed by tools/rows/print_laws.py.
 
-ghost use Rattle.std.specs.Prelude.{◌≡◌, [], ◌∷◌, false};
+ghost use Rattle.std.specs.Prelude.{◌≡◌, [], ◌∷◌, false, not, ◌||◌};
 ghost use Rattle.es_rows.specs.Owed.{Kept, KeptAfter, Owed, TellsApart, Refused, MeansOther, RefusedAfter, Means, HaveShapes};
 ghost use Rattle.es_steps.specs.Definitions.{definitions_stand};
 ghost use Rattle.es_base.specs.Conforms.{conforms};
-ghost use Rattle.es_base.specs.Preorder.{nodes};
+ghost use Rattle.es_base.specs.Preorder.{nodes, preorder};
 ghost use Rattle.es_base.specs.declared.table.Place.{Place};
+ghost use Rattle.es_steps.specs.HelperCalls.{computed_keys, helper_calls_fit};
 ghost use Rattle.es_steps.specs.KeptNodes.{lists_kept, homes_kept};
 ghost use Rattle.es_steps.specs.Lowered.{names_declared, declarations_accounted, initializations_stand};
 ghost use Rattle.es_steps.specs.Meaning.{source_means};
@@ -179,3 +213,5 @@ ghost use Rattle.es_steps.specs.Temporaries.{temporaries_steady};
 ghost use Rattle.es_steps.specs.Timely.{names_timely};
 ''' + '\n'.join(uses) + '\n\n' + '\n'.join(functions)
 write(f'{CRATE}/src/law.rt', text)
+witnesses = {n for group in (pairs, wrong, kept, not_met, shaped, right, owing_nothing, other, after) for n, _ in group}
+print(f'{len(rows)} rows, {len(witnesses)} witnesses')

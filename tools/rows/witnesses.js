@@ -22,6 +22,11 @@ function fresh(t, n) {
   for (const x of preorder(n)) x.num = next++;
   return n;
 }
+// the numbers from `first` on in preorder
+function renumber(t, first) {
+  let next = first;
+  for (const n of preorder(t)) if (n.num >= first) n.num = next++;
+}
 const expression = text => tree(text).body[0].expression;
 const constructorOf = (t, i = 0) => t.body.find(s => s.type === 'ClassDeclaration').body.body.find(e => e.kind === 'constructor').value.body.body;
 
@@ -91,6 +96,46 @@ function keep(t, test, f) {
   return body;
 }
 const swap = (list, i, j) => { [list[i], list[j]] = [list[j], list[i]]; };
+
+// a class with a computed static method, and with a first element that names it, where the key is not `name`
+const named = { options: ['--static-block'], source: 'f(class { static [k()]() {} static { a; } static x = 1; });', output: 'f(class { static [k()]() {} static x = (a, 1); });' };
+function nameByThis(q) {
+  const body = nodes(q, n => n.type === 'ClassBody')[0].body, call = body[0].key, key = fresh(q, expression('_k = B.toPropertyKey(1)'));
+  key.right.arguments[0] = call;
+  body[0].key = key;
+  body.unshift(fresh(q, tree('class C { static #_ = _k !== "name" && B.setFunctionName(this, "f"); }').body[0].body.body[0]));
+  q.body.unshift(fresh(q, tree('var _k;').body[0]));
+  return body[0];
+}
+nameByThis.generated = [{ name: '_', kind: 'Private', number: 4 }, { name: '_k', kind: 'Temp' }];
+
+// the first node of a kind, the statements of a method, the first call of a name or a helper, a new statement
+const found = (t, test) => nodes(t, test)[0];
+const methodOf = (t, name) => found(t, n => n.type === 'MethodDefinition' && n.key.name === name).value.body.body;
+const callOf = (t, name) => found(t, n => n.type === 'CallExpression' && (n.callee.name === name || (n.callee.property && n.callee.property.name === name)));
+const statement = (t, text) => fresh(t, tree(text).body[0]);
+// `name = e`, new
+function giving(t, name, e) {
+  const made = fresh(t, expression(`${name} = 1`));
+  made.right = e;
+  return made;
+}
+// `es`, one behind the other, in a new sequence
+function sequence(t, ...es) {
+  const made = fresh(t, expression('(1, 2)'));
+  made.expressions = es;
+  return made;
+}
+// the first argument of `h`, in the body of the loop, evaluated once in front of a part of its head
+function outOfTheLoop(t, part) {
+  const loop = t.body[0], h = callOf(loop.body, 'h');
+  loop[part] = sequence(t, giving(t, '_t', h.arguments[0]), loop[part]);
+  h.arguments[0] = fresh(t, expression('_t'));
+  t.body.unshift(statement(t, 'let _t;'));
+}
+const privateField = { options: ['--class-properties'], source: 'class A { #x = 1; m() { return this.#x; } }', output: 'var _x = new WeakMap(); class A { constructor() { B.classPrivateFieldInitSpec(this, _x, 1); } m() { return B.classPrivateFieldGet2(_x, this); } }' };
+const privateMethod = { options: ['--class-properties'], source: 'class A { #m() { f(); } n() { return this.#m; } }', output: 'var _b = new WeakSet(); class A { constructor() { B.classPrivateMethodInitSpec(this, _b); } n() { return B.assertClassBrand(_b, this, _m); } } function _m() { f(); }' };
+const blockNamed = { options: ['--static-block'], source: 'let D = class { static x = 1; static name = 2; static { a; } };', output: 'var _staticBlock; let D = (class { static x = 1; static name = ((_value) => (_staticBlock = () => (a, this), _value))(2); }, _staticBlock());' };
 
 const witnesses = [
   pair('parameters_exchanged', 'the parameters of a constructor', 'class A { constructor(a, b) { f(a, b); } }', 'class A { constructor(b, a) { f(a, b); } }', { 7: 8, 8: 7 }),
@@ -280,7 +325,100 @@ const witnesses = [
     q => { const f = q.body[0], made = fresh(q, tree('function f() { (() => { 1; })(); }').body[0].body); made.body[0].expression.callee.body = f.body; f.body = made; }),
   clause('function_out_of_its_block', 'a function declaration moved out of its block', { options: ['--class-properties'], source: 'function f() { { function g() { (class { x = 1; }); } } }', output: 'function f() { { function g() { (class { constructor() { B.defineProperty(this, "x", 1); } }); } } }' },
     q => { const body = q.body[0].body.body; body.push(body[0].body.pop()); }),
+  // which identifiers share one binding, where a `var` is hoisted to, what a name means
+  pair('shared_parameters', 'which of three parameters share one binding', 'function f(a, a, c) { return a; }', 'function f(a, c, a) { return a; }', {}),
+  pair('function_of_a_parameter', 'a function declaration with the name of a parameter', 'function f(a) { let r = typeof a; a = 1; function a() {} return r; }', 'function f(a) { let r = typeof a; a = 1; function c() {} return r; }', {}),
+  pair('var_of_a_static_block', 'a `var` of a static block in a loop, and one of a block', 'for (var i = 0; i < 2; i++) { class A { static { var x = i; fs.push(() => x); } } }', 'for (var i = 0; i < 2; i++) { class A {} { var x = i; fs.push(() => x); } }', {}),
+  pair('inner_name_of_a_written_class', 'the name of a class declaration that is written, inside the class and outside', 'class C { [(f(() => C), "m")]() {} } C = 0;', 'f(() => C); class C { ["m"]() {} } C = 0;', { 1: 5, 2: 6, 3: 7, 4: 8, 5: 9, 6: 1, 7: 2, 8: 3, 9: 4 }),
+  pair('typeof_of_a_name', '`typeof` of a free name', 'f((0, typeof nope));', 'f(typeof (0, nope));', { 4: 6, 5: 4, 6: 5 }),
+  pair('delete_of_a_name', '`delete` of a name', 'function f(a) { return (0, delete a); }', 'function f(a) { return delete (0, a); }', { 6: 8, 7: 6, 8: 7 }),
+  alone('arguments_of_a_program', '`arguments` outside of all functions is a free name', 'arguments.x = 1;'),
+  // (acorn takes two functions of one name here for an error, so the second is named behind it)
+  wrong('functions_of_a_block_exchanged', 'functions of one name, `f`, in a static block exchanged', { options: ['--class-properties', '--static-block'], source: 'class C { static { function f() { a(); } function h() { b(); } f(); } }', output: 'class C {} (() => { function f() { a(); } function h() { b(); } f(); })();' },
+    (q, p) => { for (const n of [...preorder(q), ...preorder(p)]) if (n.name === 'h') n.name = 'f'; swap(nodes(q, n => n.type === 'ArrowFunctionExpression')[0].body.body, 0, 1); }),
+  clause('block_without_a_function', 'the statements of a static block in the list around the class', row('block_of_statements'), q => { const s = q.body.pop(); q.body.push(...s.expression.callee.body.body); }),
+  // in time
+  clause('map_made_in_a_branch', 'a map made in the right side of `||=`', { options: ['--class-properties'], source: 'y ||= f(), z = class { #x = 1; };', output: 'var _x; y ||= f(), z = (_x = new WeakMap(), class { constructor() { B.classPrivateFieldInitSpec(this, _x, 1); } });' },
+    q => { const [a, b] = q.body[1].expression.expressions, both = b.right; [both.expressions[1], b.right, a.right, both.expressions[1]] = [a.right, both.expressions[1], both, a.right]; }),
+  clause('let_of_another_case', 'a generated `let` in a case in front', { options: ['--class-properties'], source: 'switch (n) { case 0: f(); case 1: class A { [g()] = 1; } }', output: 'switch (n) { case 0: f(); case 1: let _g; _g = g(); class A { constructor() { B.defineProperty(this, _g, 1); } } }' },
+    q => { const [a, b] = nodes(q, n => n.type === 'SwitchCase'); a.consequent.unshift(b.consequent.shift()); }),
+  // directives, spellings, helpers
+  clause('directive_behind_a_name', 'a directive behind a generated name', { options: ['--class-properties'], source: '"use strict"; class C { #x = 1; }', output: '"use strict"; var _x = new WeakMap(); class C { constructor() { B.classPrivateFieldInitSpec(this, _x, 1); } }' }, q => { swap(q.body, 0, 1); }),
+  clause('strict_rest', 'a new `"use strict"` in a constructor with a rest parameter', { options: ['--class-properties'], source: 'class A extends P { x = 1; }', output: 'class A extends P { constructor(..._args) { super(..._args); B.defineProperty(this, "x", 1); } }' }, q => { constructorOf(q).unshift(fresh(q, tree('"use strict";').body[0])); }),
+  clause('name_without_a_sign', 'a generated name that is `undefined`', { options: ['--class-properties'], source: 'class C { #x = 1; }', output: 'var _x = new WeakMap(); class C { constructor() { B.classPrivateFieldInitSpec(this, _x, 1); } }' },
+    q => { for (const n of preorder(q)) if (n.name === '_x') n.name = 'undefined'; }, [{ name: 'undefined', kind: 'WeakMap', number: 5 }]),
+  clause('parameter_renamed', 'a parameter of a method renamed', beside('m(a) { return a; }'), q => { for (const n of preorder(q)) if (n.name === 'a') n.name = 'static'; }),
+  clause('conversion_of_no_key', 'a conversion of what is no key', row('instance_field'), q => { q.body.push(fresh(q, tree('B.toPropertyKey(o);').body[0])); }),
+  clause('name_of_a_named_class', 'a class with a static method `name` that is named', { options: ['--class-properties'], source: 'f(class { static name() {} x = 1; });', output: 'f(class { constructor() { B.defineProperty(this, "x", 1); } static name() {} });' },
+    q => { const call = q.body[0].expression; call.arguments[0] = around(q, 'B.setFunctionName(o, "f")', call.arguments[0]); }),
+  right('tested_name_of_a_class', 'a class that is named where its computed static method is not `name`', named, q => nameByThis(q), nameByThis.generated),
+  clause('untested_name_of_a_class', 'a class that is named though its computed static method may be `name`', named, q => { const e = nameByThis(q); e.value = e.value.right; }, nameByThis.generated),
+  // functions in blocks (B.3.2)
+  pair('function_of_a_block', 'a function in a block is also held by the `var` of its name', '{ function g() {} } g();', '{ function h() {} } g();', {}),
+  pair('function_of_a_block_over_a_var', 'a function in a block, and a `var` that is read behind it', 'var g = 1; { function g() {} } f(g);', 'var g = 1; { function h() {} } f(g);', {}),
+  pair('read_in_front_of_a_block', 'a `var` read in front of the block of a function, and behind it', 'var g = 1; f(g); { function g() {} }', 'var g = 1; { function g() {} } f(g);', { 5: 9, 6: 10, 7: 11, 8: 12, 9: 5, 10: 6, 11: 7, 12: 8 }),
+  pair('function_of_a_case', 'a function in a case, read behind the `switch`', 'switch (x) { case 1: function g() {} } g();', 'switch (x) { case 1: function h() {} } g();', {}),
+  pair('function_of_a_branch', 'a function that is a branch of an `if`, and a `var` that is read behind it', 'var g = 1; if (c) function g() {} f(g);', 'var g = 1; if (c) function h() {} f(g);', {}),
+  // names of classes and functions
+  pair('own_name_of_a_declaration_written', 'the name of a class declaration written in its body, where it is constant, and outside', 'class C { static { C = 1; } }', 'class C { static {} } C = 1;', {}),
+  pair('own_name_of_a_declaration_written_later', 'the name of a class declaration written in an arrow of its body, and outside', 'class C { static { f(() => { C = 1; }); } }', 'class C { static {} } f(() => { C = 1; });', {}),
+  pair('private_method_of_another_class', 'the class that has a private method', 'class A { #p() { return 1; } B = class { #q() { return 2; } t(o) { return o.#p(); } }; }', 'class A { #q() { return 2; } B = class { #p() { return 1; } t(o) { return o.#p(); } }; }', { 4: 14, 5: 15, 6: 16, 7: 17, 8: 18, 9: 19, 14: 4, 15: 5, 16: 6, 17: 7, 18: 8, 19: 9 }),
+  pair('static_private_method_of_another_class', 'the class that has a static private method', 'class A { static #p() { return 1; } static B = class { static #q() { return 2; } static t(o) { return o.#p(); } }; }', 'class A { static #q() { return 2; } static B = class { static #p() { return 1; } static t(o) { return o.#p(); } }; }', { 4: 14, 5: 15, 6: 16, 7: 17, 8: 18, 9: 19, 14: 4, 15: 5, 16: 6, 17: 7, 18: 8, 19: 9 }),
+  pair('default_function', 'a function that is exported as default, a declaration or an expression', 'import "./b.mjs"; export default function () { return 1; }', 'import "./b.mjs"; export default (function () { return 1; });', {}, { type: 'module' }),
+  wrong('default_function_expression', 'a function declaration that is exported as default made an expression', { options: ['--class-properties'], type: 'module', source: 'import "./b.mjs"; export default function () { return class D { x = 1; }; }', output: 'import "./b.mjs"; export default function () { return class D { constructor() { B.defineProperty(this, "x", 1); } }; }' },
+    q => { const f = found(q, n => n.type === 'FunctionDeclaration'); f.type = f.nodeKind = 'FunctionExpression'; }),
+  // heads of loops
+  pair('let_of_a_head', 'a `let` of the head of a `for` and one of its body', 'for (let i; t(); ) { g(i); i = f(); } ;;', 'for (void 0; t(); ) { let i; g(i); i = f(); }', { 2: 17, 3: 18, 4: 5, 5: 6, 6: 7, 7: 2, 8: 3, 9: 4, 10: 8, 11: 9, 12: 10, 13: 11, 14: 12, 15: 13, 16: 14, 17: 15, 18: 16 }),
+  wrong('let_out_of_a_head', 'a `let` moved from the head of a `for` into its body', { options: ['--class-properties'], source: 'for (let i; t(); ) { g(i); i = f(); class D { x = 1; } }', output: 'for (let i; t(); ) { g(i); i = f(); class D { constructor() { B.defineProperty(this, "x", 1); } } }' },
+    q => { const loop = q.body[0], d = loop.init; loop.init = fresh(q, expression('void 0')); loop.body.body.unshift(d); }),
+  wrong('class_of_a_head', 'a class of the body of a `for` evaluated once, in its head', { options: ['--class-properties'], source: 'for (g(); c(); ) h(class { x = 1; });', output: 'for (g(); c(); ) h(class { constructor() { B.defineProperty(this, "x", 1); } });' }, q => outOfTheLoop(q, 'init'), [temporary]),
+  wrong('class_of_a_right_side', 'a class of the body of a `for` evaluated once, beside what it runs over', { options: ['--class-properties'], source: 'for (const x of g()) h(class { y = 1; });', output: 'for (const x of g()) h(class { constructor() { B.defineProperty(this, "y", 1); } });' }, q => outOfTheLoop(q, 'right'), [temporary]),
+  // values
+  wrong('regular_expression_in_a_temporary', 'a regular expression made once and kept', beside('m(s) { return h(/a/g, s); }'),
+    q => { const h = callOf(q, 'h'); q.body.unshift(statement(q, 'var _t;'), statement(q, '_t = 1;')); q.body[1].expression.right = h.arguments[0]; h.arguments[0] = fresh(q, expression('_t')); }, [temporary]),
+  wrong('conversions_of_a_template', 'the expressions of a template evaluated before the first is made a string', beside('m() { return `${a()}${b()}`; }'),
+    q => { const body = methodOf(q, 'm'), t = found(q, n => n.type === 'TemplateLiteral'), [a, b] = t.expressions; t.expressions = [sequence(q, giving(q, '_u', a), giving(q, '_t', b), fresh(q, expression('_u'))), fresh(q, expression('_t'))]; body.unshift(statement(q, 'var _t, _u;')); }, [temporary, { name: '_u', kind: 'Temp' }]),
+  wrong('key_given_in_its_value', 'an object whose key is read before it is given', { options: ['--class-properties'], source: 'class C { x = (g(), () => 1); }', output: 'class C { constructor() { B.defineProperty(this, "x", (g(), () => 1)); } }' },
+    q => { const d = constructorOf(q)[0].expression, e = d.arguments[2], made = fresh(q, expression('({ [_t]: 1 })[_t]')); e.expressions[0] = giving(q, '_t', e.expressions[0]); made.object.properties[0].value = e; d.arguments[2] = made; q.body.unshift(statement(q, 'let _t;')); }, [temporary]),
+  right('block_of_a_binding', 'a static block that hands a binding to a generated element', { options: ['--static-block'], source: 'const y = f(); class C { static { this.a = y; } }', output: 'const y = f(); class C { static #_ = this.a = y; }', numbers: { 9: 16, 10: 17 } }, q => {}, [{ name: '_', kind: 'Private', number: 6 }]),
+  wrong('await_in_a_static_element', 'an `await` of the function around in a static element', { options: ['--static-block'], source: 'async function f(h) { h(class { static { a; } static x = 1; }, await g()); }', output: 'async function f(h) { h(class { static x = (a, 1); }, await g()); }' },
+    q => { const h = callOf(q, 'h'), e = found(q, n => n.type === 'PropertyDefinition'), [a, one] = e.value.expressions; e.value.expressions = [a, giving(q, '_t', h.arguments[1]), one]; h.arguments[1] = fresh(q, expression('_t')); q.body[0].body.body.unshift(statement(q, 'var _t;')); }, [temporary]),
+  wrong('let_beside_a_caught_name', 'a `let` moved out of its block, beside the name that a catch declares', { options: ['--class-properties'], source: 'try { f(); } catch (e) { { let e = class { x = 1; }; } }', output: 'try { f(); } catch (e) { { let e = class { constructor() { B.defineProperty(this, "x", 1); } }; } }' },
+    q => { const body = found(q, n => n.type === 'CatchClause').body.body; body.unshift(body[0].body.pop()); }),
+  // one name for a member
+  clause('two_maps', 'a private field that is initialized in one map and read from another', privateField, q => { callOf(q, 'classPrivateFieldGet2').arguments[0].name = '_y'; q.body.unshift(statement(q, 'var _y = new WeakMap();')); }, ['_x', '_y'].map(name => ({ name, kind: 'WeakMap', number: 5 }))),
+  clause('two_functions', 'a private method with two functions', privateMethod, q => { callOf(q, 'assertClassBrand').arguments[2].name = '_m2'; q.body.unshift(statement(q, 'var _m2 = function() {};')); }, ['_m', '_m2'].map(name => ({ name, kind: 'Method', number: 5 }))),
+  clause('two_brands', 'a private method of two brands', privateMethod, q => { callOf(q, 'assertClassBrand').arguments[0].name = '_c'; q.body.unshift(statement(q, 'var _c = new WeakSet();')); }, ['_b', '_c'].map(name => ({ name, kind: 'Brand', number: 1 }))),
+  // temporaries given once
+  clause('temporary_given_again_in_a_branch', 'a temporary given again in a branch', beside('m(h, c) { return h(k(), c && l()); }'),
+    q => { const body = methodOf(q, 'm'), s = body[0], h = s.argument, [a, b] = h.arguments; b.right = giving(q, '_t', b.right); s.argument = sequence(q, giving(q, '_t', a), giving(q, '_u', b), h); h.arguments = ['_t', '_u'].map(name => fresh(q, expression(name))); body.unshift(statement(q, 'var _t, _u;')); }, [temporary, { name: '_u', kind: 'Temp' }]),
+  clause('temporary_given_again_in_a_round', 'a temporary given again in each round of a loop', beside('m(h, c) { for (g(); c(); ) h(1, c()); }'),
+    q => { const body = methodOf(q, 'm'), loop = body[0], h = callOf(loop, 'h'), [a, b] = h.arguments; loop.init = sequence(q, giving(q, '_t', a), loop.init); h.arguments = [fresh(q, expression('_t')), giving(q, '_t', b)]; body.unshift(statement(q, 'var _t;')); }, [temporary]),
+  clause('key_given_again', 'the key of a method given again in a branch of the next', { options: ['--class-properties'], source: 'class C { x = 1; [k()]() {} [c && l()]() {} }', output: 'class C { constructor() { B.defineProperty(this, "x", 1); } [k()]() {} [c && l()]() {} }' },
+    q => { const [, a, b] = q.body[0].body.body, k = statement(q, '_k = 1;'), l = statement(q, '_k2 = 1;'); k.expression.right = a.key; l.expression.right = b.key; b.key.right = giving(q, '_k', b.key.right); a.key = fresh(q, expression('_k')); b.key = fresh(q, expression('_k2')); q.body.unshift(statement(q, 'let _k, _k2;'), k, l); }, ['_k', '_k2'].map(name => ({ name, kind: 'Temp' }))),
+  // the order in which parts run
+  clause('map_made_in_a_pattern', 'a map made in a pattern, which runs behind the value', { options: ['--class-properties'], source: 'var { [k()]: a } = new (class { #x = 1; })();', output: 'var _x; var { [k()]: a } = new (_x = new WeakMap(), class { constructor() { B.classPrivateFieldInitSpec(this, _x, 1); } })();' },
+    q => { const d = q.body[1].declarations[0], made = d.init.callee, key = d.id.properties[0]; [d.init.callee, made.expressions[1], key.key] = [made.expressions[1], key.key, made]; }),
+  clause('map_made_in_a_called_arrow', 'a map made in an arrow, which runs behind its argument', { options: ['--class-properties'], source: 'g(new (class { #x = 1; })());', output: 'var _x; g(new (_x = new WeakMap(), class { constructor() { B.classPrivateFieldInitSpec(this, _x, 1); } })());' },
+    q => { const g = callOf(q, 'g'), [e] = g.arguments, made = e.callee, arrow = fresh(q, expression('((_v) => 0)()')); [e.callee, made.expressions[1]] = [made.expressions[1], fresh(q, expression('_v'))]; arrow.callee.body = made; arrow.arguments = [e]; g.arguments = [arrow]; }, [{ name: '_v', kind: 'Param' }]),
+  clause('closure_called_in_a_key', 'a closure of a static element called in a key, which is evaluated in front of it', { options: ['--static-block'], source: 'class C { static x = 1; static {} [k()]() {} }', output: 'class C { static x = 1; [k()]() {} }', numbers: { 7: 8, 8: 9, 9: 10, 10: 11, 11: 12 } },
+    q => { const [x, m] = q.body[0].body.body, arrow = fresh(q, expression('((_v) => (_staticBlock = () => this, _v))()')); arrow.arguments = [x.value]; x.value = arrow; m.key = sequence(q, fresh(q, expression('_staticBlock()')), m.key); q.body.unshift(statement(q, 'var _staticBlock;')); }, [{ name: '_staticBlock', kind: 'Closure' }, { name: '_v', kind: 'Param' }]),
+  clause('class_temporary_in_its_class', 'the name of a class read in its body, by an element that runs with it', { options: ['--class-properties'], source: 'class C { x = 1; static m() { return C; } static { f(C.m()); } }', output: 'class C { constructor() { B.defineProperty(this, "x", 1); } static m() { return C; } static { f(C.m()); } }' },
+    q => { methodOf(q, 'm')[0].argument.name = '_C'; q.body.unshift(statement(q, 'var _C;')); q.body.push(statement(q, '_C = C;')); }, [{ name: '_C', kind: 'ClassTemp', number: 1 }]),
+  // names that `setFunctionName` gives
+  clause('unconverted_name_of_a_class', 'a class that is named where its key, which is no string yet, is not `name`', named, q => { const e = nameByThis(q), m = found(q, n => n.type === 'ClassBody').body[1]; m.key.right = m.key.right.arguments[0]; }, nameByThis.generated),
+  clause('name_given_in_a_closure', 'a class that is named by a closure, which runs behind its static field `name`', blockNamed,
+    q => { const [x, name] = nodes(q, n => n.type === 'PropertyDefinition'), call = name.value; [x.value, name.value, call.arguments[0]] = [call, call.arguments[0], x.value]; call.callee.body.expressions[0].right.body.expressions.unshift(fresh(q, expression('B.setFunctionName(this, "D")'))); }),
+  // printed
+  clause('break_in_an_arrow_beside_await', 'a `break` in a new arrow, in a script with a name `await`', { options: ['--class-properties'], source: 'var await; while (c()) { if (d(class { x = 1; })) break; }', output: 'var await; while (c()) { if (d(class { constructor() { B.defineProperty(this, "x", 1); } })) break; }' },
+    q => { const loop = q.body[1], s = statement(q, '(() => { 1; })();'); s.expression.callee.body.body = loop.body.body; loop.body.body = [s]; }),
 ];
+
+// a row that `match.js` has no reading of; `numbers` are those that differ from the place in preorder
+function numberedByHand(told) {
+  const source = numbered(tree(told.source, told.type)), output = numbered(tree(told.output, told.type), told.numbers);
+  return { source, output, ledger: [], options: optionsOf(told.options) };
+}
 
 function moduleOf(w) {
   const define = (what, type, value) => `abbrev pub ${what}_${w.name} : ${type}\n${what}_${w.name} = ${value}\n`;
@@ -295,8 +433,9 @@ function moduleOf(w) {
     body = [`-- ${w.says}: \`${w.source}\`\n${define('source', 'Tree', term(t))}`, define('options', 'Options', optionsTerm(optionsOf(w.options)))].join('\n');
   } else {
     const told = w.row, given = { words: told.options, input: told.source, out: told.output, type: told.type, outside: told.outside };
-    const r = numberRow(given, { outside: told.outside || [], ...told, name: w.name });
+    const r = told.numbers ? numberedByHand(told) : numberRow(given, { outside: told.outside || [], ...told, name: w.name });
     w.change(r.output, r.source);
+    renumber(r.output, preorder(r.source).length);
     body = [`-- \`${told.source}\`\n${define('source', 'Tree', term(r.source))}`, `-- ${w.says}, ${w.kind === 'right' ? 'as' : 'where'} \`${told.output}\` ${w.kind === 'right' ? 'means' : 'is right'}\n${define('output', 'Tree', (w.rewrite || (text => text))(term(r.output)))}`, define('generated', 'List LedgerEntry', [...(w.generated || []), ...r.ledger.filter(e => !w.generated || !w.generated.some(g => g.kind === e.kind))].map(entryTerm).join('') + '[]'), define('options', 'Options', optionsTerm(w.options ? optionsOf(w.options) : r.options))].join('\n');
   }
   return `-- Printed by tools/rows/witnesses.js.\n${imports(body)}\n\n${body}`;

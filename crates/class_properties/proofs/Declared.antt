@@ -13,6 +13,7 @@ use Rattle.es_steps.specs.Modules.{links_in, exports_in}
 use Rattle.es_steps.specs.PrivateNames.{private_members, members_of_all, elements_members}
 use Rattle.es_steps.specs.References.{Reference, if_bound, is_free, assigned, item_references, resolve, written_by, written_by_all, written, imported_by, imported_by_all, varying, writes_free}
 use Rattle.es_steps.specs.Repeated.{Surroundings, places_of, all_places}
+use Rattle.es_steps.specs.Shared.{shared, shared_of}
 use Rattle.es_steps.specs.Scopes.{Declaration, lexical_part, lexical_items, var_part, body_names}
 use Rattle.es_steps.specs.Values.{String}
 use Rattle.class_properties.proofs.Numbered.{definitions_from, lowered_elements, statement_size, lowered_statements, lowered_from}
@@ -174,6 +175,40 @@ classes-declare : (first : ℕ) (ps : Parts) → AreClasses ps → (k : ℕ) (d 
 classes-declare first end h k d = refl
 classes-declare first (more p ps) (a_class n span semantic_id id body (a_name i ispan i_semantic_id s free) (a_body m bspan b_semantic_id es he), h) k d =
     rw (elements-declare first es he k ClassDeclared, fields-declare first es he ClassDeclared) (ap (λ ds. (i, declared_as s ClassDeclared) ∷ ds) (classes-declare first ps h _ d))
+
+-- ---- declaring identifiers of one binding: those of the program alone
+
+abbrev Unshared : Parts → Type 0
+Unshared ps = shared_of ps ≡ []
+
+fields-shared : (es : Parts) → AreFields es → Unshared es
+fields-shared end h = refl
+fields-shared (more p es) (a_field m span semantic_id key v (a_key i ispan i_semantic_id s) no_value, h) = fields-shared es h
+fields-shared (more p es) (a_field m span semantic_id key v (a_key i ispan i_semantic_id s) (a_literal l lspan l_semantic_id w), h) = fields-shared es h
+fields-shared (more p es) (a_field m span semantic_id key v (a_key i ispan i_semantic_id s) (a_reference r rspan r_semantic_id x), h) = fields-shared es h
+
+definitions-shared : (es : Parts) → AreFields es → (k : ℕ) → Unshared (trees (definitions_from k es))
+definitions-shared end h k = refl
+definitions-shared (more p es) (a_field m span semantic_id key v hk no_value, h) k = definitions-shared es h (k + 9)
+definitions-shared (more p es) (a_field m span semantic_id key v hk (a_literal l lspan l_semantic_id w), h) k = definitions-shared es h (k + 7)
+definitions-shared (more p es) (a_field m span semantic_id key v hk (a_reference r rspan r_semantic_id x), h) k = definitions-shared es h (k + 7)
+
+elements-shared : (es : Parts) → AreFields es → (k : ℕ) → Unshared (lowered_elements k es)
+elements-shared end h k = refl
+elements-shared (more p es) h k = rw (names-definitions (more p es) h (k + 4), definitions-shared (more p es) h (k + 4)) refl
+
+classes-shared : (ps : Parts) → AreClasses ps → Unshared ps
+classes-shared end h = refl
+classes-shared (more p ps) (a_class n span semantic_id id body (a_name i ispan i_semantic_id s free) (a_body m bspan b_semantic_id es he), h) =
+    rw (fields-shared es he, classes-shared ps h) refl
+
+lowered-shared : (ps : Parts) → AreClasses ps → (k : ℕ) → Unshared (lowered_statements k ps)
+lowered-shared end h k = refl
+lowered-shared (more p ps) (a_class n span semantic_id id body (a_name i ispan i_semantic_id s free) (a_body m bspan b_semantic_id es he), h) k =
+    rw (elements-shared es he k, lowered-shared ps h (k + statement_size p)) refl
+
+pub shared-lowered : (k : ℕ) (t : Tree) → IsProgram t → shared false (lowered_from k t) ≡ shared false t
+shared-lowered k t (a_program m span semantic_id s all h) = rw (names-lowered all h k, classes-shared all h, lowered-shared all h k) refl
 
 -- ---- where things stand: classes and their names alone, and these where they stood
 

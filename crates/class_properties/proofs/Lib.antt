@@ -1,3 +1,4 @@
+pub mod Called
 pub mod Children
 pub mod Conforming
 pub mod Constructions

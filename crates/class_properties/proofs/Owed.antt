@@ -5,6 +5,7 @@ use Rattle.es_base.specs.Preorder.{nodes, nodes_of, nodes_of_part, preorder, pre
 use Rattle.es_base.specs.Tree.{Tree, Part, Parts, end, more, absent, trees}
 use Rattle.es_base.specs.declared.table.Place.{Place}
 use Rattle.es_steps.specs.FirstForm.{is_first_form}
+use Rattle.es_steps.specs.HelperCalls.{computed_keys}
 use Rattle.es_steps.specs.Lowered.{IsLowered, own_name_numbers}
 use Rattle.es_steps.specs.Generated.{constructor_at, define_at, void_at}
 use Rattle.es_steps.specs.Options.{class_properties_alone}
@@ -107,7 +108,7 @@ numbered-owes t p e =
         declared = refl;
         accounted = laid-accounted (own_name_numbers t (preorder q)) laid;
         initialized = refl;
-        timely = names-timely first q;
+        timely = names-timely first (private_members t) q;
         temporaries = refl;
         keys = rw (temporaries-none first class_properties_alone (private_members t) q (preorder q)) refl;
         nodes = rest.nodes;
@@ -116,6 +117,7 @@ numbered-owes t p e =
         homes = rest.homes;
         definitions = definitions-fit first (private_members t) t p e;
         elements = rest.elements;
+        calls = rest.calls (computed_keys (preorder t));
         printable = printable-lowered first t p;
       };
     }

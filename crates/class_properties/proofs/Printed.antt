@@ -3,7 +3,7 @@ use Rattle.std.specs.Prelude.{◌≡◌, ℕ, ◌+◌, Bool, true, false, not, �
 use Rattle.std.proofs.Common.{refl}
 use Rattle.es_base.specs.Tree.{Tree, Part, Parts, Node, end, more, child, absent, list, trees}
 use Rattle.es_base.specs.declared.kind.Kind.{Kind}
-use Rattle.es_steps.specs.Printable.{any_optional, has_bad, bad_at, bad_in, Jumps, no_jumps, has_stray, stray_in, is_printable}
+use Rattle.es_steps.specs.Printable.{any_optional, has_late_directive, has_bad, bad_at, bad_in, Jumps, no_jumps, has_stray, stray_in, is_printable}
 use Rattle.class_properties.proofs.Numbered.{definitions_from, lowered_elements, statement_size, lowered_statements, lowered_from}
 use Rattle.class_properties.proofs.Shaped.{no_value, a_literal, a_reference, a_key, a_field, AreFields, a_body, a_name, a_class, AreClasses, IsProgram, a_program}
 use Rattle.es_unchanged.proofs.Standing.{none_of}
@@ -26,6 +26,18 @@ lowered-plain : (ps : Parts) → AreClasses ps → (k : ℕ) → any_optional (l
 lowered-plain end h k = refl
 lowered-plain (more p ps) (a_class n span semantic_id id body hid (a_body j bspan b_semantic_id es he), h) k = lowered-plain ps h _
 
+-- ---- no directive
+
+definitions-undirected : (es : Parts) → AreFields es → (k : ℕ) (late : Bool) → has_late_directive late (trees (definitions_from k es)) ≡ false
+definitions-undirected end h k late = refl
+definitions-undirected (more p es) (a_field m span semantic_id key v hk hv, h) k true = definitions-undirected es h _ true
+definitions-undirected (more p es) (a_field m span semantic_id key v hk hv, h) k false = definitions-undirected es h _ true
+
+lowered-undirected : (ps : Parts) → AreClasses ps → (k : ℕ) (late : Bool) → has_late_directive late (lowered_statements k ps) ≡ false
+lowered-undirected end h k late = refl
+lowered-undirected (more p ps) (a_class n span semantic_id id body hid (a_body j bspan b_semantic_id es he), h) k true = lowered-undirected ps h _ true
+lowered-undirected (more p ps) (a_class n span semantic_id id body hid (a_body j bspan b_semantic_id es he), h) k false = lowered-undirected ps h _ true
+
 -- ---- fields
 
 -- the value of the first field, and the other fields
@@ -46,7 +58,7 @@ definitions-good (more p es) (a_field m span semantic_id key v (a_key i ispan i_
 
 elements-good : (es : Parts) → AreFields es → (k : ℕ) → bad_in false false es ≡ false → bad_in false false (lowered_elements k es) ≡ false
 elements-good end h k g = refl
-elements-good (more p es) h k g = rw (definitions-plain (more p es) h (k + 4), definitions-good (more p es) h (k + 4) g) refl
+elements-good (more p es) h k g = rw (definitions-undirected (more p es) h (k + 4) false, definitions-plain (more p es) h (k + 4), definitions-good (more p es) h (k + 4) g) refl
 
 -- ---- classes
 
@@ -91,9 +103,9 @@ printed false b false d h none = rw (h refl, none) refl
 
 program-good : (k : ℕ) (t : Tree) → IsProgram t → has_bad false false t ≡ false → has_bad false false (lowered_from k t) ≡ false
 program-good k t (a_program m span semantic_id s all h) g =
-    let inside = none_of ((any_optional all || false) || false) (bad_in false (bytes_eq s (codes "module")) all || false) g in
+    let inside = none_of ((has_late_directive false all || (any_optional all || false)) || false) (bad_in false (bytes_eq s (codes "module")) all || false) g in
     let good = none_of (bad_in false (bytes_eq s (codes "module")) all) false inside.1 in
-    rw (lowered-plain all h k, classes-good (bytes_eq s (codes "module")) all h k good.0) refl
+    rw (lowered-undirected all h k false, lowered-plain all h k, classes-good (bytes_eq s (codes "module")) all h k good.0) refl
 
 pub printable-lowered : (k : ℕ) (t : Tree) → IsProgram t → (not (is_printable t) || is_printable (lowered_from k t)) ≡ true
 printable-lowered k t h = printed (has_bad false false t) (has_bad false false (lowered_from k t)) (has_stray (no_jumps false) t) (has_stray (no_jumps false) (lowered_from k t)) (program-good k t h) (program-stays k t h)

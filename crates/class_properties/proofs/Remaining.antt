@@ -1,6 +1,6 @@
 -- Which nodes of a program of the first form stand in what it is lowered to: its classes, those of them that have no
 -- fields as they are, and of no class an element.
-use Rattle.std.specs.Prelude.{◌≡◌, ℕ, ◌+◌, List, [], ◌∷◌, ◌++◌, true, not, ◌||◌, Option, Some}
+use Rattle.std.specs.Prelude.{◌≡◌, ℕ, ◌+◌, List, [], ◌∷◌, ◌++◌, true, false, not, ◌||◌}
 use Rattle.std.proofs.Common.{refl}
 use Rattle.std.proofs.lemmas.Bool.{and_parts}
 use Rattle.std.proofs.lemmas.List.{append-nil}
@@ -8,14 +8,16 @@ use Rattle.es_base.specs.Preorder.{preorder, preorder_of}
 use Rattle.es_base.specs.Tree.{Tree, Part, Parts, Node, end, more}
 use Rattle.es_steps.proofs.Reflexive.{number-same}
 use Rattle.es_steps.specs.Definitions.{chosen, element_numbers, body_numbers, elements_kept}
-use Rattle.es_steps.specs.KeptNodes.{a_class as class_sort, sort_of, is_kept_sort, stands_as, all_stand, nodes_kept, free_in, all_equal, statements_kept, item_numbers, free_numbers, free_lists_in, list_of, is_within, all_within, lists_kept, homes_of, all_pairs_stand, homes_kept}
+use Rattle.es_steps.specs.HelperCalls.{helper_calls_fit}
+use Rattle.es_steps.specs.KeptNodes.{a_class as class_sort, sort_of, is_kept_sort, stands_as, all_stand, nodes_kept, free_in, all_equal, statements_kept, item_numbers, free_numbers, free_lists_in, list_of, is_within, all_within, lists_kept, Homed, HomeHere, homes_of, all_homes, homes_kept}
 use Rattle.es_steps.specs.LoweredClasses.{elements_of, elements_in, is_lowered_element}
 use Rattle.es_steps.specs.Options.{class_properties_alone}
 use Rattle.es_steps.specs.PrivateNames.{is_class}
+use Rattle.class_properties.proofs.Called.{program-calls}
 use Rattle.class_properties.proofs.Declared.{two_ends}
 use Rattle.class_properties.proofs.Numbered.{lowered_elements, statement_size, lowered_statements, lowered_from}
 use Rattle.class_properties.proofs.Shaped.{no_value, a_literal, a_reference, a_key, a_field, AreFields, a_body, a_name, a_class, AreClasses, IsProgram, a_program}
-use Rattle.es_unchanged.proofs.Standing.{both, here, later, in-left, in-right, Among, stands_as-in, stands-equal, within-more, within-both, all_within-append, pairs-both, pairs-behind}
+use Rattle.es_unchanged.proofs.Standing.{both, here, later, in-left, in-right, Among, stands_as-in, stands-equal, within-more, within-both, all_within-append, all_found, found-both, found-behind, found-home}
 
 -- ---- classes
 
@@ -79,20 +81,25 @@ lists-empty (more p ps) (a_class n span semantic_id id body (a_name i ispan i_se
 
 -- ---- declaring identifiers and lists stand in their functions: the program alone
 
-fields-homes : (es : Parts) → AreFields es → (home : Option ℕ) → homes_of class_properties_alone home es ≡ []
-fields-homes end h home = refl
-fields-homes (more p es) (a_field m span semantic_id key v (a_key i ispan i_semantic_id s) no_value, h) home = fields-homes es h home
-fields-homes (more p es) (a_field m span semantic_id key v (a_key i ispan i_semantic_id s) (a_literal l lspan l_semantic_id w), h) home = fields-homes es h home
-fields-homes (more p es) (a_field m span semantic_id key v (a_key i ispan i_semantic_id s) (a_reference r rspan r_semantic_id x), h) home = fields-homes es h home
+fields-homes : (es : Parts) → AreFields es → (x : HomeHere) → homes_of x es ≡ []
+fields-homes end h x = refl
+fields-homes (more p es) (a_field m span semantic_id key v (a_key i ispan i_semantic_id s) no_value, h) x = fields-homes es h x
+fields-homes (more p es) (a_field m span semantic_id key v (a_key i ispan i_semantic_id s) (a_literal l lspan l_semantic_id w), h) x = fields-homes es h x
+fields-homes (more p es) (a_field m span semantic_id key v (a_key i ispan i_semantic_id s) (a_reference r rspan r_semantic_id y), h) x = fields-homes es h x
 
-classes-homes : (ps : Parts) → AreClasses ps → (k home : ℕ) → all_pairs_stand (homes_of class_properties_alone (Some home) ps) (homes_of class_properties_alone (Some home) (lowered_statements k ps)) ≡ true
-classes-homes end h k home = refl
-classes-homes (more p ps) (a_class n span semantic_id id body (a_name i ispan i_semantic_id s free) (a_body j bspan b_semantic_id es he), h) k home =
+-- inside the statements of a program, and in a class
+abbrev here_in : ℕ → HomeHere
+here_in home = record { of_function = home; is_own_name = false; in_constructor = false }
+
+classes-homes : (first : ℕ) (ps : Parts) → AreClasses ps → (k home : ℕ) → all_found first [] (homes_of (here_in home) ps) (homes_of (here_in home) (lowered_statements k ps)) ≡ true
+classes-homes first end h k home = refl
+classes-homes first (more p ps) (a_class n span semantic_id id body (a_name i ispan i_semantic_id s free) (a_body j bspan b_semantic_id es he), h) k home =
     let next : ℕ = k + statement_size p in
-    let xs : List (ℕ × ℕ) = homes_of class_properties_alone (Some home) ps in
-    let made : List (ℕ × ℕ) = homes_of class_properties_alone (Some home) (lowered_elements k es) in
-    let ys : List (ℕ × ℕ) = homes_of class_properties_alone (Some home) (lowered_statements next ps) in
-    rw (fields-homes es he (Some home), two_ends made ys) (pairs-both (i, home) xs (made ++ ys) (pairs-behind made xs ys (classes-homes ps h next home)))
+    let name : Homed = record { number = i; home = home; spelling = s; is_own_name = false; in_constructor = false } in
+    let xs : List Homed = homes_of (here_in home) ps in
+    let made : List Homed = homes_of (here_in home) (lowered_elements k es) in
+    let ys : List Homed = homes_of (here_in home) (lowered_statements next ps) in
+    rw (fields-homes es he (here_in home), two_ends made ys) (found-both first [] name xs (made ++ ys) (found-behind first [] made xs ys (classes-homes first ps h next home)))
 
 -- ---- all elements are lowered
 
@@ -123,7 +130,8 @@ pub record Remains (k : ℕ) (t : Tree) : Type 0 where
   pub nodes : nodes_kept t (lowered_from k t) ≡ true
   pub statements : statements_kept class_properties_alone t (lowered_from k t) ≡ true
   pub lists : lists_kept class_properties_alone t (lowered_from k t) ≡ true
-  pub homes : homes_kept class_properties_alone t (lowered_from k t) ≡ true
+  pub homes : homes_kept k class_properties_alone t (lowered_from k t) ≡ true
+  pub calls : (keys : List ℕ) → helper_calls_fit k [] keys (lowered_from k t) ≡ true
   pub elements : elements_kept class_properties_alone (preorder t) (preorder (lowered_from k t)) ≡ true
 
 pub remains : (k : ℕ) (t : Tree) → IsProgram t → Remains k t
@@ -136,6 +144,7 @@ remains k t (a_program m span semantic_id s all h) =
       nodes = rw (append-nil (preorder_of all)) (classes-stand all h k (preorder q) among);
       statements = rw (append-nil (free_in class_properties_alone all)) (classes-equal all h k (preorder q) among);
       lists = both first others;
-      homes = rw (append-nil (homes_of class_properties_alone (Some m) all), append-nil (homes_of class_properties_alone (Some m) low)) (classes-homes all h k m);
+      homes = found-home k [] (all_homes t) (all_homes q) (rw (append-nil (homes_of (here_in m) all), append-nil (homes_of (here_in m) low)) (classes-homes k all h k m));
+      calls = λ keys. program-calls k keys t (a_program m span semantic_id s all h);
       elements = rw (append-nil (preorder_of all)) (classes-elements all h (preorder q));
     }

@@ -1,6 +1,6 @@
 -- What a program of the first form is lowered to means what the program means: its classes read as classes whose
 -- constructors define the fields that the classes of the program have.
-use Rattle.std.specs.Prelude.{◌≡◌, ℕ, ◌+◌, List, [], ◌++◌, Bool, true, false, ◌||◌, nat_le, bytes_eq, codes, None, Option, Some}
+use Rattle.std.specs.Prelude.{◌≡◌, ℕ, ◌+◌, List, [], ◌∷◌, ◌++◌, Bool, true, false, ◌||◌, nat_le, bytes_eq, codes, None, Option, Some}
 use Rattle.std.proofs.Common.{refl, sym, ap, ap₂, ◌∙◌, ◌≤◌, arith, subst}
 use Rattle.std.proofs.lemmas.Bool.{le-leb}
 use Rattle.es_base.specs.Conforms.{conforms}
@@ -28,12 +28,13 @@ use Rattle.es_steps.specs.PrivateNames.{PrivateMember, private_members}
 use Rattle.es_steps.specs.Reading.{read, read_part, read_items}
 use Rattle.es_steps.specs.References.{declared, varying}
 use Rattle.es_steps.specs.Repeated.{all_places}
-use Rattle.es_steps.specs.Scopes.{body_names}
+use Rattle.es_steps.specs.Shared.{shared}
+use Rattle.es_steps.specs.Scopes.{Declaration, own_name, body_names}
 use Rattle.es_steps.specs.Statements.{value_or_undefined, field_form}
 use Rattle.es_steps.specs.Values.{String, ConstantOf, StringOf, Undefined, ThisOf, ArgumentsOf, Bound, Free}
 use Rattle.es_steps.specs.declared.options.Options.{Options}
 use Rattle.class_properties.proofs.Constructions.{Fields, no_fields, with_field, ArePlain, field_codes, Defines, none_defined, defined, AreLowered, no_constructor, one_constructor, pair_of_classes, ArePairs, RunAlike, ran, value_behind-undefined, pairs-run}
-use Rattle.class_properties.proofs.Declared.{HasNone, source-none, lowered-none, names-definitions, names-lowered, varying-lowered, declaring-lowered, globals-lowered, places-lowered}
+use Rattle.class_properties.proofs.Declared.{HasNone, source-none, lowered-none, names-definitions, names-lowered, varying-lowered, declaring-lowered, globals-lowered, shared-lowered, places-lowered}
 use Rattle.class_properties.proofs.Shaped.{IsValue, no_value, a_literal, a_reference, a_key, a_field, AreFields, a_body, a_name as a_class_name, a_class, AreClasses, IsProgram, a_program, first_form-shaped}
 use Rattle.class_properties.proofs.Numbered.{key_string, value_from, definitions_from, lowered_elements, lowered_statements}
 use Rattle.class_properties.proofs.Numbered as numbered
@@ -132,6 +133,10 @@ definitions-read c d (tree.more p es) l free i (a_field m span semantic_id key v
 
 -- ---- classes
 
+or_false : (a b : Bool) → (a || b) ≡ false → a ≡ false
+or_false true b h = h
+or_false false b h = refl
+
 -- two contexts where the same is known of names, in a body of the same class
 pub record AreAlike (c d : Context) : Type 0 where
   pub ledger : d.ledger ≡ []
@@ -184,17 +189,15 @@ classes-read c d (tree.more p ps) x a (a_class n span semantic_id id body (a_cla
     let lowered_parts : Parts = tree.more id (tree.more tree.absent (tree.more (tree.child (Node Kind.ClassBody j bspan b_semantic_id lowered)) tree.end)) in
     let e : Context = inside (inside c Kind.ClassDeclaration n parts 2) Kind.ClassBody j elements 0 in
     let f : Context = inside (inside d Kind.ClassDeclaration n lowered_parts 2) Kind.ClassBody j lowered 0 in
-    let alike : AreAlike e f = record { ledger = a.ledger; first_new = a.first_new; varying = a.varying; writes_arguments = a.writes_arguments; names = a.names; class = refl } in (
+    let own : Declaration = record { spelling = s; number = i; class_name = own_name n } in
+    let alike : AreAlike e f = record { ledger = a.ledger; first_new = a.first_new; varying = a.varying; writes_arguments = a.writes_arguments; names = ap (λ ns. own ∷ ns) a.names; class = refl } in
+    let helpers : declared (codes "babelHelpers") e.names ≡ None = rw (or_false (bytes_eq (codes "babelHelpers") s) _ other) x.helpers in (
       rw (joined-done (codes_in (read_items e es)), joined-done (codes_in (read_items f (lowered_elements k es))), fields-read e es x.options he, name_kind-same c d s x.ledger a)
-          (pair_of_classes n _ (fields_of e es) _ (fields-plain e es x.ledger he) (elements-read e f es x.ledger x.helpers alike he k new)),
+          (pair_of_classes n _ (fields_of e es) _ (fields-plain e es x.ledger he) (elements-read e f es x.ledger helpers alike he k new)),
       classes-read c d ps x a h _ (still_new k _ new),
     )
 
 -- ---- programs
-
-or_false : (a b : Bool) → (a || b) ≡ false → a ≡ false
-or_false true b h = h
-or_false false b h = refl
 
 -- the name of the helpers is free
 helpers-free : (ps : Parts) → AreClasses ps → declared (codes "babelHelpers") (body_names ps ++ []) ≡ None
@@ -215,8 +218,8 @@ with-parts : (o : Terms) (t : Tree) {d d2 : List (ℕ × ℕ)} {l l2 : Option Li
 with-parts o t a b c e f = rw (a, b, c, e, f) refl
 
 pairs-mean : (first : ℕ) (options : Options) (members : List PrivateMember) (p q : Tree) (cs ds : Codes) → members ≡ [] → ArePairs cs ds → HasNone p → HasNone q
-    → source_type_of q ≡ source_type_of p → declaring first ClassDeclared q ≡ declaring first ClassDeclared p → globals first q ≡ globals first p → all_places first [] [] q ≡ all_places first [] [] p → means_of (terms first options members) q (steps ds) ≡ means_of (terms first options members) p (steps cs)
-pairs-mean first options members p q cs ds none_there h np nq source_type bindings names stand =
+    → source_type_of q ≡ source_type_of p → declaring first ClassDeclared q ≡ declaring first ClassDeclared p → globals first q ≡ globals first p → shared false q ≡ shared false p → all_places first [] [] q ≡ all_places first [] [] p → means_of (terms first options members) q (steps ds) ≡ means_of (terms first options members) p (steps cs)
+pairs-mean first options members p q cs ds none_there h np nq source_type bindings names same_shared stand =
     let o : Terms = terms first options members in
     let run : RunAlike (opening (definitions (steps cs))) (opening (definitions (steps ds))) first cs ds = pairs-run (opening (definitions (steps cs))) (opening (definitions (steps ds))) first cs ds h in
     let es : Option (List (ℕ × Entry)) = whole (entries (opening (definitions (steps cs))) first [] [] (steps cs)) in
@@ -229,7 +232,7 @@ pairs-mean first options members p q cs ds none_there h np nq source_type bindin
     told : (l : Option Listed) (es : Option (List (ℕ × Entry))) → with_all (terms first options members) q [] l es (Some []) (Some []) ≡ with_all (terms first options members) p [] l es (Some []) (Some [])
     told None es = refl
     told (Some l) None = refl
-    told (Some l) (Some es) = rw (source_type, bindings, names, stand, nq.functions, np.functions, nq.links, np.links) refl
+    told (Some l) (Some es) = rw (source_type, bindings, names, same_shared, stand, nq.functions, np.functions, nq.links, np.links) refl
 
 program-means : (t : Tree) → IsProgram t → lowered_means class_properties_alone [] t (numbered.lowered t) ≡ source_means class_properties_alone t
 program-means t (a_program m span semantic_id s all h) =
@@ -247,7 +250,7 @@ program-means t (a_program m span semantic_id s all h) =
     let here : Codes = codes_in (read_items c all) in
     let there : Codes = codes_in (read_items d low) in
     ap (λ cs. means_of o q (steps cs)) (joined-done there)
-    ∙ pairs-mean first class_properties_alone (private_members t) t q here there np.members (classes-read c d all plain alike h first (omega arith)) np nq refl (declaring-lowered first first t p) (globals-lowered first first t p) (places-lowered first t p)
+    ∙ pairs-mean first class_properties_alone (private_members t) t q here there np.members (classes-read c d all plain alike h first (omega arith)) np nq refl (declaring-lowered first first t p) (globals-lowered first first t p) (shared-lowered first t p) (places-lowered first t p)
     ∙ sym (ap (λ cs. means_of o t (steps cs)) (joined-done here))
 
 -- the lowered program means what its source means

@@ -1,5 +1,5 @@
 -- The names that are bound at a node, and at one member of those behind the i-th.
-use Rattle.std.proofs.Common.{◌≡◌, refl, sym, ap, ◌∙◌, ℕ, ◌+◌, ◌<◌, List, [], ◌∷◌, ◌++◌, map, length, drop, get_or, cond, true, false}
+use Rattle.std.proofs.Common.{◌≡◌, refl, ap, ◌∙◌, ℕ, ◌+◌, ◌<◌, List, [], ◌++◌, map, length, drop, get_or, cond, true, false}
 use Rattle.std.proofs.lemmas.List.{at_drop_more}
 use Rattle.es_base.specs.Table.{field_of, members_of}
 use Rattle.es_base.specs.Tree.{Tree, Part, Parts, Node, more}
@@ -7,7 +7,7 @@ use Rattle.es_base.specs.declared.table.Member.{Member}
 use Rattle.es_base.specs.declared.table.Place.{Place}
 use Rattle.es_base.specs.declared.table.Sort.{Sort}
 use Rattle.es_node.specs.View.{kind_of, number_in, parts_in}
-use Rattle.es_steps.specs.Scopes.{Declaration, no_class, is_binding_identifier, binds, declaration, bound_names, bound_members, bound_part}
+use Rattle.es_steps.specs.Scopes.{no_class, is_binding_identifier, binds, declaration, bound_names, bound_members, bound_part}
 
 -- what a list of members has past its end
 abbrev pub any_member : Member

@@ -1,5 +1,5 @@
 -- A map of names holds what was added, by characters.
-use Rattle.std.proofs.Common.{◌≡◌, refl, sym, ap, ◌∙◌, ℕ, ◌+◌, ◌<◌, List, [], ◌∷◌, map, Bool, true, false, cond, Option, Some, None, Bor}
+use Rattle.std.proofs.Common.{◌≡◌, refl, sym, ap, ◌∙◌, ℕ, List, [], ◌∷◌, map, Bool, true, false, cond, Option, Some, Bor}
 use Rattle.std.specs.Prelude.{bytes_eq}
 use Rattle.std.specs.List.{All}
 use Rattle.std.specs.Map as entries
@@ -36,7 +36,7 @@ again : (b : Bool) (n m : ℕ) (o : Option ℕ) → either b n o ≡ either b n 
 again true n m o = refl
 again false n m o = refl
 
-flipped : (a b : List ℕ) → bytes_eq a b ≡ bytes_eq b a
+pub flipped : (a b : List ℕ) → bytes_eq a b ≡ bytes_eq b a
 flipped a b = same_from_decides {P = a ≡ b} _ _ (bytes_eq-Decides a b) (λ t. sym ((bytes_eq-Decides b a).0 t), λ e. (bytes_eq-Decides b a).1 (sym e))
 
 pub inserted : (k : Bor (List ℕ)) (n : ℕ) (es : Entries) → IsUtf8 k.now → AreStrings es → (s : List ℕ) → number_of s (numbers_in (insert_entry same es k n)) ≡ either (bytes_eq s (chars k.now)) n (number_of s (numbers_in es))

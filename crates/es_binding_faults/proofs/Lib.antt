@@ -7,3 +7,8 @@ pub mod Places
 pub mod Plain
 pub mod Hoisting
 pub mod ScopeNames
+pub mod RepeatNames
+pub mod FreeEvals
+pub mod Repeating
+pub mod EvalNames
+pub mod WholeNames

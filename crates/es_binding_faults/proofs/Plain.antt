@@ -1,9 +1,8 @@
 -- Without the classes that they may name, declarations do not depend on where they stand.
-use Rattle.std.proofs.Common.{◌≡◌, refl, sym, ap, ◌∙◌, ℕ, List, [], ◌∷◌, ◌++◌, map, cond, Bool, true, false}
+use Rattle.std.proofs.Common.{◌≡◌, refl, ap, ◌∙◌, List, [], ◌∷◌, ◌++◌, cond, Bool, true, false}
 use Rattle.es_base.specs.Table.{Field, members_of}
 use Rattle.es_base.specs.Tree.{Tree, Part, Parts, Node, end, more, child, absent, list, string, no_string, boolean, literal}
-use Rattle.es_base.specs.declared.kind.Kind.{Kind}
-use Rattle.es_steps.specs.Scopes.{Declaration, ClassName, no_class, is_binding_identifier, binds, declaration, bound_names, bound_members, bound_part, bound_items, declarator_names, declarators_names, let_name, class_in}
+use Rattle.es_steps.specs.Scopes.{Declaration, ClassName, no_class, is_binding_identifier, binds, declaration, bound_names, bound_members, bound_part, bound_items}
 use Rattle.es_binding_faults.specs.Named.{plain, plain_one}
 
 pub plain-append : (ds es : List Declaration) → plain (ds ++ es) ≡ plain ds ++ plain es

@@ -1,8 +1,9 @@
 -- The names of bodies, functions and scopes, one after another.
-use Rattle.std.proofs.Common.{◌≡◌, refl, sym, ap, ◌∙◌, ℕ, List, [], ◌∷◌, ◌++◌, append_assoc, Bool, true, false, cond, nat_eq, arith}
-use Rattle.es_base.specs.Tree.{Part, Parts, end, more}
-use Rattle.es_steps.specs.Parts.{at, items, block_items}
-use Rattle.es_steps.specs.Scopes.{Declaration, no_class, own_name, bound_part, body_names, lexical_part, lexical_items, var_part, ScopeForm, program_scope, function_scope, own_function_scope, arrow_scope, own_class_scope, block_scope, static_block_scope, loop_scope, switch_scope, catch_scope, no_scope, scope_names, seen}
+use Rattle.std.proofs.Common.{◌≡◌, refl, sym, ap, ◌∙◌, ℕ, List, ◌++◌, false, cond, nat_eq, arith}
+use Rattle.es_base.specs.Tree.{Part, Parts, more}
+use Rattle.es_steps.specs.Parts.{at, block_items}
+use Rattle.es_steps.specs.Scopes.{Declaration, no_class, own_name, bound_part, body_names, lexical_part, var_part, ScopeForm, program_scope, function_scope, own_function_scope, arrow_scope, own_class_scope, block_scope, static_block_scope, loop_scope, switch_scope, catch_scope, no_scope, scope_names, seen}
+use Rattle.es_validity.specs.Facts.{counted}
 use Rattle.es_binding_faults.proofs.Hoisting.{lexical-part, var-part}
 use Rattle.es_binding_faults.proofs.Plain.{plain-append, plain-bound_part}
 use Rattle.es_binding_faults.specs.Hoisted.{hoisted_part}
@@ -41,3 +42,30 @@ seen_arrow ps i e = ap (λ b. plain (cond b (bound_part no_class (at 0 ps)) (sco
 
 pub catch_counted : (ps : Parts) → plain (bound_part no_class (at 0 ps) ++ var_part (at 1 ps)) ≡ bound_part no_class (at 0 ps) ++ hoisted_part Hoist.Var (at 1 ps)
 catch_counted ps = plain-append (bound_part no_class (at 0 ps)) (var_part (at 1 ps)) ∙ ap (λ (ds : List Declaration). ds ++ plain (var_part (at 1 ps))) (plain-bound_part no_class (at 0 ps)) ∙ ap (λ (ds : List Declaration). bound_part no_class (at 0 ps) ++ ds) (var-part (at 1 ps))
+
+-- which class or program it is does not matter
+pub counted-plain : (form : ScopeForm) (m : ℕ) (ps : Parts) → plain (counted form 0 ps) ≡ plain (counted form m ps)
+counted-plain program_scope m ps = refl
+counted-plain function_scope m ps = refl
+counted-plain own_function_scope m ps = refl
+counted-plain arrow_scope m ps = refl
+counted-plain own_class_scope m ps = plain-bound_part (own_name 0) (at 0 ps) ∙ sym (plain-bound_part (own_name m) (at 0 ps))
+counted-plain block_scope m ps = refl
+counted-plain static_block_scope m ps = refl
+counted-plain loop_scope m ps = refl
+counted-plain switch_scope m ps = refl
+counted-plain catch_scope m ps = refl
+counted-plain no_scope m ps = refl
+
+pub seen-plain : (form : ScopeForm) (m : ℕ) (ps : Parts) (i : ℕ) → plain (seen form 0 ps i) ≡ plain (seen form m ps i)
+seen-plain program_scope m ps i = refl
+seen-plain function_scope m ps i = refl
+seen-plain own_function_scope m ps i = refl
+seen-plain arrow_scope m ps i = refl
+seen-plain own_class_scope m ps i = plain-bound_part (own_name 0) (at 0 ps) ∙ sym (plain-bound_part (own_name m) (at 0 ps))
+seen-plain block_scope m ps i = refl
+seen-plain static_block_scope m ps i = refl
+seen-plain loop_scope m ps i = refl
+seen-plain switch_scope m ps i = refl
+seen-plain catch_scope m ps i = refl
+seen-plain no_scope m ps i = refl

@@ -51,10 +51,7 @@ fn binds(sort: Sort) -> bool
 }
 
 /// Adds an identifier. Fails on allocation failure alone.
-pub fn add_identifier<'a>(
-    node: &'a Node,
-    names: &mut Vec<Declared<'a>>,
-) -> Result<(), AllocError>
+pub fn add_identifier<'a>(node: &'a Node, names: &mut Vec<Declared<'a>>) -> Result<(), AllocError>
     requires { kind_of node.now ≡ Kind.BindingIdentifier }
     ensures { OnOk result (named names.new.items ≡ named names.old.items ++ declaration no_class (number_in node.now) (parts_in node.now)) }
 {

@@ -212,10 +212,8 @@ fn add_own<'a>(
 {
     match (hoist, form) {
         (_, StatementForm::Variables) => add_variables(hoist, parts, names),
-        (
-            Hoist::Lexical,
-            StatementForm::Function | StatementForm::Class | StatementForm::Imports,
-        ) => add_bound_at(parts, 0, names),
+        (Hoist::Lexical, StatementForm::Function | StatementForm::Class | StatementForm::Imports) =>
+            add_bound_at(parts, 0, names),
         _ => Ok(()),
     }
 }

@@ -3,9 +3,13 @@
 #![tactic(auto)]
 
 pub mod bound;
+pub mod check;
 pub mod counted;
+pub mod evals;
+pub mod facts;
 pub mod hoisted;
 pub mod leasts;
 pub mod numbers;
 pub mod preorder;
+pub mod repeats;
 pub mod scopes;

@@ -1,5 +1,5 @@
 -- An evaluation of the definitions, and the same over a state: what the second adds to the state is what the first gives.
-use Rattle.std.proofs.Common.{◌≡◌, refl, sym, ap, ap₂, ◌∙◌, subst, ℕ, suc, ◌-◌, ◌+◌, List, [], ◌∷◌, ◌++◌, append_assoc, length, drop, Bool, true, false, ◌||◌, ◌&&◌, cond, Option, Some, None, option_map, arith}
+use Rattle.std.proofs.Common.{◌≡◌, refl, sym, ap, ◌∙◌, subst, ℕ, ◌-◌, ◌+◌, List, [], ◌∷◌, ◌++◌, append_assoc, length, drop, Bool, true, false, ◌||◌, ◌&&◌, cond, Option, Some, None, arith}
 use Rattle.std.proofs.lemmas.List.{append-nil}
 use Rattle.std.proofs.Common.{length-append}
 use Rattle.es_steps.specs.Events.{Event, Events, none, then, behind, is_throw, value_behind, Held, Place, ReadName, SetName, Get, Set, Define, Call, Construct, Operate, Update, PrivateGet, PrivateSet, PrivateInitialize, PrivateIn, AddBrand, SuperGet, SuperSet, SuperCall, SuperCallWithAll, EnterBody, InitializeClass, Throw, Short}
@@ -8,7 +8,7 @@ use Rattle.es_steps.specs.Evaluation.{Environment, Run, Evaluation, run_behind, 
 use Rattle.es_steps.specs.Evaluation as of
 use Rattle.es_steps.specs.SameValues.{same_value}
 use Rattle.es_steps.specs.Values.{String, Value, Undefined, ThisOf, ResultOf, is_class_value}
-use Rattle.es_evaluation.specs.Flat.{Token, single, begin, ends, flat, flat_event, tokens}
+use Rattle.es_evaluation.specs.Flat.{Token, begin, ends, flat, flat_event, tokens}
 use Rattle.es_evaluation.specs.Direct.{State, Step, next, and_then, pushed, with_token, emit, unless_thrown, entered, left, settle_with, settled, kept, opened, closed, close, apart, quiet_with, is_none, stays_with, class_with, this_with, with_name}
 use Rattle.es_evaluation.specs.Direct as direct
 use Rattle.es_evaluation.specs.Agreement.{behind_state, onto, Fine, IsFine, Follows}

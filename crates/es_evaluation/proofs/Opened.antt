@@ -1,14 +1,14 @@
 -- What is opened over a state is what the definitions open.
-use Rattle.std.proofs.Common.{◌≡◌, refl, sym, ap, ◌∙◌, ℕ, zero, suc, List, [], ◌∷◌, Bool, true, false, ◌||◌, cond, Option, Some, None, length}
-use Rattle.es_steps.specs.Code.{Code, Codes, Opened, InitializersOf, BodyOf, CalledBodyOf, done, and}
+use Rattle.std.proofs.Common.{◌≡◌, refl, sym, ap, ◌∙◌, ℕ, zero, suc, List, [], Bool, true, false, cond, Option, Some, None, length}
+use Rattle.es_steps.specs.Code.{Code, Codes, Opened, InitializersOf, done, and}
 use Rattle.es_steps.specs.Evaluation.{Environment, Run, Evaluation, settle, settle_run, go_on, ev, ev_field, ev_fields, ev_initializers, has_instance_methods}
 use Rattle.es_steps.specs.Evaluation as of
 use Rattle.es_steps.specs.Events as of_events
 use Rattle.es_steps.specs.Opening.{Definition, of_class, of_name, of_called, definition_of, without_definition}
 use Rattle.es_steps.specs.Opening as of_opening
 use Rattle.es_steps.specs.Values.{Value, Undefined}
-use Rattle.es_evaluation.specs.Direct.{State, Step, settled, settle_with, unless_thrown, entered, left, form, construction, definition, opening_in, opening, evaluated}
-use Rattle.es_evaluation.specs.Agreement.{Follows, behind_state, onto}
+use Rattle.es_evaluation.specs.Direct.{State, Step, settled, settle_with, form, definition, opening_in, opening, evaluated}
+use Rattle.es_evaluation.specs.Agreement.{Follows, onto}
 use Rattle.es_evaluation.proofs.Follows.{follows_none}
 use Rattle.es_evaluation.proofs.Same.{follows, construction_follows}
 

@@ -1,20 +1,19 @@
 -- Evaluation over a state is the evaluation of the definitions.
-use Rattle.std.proofs.Common.{◌≡◌, refl, sym, ap, ap₂, ◌∙◌, subst, ℕ, suc, List, [], ◌∷◌, ◌++◌, append_assoc, Bool, true, false, ◌||◌, ◌&&◌, cond, Option, Some, None, option_map}
+use Rattle.std.proofs.Common.{◌≡◌, refl, sym, ap, ap₂, ◌∙◌, subst, ℕ, suc, List, [], ◌∷◌, ◌++◌, append_assoc, Bool, true, false, ◌||◌, cond, Option, Some, None, option_map}
 use Rattle.std.proofs.lemmas.List.{append-nil}
 use Rattle.es_base.specs.declared.kind.Kind.{Kind}
 use Rattle.es_base.specs.declared.ledger.GeneratedKind.{GeneratedKind}
 use Rattle.es_steps.specs.Code.{Code, Codes, Target, Callee, FieldForm, defines, sets, leaves_out, TemplateString, Opened, InitializersOf, BodyOf, CalledBodyOf, nothing, no_rule, value, spelled, private_name, binding, rest, name, super, member, private_member, super_member, private_in, assign, compound, logical, logical_assign, update, call, tag, construct, super_call, super_call_with_all, sequence, template_string, template, operation, piece, chain, short, tested, pattern, takes, steps, gives_to, export_default, function, new_function, new_return, class_code, field, private_field, method, private_method, constructor, static_block, generated_element, from_call, from_member, key_of, helper, helper_call, throw, define, private_initialize, add_brand, bound, setter, private_value, call_arrow, call_closure, initializers, give_function, give_class, to_name, to_member, to_private, to_super, to_setter, to_pattern, to_default, no_target, plain, on_member, on_private, on_super, with_receiver, checked, on_chain, behind_test, done, and}
 use Rattle.es_steps.specs.Context.{NameKind, Fixed, Changing, MeansClass, Generated, StaticMethod}
-use Rattle.es_steps.specs.Evaluation.{Environment, Run, Evaluation, bind, settle, settle_run, ev, ev_target, ev_callee, ev_all, ev_held, ev_keys, ev_key, ev_statics, ev_static, ev_fields, ev_field, ev_taken, ev_take, ev_again, ev_behind, ev_initializers, Ready, ready_name, ready_member, ready_private, ready_super, ready_setter, ready_pattern, read_ready, write_ready, tested_then, has_receiver, nullable_gives, receiver_in, go_on, new_or_former, binary, last_of, tag_values, template_details, template_constant, has_instance_methods, private_key, default_key}
+use Rattle.es_steps.specs.Evaluation.{Environment, Run, Evaluation, bind, settle, settle_run, ev, ev_target, ev_callee, ev_all, ev_converted, ev_held, ev_keys, ev_key, ev_statics, ev_static, ev_fields, ev_field, ev_taken, ev_take, ev_again, ev_behind, ev_initializers, Ready, ready_name, ready_member, ready_private, ready_super, ready_setter, ready_pattern, read_ready, write_ready, tested_then, has_receiver, nullable_gives, receiver_in, go_on, new_or_former, binary, last_of, tag_values, template_details, template_constant, has_instance_methods, private_key, default_key}
 use Rattle.es_steps.specs.Evaluation as of
-use Rattle.es_steps.specs.Events.{Detail, Operation, OfKind, Take, Place, RightOf, Default, Part, Event, Events, none, then, value_behind, ReadName, SetName, Get, Set, Define, Call, Construct, Operate, Update, PrivateGet, PrivateSet, PrivateInitialize, PrivateIn, AddBrand, SuperGet, SuperSet, SuperCall, SuperCallWithAll, InitializeClass, Throw, Short, Held}
+use Rattle.es_steps.specs.Events.{Detail, Operation, OfKind, Take, Index, Place, RightOf, Default, Part, Event, Events, none, then, value_behind, ReadName, SetName, Get, Set, Define, Call, Construct, Operate, Update, PrivateGet, PrivateSet, PrivateInitialize, PrivateIn, AddBrand, SuperGet, SuperSet, SuperCall, SuperCallWithAll, InitializeClass, Throw, Short, Held}
 use Rattle.es_steps.specs.Events as of_events
-use Rattle.es_steps.specs.Values.{String, Value, ConstantOf, Undefined, BindingOf, FunctionOf, ClassOf, ThisOf, ArgumentsOf, NewTargetOf, ResultOf, FormerOf, KeyOf, Constant, TagString, Bound, as_key, is_class_value}
-use Rattle.es_steps.specs.PrivateNames.{PrivateReference}
-use Rattle.es_evaluation.specs.Flat.{Token, single, begin, ends}
-use Rattle.es_evaluation.specs.Direct.{State, Step, next, and_then, emit, settled, settle_with, unless_thrown, entered, left, Operands, no_operand, one_operand, two_operands, form, operands, read, write, taken, take, callee, test_with, once_more, all, parts, keys, key, statics, static_element, fields, instance_field, construction, close_callee, opened, closed}
+use Rattle.es_steps.specs.Values.{String, Value, ConstantOf, Undefined, BindingOf, FunctionOf, ClassOf, ThisOf, ArgumentsOf, NewTargetOf, ResultOf, FormerOf, KeyOf, TagString, Bound, as_key, is_class_value}
+use Rattle.es_evaluation.specs.Flat.{single, ends}
+use Rattle.es_evaluation.specs.Direct.{State, Step, next, and_then, emit, settled, settle_with, unless_thrown, entered, left, Operands, no_operand, one_operand, two_operands, form, operands, read, write, taken, take, callee, test_with, once_more, all, converted, parts, keys, key, statics, static_element, fields, instance_field, construction, close_callee, opened, closed}
 use Rattle.es_evaluation.specs.Direct as direct
-use Rattle.es_evaluation.specs.Agreement.{Follows, IsFine, Fine, onto, behind_state}
+use Rattle.es_evaluation.specs.Agreement.{Follows, IsFine, onto, behind_state}
 use Rattle.es_evaluation.proofs.Follows.{held_state, bind_at, fine_held, fine_on, follows_as, follows_by, follows_bind, follows_none, follows_gives, follows_event, follows_throw, follows_settle, follows_held, follows_quiet, follows_stays, follows_class, follows_this, follows_given, follows_stands}
 
 -- ---- steps in steps
@@ -53,6 +52,13 @@ kept_by false x v = follows_stands x v
 kept_follows : (x : String) (v : Value) → Follows (of.kept_as x v) (direct.kept_as x v)
 kept_follows x v = kept_by (of.is_binding_value v) x v
 
+held_by : (b : Bool) (x : String) (v : Value) → Follows (cond b (of.gives v) (of.stands_for x v)) (cond b (direct.gives v) (direct.stands_for x v))
+held_by true x v = follows_gives v
+held_by false x v = follows_stands x v
+
+element_follows : (x : String) (v : Value) → Follows (of.element_holds x v) (direct.element_holds x v)
+element_follows x v = held_by (of.is_binding_value v) x v
+
 given_follows : (m : ℕ) (x : String) (v : Value) → Follows (of.given_as m x v) (direct.given_as m x v)
 given_follows m x (KeyOf v) = follows_stands x (cond (of.is_binding_value v) (ResultOf m) (KeyOf v))
 given_follows m x (ConstantOf c) = kept_follows x (ConstantOf c)
@@ -83,7 +89,7 @@ write_generated_follows m GeneratedKind.Param x v = follows_none
 write_name_follows : (m : ℕ) (x : String) (kind : NameKind) (v : Value) → Follows (of.write_name m x kind v) (direct.write_name m x kind v)
 write_name_follows m x (Fixed b) v = follows_event (SetName (Bound b) v) v (single (SetName (Bound b) v)) refl refl
 write_name_follows m x (Changing r) v = follows_event (SetName r v) v (single (SetName r v)) refl refl
-write_name_follows m x (MeansClass n b) v = follows_event (SetName (Bound b) v) v (single (SetName (Bound b) v)) refl refl
+write_name_follows m x (MeansClass n b) v = follows_throw
 write_name_follows m x (Generated g) v = write_generated_follows m g x v
 write_name_follows m x (StaticMethod d n) v = follows_none
 
@@ -332,7 +338,7 @@ module _ (opens : Opened → Evaluation) (opens_d : Opened → Step Value) (open
     follows (super_call m n o es) = follows_settle (ev_all opens es (λ vs. bind (of.event (SuperCall m n vs) (ThisOf n)) (λ v. ev_behind opens n o))) (and_then (all opens_d [] es) (λ vs. and_then (emit (single (SuperCall m n vs)) (ThisOf n)) (λ v. direct.ev_behind opens_d n o))) (all_follows [] es (λ vs. bind (of.event (SuperCall m n vs) (ThisOf n)) (λ v. ev_behind opens n o)) (λ vs. and_then (emit (single (SuperCall m n vs)) (ThisOf n)) (λ v. direct.ev_behind opens_d n o)) (λ vs. follows_bind (of.event (SuperCall m n vs) (ThisOf n)) (emit (single (SuperCall m n vs)) (ThisOf n)) (λ v. ev_behind opens n o) (λ v. direct.ev_behind opens_d n o) (follows_event (SuperCall m n vs) (ThisOf n) (single (SuperCall m n vs)) refl refl) (λ v. behind_follows n o)))
     follows (super_call_with_all n) = follows_settle (bind (of.event (SuperCallWithAll n) (ThisOf n)) (λ v. bind (opens (InitializersOf n)) (λ w. of.gives (ThisOf n)))) (and_then (emit (single (SuperCallWithAll n)) (ThisOf n)) (λ v. and_then (opens_d (InitializersOf n)) (λ w. direct.gives (ThisOf n)))) (follows_bind (of.event (SuperCallWithAll n) (ThisOf n)) (emit (single (SuperCallWithAll n)) (ThisOf n)) (λ v. bind (opens (InitializersOf n)) (λ w. of.gives (ThisOf n))) (λ v. and_then (opens_d (InitializersOf n)) (λ w. direct.gives (ThisOf n))) (follows_event (SuperCallWithAll n) (ThisOf n) (single (SuperCallWithAll n)) refl refl) (λ v. follows_bind (opens (InitializersOf n)) (opens_d (InitializersOf n)) (λ w. of.gives (ThisOf n)) (λ w. direct.gives (ThisOf n)) (opened_follows (InitializersOf n)) (λ w. follows_gives (ThisOf n))))
     follows (sequence es) = follows_settle (ev_all opens es (λ vs. of.gives (last_of Undefined vs))) (and_then (all opens_d [] es) (λ vs. direct.gives (last_of Undefined vs))) (all_follows [] es (λ vs. of.gives (last_of Undefined vs)) (λ vs. direct.gives (last_of Undefined vs)) (λ vs. follows_gives (last_of Undefined vs)))
-    follows (template m ts es) = follows_settle (ev_all opens es (λ vs. of.ev_template m ts vs)) (and_then (all opens_d [] es) (λ vs. direct.ev_template m ts vs)) (all_follows [] es (λ vs. of.ev_template m ts vs) (λ vs. direct.ev_template m ts vs) (λ vs. template_follows m ts vs))
+    follows (template m ts es) = follows_settle (ev_converted opens m 0 es (λ vs. of.ev_template m ts vs)) (and_then (converted opens_d m 0 [] es) (λ vs. direct.ev_template m ts vs)) (converted_follows m 0 [] es (λ vs. of.ev_template m ts vs) (λ vs. direct.ev_template m ts vs) (λ vs. template_follows m ts vs))
     follows (operation m op es ps) = follows_settle (ev_all opens es (λ vs. ev_held opens m 0 ps (of.event (Operate m op vs) (ResultOf m)))) (and_then (all opens_d [] es) (λ vs. and_then (parts opens_d m 0 ps) (λ u. emit (single (Operate m op vs)) (ResultOf m)))) (all_follows [] es (λ vs. ev_held opens m 0 ps (of.event (Operate m op vs) (ResultOf m))) (λ vs. and_then (parts opens_d m 0 ps) (λ u. emit (single (Operate m op vs)) (ResultOf m))) (λ vs. parts_follow m 0 ps (of.event (Operate m op vs) (ResultOf m)) (emit (single (Operate m op vs)) (ResultOf m)) (follows_event (Operate m op vs) (ResultOf m) (single (Operate m op vs)) refl refl)))
     follows (chain m e) = follows_as (settle (of.held m (Part 0) (None) (ev opens e))) (of.held m (Part 0) (None) (ev opens e)) (settled (direct.held m (Part 0) (None) (settled (form opens_d e)))) (λ env. settle-held m (Part 0) None env (ev opens e env)) (follows_settle (of.held m (Part 0) (None) (ev opens e)) (direct.held m (Part 0) (None) (settled (form opens_d e))) (follows_held m (Part 0) (None) (ev opens e) (settled (form opens_d e)) (follows e)))
     follows (short e) = follows_settle (bind (ev opens e) (λ v. of.event (Short v) (v))) (and_then (settled (form opens_d e)) (λ v. emit (single (Short v)) (v))) (follows_bind (ev opens e) (settled (form opens_d e)) (λ v. of.event (Short v) (v)) (λ v. emit (single (Short v)) (v)) (follows e) (λ v. follows_event (Short v) (v) (single (Short v)) refl refl))
@@ -498,6 +504,15 @@ module _ (opens : Opened → Evaluation) (opens_d : Opened → Step Value) (open
     again_follows v done = follows_gives Undefined
     again_follows v (and c cs) = follows_stays v (ev opens c) (settled (form opens_d c)) (follows c)
 
+    converted_follows : (m i : ℕ) (vs : List Value) (es : Codes) (f : List Value → Evaluation) (g : List Value → Step Value) → ((ws : List Value) → Follows (f ws) (g (vs ++ ws))) → Follows (ev_converted opens m i es f) (and_then (converted opens_d m i vs es) g)
+    converted_follows m i vs done f g h = subst (λ (ws : List Value). Follows (f []) (g ws)) (append-nil vs) (h [])
+    converted_follows m i vs (and e es) f g h =
+        follows_flat (ev_converted opens m i (and e es) f) (settled (form opens_d e)) (λ v. and_then (emit (single (Operate m (Take (Index i ∷ [])) (v ∷ []))) v) (λ w. converted opens_d m (suc i) (vs ++ v ∷ []) es)) g
+        (follows_bind (ev opens e) (settled (form opens_d e)) (λ v. bind (of.event (Operate m (Take (Index i ∷ [])) (v ∷ [])) v) (λ w. ev_converted opens m (suc i) es (λ ws. f (v ∷ ws)))) (λ v. and_then (and_then (emit (single (Operate m (Take (Index i ∷ [])) (v ∷ []))) v) (λ w. converted opens_d m (suc i) (vs ++ v ∷ []) es)) g) (follows e)
+        (λ v. follows_flat (bind (of.event (Operate m (Take (Index i ∷ [])) (v ∷ [])) v) (λ w. ev_converted opens m (suc i) es (λ ws. f (v ∷ ws)))) (emit (single (Operate m (Take (Index i ∷ [])) (v ∷ []))) v) (λ w. converted opens_d m (suc i) (vs ++ v ∷ []) es) g
+        (follows_bind (of.event (Operate m (Take (Index i ∷ [])) (v ∷ [])) v) (emit (single (Operate m (Take (Index i ∷ [])) (v ∷ []))) v) (λ w. ev_converted opens m (suc i) es (λ ws. f (v ∷ ws))) (λ w. and_then (converted opens_d m (suc i) (vs ++ v ∷ []) es) g) (follows_event (Operate m (Take (Index i ∷ [])) (v ∷ [])) v (single (Operate m (Take (Index i ∷ [])) (v ∷ []))) refl refl)
+        (λ w. converted_follows m (suc i) (vs ++ v ∷ []) es (λ ws. f (v ∷ ws)) g (λ ws. subst (λ (us : List Value). Follows (f (v ∷ ws)) (g us)) (sym (append_assoc vs (v ∷ []) ws)) (h (v ∷ ws)))))))
+
     all_follows : (vs : List Value) (es : Codes) (f : List Value → Evaluation) (g : List Value → Step Value) → ((ws : List Value) → Follows (f ws) (g (vs ++ ws))) → Follows (ev_all opens es f) (and_then (all opens_d vs es) g)
     all_follows vs done f g h = subst (λ (ws : List Value). Follows (f []) (g ws)) (append-nil vs) (h [])
     all_follows vs (and e es) f g h =
@@ -596,7 +611,7 @@ module _ (opens : Opened → Evaluation) (opens_d : Opened → Step Value) (open
     static_follows n a (private_field true d e) = follows_bind (ev opens e) (settled (form opens_d e)) (λ v. of.event (PrivateInitialize d (ClassOf n) v) (Undefined)) (λ v. emit (single (PrivateInitialize d (ClassOf n) v)) (Undefined)) (follows e) (λ v. follows_event (PrivateInitialize d (ClassOf n) v) (Undefined) (single (PrivateInitialize d (ClassOf n) v)) refl refl)
     static_follows n a (private_field false d e) = follows_gives Undefined
     static_follows n a (static_block es) = all_follows [] es (λ vs. of.gives (Undefined)) (λ vs. direct.gives (Undefined)) (λ vs. follows_gives (Undefined))
-    static_follows n a (generated_element x e) = follows_bind (ev opens e) (settled (form opens_d e)) (λ v. of.kept_as (private_key x) v) (λ v. direct.kept_as (private_key x) v) (follows e) (λ v. kept_follows (private_key x) v)
+    static_follows n a (generated_element x e) = follows_bind (ev opens e) (settled (form opens_d e)) (λ v. of.element_holds (private_key x) v) (λ v. direct.element_holds (private_key x) v) (follows e) (λ v. element_follows (private_key x) v)
     static_follows n a nothing = follows_gives Undefined
     static_follows n a no_rule = follows_gives Undefined
     static_follows n a (value x0) = follows_gives Undefined

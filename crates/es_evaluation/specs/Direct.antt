@@ -3,13 +3,13 @@
 use Rattle.std.specs.Prelude.{ℕ, zero, suc, List, [], ◌∷◌, ◌++◌, ◌-◌, Bool, true, false, cond, ◌||◌, ◌&&◌, length, drop, Option, Some, None, option_map}
 use Rattle.es_base.specs.declared.kind.Kind.{Kind}
 use Rattle.es_base.specs.declared.ledger.GeneratedKind.{GeneratedKind}
-use Rattle.es_steps.specs.Code.{Code, Codes, Target, Callee, FieldForm, defines, sets, leaves_out, TemplateString, Opened, InitializersOf, BodyOf, CalledBodyOf, nothing, no_rule, value, spelled, private_name, binding, rest, name, super, member, private_member, super_member, private_in, assign, compound, logical, logical_assign, update, call, tag, construct, super_call, super_call_with_all, sequence, template_string, template, operation, piece, chain, short, tested, pattern, takes, steps, gives_to, export_default, function, new_function, new_return, class_code, field, private_field, method, private_method, constructor, static_block, generated_element, from_call, from_member, key_of, helper, helper_call, throw, define, private_initialize, add_brand, bound, setter, private_value, call_arrow, call_closure, initializers, give_function, give_class, to_name, to_member, to_private, to_super, to_setter, to_pattern, to_default, no_target, plain, on_member, on_private, on_super, with_receiver, checked, on_chain, behind_test, done, and}
+use Rattle.es_steps.specs.Code.{Code, Codes, Target, Callee, FieldForm, defines, sets, leaves_out, TemplateString, Opened, InitializersOf, BodyOf, nothing, no_rule, value, spelled, private_name, binding, rest, name, super, member, private_member, super_member, private_in, assign, compound, logical, logical_assign, update, call, tag, construct, super_call, super_call_with_all, sequence, template_string, template, operation, piece, chain, short, tested, pattern, takes, steps, gives_to, export_default, function, new_function, new_return, class_code, field, private_field, method, private_method, constructor, static_block, generated_element, from_call, from_member, key_of, helper, helper_call, throw, define, private_initialize, add_brand, bound, setter, private_value, call_arrow, call_closure, initializers, give_function, give_class, to_name, to_member, to_private, to_super, to_setter, to_pattern, to_default, no_target, plain, on_member, on_private, on_super, with_receiver, checked, on_chain, behind_test, done, and}
 use Rattle.es_steps.specs.Context.{NameKind, Fixed, Changing, MeansClass, Generated, StaticMethod}
-use Rattle.es_steps.specs.Evaluation.{Environment, found, private_key, default_key, last_of, binary, new_or_former, is_binding_value, has_receiver, template_details, template_constant, tag_values, has_instance_methods}
-use Rattle.es_steps.specs.Events.{Detail, Operation, OfKind, Take, Place, RightOf, Default, Part, ReadName, SetName, Get, Set, Define, Call, Construct, Operate, Update, PrivateGet, PrivateSet, PrivateInitialize, PrivateIn, AddBrand, SuperGet, SuperSet, SuperCall, SuperCallWithAll, InitializeClass, Throw, Short}
+use Rattle.es_steps.specs.Evaluation.{Environment, found, private_key, default_key, last_of, binary, new_or_former, is_binding_value, template_details, template_constant, tag_values, has_instance_methods}
+use Rattle.es_steps.specs.Events.{OfKind, Take, Index, Place, RightOf, Default, Part, ReadName, SetName, Get, Set, Define, Call, Construct, Operate, Update, PrivateGet, PrivateSet, PrivateInitialize, PrivateIn, AddBrand, SuperGet, SuperSet, SuperCall, SuperCallWithAll, InitializeClass, Throw, Short}
 use Rattle.es_steps.specs.Opening.{Definition, of_class, of_name, of_called, definition_of, without_definition}
 use Rattle.es_steps.specs.SameValues.{same_value}
-use Rattle.es_steps.specs.Values.{String, Value, ConstantOf, Undefined, BindingOf, FunctionOf, ClassOf, ThisOf, ResultOf, FormerOf, KeyOf, Constant, TagString, Bound, as_key, is_class_value}
+use Rattle.es_steps.specs.Values.{String, Value, ConstantOf, Undefined, BindingOf, FunctionOf, ClassOf, ThisOf, ResultOf, KeyOf, TagString, Bound, as_key, is_class_value}
 use Rattle.es_evaluation.specs.Flat.{Token, single, begin, ends}
 
 -- The temporaries, the last given first; the tokens so far; whether a throw stands in this list, behind which tokens are
@@ -174,6 +174,10 @@ stands_for x v s = Some (v, with_name x v s)
 abbrev pub kept_as : String → Value → Step Value
 kept_as x v = cond (is_binding_value v) no_meaning (stands_for x v)
 
+-- a generated element is evaluated whatever its value is
+abbrev pub element_holds : String → Value → Step Value
+element_holds x v = cond (is_binding_value v) (gives v) (stands_for x v)
+
 -- nor is its key
 abbrev pub given_as : ℕ → String → Value → Step Value
 given_as m x (KeyOf v) = stands_for x (cond (is_binding_value v) (ResultOf m) (KeyOf v))
@@ -186,7 +190,7 @@ write_generated m g x v = no_meaning
 abbrev pub write_name : ℕ → String → NameKind → Value → Step Value
 write_name m x (Fixed b) v = emit (single (SetName (Bound b) v)) v
 write_name m x (Changing r) v = emit (single (SetName r v)) v
-write_name m x (MeansClass n b) v = emit (single (SetName (Bound b) v)) v
+write_name m x (MeansClass n b) v = throws
 write_name m x (Generated g) v = write_generated m g x v
 write_name m x (StaticMethod d n) v = no_meaning
 
@@ -271,7 +275,7 @@ module _ (opens : Opened → Step Value) where
     form (super_call_with_all n) = and_then (emit (single (SuperCallWithAll n)) (ThisOf n)) (λ v. and_then (opens (InitializersOf n)) (λ w. gives (ThisOf n)))
     form (sequence es) = and_then (all [] es) (λ vs. gives (last_of Undefined vs))
     form (template_string t) = no_meaning
-    form (template m ts es) = and_then (all [] es) (λ vs. ev_template m ts vs)
+    form (template m ts es) = and_then (converted m 0 [] es) (λ vs. ev_template m ts vs)
     form (operation m op es ps) = and_then (all [] es) (λ vs. and_then (parts m 0 ps) (λ u. emit (single (Operate m op vs)) (ResultOf m)))
     form (piece ds es) = no_meaning
     form (chain m e) = held m (Part 0) None (settled (form e))
@@ -368,6 +372,11 @@ module _ (opens : Opened → Step Value) where
     all vs done = gives vs
     all vs (and e es) = and_then (settled (form e)) (λ v. all (vs ++ v ∷ []) es)
 
+    -- those of the expressions of template m from the i-th on, each made a string
+    pub converted : ℕ → ℕ → List Value → Codes → Step (List Value)
+    converted m i vs done = gives vs
+    converted m i vs (and e es) = and_then (settled (form e)) (λ v. and_then (emit (single (Operate m (Take (Index i ∷ [])) (v ∷ []))) v) (λ w. converted m (suc i) (vs ++ v ∷ []) es))
+
     -- parts from the i-th on, each with a list of its own
     pub parts : ℕ → ℕ → Codes → Step Value
     parts m i done = gives Undefined
@@ -397,7 +406,7 @@ module _ (opens : Opened → Step Value) where
     static_element n a (field true shape k e) = and_then (settled (form e)) (λ v. initialized shape (ClassOf n) a v)
     static_element n a (private_field true d e) = and_then (settled (form e)) (λ v. emit (single (PrivateInitialize d (ClassOf n) v)) Undefined)
     static_element n a (static_block es) = and_then (all [] es) (λ vs. gives Undefined)
-    static_element n a (generated_element x e) = and_then (settled (form e)) (λ v. kept_as (private_key x) v)
+    static_element n a (generated_element x e) = and_then (settled (form e)) (λ v. element_holds (private_key x) v)
     static_element n a e = gives Undefined
 
     -- instance fields in order, each its value and then its definition

@@ -1,6 +1,6 @@
 -- A list of events as a list of tokens.
 use Rattle.std.specs.Prelude.{ℕ, List, [], ◌∷◌, Bool, true, false, ◌&&◌, nat_eq, Option}
-use Rattle.es_steps.specs.Events.{Place, Event, ReadName, SetName, Get, Set, Define, Call, Construct, Operate, Update, PrivateGet, PrivateSet, PrivateInitialize, PrivateIn, AddBrand, SuperGet, SuperSet, SuperCall, SuperCallWithAll, InitializeClass, Throw, Short, Held, Events, none, then}
+use Rattle.es_steps.specs.Events.{Place, Event, Held, Events, none, then}
 use Rattle.es_steps.specs.SameMeanings.{same_event, same_option, same_place, same_list}
 use Rattle.es_steps.specs.SameValues.{same_value}
 use Rattle.es_steps.specs.Values.{Value}

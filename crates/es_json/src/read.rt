@@ -10,6 +10,7 @@ ghost use Rattle.es_reading.specs.declared.numbers.Numbers.{Numbers};
 ghost use Rattle.es_json.specs.Typed.{program_tree};
 ghost use Rattle.serde_json.specs.View.{view};
 
+use borrowed_json::owned::borrowed;
 use es_reading::fault::ReadError;
 use es_reading::numbers::Numbers;
 use es_reading::tree::read_tree;
@@ -56,6 +57,7 @@ fn read_as(alloc: Global, value: &Value, numbers: Numbers) -> Result<Program, Re
     ensures conforms { IfOk result (λ p. conforms Place.Program (program_tree p) ≡ true) }
     ensures err { IfErr result (λ e. Tells e (read numbers (view value.now) root 0)) }
 {
-    let (tree, foreign) = read_tree(alloc, value, numbers)?;
+    let borrowed = borrowed(alloc, value)?;
+    let (tree, foreign) = read_tree(alloc, &borrowed, numbers)?;
     Ok(Program::from_node(tree, foreign))
 }

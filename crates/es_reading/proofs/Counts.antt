@@ -2,8 +2,8 @@
 use Rattle.std.proofs.Common.{◌≡◌, refl, sym, ap, ◌∙◌, ℕ, ◌+◌, ◌-◌, ◌^◌, ◌<◌, min, nat_eq, List, [], ◌∷◌, length, Bool, not, Option, Some, option_and_then, arith}
 use Rattle.std.specs.Prelude.{◌&&◌, is_some}
 use Rattle.serde_json.specs.Data.{Items}
-use Rattle.serde_json.specs.View.{items_view}
-use Rattle.serde_json.specs.declared.value.Value.{Value}
+use Rattle.borrowed_json.specs.View.{items_view}
+use Rattle.borrowed_json.specs.declared.value.Value.{Value}
 use Rattle.es_reading.specs.Members.{item_count, is_empty}
 
 pub count_of_view : (vs : List Value) → item_count (items_view vs) ≡ length vs

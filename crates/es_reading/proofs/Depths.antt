@@ -4,21 +4,15 @@ use Rattle.std.specs.Ordering.{nat_cmp, match_ordering}
 use Rattle.std.specs.Cmp.Lexicographic.{slice_cmp}
 use Rattle.serde_json.specs.Data.{Data, null, boolean as json_boolean, number, string as json_string, array, object, Items, Members, no_members, member, depth, items_depth, members_depth}
 use Rattle.serde_json.specs.Find.{get, get_member, as_array}
-use Rattle.serde_json.specs.View.{view, items_view, members_view}
-use Rattle.serde_json.specs.declared.value.Value.{Value}
-use Rattle.serde_json.proofs.Views.{Entry}
 use Rattle.es_reading.specs.Look.{array_at}
+use Rattle.borrowed_json.specs.View.{Keyed, members_view, view}
+use Rattle.borrowed_json.specs.declared.value.Value.{Value}
+pub use Rattle.borrowed_json.proofs.Depths.{item_depth}
 
-pub item_depth : (vs : List Value) (i : ℕ) (v : Value) → i < length vs → v ≡ get_or vs i v → depth (view v) ≤ items_depth (items_view vs)
-item_depth [] i v l is = absurd (omega arith)
-item_depth (w ∷ vs) zero v l is = omega (arith, ap (λ x. depth (view x)) is)
-item_depth (w ∷ vs) (suc i) v l is = omega (arith, item_depth vs i v (omega arith) is)
-
-pub entry_depth : (es rest : List Entry) (e : Entry) → es ≡ e ∷ rest → depth (view e.1) ≤ members_depth (members_view es)
-entry_depth es rest e is = omega (arith, ap (λ xs. members_depth (members_view xs)) is)
-
-pub rest_depth : (es rest : List Entry) (e : Entry) → es ≡ e ∷ rest → members_depth (members_view rest) ≤ members_depth (members_view es)
-rest_depth es rest e is = omega (arith, ap (λ xs. members_depth (members_view xs)) is)
+pub member_at_depth : (ms : List (Keyed Value)) (i : ℕ) (m : Keyed Value) → i < length ms → m ≡ get_or ms i m → depth (view m.1) ≤ members_depth (members_view ms)
+member_at_depth [] i m l is = absurd (omega arith)
+member_at_depth (w ∷ ms) zero m l is = omega (arith, ap (λ x. depth (view x.1)) is)
+member_at_depth (w ∷ ms) (suc i) m l is = omega (arith, member_at_depth ms i m (omega arith) is)
 
 deeper : (o : Ordering) (d e : Data) (r : Option Data) (m : ℕ) → ((f : Data) → r ≡ Some f → depth f ≤ m) → match_ordering o r (Some d) r ≡ Some e → depth e ≤ max (depth d) m
 deeper Less d e r m h is = omega (arith, h e is)

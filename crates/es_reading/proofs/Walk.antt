@@ -6,8 +6,8 @@ use Rattle.std.specs.Ordering.{nat_cmp, match_ordering}
 use Rattle.std.specs.Cmp.Lexicographic.{slice_cmp}
 use Rattle.serde_json.specs.Data.{Data, null, boolean as json_boolean, number, string as json_string, array, object, Members, no_members, member}
 use Rattle.serde_json.specs.Find.{get, get_member, as_array}
-use Rattle.serde_json.specs.View.{view, items_view}
-use Rattle.serde_json.specs.declared.value.Value.{Value}
+use Rattle.borrowed_json.specs.View.{view, items_view}
+use Rattle.borrowed_json.specs.declared.value.Value.{Value}
 use Rattle.es_base.specs.Tree.{Tree, Part, Parts, Node, end, more, child, list, trees, nullable_trees, nullable, nullable_string}
 use Rattle.es_base.specs.Preorder.{nodes_of, nodes_of_part}
 use Rattle.es_base.specs.Table.{Field, field_of, members_of}

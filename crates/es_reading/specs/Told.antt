@@ -13,8 +13,8 @@ use Rattle.es_reading.specs.declared.numbers.Numbers.{Numbers}
 use Rattle.es_reading.specs.declared.spot.Parent.{Parent}
 use Rattle.es_reading.specs.declared.spot.Slots.{Slots}
 use Rattle.es_reading.specs.declared.spot.Spot.{Spot}
-use Rattle.serde_json.specs.View.{view}
-use Rattle.serde_json.specs.declared.value.Value.{Value}
+use Rattle.borrowed_json.specs.View.{view}
+use Rattle.borrowed_json.specs.declared.value.Value.{Value}
 
 -- an error is the fault, unless allocation failed
 abbrev pub Tells : {T : Type 0} → ReadError → Result T Fault → Type 0

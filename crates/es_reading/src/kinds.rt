@@ -2,21 +2,21 @@
 
 ghost use Rattle.std.specs.Prelude.{◌≡◌};
 ghost use Rattle.es_reading.specs.Kinds.{is_named, has_private_property, is_private_in, may_be_target, may_be_literal, may_be_reference, may_be_name, suits, may_stand, kind_in, kind_among};
-ghost use Rattle.serde_json.specs.View.{view};
+ghost use Rattle.borrowed_json.specs.View.{view};
 
 use crate::fault::What;
 use crate::lengths::kinds_of_length;
 use crate::literal::may_be_key;
 use crate::look::{is_node_at, is_string_at, is_true_at};
 use crate::spot::Spot;
+use borrowed_json::value::Value;
 use es_base::kind::Kind;
 use es_base::places::is_target_place;
 use es_base::strings::is_foreign_name;
 use es_base::table::{Place, estree_name, fits};
-use serde_json::Value;
 
 /// The kind of a value whose `type` is this name: the first that has the name and may stand there.
-pub fn kind_in(name: &str, spot: Spot, value: &Value) -> Result<Kind, What>
+pub fn kind_in(name: &str, spot: Spot, value: &Value<'_>) -> Result<Kind, What>
     ensures { result ≡ kind_in name.now spot (view value.now) }
 {
     let mut known = false;
@@ -46,14 +46,14 @@ fn is_named(name: &str, kind: Kind) -> bool
 }
 
 /// Whether the kind may stand at the spot with the members that the value has.
-fn may_stand(spot: Spot, value: &Value, kind: Kind) -> bool
+fn may_stand(spot: Spot, value: &Value<'_>, kind: Kind) -> bool
     ensures { result ≡ may_stand spot (view value.now) kind }
 {
     fits(spot.place, kind) && suits(spot, value, kind)
 }
 
 /// What a kind asks of its spot and its members.
-fn suits(spot: Spot, value: &Value, kind: Kind) -> bool
+fn suits(spot: Spot, value: &Value<'_>, kind: Kind) -> bool
     ensures { result ≡ suits spot (view value.now) kind }
 {
     match kind {
@@ -70,28 +70,28 @@ fn suits(spot: Spot, value: &Value, kind: Kind) -> bool
 }
 
 /// Whether a member has a private name.
-fn has_private_property(value: &Value) -> bool
+fn has_private_property(value: &Value<'_>) -> bool
     ensures { result ≡ has_private_property (view value.now) }
 {
     is_node_at(value, "property", "PrivateIdentifier") && !is_true_at(value, "computed")
 }
 
 /// Whether it is a private `in`.
-fn is_private_in(value: &Value) -> bool
+fn is_private_in(value: &Value<'_>) -> bool
     ensures { result ≡ is_private_in (view value.now) }
 {
     is_node_at(value, "left", "PrivateIdentifier") && is_string_at(value, "operator", "in")
 }
 
 /// Whether it is no optional member where one is assigned to.
-fn may_be_target(place: Place, value: &Value) -> bool
+fn may_be_target(place: Place, value: &Value<'_>) -> bool
     ensures { result ≡ may_be_target place (view value.now) }
 {
     !(is_target_place(place) && is_true_at(value, "optional"))
 }
 
 /// Whether it is a literal that may be a key, where it is one.
-fn may_be_literal(place: Place, value: &Value) -> bool
+fn may_be_literal(place: Place, value: &Value<'_>) -> bool
     ensures { result ≡ may_be_literal place (view value.now) }
 {
     match place {

@@ -12,20 +12,20 @@ ghost use Rattle.es_reading.specs.Members.{is_of_sort};
 ghost use Rattle.es_reading.specs.Reading.{leaf_of, literal_part};
 ghost use Rattle.es_reading.specs.Unlisted.{holds_nodes};
 ghost use Rattle.serde_json.specs.Find.{get};
-ghost use Rattle.serde_json.specs.View.{view};
+ghost use Rattle.borrowed_json.specs.View.{view};
 
 use crate::literal::{form_in, value_of};
 use crate::look::{is_true_at, string_at};
+use borrowed_json::value::Value;
 use es_base::name::Name;
 use es_base::strings::word_of;
 use es_base::table::{Sort, Words};
 use es_node::node::Part;
-use serde_json::Value;
 use std::alloc::{AllocError, Global};
 
 /// What stands at the member of this name, which holds no nodes and is of its sort. Fails on allocation
 /// failure alone.
-pub fn leaf_of(alloc: Global, value: &Value, name: &str, sort: Sort) -> Result<Part, AllocError>
+pub fn leaf_of(alloc: Global, value: &Value<'_>, name: &str, sort: Sort) -> Result<Part, AllocError>
     requires leaf { holds_nodes sort ≡ false }
     requires good { is_of_sort (view value.now) name.now sort ≡ true }
     ensures value { IfOk result (λ p. part_of p ≡ leaf_of (view value.now) name.now sort) }
@@ -69,7 +69,7 @@ fn nullable_string(alloc: Global, string: Option<&str>) -> Result<Part, AllocErr
 }
 
 /// A string of the object `value` (ESTree's `TemplateElement`).
-fn string_of_value(alloc: Global, value: &Value, name: &str) -> Result<Part, AllocError>
+fn string_of_value(alloc: Global, value: &Value<'_>, name: &str) -> Result<Part, AllocError>
     ensures value { IfOk result (λ p. part_of p ≡ nullable_string (option_and_then (chars_at name.now) (get (codes "value") (view value.now)))) }
     ensures shape { IfOk result (λ p. is_nullable_string p ≡ true) }
     ensures present { IfOk result (λ p. is_string p ≡ is_some (option_and_then (string_at name.now) (get (codes "value") (view value.now)))) }
@@ -80,7 +80,7 @@ fn string_of_value(alloc: Global, value: &Value, name: &str) -> Result<Part, All
     }
 }
 
-fn literal_of(alloc: Global, value: &Value) -> Result<Part, AllocError>
+fn literal_of(alloc: Global, value: &Value<'_>) -> Result<Part, AllocError>
     ensures value { IfOk result (λ p. part_of p ≡ literal_part (literal_of (view value.now))) }
     ensures present { IfOk result (λ p. is_literal p ≡ is_some (form_in (view value.now))) }
 {

@@ -4,14 +4,14 @@ ghost use Rattle.std.specs.Prelude.{◌≡◌, IfOk, codes, option_map};
 ghost use Rattle.es_reading.specs.Forms.{form_of};
 ghost use Rattle.es_reading.specs.Literals.{regexp_in, bigint_in, string_in, boolean_in, by_raw, by_value, null_or_number_in, is_whole_or_absent, form_in, value_of, may_be_key, is_key_form};
 ghost use Rattle.serde_json.specs.Find.{get};
-ghost use Rattle.serde_json.specs.View.{view};
+ghost use Rattle.borrowed_json.specs.View.{view};
 
 use crate::look::{boolean_at, string_at};
 use crate::strings::nullable_name;
+use borrowed_json::value::Value;
 use es_base::literal::LiteralValue;
 use es_base::name::Name;
 use es_base::strings::is_number_string;
-use serde_json::Value;
 use std::alloc::{AllocError, Global};
 
 /// The form of a literal, with the strings that its value has.
@@ -40,7 +40,7 @@ pub enum Form<'a> {
 }
 
 /// The first form that fits, if one does (ESTree).
-pub fn form_in<'a>(value: &'a Value) -> Option<Form<'a>>
+pub fn form_in<'a>(value: &Value<'a>) -> Option<Form<'a>>
     ensures { option_map form_of result ≡ form_in (view value.now) }
 {
     if let Some(form) = regexp_in(value) {
@@ -61,7 +61,7 @@ pub fn form_in<'a>(value: &'a Value) -> Option<Form<'a>>
     null_or_number_in(value)
 }
 
-fn regexp_in<'a>(value: &'a Value) -> Option<Form<'a>>
+fn regexp_in<'a>(value: &Value<'a>) -> Option<Form<'a>>
     ensures { option_map form_of result ≡ regexp_in (view value.now) }
 {
     match value.get("regex") {
@@ -76,7 +76,7 @@ fn regexp_in<'a>(value: &'a Value) -> Option<Form<'a>>
     }
 }
 
-fn null_or_number_in<'a>(value: &'a Value) -> Option<Form<'a>>
+fn null_or_number_in<'a>(value: &Value<'a>) -> Option<Form<'a>>
     ensures { option_map form_of result ≡ null_or_number_in (view value.now) }
 {
     if value.get("raw").is_some() {
@@ -86,7 +86,7 @@ fn null_or_number_in<'a>(value: &'a Value) -> Option<Form<'a>>
     }
 }
 
-fn by_raw<'a>(raw: Option<&'a str>, value: &'a Value) -> Option<Form<'a>>
+fn by_raw<'a>(raw: Option<&'a str>, value: &Value<'a>) -> Option<Form<'a>>
     ensures { option_map form_of result ≡ by_raw (option_map (λ s. s.now) raw.entry) (get (codes "value") (view value.now)) }
 {
     match raw {
@@ -103,7 +103,7 @@ fn by_raw<'a>(raw: Option<&'a str>, value: &'a Value) -> Option<Form<'a>>
     }
 }
 
-fn is_whole_or_absent(value: &Value) -> bool
+fn is_whole_or_absent(value: &Value<'_>) -> bool
     ensures { result ≡ is_whole_or_absent (get (codes "value") (view value.now)) }
 {
     match value.get("value") {
@@ -112,7 +112,7 @@ fn is_whole_or_absent(value: &Value) -> bool
     }
 }
 
-fn by_value<'a>(value: &'a Value) -> Option<Form<'a>>
+fn by_value<'a>(value: &Value<'a>) -> Option<Form<'a>>
     ensures { option_map form_of result ≡ by_value (get (codes "value") (view value.now)) }
 {
     match value.get("value") {
@@ -131,7 +131,7 @@ fn by_value<'a>(value: &'a Value) -> Option<Form<'a>>
 }
 
 /// Whether what stands there may be a key that is not computed, as far as it is a literal.
-pub fn may_be_key(value: &Value) -> bool
+pub fn may_be_key(value: &Value<'_>) -> bool
     ensures { result ≡ may_be_key (form_in (view value.now)) }
 {
     match form_in(value) {

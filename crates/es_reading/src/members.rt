@@ -5,24 +5,24 @@ ghost use Rattle.es_base.specs.Table.{field_of, words_of};
 ghost use Rattle.es_base.specs.declared.table.Place.{Place};
 ghost use Rattle.es_base.specs.declared.table.Sort.{Sort};
 ghost use Rattle.es_reading.specs.Members.{is_word, is_false, is_of_sort, are_of_sorts, counts_agree, are_good, is_one_more, count_at};
-ghost use Rattle.serde_json.specs.View.{view};
+ghost use Rattle.borrowed_json.specs.View.{view};
 
 use crate::literal::form_in;
 use crate::look::{array_at, boolean_at, string_at};
 use crate::strings::is_empty_string;
+use borrowed_json::value::Value;
 use es_base::kind::Kind;
 use es_base::strings::word_of;
 use es_base::table::{Member, Sort, Words, members};
-use serde_json::Value;
 
 /// Whether the members of a value are those of its kind, but for the nodes below.
-pub fn are_good(kind: Kind, value: &Value) -> bool
+pub fn are_good(kind: Kind, value: &Value<'_>) -> bool
     ensures { result ≡ are_good kind (view value.now) }
 {
     are_of_sorts(value, members(kind)) && counts_agree(kind, value)
 }
 
-fn are_of_sorts(value: &Value, members: &[Member]) -> bool
+fn are_of_sorts(value: &Value<'_>, members: &[Member]) -> bool
     ensures { result ≡ are_of_sorts (view value.now) (map field_of members.now) }
 {
     for member in members {
@@ -34,7 +34,7 @@ fn are_of_sorts(value: &Value, members: &[Member]) -> bool
 }
 
 /// Whether what stands at the member of this name is of this sort.
-fn is_of_sort(value: &Value, name: &str, sort: Sort) -> bool
+fn is_of_sort(value: &Value<'_>, name: &str, sort: Sort) -> bool
     ensures { result ≡ is_of_sort (view value.now) name.now sort }
 {
     match sort {
@@ -54,7 +54,7 @@ fn is_of_sort(value: &Value, name: &str, sort: Sort) -> bool
     }
 }
 
-fn is_list_of_some(value: &Value, name: &str) -> bool
+fn is_list_of_some(value: &Value<'_>, name: &str) -> bool
     ensures { (place : Place) → result ≡ is_of_sort (view value.now) name.now (Sort.NonEmptyList place) }
 {
     match array_at(value, name) {
@@ -63,7 +63,7 @@ fn is_list_of_some(value: &Value, name: &str) -> bool
     }
 }
 
-fn is_name(value: &Value, name: &str) -> bool
+fn is_name(value: &Value<'_>, name: &str) -> bool
     ensures { result ≡ is_of_sort (view value.now) name.now Sort.Name }
 {
     match string_at(value, name) {
@@ -91,7 +91,7 @@ fn is_word(words: Words, string: Option<&str>) -> bool
 }
 
 /// Whether the object `value` has a string `raw` (ESTree's `TemplateElement`).
-fn is_raw(value: &Value) -> bool
+fn is_raw(value: &Value<'_>) -> bool
     ensures { (name : List ℕ) → result ≡ is_of_sort (view value.now) name Sort.Raw }
 {
     match value.get("value") {
@@ -101,7 +101,7 @@ fn is_raw(value: &Value) -> bool
 }
 
 /// Whether the object `value` has a string or null as `cooked` (ESTree's `TemplateElement`).
-fn is_cooked(value: &Value) -> bool
+fn is_cooked(value: &Value<'_>) -> bool
     ensures { (name : List ℕ) → result ≡ is_of_sort (view value.now) name Sort.Cooked }
 {
     match value.get("value") {
@@ -114,7 +114,7 @@ fn is_cooked(value: &Value) -> bool
 }
 
 /// Whether a template has one string more than expressions.
-fn counts_agree(kind: Kind, value: &Value) -> bool
+fn counts_agree(kind: Kind, value: &Value<'_>) -> bool
     ensures { result ≡ counts_agree kind (view value.now) }
 {
     match kind {
@@ -125,7 +125,7 @@ fn counts_agree(kind: Kind, value: &Value) -> bool
     }
 }
 
-fn count_at(value: &Value, name: &str) -> Option<usize>
+fn count_at(value: &Value<'_>, name: &str) -> Option<usize>
     ensures { result ≡ count_at name.now (view value.now) }
 {
     match array_at(value, name) {

@@ -12,7 +12,7 @@ ghost use Rattle.es_reading.specs.Members.{are_good, are_of_sorts, is_of_sort};
 ghost use Rattle.es_reading.specs.Unlisted.{is_foreign_node};
 ghost use Rattle.es_reading.specs.Told.{Tells, Gives, child_in, ids, list_in, member_in, nullable_in, row_in, values, values_there, values_at};
 ghost use Rattle.serde_json.specs.Find.{get};
-ghost use Rattle.serde_json.specs.View.{view};
+ghost use Rattle.borrowed_json.specs.View.{view};
 
 use crate::fault::{ReadError, What};
 use crate::kinds::kind_in;
@@ -24,13 +24,13 @@ use crate::members::are_good;
 use crate::numbers::Numbers;
 use crate::spot::{Parent, Slots, Spot};
 use crate::unlisted::{floats_of, is_foreign_node};
+use borrowed_json::value::Value;
 use es_base::ids::NodeId;
 use es_base::kind::Kind;
 use es_base::list::List;
 use es_base::table::{Member, Place, Sort, members};
 use es_node::node::{Contents, Node, Part};
 use es_node::parts::nullable_part;
-use serde_json::Value;
 use std::alloc::{AllocError, Global};
 
 /// What the reading of each node needs.
@@ -41,7 +41,7 @@ pub struct Reader {
 }
 
 /// The kind of a value that stands at a spot, by its `type`, its place and its members.
-fn kind_of(value: &Value, spot: Spot, at: u32) -> Result<Kind, ReadError>
+fn kind_of(value: &Value<'_>, spot: Spot, at: u32) -> Result<Kind, ReadError>
     ensures ok { IfOk result (λ k. kind_of (view value.now) spot at ≡ Ok k) }
     ensures err { IfErr result (λ e. Tells e (kind_of (view value.now) spot at)) }
 {
@@ -58,7 +58,7 @@ fn kind_of(value: &Value, spot: Spot, at: u32) -> Result<Kind, ReadError>
 }
 
 /// The number of a node of this kind, where no member is a float or a bad one.
-fn number_of(numbers: Numbers, value: &Value, kind: Kind, at: u32) -> Result<NodeId, ReadError>
+fn number_of(numbers: Numbers, value: &Value<'_>, kind: Kind, at: u32) -> Result<NodeId, ReadError>
     ensures ok { IfOk result (λ i. number_of numbers (view value.now) kind at ≡ Ok i.0) }
     ensures good { OnOk result (are_good kind (view value.now) ≡ true) }
     ensures err { IfErr result (λ e. Tells e (number_of numbers (view value.now) kind at)) }
@@ -81,7 +81,7 @@ fn number_of(numbers: Numbers, value: &Value, kind: Kind, at: u32) -> Result<Nod
     }
 }
 
-fn number_in(numbers: Numbers, value: &Value, at: u32) -> Option<u32>
+fn number_in(numbers: Numbers, value: &Value<'_>, at: u32) -> Option<u32>
     ensures { result ≡ number_in numbers (view value.now) at }
 {
     match numbers {
@@ -91,7 +91,7 @@ fn number_in(numbers: Numbers, value: &Value, at: u32) -> Option<u32>
 }
 
 /// The place of a child: a pattern is assigned by `=` alone.
-fn place_below(kind: Kind, value: &Value, place: Place) -> Place
+fn place_below(kind: Kind, value: &Value<'_>, place: Place) -> Place
     ensures { result ≡ place_below kind (view value.now) place }
 {
     match (kind, place) {
@@ -107,7 +107,7 @@ fn place_below(kind: Kind, value: &Value, place: Place) -> Place
 }
 
 /// The place of a key: an expression where it is computed.
-fn key_place(value: &Value, place: Place) -> Place
+fn key_place(value: &Value<'_>, place: Place) -> Place
     ensures { result ≡ key_place (is_true_at (codes "computed") (view value.now)) place }
 {
     if is_true_at(value, "computed") {
@@ -117,7 +117,7 @@ fn key_place(value: &Value, place: Place) -> Place
     }
 }
 
-fn parent_of(kind: Kind, spot: Spot, value: &Value) -> Parent
+fn parent_of(kind: Kind, spot: Spot, value: &Value<'_>) -> Parent
     ensures { result ≡ parent_of kind spot (view value.now) }
 {
     let sourced = match kind {
@@ -162,7 +162,7 @@ fn slot(slots: Slots, last: bool) -> Spot
 fn note(
     foreign: &mut List<NodeId>,
     kind: Kind,
-    value: &Value,
+    value: &Value<'_>,
     node_id: NodeId,
 ) -> Result<(), AllocError>
     ensures { OnOk result (ids foreign.new ≡ ids foreign.old ++ own_number (is_foreign_node kind (view value.now)) node_id.0) }
@@ -178,7 +178,7 @@ fn note(
 #[cycle(read)]
 pub fn read_node(
     reader: Reader,
-    value: &Value,
+    value: &Value<'_>,
     spot: Spot,
     at: u32,
     foreign: &mut List<NodeId>,
@@ -208,7 +208,7 @@ pub fn read_node(
 #[cycle(read)]
 fn read_members(
     reader: Reader,
-    value: &Value,
+    value: &Value<'_>,
     parent: Parent,
     at: u32,
     foreign: &mut List<NodeId>,
@@ -238,7 +238,7 @@ fn read_members(
 #[cycle(read)]
 fn read_member(
     reader: Reader,
-    value: &Value,
+    value: &Value<'_>,
     parent: Parent,
     member: Member,
     at: u32,
@@ -283,7 +283,7 @@ fn read_member(
 #[cycle(read)]
 fn read_child(
     reader: Reader,
-    value: &Value,
+    value: &Value<'_>,
     member: Member,
     spot: Spot,
     at: u32,
@@ -308,7 +308,7 @@ fn read_child(
 #[cycle(read)]
 fn read_nullable(
     reader: Reader,
-    value: &Value,
+    value: &Value<'_>,
     member: Member,
     spot: Spot,
     at: u32,
@@ -337,7 +337,7 @@ fn read_nullable(
 #[cycle(read)]
 fn read_nullable_node(
     reader: Reader,
-    value: &Value,
+    value: &Value<'_>,
     spot: Spot,
     at: u32,
     foreign: &mut List<NodeId>,
@@ -361,7 +361,7 @@ fn read_nullable_node(
 #[cycle(read)]
 fn read_list(
     reader: Reader,
-    value: &Value,
+    value: &Value<'_>,
     member: Member,
     slots: Slots,
     at: u32,
@@ -395,7 +395,7 @@ fn read_list(
 #[cycle(read)]
 fn read_list_with_holes(
     reader: Reader,
-    value: &Value,
+    value: &Value<'_>,
     member: Member,
     slots: Slots,
     at: u32,

@@ -1,38 +1,49 @@
 // What else an object holds: floats, and members of TypeScript, JSX and import attributes.
 
-ghost use Rattle.std.specs.Prelude.{◌≡◌, [], ◌∷◌, map, option_map, codes};
+ghost use Rattle.std.specs.Prelude.{◌≡◌, ◌&&◌, [], ◌∷◌, map, not, option_map, codes};
 ghost use Rattle.std.specs.Str.{chars};
 ghost use Rattle.es_base.specs.Conforms.{is_among, begins_with};
 ghost use Rattle.es_base.specs.Table.{field_of, members_of};
 ghost use Rattle.es_reading.specs.Unlisted.{holds_nodes, is_node_member, floats_in, floats_of, is_field, is_listed, is_foreign_type, is_foreign_object, any_foreign, is_foreign_value, foreign_among, foreign_of, has_options, is_foreign_node};
-ghost use Rattle.serde_json.specs.View.{view, items_view, members_view};
+ghost use Rattle.borrowed_json.specs.View.{view, items_view, members_view};
 ghost use Rattle.serde_json.specs.Written.{has_float, items_have_float, members_have_float};
 
 use crate::look::is_there;
+use borrowed_json::value::Value;
 use es_base::kind::Kind;
 use es_base::strings::{begins_with, is_among};
 use es_base::table::{Member, Sort, members};
-use serde_json::{Map, Value};
 
 /// Whether a number below is held as a float, in a member that holds no nodes.
-pub fn floats_of(members: &[Member], value: &Value) -> bool
+pub fn floats_of(members: &[Member], value: &Value<'_>) -> bool
     ensures { result ≡ floats_of (map field_of members.now) (view value.now) }
 {
     match value {
-        Value::Object(object) => floats_in(members, object),
+        Value::Object(object) => floats_in(members, object.as_slice()),
         _ => false,
     }
 }
 
-fn floats_in(members: &[Member], object: &Map<String, Value>) -> bool
-    ensures { result ≡ floats_in (map field_of members.now) (members_view object.now.entries) }
+fn floats_in(members: &[Member], object: &[(&str, Value<'_>)]) -> bool
+    ensures { result ≡ floats_in (map field_of members.now) (members_view object.now) }
 {
-    for (key, value) in object.iter() {
-        if !is_node_member(members, key.as_str()) && has_float(value) {
+    for entry in object {
+        if is_float_member(members, entry.0, &entry.1) {
             return true;
         }
     }
     false
+}
+
+/// Whether a member holds no nodes, by its name, and has a float. The name is looked up where the value leaves it open.
+fn is_float_member(members: &[Member], key: &str, value: &Value<'_>) -> bool
+    ensures { result ≡ (not (is_node_member (map field_of members.now) key.now) && has_float (view value.now)) }
+{
+    match value {
+        Value::Null | Value::Bool(_) | Value::String(_) => false,
+        Value::Number(number) => number.is_f64() && !is_node_member(members, key),
+        Value::Array(_) | Value::Object(_) => !is_node_member(members, key) && has_float(value),
+    }
 }
 
 /// Whether the member of this name holds nodes.
@@ -63,19 +74,19 @@ fn holds_nodes(sort: Sort) -> bool
 
 /// Whether a number is held as a float, at any depth.
 #[cycle(float)]
-fn has_float(value: &Value) -> bool
+fn has_float(value: &Value<'_>) -> bool
     ensures { result ≡ has_float (view value.now) }
 {
     match value {
         Value::Number(number) => number.is_f64(),
         Value::Array(items) => any_has_float(items.as_slice()),
-        Value::Object(members) => member_has_float(members),
+        Value::Object(members) => member_has_float(members.as_slice()),
         Value::Null | Value::Bool(_) | Value::String(_) => false,
     }
 }
 
 #[cycle(float)]
-fn any_has_float(items: &[Value]) -> bool
+fn any_has_float(items: &[Value<'_>]) -> bool
     ensures { result ≡ items_have_float (items_view items.now) }
 {
     for item in items {
@@ -87,11 +98,11 @@ fn any_has_float(items: &[Value]) -> bool
 }
 
 #[cycle(float)]
-fn member_has_float(members: &Map<String, Value>) -> bool
-    ensures { result ≡ members_have_float (members_view members.now.entries) }
+fn member_has_float(members: &[(&str, Value<'_>)]) -> bool
+    ensures { result ≡ members_have_float (members_view members.now) }
 {
-    for (_key, member) in members.iter() {
-        if has_float(member) {
+    for entry in members {
+        if has_float(&entry.1) {
             return true;
         }
     }
@@ -99,7 +110,7 @@ fn member_has_float(members: &Map<String, Value>) -> bool
 }
 
 /// Whether a node of the table has a member of TypeScript, JSX or import attributes.
-pub fn is_foreign_node(kind: Kind, value: &Value) -> bool
+pub fn is_foreign_node(kind: Kind, value: &Value<'_>) -> bool
     ensures { result ≡ is_foreign_node kind (view value.now) }
 {
     match kind {
@@ -108,20 +119,20 @@ pub fn is_foreign_node(kind: Kind, value: &Value) -> bool
     }
 }
 
-fn foreign_of(kind: Kind, value: &Value) -> bool
+fn foreign_of(kind: Kind, value: &Value<'_>) -> bool
     ensures { result ≡ foreign_of kind (view value.now) }
 {
     match value {
-        Value::Object(object) => foreign_among(kind, object),
+        Value::Object(object) => foreign_among(kind, object.as_slice()),
         _ => false,
     }
 }
 
-fn foreign_among(kind: Kind, object: &Map<String, Value>) -> bool
-    ensures { result ≡ foreign_among kind (members_view object.now.entries) }
+fn foreign_among(kind: Kind, object: &[(&str, Value<'_>)]) -> bool
+    ensures { result ≡ foreign_among kind (members_view object.now) }
 {
-    for (key, value) in object.iter() {
-        if !is_listed(kind, key.as_str()) && is_foreign_value(value) {
+    for entry in object {
+        if is_foreign_value(&entry.1) && !is_listed(kind, entry.0) {
             return true;
         }
     }
@@ -151,7 +162,7 @@ fn is_field(members: &[Member], key: &str) -> bool
 }
 
 /// Whether it is an object of TypeScript, JSX or an import attribute, or a list that holds one.
-fn is_foreign_value(value: &Value) -> bool
+fn is_foreign_value(value: &Value<'_>) -> bool
     ensures { result ≡ is_foreign_value (view value.now) }
 {
     match value {
@@ -161,7 +172,7 @@ fn is_foreign_value(value: &Value) -> bool
     }
 }
 
-fn any_foreign(items: &[Value]) -> bool
+fn any_foreign(items: &[Value<'_>]) -> bool
     ensures { result ≡ any_foreign (items_view items.now) }
 {
     for item in items {
@@ -172,7 +183,7 @@ fn any_foreign(items: &[Value]) -> bool
     false
 }
 
-fn is_foreign_object(value: &Value) -> bool
+fn is_foreign_object(value: &Value<'_>) -> bool
     ensures { result ≡ is_foreign_object (view value.now) }
 {
     match value.get("type") {
@@ -199,7 +210,7 @@ fn is_foreign_word(name: &str) -> bool
 }
 
 /// Whether an import has options.
-fn has_options(kind: Kind, value: &Value) -> bool
+fn has_options(kind: Kind, value: &Value<'_>) -> bool
     ensures { result ≡ has_options kind (view value.now) }
 {
     match kind {

@@ -8,6 +8,7 @@ use Rattle.es_base.specs.Preorder.{preorder, nodes}
 use Rattle.es_base.specs.Tree.{Tree}
 use Rattle.es_base.specs.declared.ledger.LedgerEntry.{LedgerEntry}
 use Rattle.es_steps.specs.Definitions.{definitions_stand, all_temporaries, elements_kept}
+use Rattle.es_steps.specs.HelperCalls.{computed_keys, helper_calls_fit}
 use Rattle.es_steps.specs.KeptNodes.{nodes_kept, statements_kept, lists_kept, homes_kept}
 use Rattle.es_steps.specs.Lowered.{nothing_left, names_declared, declarations_accounted, initializations_stand, keys_stand, IsLowered}
 use Rattle.es_steps.specs.Printable.{is_printable}
@@ -36,20 +37,21 @@ clauses o ledger p q =
     ∷ names_declared (nodes p) ledger q
     ∷ declarations_accounted (nodes p) ledger p q
     ∷ initializations_stand (nodes p) ledger (private_members p) q ledger
-    ∷ names_timely (nodes p) ledger q
+    ∷ names_timely (nodes p) ledger (private_members p) q
     ∷ temporaries_steady (nodes p) ledger q
     ∷ keys_stand (nodes p) o ledger (private_members p) q (all_temporaries (nodes p) o ledger (private_members p) q (preorder q))
     ∷ nodes_kept p q
     ∷ statements_kept o p q
     ∷ lists_kept o p q
-    ∷ homes_kept o p q
+    ∷ homes_kept (nodes p) o p q
     ∷ definitions_stand (nodes p) o ledger (private_members p) p q
     ∷ elements_kept o (preorder p) (preorder q)
+    ∷ helper_calls_fit (nodes p) ledger (computed_keys (preorder p)) q
     ∷ (not (is_printable p) || is_printable q)
     ∷ []
 
 abbrev all_met : List Bool
-all_met = true ∷ true ∷ true ∷ true ∷ true ∷ true ∷ true ∷ true ∷ true ∷ true ∷ true ∷ true ∷ true ∷ true ∷ true ∷ []
+all_met = true ∷ true ∷ true ∷ true ∷ true ∷ true ∷ true ∷ true ∷ true ∷ true ∷ true ∷ true ∷ true ∷ true ∷ true ∷ true ∷ []
 
 -- ---- numbers
 
@@ -106,6 +108,7 @@ lowered {p = p} {q = q} e0 =
     let e12 = rest_of _ _ _ _ e11 in
     let e13 = rest_of _ _ _ _ e12 in
     let e14 = rest_of _ _ _ _ e13 in
+    let e15 = rest_of _ _ _ _ e14 in
     record {
       numbered = numbered (nodes p) q (first_of _ _ _ _ e0);
       clauses = record {
@@ -122,6 +125,7 @@ lowered {p = p} {q = q} e0 =
         homes = first_of _ _ _ _ e11;
         definitions = first_of _ _ _ _ e12;
         elements = first_of _ _ _ _ e13;
-        printable = first_of _ _ _ _ e14;
+        calls = first_of _ _ _ _ e14;
+        printable = first_of _ _ _ _ e15;
       };
     }

@@ -16,6 +16,7 @@ script_with l entries bindings globals places = Some (record {
   functions = [];
   bindings = bindings;
   globals = globals;
+  shared = [];
   places = places;
   links = [];
   exports = [];

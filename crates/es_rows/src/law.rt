@@ -1,11 +1,12 @@
 // Worked rows and witnesses: functions that do nothing. Printed by tools/rows/print_laws.py.
 
-ghost use Rattle.std.specs.Prelude.{◌≡◌, [], ◌∷◌, false};
+ghost use Rattle.std.specs.Prelude.{◌≡◌, [], ◌∷◌, false, not, ◌||◌};
 ghost use Rattle.es_rows.specs.Owed.{Kept, KeptAfter, Owed, TellsApart, Refused, MeansOther, RefusedAfter, Means, HaveShapes};
 ghost use Rattle.es_steps.specs.Definitions.{definitions_stand};
 ghost use Rattle.es_base.specs.Conforms.{conforms};
-ghost use Rattle.es_base.specs.Preorder.{nodes};
+ghost use Rattle.es_base.specs.Preorder.{nodes, preorder};
 ghost use Rattle.es_base.specs.declared.table.Place.{Place};
+ghost use Rattle.es_steps.specs.HelperCalls.{computed_keys, helper_calls_fit};
 ghost use Rattle.es_steps.specs.KeptNodes.{lists_kept, homes_kept};
 ghost use Rattle.es_steps.specs.Lowered.{names_declared, declarations_accounted, initializations_stand};
 ghost use Rattle.es_steps.specs.Meaning.{source_means};
@@ -105,33 +106,47 @@ ghost use Rattle.es_rows.specs.witnesses.ArgumentsOfAnother.{source_arguments_of
 ghost use Rattle.es_rows.specs.witnesses.ArrowMovedIntoParameters.{source_arrow_moved_into_parameters, output_arrow_moved_into_parameters, generated_arrow_moved_into_parameters, options_arrow_moved_into_parameters};
 ghost use Rattle.es_rows.specs.witnesses.ArrowOutOfALoop.{source_arrow_out_of_a_loop, output_arrow_out_of_a_loop, generated_arrow_out_of_a_loop, options_arrow_out_of_a_loop};
 ghost use Rattle.es_rows.specs.witnesses.AsyncConstructor.{source_async_constructor, output_async_constructor, generated_async_constructor, options_async_constructor};
+ghost use Rattle.es_rows.specs.witnesses.AwaitInAStaticElement.{source_await_in_a_static_element, output_await_in_a_static_element, generated_await_in_a_static_element, options_await_in_a_static_element};
 ghost use Rattle.es_rows.specs.witnesses.BindingInATemporary.{source_binding_in_a_temporary, output_binding_in_a_temporary, generated_binding_in_a_temporary, options_binding_in_a_temporary};
 ghost use Rattle.es_rows.specs.witnesses.BindingNotRenamed.{source_binding_not_renamed, output_binding_not_renamed, generated_binding_not_renamed, options_binding_not_renamed};
 ghost use Rattle.es_rows.specs.witnesses.BlockBehindAKeptField.{source_block_behind_a_kept_field, output_block_behind_a_kept_field, generated_block_behind_a_kept_field, options_block_behind_a_kept_field};
 ghost use Rattle.es_rows.specs.witnesses.BlockBehindFields.{source_block_behind_fields, output_block_behind_fields, generated_block_behind_fields, options_block_behind_fields};
 ghost use Rattle.es_rows.specs.witnesses.BlockDropped.{source_block_dropped, output_block_dropped, generated_block_dropped, options_block_dropped};
+ghost use Rattle.es_rows.specs.witnesses.BlockOfABinding.{source_block_of_a_binding, output_block_of_a_binding, generated_block_of_a_binding, options_block_of_a_binding};
+ghost use Rattle.es_rows.specs.witnesses.BlockWithoutAFunction.{source_block_without_a_function, output_block_without_a_function, generated_block_without_a_function, options_block_without_a_function};
 ghost use Rattle.es_rows.specs.witnesses.BodyDropped.{source_body_dropped, output_body_dropped, generated_body_dropped, options_body_dropped};
 ghost use Rattle.es_rows.specs.witnesses.BodyInAnArrow.{source_body_in_an_arrow, output_body_in_an_arrow, generated_body_in_an_arrow, options_body_in_an_arrow};
 ghost use Rattle.es_rows.specs.witnesses.BoundBeforeItsTest.{source_bound_before_its_test, output_bound_before_its_test, generated_bound_before_its_test, options_bound_before_its_test};
 ghost use Rattle.es_rows.specs.witnesses.BranchOfAKey.{source_branch_of_a_key, output_branch_of_a_key, generated_branch_of_a_key, options_branch_of_a_key};
 ghost use Rattle.es_rows.specs.witnesses.BranchOfAKeyOfAnother.{source_branch_of_a_key_of_another, output_branch_of_a_key_of_another, generated_branch_of_a_key_of_another, options_branch_of_a_key_of_another};
 ghost use Rattle.es_rows.specs.witnesses.BreakInAnArrow.{source_break_in_an_arrow, output_break_in_an_arrow, generated_break_in_an_arrow, options_break_in_an_arrow};
+ghost use Rattle.es_rows.specs.witnesses.BreakInAnArrowBesideAwait.{source_break_in_an_arrow_beside_await, output_break_in_an_arrow_beside_await, generated_break_in_an_arrow_beside_await, options_break_in_an_arrow_beside_await};
 ghost use Rattle.es_rows.specs.witnesses.CaughtNamesExchanged.{first_caught_names_exchanged, second_caught_names_exchanged, options_caught_names_exchanged};
 ghost use Rattle.es_rows.specs.witnesses.ClassBehindItsUse.{source_class_behind_its_use, output_class_behind_its_use, generated_class_behind_its_use, options_class_behind_its_use};
 ghost use Rattle.es_rows.specs.witnesses.ClassInACase.{source_class_in_a_case, output_class_in_a_case, generated_class_in_a_case, options_class_in_a_case};
 ghost use Rattle.es_rows.specs.witnesses.ClassInAConstructor.{source_class_in_a_constructor, output_class_in_a_constructor, generated_class_in_a_constructor, options_class_in_a_constructor};
 ghost use Rattle.es_rows.specs.witnesses.ClassInFrontOfItsUse.{source_class_in_front_of_its_use, output_class_in_front_of_its_use, generated_class_in_front_of_its_use, options_class_in_front_of_its_use};
 ghost use Rattle.es_rows.specs.witnesses.ClassNamedOtherwise.{first_class_named_otherwise, second_class_named_otherwise, options_class_named_otherwise};
+ghost use Rattle.es_rows.specs.witnesses.ClassOfAHead.{source_class_of_a_head, output_class_of_a_head, generated_class_of_a_head, options_class_of_a_head};
+ghost use Rattle.es_rows.specs.witnesses.ClassOfARightSide.{source_class_of_a_right_side, output_class_of_a_right_side, generated_class_of_a_right_side, options_class_of_a_right_side};
 ghost use Rattle.es_rows.specs.witnesses.ClassRenamed.{source_class_renamed, output_class_renamed, generated_class_renamed, options_class_renamed};
 ghost use Rattle.es_rows.specs.witnesses.ClassTemporaryBeforeItsClass.{source_class_temporary_before_its_class, output_class_temporary_before_its_class, generated_class_temporary_before_its_class, options_class_temporary_before_its_class};
+ghost use Rattle.es_rows.specs.witnesses.ClassTemporaryInItsClass.{source_class_temporary_in_its_class, output_class_temporary_in_its_class, generated_class_temporary_in_its_class, options_class_temporary_in_its_class};
 ghost use Rattle.es_rows.specs.witnesses.ClassTemporaryOfAnotherCase.{source_class_temporary_of_another_case, output_class_temporary_of_another_case, generated_class_temporary_of_another_case, options_class_temporary_of_another_case};
 ghost use Rattle.es_rows.specs.witnesses.ClosureBeforeItsClass.{source_closure_before_its_class, output_closure_before_its_class, generated_closure_before_its_class, options_closure_before_its_class};
+ghost use Rattle.es_rows.specs.witnesses.ClosureCalledInAKey.{source_closure_called_in_a_key, output_closure_called_in_a_key, generated_closure_called_in_a_key, options_closure_called_in_a_key};
 ghost use Rattle.es_rows.specs.witnesses.ConstantTemporary.{source_constant_temporary, output_constant_temporary, generated_constant_temporary, options_constant_temporary};
 ghost use Rattle.es_rows.specs.witnesses.ConstructorOfAnotherKey.{source_constructor_of_another_key, output_constructor_of_another_key, generated_constructor_of_another_key, options_constructor_of_another_key};
+ghost use Rattle.es_rows.specs.witnesses.ConversionOfNoKey.{source_conversion_of_no_key, output_conversion_of_no_key, generated_conversion_of_no_key, options_conversion_of_no_key};
+ghost use Rattle.es_rows.specs.witnesses.ConversionsOfATemplate.{source_conversions_of_a_template, output_conversions_of_a_template, generated_conversions_of_a_template, options_conversions_of_a_template};
 ghost use Rattle.es_rows.specs.witnesses.DeadTemporary.{source_dead_temporary, output_dead_temporary, generated_dead_temporary, options_dead_temporary};
 ghost use Rattle.es_rows.specs.witnesses.DefaultExports.{first_default_exports, second_default_exports, options_default_exports};
+ghost use Rattle.es_rows.specs.witnesses.DefaultFunction.{first_default_function, second_default_function, options_default_function};
+ghost use Rattle.es_rows.specs.witnesses.DefaultFunctionExpression.{source_default_function_expression, output_default_function_expression, generated_default_function_expression, options_default_function_expression};
 ghost use Rattle.es_rows.specs.witnesses.DefinitionsNested.{source_definitions_nested, output_definitions_nested, generated_definitions_nested, options_definitions_nested};
+ghost use Rattle.es_rows.specs.witnesses.DeleteOfAName.{first_delete_of_a_name, second_delete_of_a_name, options_delete_of_a_name};
 ghost use Rattle.es_rows.specs.witnesses.DeletedKey.{source_deleted_key, output_deleted_key, generated_deleted_key, options_deleted_key};
+ghost use Rattle.es_rows.specs.witnesses.DirectiveBehindAName.{source_directive_behind_a_name, output_directive_behind_a_name, generated_directive_behind_a_name, options_directive_behind_a_name};
 ghost use Rattle.es_rows.specs.witnesses.ElementsDropped.{source_elements_dropped, output_elements_dropped, generated_elements_dropped, options_elements_dropped};
 ghost use Rattle.es_rows.specs.witnesses.ElementsOfAWrittenClassDropped.{source_elements_of_a_written_class_dropped, output_elements_of_a_written_class_dropped, generated_elements_of_a_written_class_dropped, options_elements_of_a_written_class_dropped};
 ghost use Rattle.es_rows.specs.witnesses.FieldBeforeSuper.{source_field_before_super, output_field_before_super, generated_field_before_super, options_field_before_super};
@@ -145,7 +160,13 @@ ghost use Rattle.es_rows.specs.witnesses.FieldOfAWrittenClassDropped.{source_fie
 ghost use Rattle.es_rows.specs.witnesses.FieldsBehindParametersExchanged.{source_fields_behind_parameters_exchanged, output_fields_behind_parameters_exchanged, generated_fields_behind_parameters_exchanged, options_fields_behind_parameters_exchanged};
 ghost use Rattle.es_rows.specs.witnesses.FieldsExchanged.{source_fields_exchanged, output_fields_exchanged, generated_fields_exchanged, options_fields_exchanged};
 ghost use Rattle.es_rows.specs.witnesses.FieldsOfAWrittenClassExchanged.{source_fields_of_a_written_class_exchanged, output_fields_of_a_written_class_exchanged, generated_fields_of_a_written_class_exchanged, options_fields_of_a_written_class_exchanged};
+ghost use Rattle.es_rows.specs.witnesses.FunctionOfABlock.{first_function_of_a_block, second_function_of_a_block, options_function_of_a_block};
+ghost use Rattle.es_rows.specs.witnesses.FunctionOfABlockOverAVar.{first_function_of_a_block_over_a_var, second_function_of_a_block_over_a_var, options_function_of_a_block_over_a_var};
+ghost use Rattle.es_rows.specs.witnesses.FunctionOfABranch.{first_function_of_a_branch, second_function_of_a_branch, options_function_of_a_branch};
+ghost use Rattle.es_rows.specs.witnesses.FunctionOfACase.{first_function_of_a_case, second_function_of_a_case, options_function_of_a_case};
+ghost use Rattle.es_rows.specs.witnesses.FunctionOfAParameter.{first_function_of_a_parameter, second_function_of_a_parameter, options_function_of_a_parameter};
 ghost use Rattle.es_rows.specs.witnesses.FunctionOutOfItsBlock.{source_function_out_of_its_block, output_function_out_of_its_block, generated_function_out_of_its_block, options_function_out_of_its_block};
+ghost use Rattle.es_rows.specs.witnesses.FunctionsOfABlockExchanged.{source_functions_of_a_block_exchanged, output_functions_of_a_block_exchanged, generated_functions_of_a_block_exchanged, options_functions_of_a_block_exchanged};
 ghost use Rattle.es_rows.specs.witnesses.GeneratorConstructor.{source_generator_constructor, output_generator_constructor, generated_generator_constructor, options_generator_constructor};
 ghost use Rattle.es_rows.specs.witnesses.GetterMadeAMethod.{source_getter_made_a_method, output_getter_made_a_method, generated_getter_made_a_method, options_getter_made_a_method};
 ghost use Rattle.es_rows.specs.witnesses.GetterOrMethod.{first_getter_or_method, second_getter_or_method, options_getter_or_method};
@@ -158,32 +179,48 @@ ghost use Rattle.es_rows.specs.witnesses.ImportedKey.{first_imported_key, second
 ghost use Rattle.es_rows.specs.witnesses.ImportedKeyOfAMethod.{first_imported_key_of_a_method, second_imported_key_of_a_method, options_imported_key_of_a_method};
 ghost use Rattle.es_rows.specs.witnesses.ImportedObject.{first_imported_object, second_imported_object, options_imported_object};
 ghost use Rattle.es_rows.specs.witnesses.ImportsExchanged.{first_imports_exchanged, second_imports_exchanged, options_imports_exchanged};
+ghost use Rattle.es_rows.specs.witnesses.InnerNameOfAWrittenClass.{first_inner_name_of_a_written_class, second_inner_name_of_a_written_class, options_inner_name_of_a_written_class};
+ghost use Rattle.es_rows.specs.witnesses.KeyGivenAgain.{source_key_given_again, output_key_given_again, generated_key_given_again, options_key_given_again};
 ghost use Rattle.es_rows.specs.witnesses.KeyGivenBehindTheFields.{source_key_given_behind_the_fields, output_key_given_behind_the_fields, generated_key_given_behind_the_fields, options_key_given_behind_the_fields};
+ghost use Rattle.es_rows.specs.witnesses.KeyGivenInItsValue.{source_key_given_in_its_value, output_key_given_in_its_value, generated_key_given_in_its_value, options_key_given_in_its_value};
 ghost use Rattle.es_rows.specs.witnesses.KeyHeadsExchanged.{first_key_heads_exchanged, second_key_heads_exchanged, options_key_heads_exchanged};
 ghost use Rattle.es_rows.specs.witnesses.KeyOfABindingForAName.{source_key_of_a_binding_for_a_name, output_key_of_a_binding_for_a_name, generated_key_of_a_binding_for_a_name, options_key_of_a_binding_for_a_name};
 ghost use Rattle.es_rows.specs.witnesses.KeyOfABindingInATemporary.{source_key_of_a_binding_in_a_temporary, output_key_of_a_binding_in_a_temporary, generated_key_of_a_binding_in_a_temporary, options_key_of_a_binding_in_a_temporary};
 ghost use Rattle.es_rows.specs.witnesses.KeyOfAMethod.{first_key_of_a_method, second_key_of_a_method, options_key_of_a_method};
 ghost use Rattle.es_rows.specs.witnesses.KeyReadLate.{source_key_read_late, output_key_read_late, generated_key_read_late, options_key_read_late};
 ghost use Rattle.es_rows.specs.witnesses.KeyReadTwice.{source_key_read_twice, output_key_read_twice, generated_key_read_twice, options_key_read_twice};
+ghost use Rattle.es_rows.specs.witnesses.LetBesideACaughtName.{source_let_beside_a_caught_name, output_let_beside_a_caught_name, generated_let_beside_a_caught_name, options_let_beside_a_caught_name};
+ghost use Rattle.es_rows.specs.witnesses.LetOfAHead.{first_let_of_a_head, second_let_of_a_head, options_let_of_a_head};
+ghost use Rattle.es_rows.specs.witnesses.LetOfAnotherCase.{source_let_of_another_case, output_let_of_another_case, generated_let_of_another_case, options_let_of_another_case};
+ghost use Rattle.es_rows.specs.witnesses.LetOutOfAHead.{source_let_out_of_a_head, output_let_out_of_a_head, generated_let_out_of_a_head, options_let_out_of_a_head};
 ghost use Rattle.es_rows.specs.witnesses.LetOutOfALoop.{first_let_out_of_a_loop, second_let_out_of_a_loop, options_let_out_of_a_loop};
 ghost use Rattle.es_rows.specs.witnesses.LoopHeadsExchanged.{first_loop_heads_exchanged, second_loop_heads_exchanged, options_loop_heads_exchanged};
 ghost use Rattle.es_rows.specs.witnesses.LooseMemberReadOnce.{first_loose_member_read_once, second_loose_member_read_once, options_loose_member_read_once};
+ghost use Rattle.es_rows.specs.witnesses.MapMadeInABranch.{source_map_made_in_a_branch, output_map_made_in_a_branch, generated_map_made_in_a_branch, options_map_made_in_a_branch};
+ghost use Rattle.es_rows.specs.witnesses.MapMadeInACalledArrow.{source_map_made_in_a_called_arrow, output_map_made_in_a_called_arrow, generated_map_made_in_a_called_arrow, options_map_made_in_a_called_arrow};
+ghost use Rattle.es_rows.specs.witnesses.MapMadeInAPattern.{source_map_made_in_a_pattern, output_map_made_in_a_pattern, generated_map_made_in_a_pattern, options_map_made_in_a_pattern};
 ghost use Rattle.es_rows.specs.witnesses.MapsInLooseMode.{source_maps_in_loose_mode, output_maps_in_loose_mode, generated_maps_in_loose_mode, options_maps_in_loose_mode};
 ghost use Rattle.es_rows.specs.witnesses.MemberOfAnObject.{source_member_of_an_object, output_member_of_an_object, generated_member_of_an_object, options_member_of_an_object};
 ghost use Rattle.es_rows.specs.witnesses.MethodAssignedInAnotherFunction.{source_method_assigned_in_another_function, output_method_assigned_in_another_function, generated_method_assigned_in_another_function, options_method_assigned_in_another_function};
 ghost use Rattle.es_rows.specs.witnesses.MethodGivenBehindItsCalls.{source_method_given_behind_its_calls, output_method_given_behind_its_calls, generated_method_given_behind_its_calls, options_method_given_behind_its_calls};
 ghost use Rattle.es_rows.specs.witnesses.MethodWithoutBrand.{source_method_without_brand, output_method_without_brand, generated_method_without_brand, options_method_without_brand};
+ghost use Rattle.es_rows.specs.witnesses.NameGivenInAClosure.{source_name_given_in_a_closure, output_name_given_in_a_closure, generated_name_given_in_a_closure, options_name_given_in_a_closure};
+ghost use Rattle.es_rows.specs.witnesses.NameOfANamedClass.{source_name_of_a_named_class, output_name_of_a_named_class, generated_name_of_a_named_class, options_name_of_a_named_class};
 ghost use Rattle.es_rows.specs.witnesses.NameOfNoMember.{source_name_of_no_member, output_name_of_no_member, generated_name_of_no_member, options_name_of_no_member};
 ghost use Rattle.es_rows.specs.witnesses.NameTwice.{source_name_twice, output_name_twice, generated_name_twice, options_name_twice};
+ghost use Rattle.es_rows.specs.witnesses.NameWithoutASign.{source_name_without_a_sign, output_name_without_a_sign, generated_name_without_a_sign, options_name_without_a_sign};
 ghost use Rattle.es_rows.specs.witnesses.NamedValue.{source_named_value, output_named_value, generated_named_value, options_named_value};
 ghost use Rattle.es_rows.specs.witnesses.NewImport.{source_new_import, output_new_import, generated_new_import, options_new_import};
 ghost use Rattle.es_rows.specs.witnesses.ObjectEvaluatedTwice.{source_object_evaluated_twice, output_object_evaluated_twice, generated_object_evaluated_twice, options_object_evaluated_twice};
 ghost use Rattle.es_rows.specs.witnesses.OddConstructor.{source_odd_constructor, output_odd_constructor, generated_odd_constructor, options_odd_constructor};
 ghost use Rattle.es_rows.specs.witnesses.OwnNameOfAClassBehindAWrite.{first_own_name_of_a_class_behind_a_write, second_own_name_of_a_class_behind_a_write, options_own_name_of_a_class_behind_a_write};
+ghost use Rattle.es_rows.specs.witnesses.OwnNameOfADeclarationWritten.{first_own_name_of_a_declaration_written, second_own_name_of_a_declaration_written, options_own_name_of_a_declaration_written};
+ghost use Rattle.es_rows.specs.witnesses.OwnNameOfADeclarationWrittenLater.{first_own_name_of_a_declaration_written_later, second_own_name_of_a_declaration_written_later, options_own_name_of_a_declaration_written_later};
 ghost use Rattle.es_rows.specs.witnesses.OwnNamesExchanged.{first_own_names_exchanged, second_own_names_exchanged, options_own_names_exchanged};
 ghost use Rattle.es_rows.specs.witnesses.ParameterInFront.{source_parameter_in_front, output_parameter_in_front, generated_parameter_in_front, options_parameter_in_front};
 ghost use Rattle.es_rows.specs.witnesses.ParameterOfANewConstructor.{source_parameter_of_a_new_constructor, output_parameter_of_a_new_constructor, generated_parameter_of_a_new_constructor, options_parameter_of_a_new_constructor};
 ghost use Rattle.es_rows.specs.witnesses.ParameterReadLater.{source_parameter_read_later, output_parameter_read_later, generated_parameter_read_later, options_parameter_read_later};
+ghost use Rattle.es_rows.specs.witnesses.ParameterRenamed.{source_parameter_renamed, output_parameter_renamed, generated_parameter_renamed, options_parameter_renamed};
 ghost use Rattle.es_rows.specs.witnesses.ParametersExchanged.{first_parameters_exchanged, second_parameters_exchanged, options_parameters_exchanged};
 ghost use Rattle.es_rows.specs.witnesses.ParentConstructedTwice.{source_parent_constructed_twice, output_parent_constructed_twice, generated_parent_constructed_twice, options_parent_constructed_twice};
 ghost use Rattle.es_rows.specs.witnesses.ParentNeverConstructed.{source_parent_never_constructed, output_parent_never_constructed, generated_parent_never_constructed, options_parent_never_constructed};
@@ -191,17 +228,21 @@ ghost use Rattle.es_rows.specs.witnesses.PatternKeys.{first_pattern_keys, second
 ghost use Rattle.es_rows.specs.witnesses.PickedByAnAsyncArrow.{source_picked_by_an_async_arrow, output_picked_by_an_async_arrow, generated_picked_by_an_async_arrow, options_picked_by_an_async_arrow};
 ghost use Rattle.es_rows.specs.witnesses.PrivateFieldDropped.{source_private_field_dropped, output_private_field_dropped, generated_private_field_dropped, options_private_field_dropped};
 ghost use Rattle.es_rows.specs.witnesses.PrivateMethodDropped.{source_private_method_dropped, output_private_method_dropped, generated_private_method_dropped, options_private_method_dropped};
+ghost use Rattle.es_rows.specs.witnesses.PrivateMethodOfAnotherClass.{first_private_method_of_another_class, second_private_method_of_another_class, options_private_method_of_another_class};
 ghost use Rattle.es_rows.specs.witnesses.PrivateNameBesideAName.{source_private_name_beside_a_name, output_private_name_beside_a_name, generated_private_name_beside_a_name, options_private_name_beside_a_name};
 ghost use Rattle.es_rows.specs.witnesses.PrivateNameOfTheOuterClass.{source_private_name_of_the_outer_class, output_private_name_of_the_outer_class, generated_private_name_of_the_outer_class, options_private_name_of_the_outer_class};
 ghost use Rattle.es_rows.specs.witnesses.PrivateNameTwice.{source_private_name_twice, output_private_name_twice, generated_private_name_twice, options_private_name_twice};
+ghost use Rattle.es_rows.specs.witnesses.ReadInFrontOfABlock.{first_read_in_front_of_a_block, second_read_in_front_of_a_block, options_read_in_front_of_a_block};
 ghost use Rattle.es_rows.specs.witnesses.ReadMoved.{source_read_moved, output_read_moved, generated_read_moved, options_read_moved};
 ghost use Rattle.es_rows.specs.witnesses.ReceiverOfAConditional.{source_receiver_of_a_conditional, output_receiver_of_a_conditional, generated_receiver_of_a_conditional, options_receiver_of_a_conditional};
 ghost use Rattle.es_rows.specs.witnesses.ReceiverOfAPrivateCall.{source_receiver_of_a_private_call, output_receiver_of_a_private_call, generated_receiver_of_a_private_call, options_receiver_of_a_private_call};
 ghost use Rattle.es_rows.specs.witnesses.ReceiverOfASuperCall.{source_receiver_of_a_super_call, output_receiver_of_a_super_call, generated_receiver_of_a_super_call, options_receiver_of_a_super_call};
+ghost use Rattle.es_rows.specs.witnesses.RegularExpressionInATemporary.{source_regular_expression_in_a_temporary, output_regular_expression_in_a_temporary, generated_regular_expression_in_a_temporary, options_regular_expression_in_a_temporary};
 ghost use Rattle.es_rows.specs.witnesses.RestDropped.{first_rest_dropped, second_rest_dropped, options_rest_dropped};
 ghost use Rattle.es_rows.specs.witnesses.ResultOfTheSetter.{source_result_of_the_setter, output_result_of_the_setter, generated_result_of_the_setter, options_result_of_the_setter};
 ghost use Rattle.es_rows.specs.witnesses.ReturnInAnArrow.{source_return_in_an_arrow, output_return_in_an_arrow, generated_return_in_an_arrow, options_return_in_an_arrow};
 ghost use Rattle.es_rows.specs.witnesses.ScriptInAnArrow.{source_script_in_an_arrow, output_script_in_an_arrow, generated_script_in_an_arrow, options_script_in_an_arrow};
+ghost use Rattle.es_rows.specs.witnesses.SharedParameters.{first_shared_parameters, second_shared_parameters, options_shared_parameters};
 ghost use Rattle.es_rows.specs.witnesses.SpreadForAParameter.{source_spread_for_a_parameter, output_spread_for_a_parameter, generated_spread_for_a_parameter, options_spread_for_a_parameter};
 ghost use Rattle.es_rows.specs.witnesses.StatementOfAnIf.{first_statement_of_an_if, second_statement_of_an_if, options_statement_of_an_if};
 ghost use Rattle.es_rows.specs.witnesses.StatementOfAnotherCase.{source_statement_of_another_case, output_statement_of_another_case, generated_statement_of_another_case, options_statement_of_another_case};
@@ -211,6 +252,8 @@ ghost use Rattle.es_rows.specs.witnesses.StaticFieldBeforeItsClass.{source_stati
 ghost use Rattle.es_rows.specs.witnesses.StaticFieldDropped.{source_static_field_dropped, output_static_field_dropped, generated_static_field_dropped, options_static_field_dropped};
 ghost use Rattle.es_rows.specs.witnesses.StaticGetterOrMethod.{first_static_getter_or_method, second_static_getter_or_method, options_static_getter_or_method};
 ghost use Rattle.es_rows.specs.witnesses.StaticKeyReadLate.{source_static_key_read_late, output_static_key_read_late, generated_static_key_read_late, options_static_key_read_late};
+ghost use Rattle.es_rows.specs.witnesses.StaticPrivateMethodOfAnotherClass.{first_static_private_method_of_another_class, second_static_private_method_of_another_class, options_static_private_method_of_another_class};
+ghost use Rattle.es_rows.specs.witnesses.StrictRest.{source_strict_rest, output_strict_rest, generated_strict_rest, options_strict_rest};
 ghost use Rattle.es_rows.specs.witnesses.SuperFunctionBehindACall.{source_super_function_behind_a_call, output_super_function_behind_a_call, generated_super_function_behind_a_call, options_super_function_behind_a_call};
 ghost use Rattle.es_rows.specs.witnesses.SuperFunctionBehindItsCalls.{source_super_function_behind_its_calls, output_super_function_behind_its_calls, generated_super_function_behind_its_calls, options_super_function_behind_its_calls};
 ghost use Rattle.es_rows.specs.witnesses.SuperGivesZero.{source_super_gives_zero, output_super_gives_zero, generated_super_gives_zero, options_super_gives_zero};
@@ -220,7 +263,9 @@ ghost use Rattle.es_rows.specs.witnesses.SuspendingConstructor.{source_suspendin
 ghost use Rattle.es_rows.specs.witnesses.TailOfATemplate.{first_tail_of_a_template, second_tail_of_a_template, options_tail_of_a_template};
 ghost use Rattle.es_rows.specs.witnesses.TemplateKey.{first_template_key, second_template_key, options_template_key};
 ghost use Rattle.es_rows.specs.witnesses.TemporaryGivenAgain.{source_temporary_given_again, output_temporary_given_again, generated_temporary_given_again, options_temporary_given_again};
+ghost use Rattle.es_rows.specs.witnesses.TemporaryGivenAgainInABranch.{source_temporary_given_again_in_a_branch, output_temporary_given_again_in_a_branch, generated_temporary_given_again_in_a_branch, options_temporary_given_again_in_a_branch};
 ghost use Rattle.es_rows.specs.witnesses.TemporaryGivenAgainInALoop.{source_temporary_given_again_in_a_loop, output_temporary_given_again_in_a_loop, generated_temporary_given_again_in_a_loop, options_temporary_given_again_in_a_loop};
+ghost use Rattle.es_rows.specs.witnesses.TemporaryGivenAgainInARound.{source_temporary_given_again_in_a_round, output_temporary_given_again_in_a_round, generated_temporary_given_again_in_a_round, options_temporary_given_again_in_a_round};
 ghost use Rattle.es_rows.specs.witnesses.TemporaryGivenBehindACall.{source_temporary_given_behind_a_call, output_temporary_given_behind_a_call, generated_temporary_given_behind_a_call, options_temporary_given_behind_a_call};
 ghost use Rattle.es_rows.specs.witnesses.TemporaryGivenLate.{source_temporary_given_late, output_temporary_given_late, generated_temporary_given_late, options_temporary_given_late};
 ghost use Rattle.es_rows.specs.witnesses.TemporaryNeverGiven.{source_temporary_never_given, output_temporary_never_given, generated_temporary_never_given, options_temporary_never_given};
@@ -229,9 +274,17 @@ ghost use Rattle.es_rows.specs.witnesses.TemporaryOfTheProgram.{source_temporary
 ghost use Rattle.es_rows.specs.witnesses.TestOfAnotherObject.{source_test_of_another_object, output_test_of_another_object, generated_test_of_another_object, options_test_of_another_object};
 ghost use Rattle.es_rows.specs.witnesses.TestOfOneNull.{source_test_of_one_null, output_test_of_one_null, generated_test_of_one_null, options_test_of_one_null};
 ghost use Rattle.es_rows.specs.witnesses.TestedName.{first_tested_name, second_tested_name, options_tested_name};
+ghost use Rattle.es_rows.specs.witnesses.TestedNameOfAClass.{source_tested_name_of_a_class, output_tested_name_of_a_class, generated_tested_name_of_a_class, options_tested_name_of_a_class};
+ghost use Rattle.es_rows.specs.witnesses.TwoBrands.{source_two_brands, output_two_brands, generated_two_brands, options_two_brands};
 ghost use Rattle.es_rows.specs.witnesses.TwoConstructors.{source_two_constructors, output_two_constructors, generated_two_constructors, options_two_constructors};
+ghost use Rattle.es_rows.specs.witnesses.TwoFunctions.{source_two_functions, output_two_functions, generated_two_functions, options_two_functions};
+ghost use Rattle.es_rows.specs.witnesses.TwoMaps.{source_two_maps, output_two_maps, generated_two_maps, options_two_maps};
+ghost use Rattle.es_rows.specs.witnesses.TypeofOfAName.{first_typeof_of_a_name, second_typeof_of_a_name, options_typeof_of_a_name};
+ghost use Rattle.es_rows.specs.witnesses.UnconvertedNameOfAClass.{source_unconverted_name_of_a_class, output_unconverted_name_of_a_class, generated_unconverted_name_of_a_class, options_unconverted_name_of_a_class};
+ghost use Rattle.es_rows.specs.witnesses.UntestedNameOfAClass.{source_untested_name_of_a_class, output_untested_name_of_a_class, generated_untested_name_of_a_class, options_untested_name_of_a_class};
 ghost use Rattle.es_rows.specs.witnesses.ValueAsAKey.{source_value_as_a_key, output_value_as_a_key, generated_value_as_a_key, options_value_as_a_key};
 ghost use Rattle.es_rows.specs.witnesses.VarArguments.{first_var_arguments, second_var_arguments, options_var_arguments};
+ghost use Rattle.es_rows.specs.witnesses.VarOfAStaticBlock.{first_var_of_a_static_block, second_var_of_a_static_block, options_var_of_a_static_block};
 ghost use Rattle.es_rows.specs.witnesses.VoidOfATemplate.{first_void_of_a_template, second_void_of_a_template, options_void_of_a_template};
 ghost use Rattle.es_rows.specs.witnesses.WeakMapInAnotherFunction.{source_weak_map_in_another_function, output_weak_map_in_another_function, generated_weak_map_in_another_function, options_weak_map_in_another_function};
 
@@ -348,24 +401,41 @@ pub fn programs_are_told_apart()
     ensures arguments_behind_a_write { TellsApart options_arguments_behind_a_write first_arguments_behind_a_write second_arguments_behind_a_write }
     ensures caught_names_exchanged { TellsApart options_caught_names_exchanged first_caught_names_exchanged second_caught_names_exchanged }
     ensures default_exports { TellsApart options_default_exports first_default_exports second_default_exports }
+    ensures default_function { TellsApart options_default_function first_default_function second_default_function }
+    ensures delete_of_a_name { TellsApart options_delete_of_a_name first_delete_of_a_name second_delete_of_a_name }
+    ensures function_of_a_block { TellsApart options_function_of_a_block first_function_of_a_block second_function_of_a_block }
+    ensures function_of_a_block_over_a_var { TellsApart options_function_of_a_block_over_a_var first_function_of_a_block_over_a_var second_function_of_a_block_over_a_var }
+    ensures function_of_a_branch { TellsApart options_function_of_a_branch first_function_of_a_branch second_function_of_a_branch }
+    ensures function_of_a_case { TellsApart options_function_of_a_case first_function_of_a_case second_function_of_a_case }
+    ensures function_of_a_parameter { TellsApart options_function_of_a_parameter first_function_of_a_parameter second_function_of_a_parameter }
     ensures getter_or_method { TellsApart options_getter_or_method first_getter_or_method second_getter_or_method }
     ensures global_renamed { TellsApart options_global_renamed first_global_renamed second_global_renamed }
     ensures hole_in_a_pattern { TellsApart options_hole_in_a_pattern first_hole_in_a_pattern second_hole_in_a_pattern }
     ensures imports_exchanged { TellsApart options_imports_exchanged first_imports_exchanged second_imports_exchanged }
+    ensures inner_name_of_a_written_class { TellsApart options_inner_name_of_a_written_class first_inner_name_of_a_written_class second_inner_name_of_a_written_class }
     ensures key_heads_exchanged { TellsApart options_key_heads_exchanged first_key_heads_exchanged second_key_heads_exchanged }
+    ensures let_of_a_head { TellsApart options_let_of_a_head first_let_of_a_head second_let_of_a_head }
     ensures let_out_of_a_loop { TellsApart options_let_out_of_a_loop first_let_out_of_a_loop second_let_out_of_a_loop }
     ensures loop_heads_exchanged { TellsApart options_loop_heads_exchanged first_loop_heads_exchanged second_loop_heads_exchanged }
     ensures own_name_of_a_class_behind_a_write { TellsApart options_own_name_of_a_class_behind_a_write first_own_name_of_a_class_behind_a_write second_own_name_of_a_class_behind_a_write }
+    ensures own_name_of_a_declaration_written { TellsApart options_own_name_of_a_declaration_written first_own_name_of_a_declaration_written second_own_name_of_a_declaration_written }
+    ensures own_name_of_a_declaration_written_later { TellsApart options_own_name_of_a_declaration_written_later first_own_name_of_a_declaration_written_later second_own_name_of_a_declaration_written_later }
     ensures own_names_exchanged { TellsApart options_own_names_exchanged first_own_names_exchanged second_own_names_exchanged }
     ensures parameters_exchanged { TellsApart options_parameters_exchanged first_parameters_exchanged second_parameters_exchanged }
     ensures pattern_keys { TellsApart options_pattern_keys first_pattern_keys second_pattern_keys }
+    ensures private_method_of_another_class { TellsApart options_private_method_of_another_class first_private_method_of_another_class second_private_method_of_another_class }
+    ensures read_in_front_of_a_block { TellsApart options_read_in_front_of_a_block first_read_in_front_of_a_block second_read_in_front_of_a_block }
     ensures rest_dropped { TellsApart options_rest_dropped first_rest_dropped second_rest_dropped }
+    ensures shared_parameters { TellsApart options_shared_parameters first_shared_parameters second_shared_parameters }
     ensures statement_of_an_if { TellsApart options_statement_of_an_if first_statement_of_an_if second_statement_of_an_if }
     ensures static_getter_or_method { TellsApart options_static_getter_or_method first_static_getter_or_method second_static_getter_or_method }
+    ensures static_private_method_of_another_class { TellsApart options_static_private_method_of_another_class first_static_private_method_of_another_class second_static_private_method_of_another_class }
     ensures tail_of_a_template { TellsApart options_tail_of_a_template first_tail_of_a_template second_tail_of_a_template }
     ensures template_key { TellsApart options_template_key first_template_key second_template_key }
     ensures tested_name { TellsApart options_tested_name first_tested_name second_tested_name }
+    ensures typeof_of_a_name { TellsApart options_typeof_of_a_name first_typeof_of_a_name second_typeof_of_a_name }
     ensures var_arguments { TellsApart options_var_arguments first_var_arguments second_var_arguments }
+    ensures var_of_a_static_block { TellsApart options_var_of_a_static_block first_var_of_a_static_block second_var_of_a_static_block }
     ensures void_of_a_template { TellsApart options_void_of_a_template first_void_of_a_template second_void_of_a_template }
 {}
 
@@ -376,6 +446,7 @@ pub fn wrong_outputs_are_told_apart()
     ensures arguments_of_another { Refused options_arguments_of_another generated_arguments_of_another source_arguments_of_another output_arguments_of_another }
     ensures arrow_out_of_a_loop { Refused options_arrow_out_of_a_loop generated_arrow_out_of_a_loop source_arrow_out_of_a_loop output_arrow_out_of_a_loop }
     ensures async_constructor { Refused options_async_constructor generated_async_constructor source_async_constructor output_async_constructor }
+    ensures await_in_a_static_element { Refused options_await_in_a_static_element generated_await_in_a_static_element source_await_in_a_static_element output_await_in_a_static_element }
     ensures binding_in_a_temporary { Refused options_binding_in_a_temporary generated_binding_in_a_temporary source_binding_in_a_temporary output_binding_in_a_temporary }
     ensures binding_not_renamed { Refused options_binding_not_renamed generated_binding_not_renamed source_binding_not_renamed output_binding_not_renamed }
     ensures block_behind_fields { Refused options_block_behind_fields generated_block_behind_fields source_block_behind_fields output_block_behind_fields }
@@ -399,6 +470,7 @@ pub fn wrong_outputs_are_told_apart()
     ensures getter_made_a_method { Refused options_getter_made_a_method generated_getter_made_a_method source_getter_made_a_method output_getter_made_a_method }
     ensures heritage_read_late { Refused options_heritage_read_late generated_heritage_read_late source_heritage_read_late output_heritage_read_late }
     ensures key_given_behind_the_fields { Refused options_key_given_behind_the_fields generated_key_given_behind_the_fields source_key_given_behind_the_fields output_key_given_behind_the_fields }
+    ensures key_given_in_its_value { Refused options_key_given_in_its_value generated_key_given_in_its_value source_key_given_in_its_value output_key_given_in_its_value }
     ensures key_of_a_binding_in_a_temporary { Refused options_key_of_a_binding_in_a_temporary generated_key_of_a_binding_in_a_temporary source_key_of_a_binding_in_a_temporary output_key_of_a_binding_in_a_temporary }
     ensures key_read_late { Refused options_key_read_late generated_key_read_late source_key_read_late output_key_read_late }
     ensures key_read_twice { Refused options_key_read_twice generated_key_read_twice source_key_read_twice output_key_read_twice }
@@ -420,6 +492,7 @@ pub fn wrong_outputs_are_told_apart()
     ensures receiver_of_a_conditional { Refused options_receiver_of_a_conditional generated_receiver_of_a_conditional source_receiver_of_a_conditional output_receiver_of_a_conditional }
     ensures receiver_of_a_private_call { Refused options_receiver_of_a_private_call generated_receiver_of_a_private_call source_receiver_of_a_private_call output_receiver_of_a_private_call }
     ensures receiver_of_a_super_call { Refused options_receiver_of_a_super_call generated_receiver_of_a_super_call source_receiver_of_a_super_call output_receiver_of_a_super_call }
+    ensures regular_expression_in_a_temporary { Refused options_regular_expression_in_a_temporary generated_regular_expression_in_a_temporary source_regular_expression_in_a_temporary output_regular_expression_in_a_temporary }
     ensures result_of_the_setter { Refused options_result_of_the_setter generated_result_of_the_setter source_result_of_the_setter output_result_of_the_setter }
     ensures return_in_an_arrow { Refused options_return_in_an_arrow generated_return_in_an_arrow source_return_in_an_arrow output_return_in_an_arrow }
     ensures script_in_an_arrow { Refused options_script_in_an_arrow generated_script_in_an_arrow source_script_in_an_arrow output_script_in_an_arrow }
@@ -444,8 +517,15 @@ pub fn wrong_outputs_mean_another_program()
     ensures block_behind_a_kept_field { MeansOther options_block_behind_a_kept_field generated_block_behind_a_kept_field source_block_behind_a_kept_field output_block_behind_a_kept_field }
     ensures block_dropped { MeansOther options_block_dropped generated_block_dropped source_block_dropped output_block_dropped }
     ensures branch_of_a_key_of_another { MeansOther options_branch_of_a_key_of_another generated_branch_of_a_key_of_another source_branch_of_a_key_of_another output_branch_of_a_key_of_another }
+    ensures class_of_a_head { MeansOther options_class_of_a_head generated_class_of_a_head source_class_of_a_head output_class_of_a_head }
+    ensures class_of_a_right_side { MeansOther options_class_of_a_right_side generated_class_of_a_right_side source_class_of_a_right_side output_class_of_a_right_side }
+    ensures conversions_of_a_template { MeansOther options_conversions_of_a_template generated_conversions_of_a_template source_conversions_of_a_template output_conversions_of_a_template }
+    ensures default_function_expression { MeansOther options_default_function_expression generated_default_function_expression source_default_function_expression output_default_function_expression }
     ensures elements_dropped { MeansOther options_elements_dropped generated_elements_dropped source_elements_dropped output_elements_dropped }
+    ensures functions_of_a_block_exchanged { MeansOther options_functions_of_a_block_exchanged generated_functions_of_a_block_exchanged source_functions_of_a_block_exchanged output_functions_of_a_block_exchanged }
     ensures import_read_early { MeansOther options_import_read_early generated_import_read_early source_import_read_early output_import_read_early }
+    ensures let_beside_a_caught_name { MeansOther options_let_beside_a_caught_name generated_let_beside_a_caught_name source_let_beside_a_caught_name output_let_beside_a_caught_name }
+    ensures let_out_of_a_head { MeansOther options_let_out_of_a_head generated_let_out_of_a_head source_let_out_of_a_head output_let_out_of_a_head }
     ensures read_moved { MeansOther options_read_moved generated_read_moved source_read_moved output_read_moved }
     ensures statement_of_another_case { MeansOther options_statement_of_another_case generated_statement_of_another_case source_statement_of_another_case output_statement_of_another_case }
     ensures statements_of_a_case_exchanged { MeansOther options_statements_of_a_case_exchanged generated_statements_of_a_case_exchanged source_statements_of_a_case_exchanged output_statements_of_a_case_exchanged }
@@ -463,35 +543,58 @@ pub fn wrong_outputs_behind_parameters_are_told_apart()
 /// Wrong outputs that a clause on lowered programs finds, though their meanings may be those of their sources.
 pub fn clauses_are_not_met()
     ensures another_literal_of_a_written_class { definitions_stand (nodes source_another_literal_of_a_written_class) options_another_literal_of_a_written_class generated_another_literal_of_a_written_class (private_members source_another_literal_of_a_written_class) source_another_literal_of_a_written_class output_another_literal_of_a_written_class ≡ false }
+    ensures block_without_a_function { homes_kept (nodes source_block_without_a_function) options_block_without_a_function source_block_without_a_function output_block_without_a_function ≡ false }
     ensures body_dropped { definitions_stand (nodes source_body_dropped) options_body_dropped generated_body_dropped (private_members source_body_dropped) source_body_dropped output_body_dropped ≡ false }
-    ensures body_in_an_arrow { homes_kept options_body_in_an_arrow source_body_in_an_arrow output_body_in_an_arrow ≡ false }
+    ensures body_in_an_arrow { homes_kept (nodes source_body_in_an_arrow) options_body_in_an_arrow source_body_in_an_arrow output_body_in_an_arrow ≡ false }
     ensures break_in_an_arrow { is_printable output_break_in_an_arrow ≡ false }
+    ensures break_in_an_arrow_beside_await { not (is_printable source_break_in_an_arrow_beside_await) || is_printable output_break_in_an_arrow_beside_await ≡ false }
     ensures class_behind_its_use { lists_kept options_class_behind_its_use source_class_behind_its_use output_class_behind_its_use ≡ false }
     ensures class_in_a_constructor { lists_kept options_class_in_a_constructor source_class_in_a_constructor output_class_in_a_constructor ≡ false }
-    ensures class_temporary_before_its_class { names_timely (nodes source_class_temporary_before_its_class) generated_class_temporary_before_its_class output_class_temporary_before_its_class ≡ false }
-    ensures class_temporary_of_another_case { names_timely (nodes source_class_temporary_of_another_case) generated_class_temporary_of_another_case output_class_temporary_of_another_case ≡ false }
-    ensures closure_before_its_class { names_timely (nodes source_closure_before_its_class) generated_closure_before_its_class output_closure_before_its_class ≡ false }
+    ensures class_temporary_before_its_class { names_timely (nodes source_class_temporary_before_its_class) generated_class_temporary_before_its_class (private_members source_class_temporary_before_its_class) output_class_temporary_before_its_class ≡ false }
+    ensures class_temporary_in_its_class { names_timely (nodes source_class_temporary_in_its_class) generated_class_temporary_in_its_class (private_members source_class_temporary_in_its_class) output_class_temporary_in_its_class ≡ false }
+    ensures class_temporary_of_another_case { names_timely (nodes source_class_temporary_of_another_case) generated_class_temporary_of_another_case (private_members source_class_temporary_of_another_case) output_class_temporary_of_another_case ≡ false }
+    ensures closure_before_its_class { names_timely (nodes source_closure_before_its_class) generated_closure_before_its_class (private_members source_closure_before_its_class) output_closure_before_its_class ≡ false }
+    ensures closure_called_in_a_key { names_timely (nodes source_closure_called_in_a_key) generated_closure_called_in_a_key (private_members source_closure_called_in_a_key) output_closure_called_in_a_key ≡ false }
     ensures constant_temporary { declarations_accounted (nodes source_constant_temporary) generated_constant_temporary source_constant_temporary output_constant_temporary ≡ false }
-    ensures dead_temporary { names_timely (nodes source_dead_temporary) generated_dead_temporary output_dead_temporary ≡ false }
+    ensures conversion_of_no_key { helper_calls_fit (nodes source_conversion_of_no_key) generated_conversion_of_no_key (computed_keys (preorder source_conversion_of_no_key)) output_conversion_of_no_key ≡ false }
+    ensures dead_temporary { names_timely (nodes source_dead_temporary) generated_dead_temporary (private_members source_dead_temporary) output_dead_temporary ≡ false }
+    ensures directive_behind_a_name { is_printable output_directive_behind_a_name ≡ false }
     ensures elements_of_a_written_class_dropped { definitions_stand (nodes source_elements_of_a_written_class_dropped) options_elements_of_a_written_class_dropped generated_elements_of_a_written_class_dropped (private_members source_elements_of_a_written_class_dropped) source_elements_of_a_written_class_dropped output_elements_of_a_written_class_dropped ≡ false }
     ensures field_of_a_written_class_doubled { definitions_stand (nodes source_field_of_a_written_class_doubled) options_field_of_a_written_class_doubled generated_field_of_a_written_class_doubled (private_members source_field_of_a_written_class_doubled) source_field_of_a_written_class_doubled output_field_of_a_written_class_doubled ≡ false }
     ensures field_of_a_written_class_dropped { definitions_stand (nodes source_field_of_a_written_class_dropped) options_field_of_a_written_class_dropped generated_field_of_a_written_class_dropped (private_members source_field_of_a_written_class_dropped) source_field_of_a_written_class_dropped output_field_of_a_written_class_dropped ≡ false }
     ensures fields_of_a_written_class_exchanged { definitions_stand (nodes source_fields_of_a_written_class_exchanged) options_fields_of_a_written_class_exchanged generated_fields_of_a_written_class_exchanged (private_members source_fields_of_a_written_class_exchanged) source_fields_of_a_written_class_exchanged output_fields_of_a_written_class_exchanged ≡ false }
     ensures function_out_of_its_block { lists_kept options_function_out_of_its_block source_function_out_of_its_block output_function_out_of_its_block ≡ false }
     ensures hidden_body { conforms Place.Program output_hidden_body ≡ false }
-    ensures method_assigned_in_another_function { names_timely (nodes source_method_assigned_in_another_function) generated_method_assigned_in_another_function output_method_assigned_in_another_function ≡ false }
+    ensures key_given_again { initializations_stand (nodes source_key_given_again) generated_key_given_again (private_members source_key_given_again) output_key_given_again generated_key_given_again ≡ false }
+    ensures let_of_another_case { names_timely (nodes source_let_of_another_case) generated_let_of_another_case (private_members source_let_of_another_case) output_let_of_another_case ≡ false }
+    ensures map_made_in_a_branch { names_timely (nodes source_map_made_in_a_branch) generated_map_made_in_a_branch (private_members source_map_made_in_a_branch) output_map_made_in_a_branch ≡ false }
+    ensures map_made_in_a_called_arrow { names_timely (nodes source_map_made_in_a_called_arrow) generated_map_made_in_a_called_arrow (private_members source_map_made_in_a_called_arrow) output_map_made_in_a_called_arrow ≡ false }
+    ensures map_made_in_a_pattern { names_timely (nodes source_map_made_in_a_pattern) generated_map_made_in_a_pattern (private_members source_map_made_in_a_pattern) output_map_made_in_a_pattern ≡ false }
+    ensures method_assigned_in_another_function { names_timely (nodes source_method_assigned_in_another_function) generated_method_assigned_in_another_function (private_members source_method_assigned_in_another_function) output_method_assigned_in_another_function ≡ false }
     ensures method_given_behind_its_calls { initializations_stand (nodes source_method_given_behind_its_calls) generated_method_given_behind_its_calls (private_members source_method_given_behind_its_calls) output_method_given_behind_its_calls generated_method_given_behind_its_calls ≡ false }
+    ensures name_given_in_a_closure { helper_calls_fit (nodes source_name_given_in_a_closure) generated_name_given_in_a_closure (computed_keys (preorder source_name_given_in_a_closure)) output_name_given_in_a_closure ≡ false }
+    ensures name_of_a_named_class { helper_calls_fit (nodes source_name_of_a_named_class) generated_name_of_a_named_class (computed_keys (preorder source_name_of_a_named_class)) output_name_of_a_named_class ≡ false }
     ensures name_of_no_member { initializations_stand (nodes source_name_of_no_member) generated_name_of_no_member (private_members source_name_of_no_member) output_name_of_no_member generated_name_of_no_member ≡ false }
     ensures name_twice { names_declared (nodes source_name_twice) generated_name_twice output_name_twice ≡ false }
+    ensures name_without_a_sign { names_declared (nodes source_name_without_a_sign) generated_name_without_a_sign output_name_without_a_sign ≡ false }
     ensures parameter_read_later { temporaries_steady (nodes source_parameter_read_later) generated_parameter_read_later output_parameter_read_later ≡ false }
+    ensures parameter_renamed { homes_kept (nodes source_parameter_renamed) options_parameter_renamed source_parameter_renamed output_parameter_renamed ≡ false }
     ensures private_name_twice { names_declared (nodes source_private_name_twice) generated_private_name_twice output_private_name_twice ≡ false }
-    ensures super_function_behind_a_call { names_timely (nodes source_super_function_behind_a_call) generated_super_function_behind_a_call output_super_function_behind_a_call ≡ false }
-    ensures super_function_behind_its_calls { names_timely (nodes source_super_function_behind_its_calls) generated_super_function_behind_its_calls output_super_function_behind_its_calls ≡ false }
+    ensures strict_rest { is_printable output_strict_rest ≡ false }
+    ensures super_function_behind_a_call { names_timely (nodes source_super_function_behind_a_call) generated_super_function_behind_a_call (private_members source_super_function_behind_a_call) output_super_function_behind_a_call ≡ false }
+    ensures super_function_behind_its_calls { names_timely (nodes source_super_function_behind_its_calls) generated_super_function_behind_its_calls (private_members source_super_function_behind_its_calls) output_super_function_behind_its_calls ≡ false }
     ensures temporary_given_again { temporaries_steady (nodes source_temporary_given_again) generated_temporary_given_again output_temporary_given_again ≡ false }
+    ensures temporary_given_again_in_a_branch { initializations_stand (nodes source_temporary_given_again_in_a_branch) generated_temporary_given_again_in_a_branch (private_members source_temporary_given_again_in_a_branch) output_temporary_given_again_in_a_branch generated_temporary_given_again_in_a_branch ≡ false }
     ensures temporary_given_again_in_a_loop { temporaries_steady (nodes source_temporary_given_again_in_a_loop) generated_temporary_given_again_in_a_loop output_temporary_given_again_in_a_loop ≡ false }
+    ensures temporary_given_again_in_a_round { initializations_stand (nodes source_temporary_given_again_in_a_round) generated_temporary_given_again_in_a_round (private_members source_temporary_given_again_in_a_round) output_temporary_given_again_in_a_round generated_temporary_given_again_in_a_round ≡ false }
     ensures temporary_of_a_hoisted_function { temporaries_steady (nodes source_temporary_of_a_hoisted_function) generated_temporary_of_a_hoisted_function output_temporary_of_a_hoisted_function ≡ false }
     ensures temporary_of_the_program { temporaries_steady (nodes source_temporary_of_the_program) generated_temporary_of_the_program output_temporary_of_the_program ≡ false }
-    ensures weak_map_in_another_function { names_timely (nodes source_weak_map_in_another_function) generated_weak_map_in_another_function output_weak_map_in_another_function ≡ false }
+    ensures two_brands { names_declared (nodes source_two_brands) generated_two_brands output_two_brands ≡ false }
+    ensures two_functions { names_declared (nodes source_two_functions) generated_two_functions output_two_functions ≡ false }
+    ensures two_maps { names_declared (nodes source_two_maps) generated_two_maps output_two_maps ≡ false }
+    ensures unconverted_name_of_a_class { helper_calls_fit (nodes source_unconverted_name_of_a_class) generated_unconverted_name_of_a_class (computed_keys (preorder source_unconverted_name_of_a_class)) output_unconverted_name_of_a_class ≡ false }
+    ensures untested_name_of_a_class { helper_calls_fit (nodes source_untested_name_of_a_class) generated_untested_name_of_a_class (computed_keys (preorder source_untested_name_of_a_class)) output_untested_name_of_a_class ≡ false }
+    ensures weak_map_in_another_function { names_timely (nodes source_weak_map_in_another_function) generated_weak_map_in_another_function (private_members source_weak_map_in_another_function) output_weak_map_in_another_function ≡ false }
 {}
 
 /// Outputs that mean what their sources mean, though a name or a value in them looks like another one.
@@ -500,6 +603,12 @@ pub fn outputs_mean_their_sources()
     ensures class_in_a_case { Means options_class_in_a_case generated_class_in_a_case source_class_in_a_case output_class_in_a_case }
     ensures key_of_a_binding_for_a_name { Means options_key_of_a_binding_for_a_name generated_key_of_a_binding_for_a_name source_key_of_a_binding_for_a_name output_key_of_a_binding_for_a_name }
     ensures private_name_beside_a_name { Means options_private_name_beside_a_name generated_private_name_beside_a_name source_private_name_beside_a_name output_private_name_beside_a_name }
+{}
+
+/// Outputs that mean what their sources mean and owe nothing, though they look like wrong ones.
+pub fn outputs_owe_nothing()
+    ensures block_of_a_binding { Kept options_block_of_a_binding generated_block_of_a_binding source_block_of_a_binding output_block_of_a_binding [] }
+    ensures tested_name_of_a_class { Kept options_tested_name_of_a_class generated_tested_name_of_a_class source_tested_name_of_a_class output_tested_name_of_a_class [] }
 {}
 
 /// Pairs of programs that have different shapes.

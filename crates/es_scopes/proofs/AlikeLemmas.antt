@@ -39,7 +39,7 @@ from_some x y e = cc
 -- ---- scopes alone
 
 -- what is seen of a scope
-abbrev seen : Option Scope → Option (Option ScopeId × Names)
+abbrev pub seen : Option Scope → Option (Option ScopeId × Names)
 seen o = option_map {U = Option ScopeId × Names} (λ x. (x.parent, x.names)) o
 
 seen-there : (o p : Option Scope) → seen p ≡ seen o → is_some o ≡ true → is_some p ≡ true
@@ -77,7 +77,7 @@ seen-kept f p n None = refl
 seen-kept f p n (Some x) = λ i. Some (p x i, n x i)
 
 -- a scope that the tree does not have is another than one that it has
-apart : (t : Tree) (s q : ScopeId) → (HasScopeOf t s → ⊥) → HasScopeOf t q → q.0 ≢ s.0
+pub apart : (t : Tree) (s q : ScopeId) → (HasScopeOf t s → ⊥) → HasScopeOf t q → q.0 ≢ s.0
 apart t s q none own e = none (own.0, own.1, own.2 ∙ ap (λ (n : ℕ). Some n) e)
 
 module _ (t : Tree) (table : Table) where

@@ -1,29 +1,29 @@
 -- In a tree that conforms each scope gets the names of its node: no other part of the tree declares there.
-use Rattle.std.proofs.Common.{◌≡◌, refl, sym, ap, subst, ◌∙◌, ℕ, zero, suc, ◌+◌, ◌-◌, ◌<◌, ◌≤◌, ◌⊎◌, inl, inr, List, [], ◌∷◌, ◌++◌, length, Bool, true, false, true≢false, cond, ◌&&◌, not, nat_eq, Option, Some, None, arith}
-use Rattle.std.specs.Prelude.{option_to_list, slice_get, codes}
+use Rattle.std.proofs.Common.{◌≡◌, refl, sym, ap, subst, ◌∙◌, ℕ, zero, suc, ◌+◌, ◌<◌, ◌≤◌, ◌⊎◌, inl, inr, List, [], ◌∷◌, ◌++◌, length, Bool, true, false, true≢false, cond, ◌&&◌, not, nat_eq, Option, Some, None, arith}
+use Rattle.std.specs.Prelude.{slice_get}
 use Rattle.std.proofs.lemmas.Bool.{and_parts}
 use Rattle.std.proofs.lemmas.Bool.Decides.{nat_tests}
 use Rattle.std.proofs.lemmas.List.{length-append}
-use Rattle.es_base.specs.Conforms.{conforms, parts_conform, part_conforms, items_conform, item_conforms, key_place, place_rule, kind_rule, boolean_at}
+use Rattle.es_base.specs.Conforms.{conforms, parts_conform, part_conforms, items_conform, item_conforms, key_place, place_rule, kind_rule}
 use Rattle.es_base.specs.Table.{Field, members_of, stands_in}
 use Rattle.es_base.specs.Tree.{Tree, Part, Parts, Node, end, more, child, absent, list, string, no_string, boolean, literal}
 use Rattle.es_base.specs.declared.ids.ScopeId.{ScopeId}
 use Rattle.es_base.specs.declared.kind.Kind.{Kind}
 use Rattle.es_base.specs.declared.table.Place.{Place}
 use Rattle.es_base.specs.declared.table.Sort.{Sort}
-use Rattle.es_scopes.specs.Agreement.{names_of_node}
 use Rattle.es_scopes.specs.Entries.{Collected, entered, collected, collected_parts, collected_part, collected_items, nothing_yet, entries_of}
-use Rattle.es_scopes.specs.Held.{weight, scope_gets, held_weight, given_weight, IsElsewhere, IsNoBody}
+use Rattle.es_scopes.specs.Held.{node_weight, scope_gets, held_weight, IsElsewhere, IsNoBody}
 use Rattle.es_scopes.specs.NodeScopes.{opens, has_scope, is_body_place}
 use Rattle.es_scopes.specs.Opened.{opens_at, opened, opened_parts, opened_part, opened_items}
 use Rattle.es_scopes.specs.Surroundings.{scope_place, inside, declares_in, nowhere}
-use Rattle.es_scopes.specs.Tables.{Fits, AreOrdered, scope_count, scopes_in}
+use Rattle.es_scopes.specs.Tables.{AreOrdered, scopes_in}
 use Rattle.es_scopes.specs.declared.entry.Entry.{Entry}
 use Rattle.es_scopes.specs.declared.entry.Entry.TheVariants as entry
+use Rattle.es_scopes.specs.declared.surroundings.Declarer.{Declarer}
 use Rattle.es_scopes.specs.declared.surroundings.Declares.{Declares}
 use Rattle.es_scopes.specs.declared.surroundings.Declares.TheVariants as declares
 use Rattle.es_scopes.specs.declared.surroundings.Surroundings.{Surroundings}
-use Rattle.es_scopes.proofs.HeldNames.{fit_place, fit_list, fit_sort, fit_all, fit_key, fit-parts, key-fits, list-fits, held-parts, held-part, held-items, held-tree, own-tree, quiet-gives, gives_parts, gives_items, quiet-parts}
+use Rattle.es_scopes.proofs.HeldNames.{fit_place, fit_list, fit_sort, fit_all, fit_key, fit-parts, key-fits, list-fits, held-parts, held-items, own-tree, quiet-gives, gives_items, quiet-parts}
 use Rattle.es_scopes.proofs.OrderLemmas.{Within, Counts, Holds, inside-within, within-le, entered-counts, collected-counts, part-counts, more_in_part}
 
 -- ---- a place has a body where it is that of one
@@ -60,7 +60,7 @@ no-body (declares.Pattern holder who) b h e = tt
 above-other : (m n : ℕ) → m < n → nat_eq m n ≡ false
 above-other m n l = grind (arith, nat_tests)
 
-module _ (w : ℕ → List ℕ → ℕ) where
+module _ (w : Declarer → ℕ → List ℕ → ℕ) where
   known-gets : (m n : ℕ) (o : Option ScopeId) → ((s : ScopeId) → o ≡ Some s → s.0 < m) → m ≤ n → (x : ℕ) → scope_gets n o x ≡ 0
   known-gets m n None h le x = refl
   known-gets m n (Some s) h le x = let k = h s refl in ap (λ b. cond b x 0) (above-other s.0 n (omega arith))
@@ -77,9 +77,9 @@ module _ (w : ℕ → List ℕ → ℕ) where
 
   none-yet : (m n : ℕ) (es : List Entry) → AreOrdered m es → m + scopes_in es ≤ n → held_weight w n es ≡ 0
   none-yet m n [] h le = refl
-  none-yet m n (entry.Scope parent in_parameters flags ∷ es) h le = none-yet (m + 1) n es h.1 (omega arith)
-  none-yet m n (entry.Body ∷ es) h le = none-yet (m + 0) n es h.1 (omega arith)
-  none-yet m n (entry.Binding node holder who name flags head ∷ es) h le = omega (arith, known-gets m n holder h.0 (omega arith) (w node.0 name), none-yet (m + 0) n es h.1 (omega arith))
+  none-yet m n (entry.Scope node parent in_parameters flags ∷ es) h le = none-yet (m + 1) n es h.1 (omega arith)
+  none-yet m n (entry.Body node ∷ es) h le = none-yet (m + 0) n es h.1 (omega arith)
+  none-yet m n (entry.Binding node holder who name flags head ∷ es) h le = omega (arith, known-gets m n holder h.0 (omega arith) (w who node.0 name), none-yet (m + 0) n es h.1 (omega arith))
   none-yet m n (entry.Reference node scope in_parameters name flags ∷ es) h le = none-yet (m + 0) n es h.1 (omega arith)
 
   none-counted : (n : ℕ) (c : Collected) → Counts c → c.next ≤ n → held_weight w n c.entries ≡ 0
@@ -87,22 +87,22 @@ module _ (w : ℕ → List ℕ → ℕ) where
 
 -- ---- as many scopes are counted as nodes have one
 
-opens-same : (kind : Kind) (s : Surroundings) → opens kind (scope_place s) ≡ opens_at kind s.is_body
+pub opens-same : (kind : Kind) (s : Surroundings) → opens kind (scope_place s) ≡ opens_at kind s.is_body
 opens-same Kind.BlockStatement s = refl
 opens-same kind s = refl
 
-one-node : (b : Bool) (t : Tree) (n : ℕ) → cond b (n + 1) n ≡ n + length (cond b (t ∷ []) [])
+pub one-node : (b : Bool) (t : Tree) (n : ℕ) → cond b (n + 1) n ≡ n + length (cond b (t ∷ []) [])
 one-node true t n = omega arith
 one-node false t n = omega arith
 
 -- what is known of the parts from the i-th on
-abbrev Bodies : (ℕ → Surroundings) → ℕ → (ℕ → Bool) → Type 0
+abbrev pub Bodies : (ℕ → Surroundings) → ℕ → (ℕ → Bool) → Type 0
 Bodies f i bs = (j : ℕ) → bs j ≡ (f (i + j)).is_body
 
-first-body : (f : ℕ → Surroundings) (i : ℕ) (bs : ℕ → Bool) → Bodies f i bs → bs 0 ≡ (f i).is_body
+pub first-body : (f : ℕ → Surroundings) (i : ℕ) (bs : ℕ → Bool) → Bodies f i bs → bs 0 ≡ (f i).is_body
 first-body f i bs h = h 0 ∙ (let e : i + 0 ≡ i = omega arith in ap (λ (k : ℕ). (f k).is_body) e)
 
-rest-bodies : (f : ℕ → Surroundings) (i : ℕ) (bs : ℕ → Bool) → Bodies f i bs → Bodies f (i + 1) (λ j. bs (suc j))
+pub rest-bodies : (f : ℕ → Surroundings) (i : ℕ) (bs : ℕ → Bool) → Bodies f i bs → Bodies f (i + 1) (λ j. bs (suc j))
 rest-bodies f i bs h j = h (suc j) ∙ (let e : i + suc j ≡ (i + 1) + j = omega arith in ap (λ (k : ℕ). (f k).is_body) e)
 
 mutual
@@ -115,7 +115,7 @@ mutual
     length-append (cond (opens_at kind s.is_body) (Node kind m span id ps ∷ []) []) (opened_parts (is_body_place kind) ps),
   )
 
-  count-parts : (f : ℕ → Surroundings) (i : ℕ) (c : Collected) (ps : Parts) (bs : ℕ → Bool) → Bodies f i bs → (collected_parts f i c ps).next ≡ c.next + length (opened_parts bs ps)
+  pub count-parts : (f : ℕ → Surroundings) (i : ℕ) (c : Collected) (ps : Parts) (bs : ℕ → Bool) → Bodies f i bs → (collected_parts f i c ps).next ≡ c.next + length (opened_parts bs ps)
   count-parts f i c end bs h = omega arith
   count-parts f i c (more p ps) bs h = omega (
     arith,
@@ -125,7 +125,7 @@ mutual
     length-append (opened_part (bs 0) p) (opened_parts (λ j. bs (suc j)) ps),
   )
 
-  count-part : (s : Surroundings) (c : Collected) (p : Part) → (collected_part s c p).next ≡ c.next + length (opened_part s.is_body p)
+  pub count-part : (s : Surroundings) (c : Collected) (p : Part) → (collected_part s c p).next ≡ c.next + length (opened_part s.is_body p)
   count-part s c (child t) = count-tree s c t
   count-part s c absent = omega arith
   count-part s c (list ps) = count-items s c ps
@@ -134,13 +134,13 @@ mutual
   count-part s c (boolean b) = omega arith
   count-part s c (literal v) = omega arith
 
-  count-items : (s : Surroundings) (c : Collected) (ps : Parts) → (collected_items s c ps).next ≡ c.next + length (opened_items s.is_body ps)
+  pub count-items : (s : Surroundings) (c : Collected) (ps : Parts) → (collected_items s c ps).next ≡ c.next + length (opened_items s.is_body ps)
   count-items s c end = omega arith
   count-items s c (more p ps) = omega (arith, count-items s (collected_part s c p) ps, count-part s c p, length-append (opened_part s.is_body p) (opened_items s.is_body ps))
 
 -- ---- each scope gets the names of its node
 
-get-append : {X : Type 0} (xs ys : List X) (j : ℕ) (x : X) → slice_get (xs ++ ys) j ≡ Some x → ((slice_get xs j ≡ Some x) × (j < length xs)) ⊎ ((k : ℕ) × ((j ≡ length xs + k) × (slice_get ys k ≡ Some x)))
+pub get-append : {X : Type 0} (xs ys : List X) (j : ℕ) (x : X) → slice_get (xs ++ ys) j ≡ Some x → ((slice_get xs j ≡ Some x) × (j < length xs)) ⊎ ((k : ℕ) × ((j ≡ length xs + k) × (slice_get ys k ≡ Some x)))
 get-append [] ys j x h = inr (j, (omega arith, h))
 get-append (y ∷ xs) ys zero x h = inl (h, omega arith)
 get-append (y ∷ xs) ys (suc j) x h = elim (get-append xs ys j x h) [
@@ -186,9 +186,9 @@ opens-has : (kind : Kind) (b : Bool) → opens_at kind b ≡ true → has_scope 
 opens-has Kind.BlockStatement b h = refl
 opens-has kind b h = h
 
-module _ (w : ℕ → List ℕ → ℕ) where
+module _ (w : Declarer → ℕ → List ℕ → ℕ) where
   abbrev pub EachGets : ℕ → List Tree → List Entry → Type 0
-  EachGets start nodes es = (j : ℕ) (x : Tree) → slice_get nodes j ≡ Some x → held_weight w (start + j) es ≡ weight w (names_of_node x)
+  EachGets start nodes es = (j : ℕ) (x : Tree) → slice_get nodes j ≡ Some x → held_weight w (start + j) es ≡ node_weight w x
 
   quiet-items : (n : ℕ) (d : Declares) (ps : Parts) → IsElsewhere n d → gives_items w n d ps ≡ 0
   quiet-items n d end h = refl
@@ -215,9 +215,9 @@ module _ (w : ℕ → List ℕ → ℕ) where
       let first : c.next + 0 ≡ c.next = omega arith in
       ap (λ (n : ℕ). held_weight w n (collected s c (Node kind m span id ps)).entries) first
       ∙ own-tree w c.next place s c kind m span id ps h (opens-has kind s.is_body is) (opens-same kind s ∙ is) refl (holds-elsewhere w c.next c.next s.declares (omega arith) within.holders) (λ block. no-body s.declares s.is_body knows (block-open kind s.is_body block is))
-      ∙ (let none = none-counted w c.next c counts (omega arith) in ap (λ (n : ℕ). n + weight w (names_of_node (Node kind m span id ps))) none)
-      ∙ (let z : 0 + weight w (names_of_node (Node kind m span id ps)) ≡ weight w (names_of_node (Node kind m span id ps)) = omega arith in z)
-      ∙ ap (λ t. weight w (names_of_node t)) (from-some _ _ e)
+      ∙ (let none = none-counted w c.next c counts (omega arith) in ap (λ (n : ℕ). n + node_weight w (Node kind m span id ps)) none)
+      ∙ (let z : 0 + node_weight w (Node kind m span id ps) ≡ node_weight w (Node kind m span id ps) = omega arith in z)
+      ∙ ap (node_weight w) (from-some _ _ e)
   each-node place s c kind m span id ps h knows counts within true is below (suc j) x e =
       let later : c.next + suc j ≡ (c.next + 1) + j = omega arith in
       ap (λ (n : ℕ). held_weight w n (collected s c (Node kind m span id ps)).entries) later
@@ -298,7 +298,7 @@ counts-nothing = record { ordered = tt; count = refl }
 within-nowhere : Within 0 nowhere
 within-nowhere = record { scope = λ s e. absurd (cc e); holders = tt; body = λ e. absurd (true≢false (sym e)) }
 
-pub each-program : (w : ℕ → List ℕ → ℕ) (t x : Tree) (j : ℕ) → conforms Place.Program t ≡ true → slice_get (opened false t) j ≡ Some x → held_weight w j (entries_of t) ≡ weight w (names_of_node x)
+pub each-program : (w : Declarer → ℕ → List ℕ → ℕ) (t x : Tree) (j : ℕ) → conforms Place.Program t ≡ true → slice_get (opened false t) j ≡ Some x → held_weight w j (entries_of t) ≡ node_weight w x
 each-program w t x j h e =
     let plain : j ≡ 0 + j = omega arith in
     ap (λ (n : ℕ). held_weight w n (entries_of t)) plain ∙ each-tree w Place.Program nowhere nothing_yet t h refl tt counts-nothing within-nowhere j x e

@@ -14,15 +14,15 @@ use Rattle.es_base.specs.declared.literal.LiteralValue.{LiteralValue}
 use Rattle.es_base.specs.declared.table.Place.{Place}
 use Rattle.es_base.specs.declared.table.Sort.{Sort}
 use Rattle.es_base.specs.declared.table.Words.{Words}
-use Rattle.es_scopes.specs.Agreement.{names_of_node}
 use Rattle.es_scopes.specs.Entries.{Collected, binding, entry_of, entered, collected, collected_parts, collected_part, collected_items, nothing_yet, entries_of}
-use Rattle.es_scopes.specs.Held.{weight, scope_gets, held_weight, given_weight, IsElsewhere, IsNoBody}
+use Rattle.es_scopes.specs.Held.{weight, node_weight, scope_gets, held_weight, given_weight, IsElsewhere, IsNoBody}
 use Rattle.es_scopes.specs.NodeScopes.{opens, has_scope, is_strict, scope_flags}
 use Rattle.es_scopes.specs.Surroundings.{scope_place, inside, declares_in, lexical_scope, var_scope, in_scope, in_function, in_arrow, in_first, in_block, nested, is_pattern_part, passed_on, nowhere}
 use Rattle.es_scopes.specs.declared.entry.Entry.{Entry}
 use Rattle.es_scopes.specs.declared.entry.Entry.TheVariants as entry
 use Rattle.es_scopes.specs.declared.flags.ScopeFlags.{ScopeFlags}
 use Rattle.es_scopes.specs.declared.surroundings.Declarer.{Declarer}
+use Rattle.es_scopes.specs.declared.surroundings.Declarer.TheVariants as declarer
 use Rattle.es_scopes.specs.declared.surroundings.Declares.{Declares}
 use Rattle.es_scopes.specs.declared.surroundings.Declares.TheVariants as declares
 use Rattle.es_scopes.specs.declared.surroundings.Surroundings.{Surroundings}
@@ -311,9 +311,9 @@ tree_kind (Node kind m span id ps) = kind
 
 -- ---- weights
 
-module _ (w : ℕ → List ℕ → ℕ) (n : ℕ) where
-  abbrev total : List Declaration → ℕ
-  total ds = weight w ds
+module _ (w : Declarer → ℕ → List ℕ → ℕ) (n : ℕ) where
+  abbrev total : Declarer → List Declaration → ℕ
+  total who ds = weight (w who) ds
 
   -- what scope n gets of it
   abbrev at_scope : Option ScopeId → ℕ → ℕ
@@ -333,14 +333,14 @@ module _ (w : ℕ → List ℕ → ℕ) (n : ℕ) where
   gives_items d end = 0
   gives_items d (more p ps) = gives d p + gives_items d ps
 
-  total-append : (xs ys : List Declaration) → total (xs ++ ys) ≡ total xs + total ys
-  total-append [] ys = omega arith
-  total-append (x ∷ xs) ys = omega (arith, total-append xs ys)
+  total-append : (who : Declarer) (xs ys : List Declaration) → total who (xs ++ ys) ≡ total who xs + total who ys
+  total-append who [] ys = omega arith
+  total-append who (x ∷ xs) ys = omega (arith, total-append who xs ys)
 
   held-append : (es fs : List Entry) → held (es ++ fs) ≡ held es + held fs
   held-append [] fs = omega arith
-  held-append (entry.Scope parent in_parameters flags ∷ es) fs = held-append es fs
-  held-append (entry.Body ∷ es) fs = held-append es fs
+  held-append (entry.Scope node parent in_parameters flags ∷ es) fs = held-append es fs
+  held-append (entry.Body node ∷ es) fs = held-append es fs
   held-append (entry.Binding node holder who name flags head ∷ es) fs = omega (arith, held-append es fs)
   held-append (entry.Reference node scope in_parameters name flags ∷ es) fs = held-append es fs
 
@@ -360,8 +360,8 @@ module _ (w : ℕ → List ℕ → ℕ) (n : ℕ) where
   at-plus None x y = omega arith
   at-plus (Some s) x y = cond-plus (nat_eq s.0 n) x y
 
-  at-append : (o : Option ScopeId) (xs ys : List Declaration) → at_scope o (total (xs ++ ys)) ≡ at_scope o (total xs) + at_scope o (total ys)
-  at-append o xs ys = ap (at_scope o) (total-append xs ys) ∙ at-plus o (total xs) (total ys)
+  at-append : (o : Option ScopeId) (who : Declarer) (xs ys : List Declaration) → at_scope o (total who (xs ++ ys)) ≡ at_scope o (total who xs) + at_scope o (total who ys)
+  at-append o who xs ys = ap (at_scope o) (total-append who xs ys) ∙ at-plus o (total who xs) (total who ys)
 
   -- ---- what declares nothing in scope n
 
@@ -384,9 +384,9 @@ module _ (w : ℕ → List ℕ → ℕ) (n : ℕ) where
 
   pub quiet-gives : (d : Declares) (p : Part) → Quiet d → gives d p ≡ 0
   quiet-gives declares.Nothing p h = refl
-  quiet-gives (declares.Statement lexical var) p h = omega (arith, h.0 (total (lexical_part p)), h.1 (total (var_part p)))
-  quiet-gives (declares.Body s) p h = h (total (body_names (block_items p)))
-  quiet-gives (declares.Pattern holder who) p h = h (total (bound_part no_class p))
+  quiet-gives (declares.Statement lexical var) p h = omega (arith, h.0 (total declarer.Other (lexical_part p)), h.1 (total declarer.Other (var_part p)))
+  quiet-gives (declares.Body s) p h = h (total declarer.Other (body_names (block_items p)))
+  quiet-gives (declares.Pattern holder who) p h = h (total who (bound_part no_class p))
 
   pub quiet-parts : (ds : ℕ → Declares) (ps : Parts) → ((j : ℕ) → Quiet (ds j)) → gives_parts ds ps ≡ 0
   quiet-parts ds end h = refl
@@ -456,10 +456,10 @@ module _ (w : ℕ → List ℕ → ℕ) (n : ℕ) where
   gives-list declares.Nothing end place h = refl
   gives-list declares.Nothing (more p ps) place h = omega (arith, gives-list declares.Nothing ps place h)
   gives-list (declares.Statement lexical var) end place h = omega (arith, at-zero lexical, at-zero var)
-  gives-list (declares.Statement lexical var) (more p ps) place h = omega (arith, gives-list (declares.Statement lexical var) ps place h, at-append lexical (lexical_part p) (lexical_items ps), at-append var (var_part p) (var_items ps))
+  gives-list (declares.Statement lexical var) (more p ps) place h = omega (arith, gives-list (declares.Statement lexical var) ps place h, at-append lexical declarer.Other (lexical_part p) (lexical_items ps), at-append var declarer.Other (var_part p) (var_items ps))
   gives-list (declares.Body s) ps place h = absurd (true≢false (sym h))
   gives-list (declares.Pattern holder who) end place h = sym (at-zero holder)
-  gives-list (declares.Pattern holder who) (more p ps) place h = omega (arith, gives-list (declares.Pattern holder who) ps place h, at-append holder (bound_part no_class p) (bound_items no_class ps))
+  gives-list (declares.Pattern holder who) (more p ps) place h = omega (arith, gives-list (declares.Pattern holder who) ps place h, at-append holder who (bound_part no_class p) (bound_items no_class ps))
 
   gives-absent : (d : Declares) → gives d absent ≡ 0
   gives-absent declares.Nothing = refl
@@ -493,47 +493,47 @@ module _ (w : ℕ → List ℕ → ℕ) (n : ℕ) where
 
   -- ---- statements
 
-  statement-parts : (l v : Option ScopeId) (ps : Parts) → gives_parts (λ j. declares.Statement l v) ps ≡ at_scope l (total (lexical_items ps)) + at_scope v (total (var_items ps))
+  statement-parts : (l v : Option ScopeId) (ps : Parts) → gives_parts (λ j. declares.Statement l v) ps ≡ at_scope l (total declarer.Other (lexical_items ps)) + at_scope v (total declarer.Other (var_items ps))
   statement-parts l v end = omega (arith, at-zero l, at-zero v)
-  statement-parts l v (more p ps) = omega (arith, statement-parts l v ps, at-append l (lexical_part p) (lexical_items ps), at-append v (var_part p) (var_items ps))
+  statement-parts l v (more p ps) = omega (arith, statement-parts l v ps, at-append l declarer.Other (lexical_part p) (lexical_items ps), at-append v declarer.Other (var_part p) (var_items ps))
 
-  nested-parts : (ls : ℕ → Option ScopeId) (v : Option ScopeId) (ps : Parts) → ((j : ℕ) → Away (ls j)) → gives_parts (λ j. declares.Statement (ls j) v) ps ≡ at_scope v (total (var_items ps))
+  nested-parts : (ls : ℕ → Option ScopeId) (v : Option ScopeId) (ps : Parts) → ((j : ℕ) → Away (ls j)) → gives_parts (λ j. declares.Statement (ls j) v) ps ≡ at_scope v (total declarer.Other (var_items ps))
   nested-parts ls v end away = sym (at-zero v)
-  nested-parts ls v (more p ps) away = omega (arith, away 0 (total (lexical_part p)), nested-parts (λ j. ls (suc j)) v ps (λ j. away (suc j)), at-append v (var_part p) (var_items ps))
+  nested-parts ls v (more p ps) away = omega (arith, away 0 (total declarer.Other (lexical_part p)), nested-parts (λ j. ls (suc j)) v ps (λ j. away (suc j)), at-append v declarer.Other (var_part p) (var_items ps))
 
   -- what a declaration binds does not depend on the class that it is said to name
-  total-where : (c : ClassName) (b : ℕ) (ps : Parts) (fs : List Field) (is : Bool) → total (bound_members c fs ps) ≡ total (bound_members no_class fs ps) → total (cond is (declaration c b ps) (bound_members c fs ps)) ≡ total (cond is (declaration no_class b ps) (bound_members no_class fs ps))
-  total-where c b ps fs true h = refl
-  total-where c b ps fs false h = h
+  total-where : (who : Declarer) (c : ClassName) (b : ℕ) (ps : Parts) (fs : List Field) (is : Bool) → total who (bound_members c fs ps) ≡ total who (bound_members no_class fs ps) → total who (cond is (declaration c b ps) (bound_members c fs ps)) ≡ total who (cond is (declaration no_class b ps) (bound_members no_class fs ps))
+  total-where who c b ps fs true h = refl
+  total-where who c b ps fs false h = h
 
-  total-member : (xs ys vs ws : List Declaration) (b : Bool) → total xs ≡ total ys → total vs ≡ total ws → total (cond b xs [] ++ vs) ≡ total (cond b ys [] ++ ws)
-  total-member xs ys vs ws true h k = omega (arith, total-append xs vs, total-append ys ws)
-  total-member xs ys vs ws false h k = k
+  total-member : (who : Declarer) (xs ys vs ws : List Declaration) (b : Bool) → total who xs ≡ total who ys → total who vs ≡ total who ws → total who (cond b xs [] ++ vs) ≡ total who (cond b ys [] ++ ws)
+  total-member who xs ys vs ws true h k = omega (arith, total-append who xs vs, total-append who ys ws)
+  total-member who xs ys vs ws false h k = k
 
   mutual
-    total-names : (c : ClassName) (t : Tree) → total (bound_names c t) ≡ total (bound_names no_class t)
-    total-names c (Node kind b span semantic_id ps) = total-where c b ps (members_of kind) (is_binding_identifier kind) (total-members c (members_of kind) ps)
+    total-names : (who : Declarer) (c : ClassName) (t : Tree) → total who (bound_names c t) ≡ total who (bound_names no_class t)
+    total-names who c (Node kind b span semantic_id ps) = total-where who c b ps (members_of kind) (is_binding_identifier kind) (total-members who c (members_of kind) ps)
 
-    total-members : (c : ClassName) (fs : List Field) (ps : Parts) → total (bound_members c fs ps) ≡ total (bound_members no_class fs ps)
-    total-members c fs end = refl
-    total-members c [] (more p ps) = refl
-    total-members c (f ∷ fs) (more p ps) = total-member (bound_part c p) (bound_part no_class p) (bound_members c fs ps) (bound_members no_class fs ps) (binds f.sort) (total-part c p) (total-members c fs ps)
+    total-members : (who : Declarer) (c : ClassName) (fs : List Field) (ps : Parts) → total who (bound_members c fs ps) ≡ total who (bound_members no_class fs ps)
+    total-members who c fs end = refl
+    total-members who c [] (more p ps) = refl
+    total-members who c (f ∷ fs) (more p ps) = total-member who (bound_part c p) (bound_part no_class p) (bound_members c fs ps) (bound_members no_class fs ps) (binds f.sort) (total-part who c p) (total-members who c fs ps)
 
-    total-part : (c : ClassName) (p : Part) → total (bound_part c p) ≡ total (bound_part no_class p)
-    total-part c (child t) = total-names c t
-    total-part c absent = refl
-    total-part c (list ps) = total-items c ps
-    total-part c (string s) = refl
-    total-part c no_string = refl
-    total-part c (boolean b) = refl
-    total-part c (literal v) = refl
+    total-part : (who : Declarer) (c : ClassName) (p : Part) → total who (bound_part c p) ≡ total who (bound_part no_class p)
+    total-part who c (child t) = total-names who c t
+    total-part who c absent = refl
+    total-part who c (list ps) = total-items who c ps
+    total-part who c (string s) = refl
+    total-part who c no_string = refl
+    total-part who c (boolean b) = refl
+    total-part who c (literal v) = refl
 
-    total-items : (c : ClassName) (ps : Parts) → total (bound_items c ps) ≡ total (bound_items no_class ps)
-    total-items c end = refl
-    total-items c (more p ps) = omega (arith, total-append (bound_part c p) (bound_items c ps), total-append (bound_part no_class p) (bound_items no_class ps), total-part c p, total-items c ps)
+    total-items : (who : Declarer) (c : ClassName) (ps : Parts) → total who (bound_items c ps) ≡ total who (bound_items no_class ps)
+    total-items who c end = refl
+    total-items who c (more p ps) = omega (arith, total-append who (bound_part c p) (bound_items c ps), total-append who (bound_part no_class p) (bound_items no_class ps), total-part who c p, total-items who c ps)
 
   -- the first part declares, and the others do nothing for scope n
-  first-parts : (ds : ℕ → Declares) (l : Option ScopeId) (ps : Parts) → ds 0 ≡ in_scope l → ((j : ℕ) → Quiet (ds (suc j))) → gives_parts ds ps ≡ at_scope l (total (bound_part no_class (at 0 ps)))
+  first-parts : (ds : ℕ → Declares) (l : Option ScopeId) (ps : Parts) → ds 0 ≡ in_scope l → ((j : ℕ) → Quiet (ds (suc j))) → gives_parts ds ps ≡ at_scope l (total declarer.Other (bound_part no_class (at 0 ps)))
   first-parts ds l end is quiet = sym (at-zero l)
   first-parts ds l (more p ps) is quiet = omega (arith, ap (λ d. gives d p) is, quiet-parts (λ j. ds (suc j)) ps quiet)
 
@@ -550,21 +550,21 @@ module _ (w : ℕ → List ℕ → ℕ) (n : ℕ) where
 
   -- a part that declares nothing as a statement
   abbrev Mute : Part → Type 0
-  Mute p = (total (lexical_part p) ≡ 0) × (total (var_part p) ≡ 0)
+  Mute p = (total declarer.Other (lexical_part p) ≡ 0) × (total declarer.Other (var_part p) ≡ 0)
 
   mute-tree : (t : Tree) → Silent (tree_kind t) → Mute (child t)
-  mute-tree (Node kind m span id ps) h = (ap total (silent-lexical kind m ps (lexical_items ps) h), ap total (silent-var kind ps (var_items ps) h))
+  mute-tree (Node kind m span id ps) h = (ap (total declarer.Other) (silent-lexical kind m ps (lexical_items ps) h), ap (total declarer.Other) (silent-var kind ps (var_items ps) h))
 
   mute-absent : Mute absent
   mute-absent = (refl, refl)
 
-  mute-items : (holes : Bool) (place : Place) (ps : Parts) → IsSilentPlace place → items_conform holes place ps ≡ true → (total (lexical_items ps) ≡ 0) × (total (var_items ps) ≡ 0)
+  mute-items : (holes : Bool) (place : Place) (ps : Parts) → IsSilentPlace place → items_conform holes place ps ≡ true → (total declarer.Other (lexical_items ps) ≡ 0) × (total declarer.Other (var_items ps) ≡ 0)
   mute-items holes place end silent h = (refl, refl)
   mute-items holes place (more p ps) silent h =
       let both = and_parts (item_conforms holes place p) _ h in
       let more = mute-items holes place ps silent (and_parts _ _ both.1).1 in
       let here = mute-item p both.0 in
-      (omega (arith, total-append (lexical_part p) (lexical_items ps), here.0, more.0), omega (arith, total-append (var_part p) (var_items ps), here.1, more.1))
+      (omega (arith, total-append declarer.Other (lexical_part p) (lexical_items ps), here.0, more.0), omega (arith, total-append declarer.Other (var_part p) (var_items ps), here.1, more.1))
     where
       mute-item : (p : Part) → item_conforms holes place p ≡ true → Mute p
       mute-item (child (Node kind m span id qs)) h = mute-tree (Node kind m span id qs) (silent-form kind (by_implies (stands_in place kind) (is_silent kind) (silent kind) (and_parts _ _ h).0))
@@ -575,11 +575,11 @@ module _ (w : ℕ → List ℕ → ℕ) (n : ℕ) where
       mute-item (boolean b) h = absurd (true≢false (sym h))
       mute-item (literal v) h = absurd (true≢false (sym h))
 
-  body-total : (ps : Parts) → total (body_names ps) ≡ total (lexical_items ps) + total (var_items ps)
+  body-total : (ps : Parts) → total declarer.Other (body_names ps) ≡ total declarer.Other (lexical_items ps) + total declarer.Other (var_items ps)
   body-total end = omega arith
-  body-total (more p ps) = omega (arith, total-append (lexical_part p ++ var_part p) (body_names ps), total-append (lexical_part p) (var_part p), total-append (lexical_part p) (lexical_items ps), total-append (var_part p) (var_items ps), body-total ps)
+  body-total (more p ps) = omega (arith, total-append declarer.Other (lexical_part p ++ var_part p) (body_names ps), total-append declarer.Other (lexical_part p) (var_part p), total-append declarer.Other (lexical_part p) (lexical_items ps), total-append declarer.Other (var_part p) (var_items ps), body-total ps)
 
-  plain-bound : (p : Part) → IsPlain p → total (bound_part no_class p) ≡ 0
+  plain-bound : (p : Part) → IsPlain p → total declarer.Other (bound_part no_class p) ≡ 0
   plain-bound (child t) h = absurd h
   plain-bound absent h = refl
   plain-bound (list ps) h = absurd h
@@ -590,7 +590,7 @@ module _ (w : ℕ → List ℕ → ℕ) (n : ℕ) where
 
   -- ---- variable declarations
 
-  declarator-shape : (m k : ℕ) (is : Bool) (span : Option (ℕ × ℕ)) (sid : Option ℕ) (id init : Part) → total (declarator_names m is (child (Node Kind.VariableDeclarator k span sid (more id (more init end))))) ≡ total (bound_names no_class (Node Kind.VariableDeclarator k span sid (more id (more init end))))
+  declarator-shape : (m k : ℕ) (is : Bool) (span : Option (ℕ × ℕ)) (sid : Option ℕ) (id init : Part) → total declarer.Other (declarator_names m is (child (Node Kind.VariableDeclarator k span sid (more id (more init end))))) ≡ total declarer.Other (bound_names no_class (Node Kind.VariableDeclarator k span sid (more id (more init end))))
   declarator-shape m k is span sid (child (Node Kind.BindingIdentifier b bspan bid bs)) init = refl
   declarator-shape m k is span sid (child (Node kind b bspan bid bs)) init = refl
   declarator-shape m k is span sid absent init = refl
@@ -600,14 +600,14 @@ module _ (w : ℕ → List ℕ → ℕ) (n : ℕ) where
   declarator-shape m k is span sid (boolean b) init = refl
   declarator-shape m k is span sid (literal v) init = refl
 
-  declarator-parts : (m k : ℕ) (is : Bool) (span : Option (ℕ × ℕ)) (sid : Option ℕ) (ps : Parts) → parts_conform (boolean_at (codes "computed") (members_of Kind.VariableDeclarator) ps) (members_of Kind.VariableDeclarator) ps ≡ true → total (declarator_names m is (child (Node Kind.VariableDeclarator k span sid ps))) ≡ total (bound_names no_class (Node Kind.VariableDeclarator k span sid ps))
+  declarator-parts : (m k : ℕ) (is : Bool) (span : Option (ℕ × ℕ)) (sid : Option ℕ) (ps : Parts) → parts_conform (boolean_at (codes "computed") (members_of Kind.VariableDeclarator) ps) (members_of Kind.VariableDeclarator) ps ≡ true → total declarer.Other (declarator_names m is (child (Node Kind.VariableDeclarator k span sid ps))) ≡ total declarer.Other (bound_names no_class (Node Kind.VariableDeclarator k span sid ps))
   declarator-parts m k is span sid ps h =
       let a = cons-of _ _ _ ps h in
       let b = cons-of _ _ _ a.rest a.others in
       let shape : ps ≡ more a.first (more b.first end) = a.is ∙ ap (more a.first) (b.is ∙ ap (more b.first) (nil-of _ b.rest b.others)) in
-      subst (λ (qs : Parts). total (declarator_names m is (child (Node Kind.VariableDeclarator k span sid qs))) ≡ total (bound_names no_class (Node Kind.VariableDeclarator k span sid qs))) (sym shape) (declarator-shape m k is span sid a.first b.first)
+      subst (λ (qs : Parts). total declarer.Other (declarator_names m is (child (Node Kind.VariableDeclarator k span sid qs))) ≡ total declarer.Other (bound_names no_class (Node Kind.VariableDeclarator k span sid qs))) (sym shape) (declarator-shape m k is span sid a.first b.first)
 
-  declarator-total : (m : ℕ) (is : Bool) (p : Part) → item_conforms false Place.VariableDeclarator p ≡ true → total (declarator_names m is p) ≡ total (bound_part no_class p)
+  declarator-total : (m : ℕ) (is : Bool) (p : Part) → item_conforms false Place.VariableDeclarator p ≡ true → total declarer.Other (declarator_names m is p) ≡ total declarer.Other (bound_part no_class p)
   declarator-total m is (child (Node Kind.VariableDeclarator k span sid ps)) h =
       let rules : (place_rule Place.VariableDeclarator Kind.VariableDeclarator ps && (kind_rule Kind.VariableDeclarator ps && parts_conform (boolean_at (codes "computed") (members_of Kind.VariableDeclarator) ps) (members_of Kind.VariableDeclarator) ps)) ≡ true = h in
       declarator-parts m k is span sid ps (and_parts (kind_rule Kind.VariableDeclarator ps) _ (and_parts (place_rule Place.VariableDeclarator Kind.VariableDeclarator ps) _ rules).1).1
@@ -619,13 +619,13 @@ module _ (w : ℕ → List ℕ → ℕ) (n : ℕ) where
   declarator-total m is (boolean b) h = absurd (true≢false (sym h))
   declarator-total m is (literal v) h = absurd (true≢false (sym h))
 
-  declarators-total : (m : ℕ) (is : Bool) (ps : Parts) → items_conform false Place.VariableDeclarator ps ≡ true → total (declarators_names m is ps) ≡ total (bound_items no_class ps)
+  declarators-total : (m : ℕ) (is : Bool) (ps : Parts) → items_conform false Place.VariableDeclarator ps ≡ true → total declarer.Other (declarators_names m is ps) ≡ total declarer.Other (bound_items no_class ps)
   declarators-total m is end h = refl
   declarators-total m is (more p ps) h =
       let both = and_parts (item_conforms false Place.VariableDeclarator p) _ h in
-      omega (arith, total-append (declarator_names m is p) (declarators_names m is ps), total-append (bound_part no_class p) (bound_items no_class ps), declarator-total m is p both.0, declarators-total m is ps (and_parts _ _ both.1).1)
+      omega (arith, total-append declarer.Other (declarator_names m is p) (declarators_names m is ps), total-append declarer.Other (bound_part no_class p) (bound_items no_class ps), declarator-total m is p both.0, declarators-total m is ps (and_parts _ _ both.1).1)
 
-  declarations-total : (m : ℕ) (is computed : Bool) (p : Part) → part_conforms computed (Sort.List Place.VariableDeclarator) p ≡ true → total (declarators_names m is (items p)) ≡ total (bound_part no_class p)
+  declarations-total : (m : ℕ) (is computed : Bool) (p : Part) → part_conforms computed (Sort.List Place.VariableDeclarator) p ≡ true → total declarer.Other (declarators_names m is (items p)) ≡ total declarer.Other (bound_part no_class p)
   declarations-total m is computed (list ps) h = declarators-total m is ps h
   declarations-total m is computed (child t) h = absurd (true≢false (sym h))
   declarations-total m is computed absent h = absurd (true≢false (sym h))
@@ -634,12 +634,12 @@ module _ (w : ℕ → List ℕ → ℕ) (n : ℕ) where
   declarations-total m is computed (boolean b) h = absurd (true≢false (sym h))
   declarations-total m is computed (literal v) h = absurd (true≢false (sym h))
 
-  variables-where : (l v : Option ScopeId) (b : Bool) (xs ys : List Declaration) → total xs ≡ total ys → at_scope (cond b v l) (total ys) ≡ at_scope l (total (cond b [] xs)) + at_scope v (total (cond b ys []))
+  variables-where : (l v : Option ScopeId) (b : Bool) (xs ys : List Declaration) → total declarer.Other xs ≡ total declarer.Other ys → at_scope (cond b v l) (total declarer.Other ys) ≡ at_scope l (total declarer.Other (cond b [] xs)) + at_scope v (total declarer.Other (cond b ys []))
   variables-where l v true xs ys h = omega (arith, at-zero l)
   variables-where l v false xs ys h = omega (arith, at-zero v, ap (at_scope l) h)
 
   variables-shape : (m : ℕ) (l v : Option ScopeId) (b is computed : Bool) (p q : Part) → IsPlain p → part_conforms computed (Sort.List Place.VariableDeclarator) q ≡ true
-      → gives_parts (λ j. in_scope (cond b v l)) (more p (more q end)) ≡ at_scope l (total (cond b [] (declarators_names m is (items q)))) + at_scope v (total (cond b (bound_part no_class q) []))
+      → gives_parts (λ j. in_scope (cond b v l)) (more p (more q end)) ≡ at_scope l (total declarer.Other (cond b [] (declarators_names m is (items q)))) + at_scope v (total declarer.Other (cond b (bound_part no_class q) []))
   variables-shape m l v b is computed p q plain h = omega (arith, ap (at_scope (cond b v l)) (plain-bound p plain), at-zero (cond b v l), variables-where l v b (declarators_names m is (items q)) (bound_part no_class q) (declarations-total m is computed q h))
 
   -- ---- a node, as what it declares says
@@ -649,7 +649,7 @@ module _ (w : ℕ → List ℕ → ℕ) (n : ℕ) where
 
   -- the identifier itself
   abbrev own_held : Kind → ℕ → Parts → Declares → ℕ
-  own_held Kind.BindingIdentifier m ps (declares.Pattern holder who) = at_scope holder (w m (string_of (at 0 ps)))
+  own_held Kind.BindingIdentifier m ps (declares.Pattern holder who) = at_scope holder (w who m (string_of (at 0 ps)))
   own_held kind m ps d = 0
 
   nothing-parts : (ps : Parts) → gives_parts (λ j. declares.Nothing) ps ≡ 0
@@ -657,7 +657,7 @@ module _ (w : ℕ → List ℕ → ℕ) (n : ℕ) where
 
   -- a pattern
   abbrev PatternGoal : Kind → Option ScopeId → Declarer → ℕ → Parts → Type 0
-  PatternGoal kind holder who m ps = own_held kind m ps (declares.Pattern holder who) + gives_parts (passed_on kind (declares.Pattern holder who)) ps ≡ at_scope holder (total (bound_names no_class (Node kind m None None ps)))
+  PatternGoal kind holder who m ps = own_held kind m ps (declares.Pattern holder who) + gives_parts (passed_on kind (declares.Pattern holder who)) ps ≡ at_scope holder (total who (bound_names no_class (Node kind m None None ps)))
 
   one-part : (kind : Kind) (holder : Option ScopeId) (who : Declarer) (m : ℕ) (ps : Parts) (computed : Bool) (f : Field) → parts_conform computed (f ∷ []) ps ≡ true → ((p : Part) → PatternGoal kind holder who m (more p end)) → PatternGoal kind holder who m ps
   one-part kind holder who m ps computed f h k =
@@ -685,21 +685,21 @@ module _ (w : ℕ → List ℕ → ℕ) (n : ℕ) where
   plus-zero : (o : Option ScopeId) (x : ℕ) → at_scope o x ≡ at_scope o (x + 0)
   plus-zero o x = let e : x ≡ x + 0 = omega arith in ap (at_scope o) e
 
-  bound-alone : (o : Option ScopeId) (xs : List Declaration) → at_scope o (total xs) ≡ at_scope o (total (xs ++ []))
-  bound-alone o xs = omega (arith, at-append o xs [], at-zero o)
+  bound-alone : (o : Option ScopeId) (who : Declarer) (xs : List Declaration) → at_scope o (total who xs) ≡ at_scope o (total who (xs ++ []))
+  bound-alone o who xs = omega (arith, at-append o who xs [], at-zero o)
 
   pattern-kinds : (kind : Kind) (holder : Option ScopeId) (who : Declarer) (m : ℕ) (ps : Parts) → is_pattern_kind kind ≡ true → Parts_conform kind ps → PatternGoal kind holder who m ps
-  pattern-kinds Kind.BindingIdentifier holder who m ps is h = omega (arith, nothing-parts ps, plus-zero holder (w m (string_of (at 0 ps))))
-  pattern-kinds Kind.ObjectPattern holder who m ps is h = one-part Kind.ObjectPattern holder who m ps _ _ h (λ p. omega (arith, bound-alone holder (bound_part no_class p)))
-  pattern-kinds Kind.ArrayPattern holder who m ps is h = one-part Kind.ArrayPattern holder who m ps _ _ h (λ p. omega (arith, bound-alone holder (bound_part no_class p)))
-  pattern-kinds Kind.RestElement holder who m ps is h = one-part Kind.RestElement holder who m ps _ _ h (λ p. omega (arith, bound-alone holder (bound_part no_class p)))
-  pattern-kinds Kind.ImportDefaultSpecifier holder who m ps is h = one-part Kind.ImportDefaultSpecifier holder who m ps _ _ h (λ p. omega (arith, bound-alone holder (bound_part no_class p)))
-  pattern-kinds Kind.ImportNamespaceSpecifier holder who m ps is h = one-part Kind.ImportNamespaceSpecifier holder who m ps _ _ h (λ p. omega (arith, bound-alone holder (bound_part no_class p)))
+  pattern-kinds Kind.BindingIdentifier holder who m ps is h = omega (arith, nothing-parts ps, plus-zero holder (w who m (string_of (at 0 ps))))
+  pattern-kinds Kind.ObjectPattern holder who m ps is h = one-part Kind.ObjectPattern holder who m ps _ _ h (λ p. omega (arith, bound-alone holder who (bound_part no_class p)))
+  pattern-kinds Kind.ArrayPattern holder who m ps is h = one-part Kind.ArrayPattern holder who m ps _ _ h (λ p. omega (arith, bound-alone holder who (bound_part no_class p)))
+  pattern-kinds Kind.RestElement holder who m ps is h = one-part Kind.RestElement holder who m ps _ _ h (λ p. omega (arith, bound-alone holder who (bound_part no_class p)))
+  pattern-kinds Kind.ImportDefaultSpecifier holder who m ps is h = one-part Kind.ImportDefaultSpecifier holder who m ps _ _ h (λ p. omega (arith, bound-alone holder who (bound_part no_class p)))
+  pattern-kinds Kind.ImportNamespaceSpecifier holder who m ps is h = one-part Kind.ImportNamespaceSpecifier holder who m ps _ _ h (λ p. omega (arith, bound-alone holder who (bound_part no_class p)))
   pattern-kinds Kind.Foreign holder who m ps is h = one-part Kind.Foreign holder who m ps _ _ h (λ p. omega (arith, at-zero holder))
-  pattern-kinds Kind.VariableDeclarator holder who m ps is h = two-parts Kind.VariableDeclarator holder who m ps _ _ _ h (λ p q. omega (arith, bound-alone holder (bound_part no_class p)))
-  pattern-kinds Kind.AssignmentPattern holder who m ps is h = two-parts Kind.AssignmentPattern holder who m ps _ _ _ h (λ p q. omega (arith, bound-alone holder (bound_part no_class p)))
-  pattern-kinds Kind.ImportSpecifier holder who m ps is h = two-parts Kind.ImportSpecifier holder who m ps _ _ _ h (λ p q. omega (arith, bound-alone holder (bound_part no_class q)))
-  pattern-kinds Kind.BindingProperty holder who m ps is h = six-parts Kind.BindingProperty holder who m ps _ _ _ _ _ _ _ h (λ p q r s t u. omega (arith, bound-alone holder (bound_part no_class q)))
+  pattern-kinds Kind.VariableDeclarator holder who m ps is h = two-parts Kind.VariableDeclarator holder who m ps _ _ _ h (λ p q. omega (arith, bound-alone holder who (bound_part no_class p)))
+  pattern-kinds Kind.AssignmentPattern holder who m ps is h = two-parts Kind.AssignmentPattern holder who m ps _ _ _ h (λ p q. omega (arith, bound-alone holder who (bound_part no_class p)))
+  pattern-kinds Kind.ImportSpecifier holder who m ps is h = two-parts Kind.ImportSpecifier holder who m ps _ _ _ h (λ p q. omega (arith, bound-alone holder who (bound_part no_class q)))
+  pattern-kinds Kind.BindingProperty holder who m ps is h = six-parts Kind.BindingProperty holder who m ps _ _ _ _ _ _ _ h (λ p q r s t u. omega (arith, bound-alone holder who (bound_part no_class q)))
   pattern-kinds kind holder who m ps is h = absurd (true≢false (sym is))
 
   -- such a node passes on what it declares
@@ -721,7 +721,7 @@ module _ (w : ℕ → List ℕ → ℕ) (n : ℕ) where
   abbrev StatementGoal : Kind → ScopeId → ℕ → Parts → Option ScopeId → Option ScopeId → Type 0
   StatementGoal kind own m ps l v = own_held kind m ps (declares.Statement l v) + gives_parts (declares_in kind own ps (declares.Statement l v)) ps ≡ gives (declares.Statement l v) (child (Node kind m None None ps))
 
-  mute-nullable : (computed : Bool) (p : Part) → part_conforms computed (Sort.Nullable Place.Pattern) p ≡ true → total (var_part p) ≡ 0
+  mute-nullable : (computed : Bool) (p : Part) → part_conforms computed (Sort.Nullable Place.Pattern) p ≡ true → total declarer.Other (var_part p) ≡ 0
   mute-nullable computed (child (Node kind m span id qs)) h = (mute-tree (Node kind m span id qs) (silent-form kind (by_implies (stands_in Place.Pattern kind) (is_silent kind) (silent-pattern kind) (and_parts _ _ h).0))).1
   mute-nullable computed absent h = refl
   mute-nullable computed (list ps) h = absurd (true≢false (sym h))
@@ -734,11 +734,11 @@ module _ (w : ℕ → List ℕ → ℕ) (n : ℕ) where
   quiet-after d e j h = subst (λ (b : Bool). Quiet (cond b d e)) (sym (suc_not_zero j)) h
 
   module _ (own : ScopeId) (away : Away (Some own)) (m : ℕ) (l v : Option ScopeId) where
-    nested-kinds : (ls : ℕ → Option ScopeId) (ps : Parts) → ((j : ℕ) → Away (ls j)) → 0 + gives_parts (λ j. declares.Statement (ls j) v) ps ≡ at_scope l 0 + at_scope v (total (var_items ps))
+    nested-kinds : (ls : ℕ → Option ScopeId) (ps : Parts) → ((j : ℕ) → Away (ls j)) → 0 + gives_parts (λ j. declares.Statement (ls j) v) ps ≡ at_scope l 0 + at_scope v (total declarer.Other (var_items ps))
     nested-kinds ls ps h = omega (arith, nested-parts ls v ps h, at-zero l)
 
-    catch-shape : (p q : Part) → total (var_part p) ≡ 0 → gives_parts (λ j. cond (nat_eq j 0) (in_scope (Some own)) (declares.Statement None v)) (more p (more q end)) ≡ at_scope v (total (var_items (more p (more q end))))
-    catch-shape p q mute = omega (arith, away (total (bound_part no_class p)), at-append v (var_part p) (var_items (more q end)), at-append v (var_part q) (var_items end), at-zero v, ap (at_scope v) mute)
+    catch-shape : (p q : Part) → total declarer.Other (var_part p) ≡ 0 → gives_parts (λ j. cond (nat_eq j 0) (in_scope (Some own)) (declares.Statement None v)) (more p (more q end)) ≡ at_scope v (total declarer.Other (var_items (more p (more q end))))
+    catch-shape p q mute = omega (arith, away (total declarer.Other (bound_part no_class p)), at-append v declarer.Other (var_part p) (var_items (more q end)), at-append v declarer.Other (var_part q) (var_items end), at-zero v, ap (at_scope v) mute)
 
     statement-kinds : (kind : Kind) (ps : Parts) → Parts_conform kind ps → StatementGoal kind own m ps l v
     statement-kinds Kind.LabeledStatement ps h = omega (arith, statement-parts l v ps)
@@ -761,7 +761,7 @@ module _ (w : ℕ → List ℕ → ℕ) (n : ℕ) where
         let shape : ps ≡ more a.first (more b.first end) = a.is ∙ ap (more a.first) (b.is ∙ ap (more b.first) (nil-of _ b.rest b.others)) in
         subst (λ (qs : Parts). StatementGoal Kind.CatchClause own m qs l v) (sym shape) (omega (arith, catch-shape a.first b.first (mute-nullable _ a.first a.fits), at-zero l))
     statement-kinds Kind.FunctionDeclaration ps h = omega (arith, first-parts (in_function (in_scope l) own) l ps refl (λ j. quiet-after _ _ j (quiet-cond (nat_eq (suc j) 1) _ _ away away)), at-zero v)
-    statement-kinds Kind.ClassDeclaration ps h = omega (arith, first-parts (in_first (in_scope l)) l ps refl (λ j. quiet-after _ _ j tt), at-zero v, ap (at_scope l) (total-part (class_declares m) (at 0 ps)))
+    statement-kinds Kind.ClassDeclaration ps h = omega (arith, first-parts (in_first (in_scope l)) l ps refl (λ j. quiet-after _ _ j tt), at-zero v, ap (at_scope l) (total-part declarer.Other (class_declares m) (at 0 ps)))
     statement-kinds Kind.ImportDeclaration ps h = omega (arith, first-parts (in_first (in_scope l)) l ps refl (λ j. quiet-after _ _ j tt), at-zero v)
     statement-kinds Kind.VariableDeclaration ps h =
         let a = cons-of _ _ _ ps h in
@@ -777,12 +777,12 @@ module _ (w : ℕ → List ℕ → ℕ) (n : ℕ) where
 
   -- the body of a function
   abbrev BodyGoal : Kind → ScopeId → ℕ → Parts → ScopeId → Type 0
-  BodyGoal kind own m ps q = own_held kind m ps (declares.Body q) + gives_parts (declares_in kind own ps (declares.Body q)) ps ≡ at_scope (Some q) (total (body_names (block_items (child (Node kind m None None ps)))))
+  BodyGoal kind own m ps q = own_held kind m ps (declares.Body q) + gives_parts (declares_in kind own ps (declares.Body q)) ps ≡ at_scope (Some q) (total declarer.Other (body_names (block_items (child (Node kind m None None ps)))))
 
-  both-zero : (xs : Parts) → (total (lexical_items xs) ≡ 0) × (total (var_items xs) ≡ 0) → total (body_names xs) ≡ 0
+  both-zero : (xs : Parts) → (total declarer.Other (lexical_items xs) ≡ 0) × (total declarer.Other (var_items xs) ≡ 0) → total declarer.Other (body_names xs) ≡ 0
   both-zero xs h = omega (arith, body-total xs, h.0, h.1)
 
-  mute-list : (computed : Bool) (place : Place) (p : Part) → IsSilentPlace place → part_conforms computed (Sort.List place) p ≡ true → total (body_names (items p)) ≡ 0
+  mute-list : (computed : Bool) (place : Place) (p : Part) → IsSilentPlace place → part_conforms computed (Sort.List place) p ≡ true → total declarer.Other (body_names (items p)) ≡ 0
   mute-list computed place (list ps) silent h = both-zero ps (mute-items false place ps silent h)
   mute-list computed place (child t) silent h = refl
   mute-list computed place absent silent h = refl
@@ -791,7 +791,7 @@ module _ (w : ℕ → List ℕ → ℕ) (n : ℕ) where
   mute-list computed place (boolean b) silent h = refl
   mute-list computed place (literal v) silent h = refl
 
-  mute-some : (computed : Bool) (place : Place) (p : Part) → IsSilentPlace place → part_conforms computed (Sort.NonEmptyList place) p ≡ true → total (body_names (items p)) ≡ 0
+  mute-some : (computed : Bool) (place : Place) (p : Part) → IsSilentPlace place → part_conforms computed (Sort.NonEmptyList place) p ≡ true → total declarer.Other (body_names (items p)) ≡ 0
   mute-some computed place (list ps) silent h = both-zero ps (mute-items false place ps silent (and_parts _ _ h).1)
   mute-some computed place (child t) silent h = refl
   mute-some computed place absent silent h = refl
@@ -800,7 +800,7 @@ module _ (w : ℕ → List ℕ → ℕ) (n : ℕ) where
   mute-some computed place (boolean b) silent h = refl
   mute-some computed place (literal v) silent h = refl
 
-  mute-holes : (computed : Bool) (place : Place) (p : Part) → IsSilentPlace place → part_conforms computed (Sort.ListWithHoles place) p ≡ true → total (body_names (items p)) ≡ 0
+  mute-holes : (computed : Bool) (place : Place) (p : Part) → IsSilentPlace place → part_conforms computed (Sort.ListWithHoles place) p ≡ true → total declarer.Other (body_names (items p)) ≡ 0
   mute-holes computed place (list ps) silent h = both-zero ps (mute-items true place ps silent h)
   mute-holes computed place (child t) silent h = refl
   mute-holes computed place absent silent h = refl
@@ -809,8 +809,8 @@ module _ (w : ℕ → List ℕ → ℕ) (n : ℕ) where
   mute-holes computed place (boolean b) silent h = refl
   mute-holes computed place (literal v) silent h = refl
 
-  block-body : (q : ScopeId) (computed : Bool) (p : Part) → part_conforms computed (Sort.List Place.Statement) p ≡ true → at_scope (Some q) (total (lexical_part p)) + at_scope (Some q) (total (var_part p)) ≡ at_scope (Some q) (total (body_names (items p)))
-  block-body q computed (list ps) h = omega (arith, at-plus (Some q) (total (lexical_items ps)) (total (var_items ps)), ap (at_scope (Some q)) (body-total ps))
+  block-body : (q : ScopeId) (computed : Bool) (p : Part) → part_conforms computed (Sort.List Place.Statement) p ≡ true → at_scope (Some q) (total declarer.Other (lexical_part p)) + at_scope (Some q) (total declarer.Other (var_part p)) ≡ at_scope (Some q) (total declarer.Other (body_names (items p)))
+  block-body q computed (list ps) h = omega (arith, at-plus (Some q) (total declarer.Other (lexical_items ps)) (total declarer.Other (var_items ps)), ap (at_scope (Some q)) (body-total ps))
   block-body q computed (child t) h = absurd (true≢false (sym h))
   block-body q computed absent h = omega (arith, at-zero (Some q))
   block-body q computed (string s) h = omega (arith, at-zero (Some q))
@@ -819,14 +819,14 @@ module _ (w : ℕ → List ℕ → ℕ) (n : ℕ) where
   block-body q computed (literal v) h = omega (arith, at-zero (Some q))
 
   -- a body whose first part declares nothing
-  silent-body : (kind : Kind) (own q : ScopeId) (m : ℕ) (ps : Parts) → own_held kind m ps (declares.Body q) + gives_parts (declares_in kind own ps (declares.Body q)) ps ≡ 0 → total (body_names (block_items (child (Node kind m None None ps)))) ≡ 0 → BodyGoal kind own m ps q
+  silent-body : (kind : Kind) (own q : ScopeId) (m : ℕ) (ps : Parts) → own_held kind m ps (declares.Body q) + gives_parts (declares_in kind own ps (declares.Body q)) ps ≡ 0 → total declarer.Other (body_names (block_items (child (Node kind m None None ps)))) ≡ 0 → BodyGoal kind own m ps q
   silent-body kind own q m ps left right = omega (arith, left, ap (at_scope (Some q)) right, at-zero (Some q))
 
   module _ (own : ScopeId) (away : Away (Some own)) (m : ℕ) (q : ScopeId) where
-    first-mute : (kind : Kind) (ps : Parts) (computed : Bool) (f : Field) (fs : List Field) → parts_conform computed (f ∷ fs) ps ≡ true → ((p : Part) → part_conforms computed f.sort p ≡ true → total (body_names (items p)) ≡ 0) → total (body_names (block_items (child (Node kind m None None ps)))) ≡ 0
+    first-mute : (kind : Kind) (ps : Parts) (computed : Bool) (f : Field) (fs : List Field) → parts_conform computed (f ∷ fs) ps ≡ true → ((p : Part) → part_conforms computed f.sort p ≡ true → total declarer.Other (body_names (items p)) ≡ 0) → total declarer.Other (body_names (block_items (child (Node kind m None None ps)))) ≡ 0
     first-mute kind ps computed f fs h k =
         let a = cons-of computed f fs ps h in
-        subst (λ (qs : Parts). total (body_names (block_items (child (Node kind m None None qs)))) ≡ 0) (sym a.is) (k a.first a.fits)
+        subst (λ (qs : Parts). total declarer.Other (body_names (block_items (child (Node kind m None None qs)))) ≡ 0) (sym a.is) (k a.first a.fits)
 
     body-kinds : (kind : Kind) (ps : Parts) → is_block_or_expression kind ≡ true → Parts_conform kind ps → BodyGoal kind own m ps q
     body-kinds Kind.BlockStatement ps is h =
@@ -840,7 +840,7 @@ module _ (w : ℕ → List ℕ → ℕ) (n : ℕ) where
     body-kinds Kind.ArrowFunctionExpression ps is h = silent-body Kind.ArrowFunctionExpression own q m ps (omega (arith, quiet-parts (in_arrow own) ps (λ j. quiet-in own away Kind.ArrowFunctionExpression ps declares.Nothing j tt))) (first-mute Kind.ArrowFunctionExpression ps _ _ _ h (λ p fits. mute-list _ Place.PatternOrRest p silent-parameter fits))
     body-kinds kind ps is h =
         silent-body kind own q m ps (omega (arith, quiet-parts (declares_in kind own ps (declares.Body q)) ps (λ j. quiet-in own away kind ps declares.Nothing j tt)))
-        (ap (λ (qs : Parts). total (body_names qs)) (first-empty kind m _ (members_of kind) ps (by_implies (is_expression kind) (first_no_list (members_of kind)) refl is) h))
+        (ap (λ (qs : Parts). total declarer.Other (body_names qs)) (first-empty kind m _ (members_of kind) ps (by_implies (is_expression kind) (first_no_list (members_of kind)) refl is) h))
 
   -- ---- a tree
 
@@ -860,15 +860,15 @@ module _ (w : ℕ → List ℕ → ℕ) (n : ℕ) where
   of-binding m ps s (declares.Body q) = refl
   of-binding m ps s (declares.Pattern holder who) = omega arith
 
-  of-scope : (s : Surroundings) (a b : Bool) (f : ScopeFlags) → held (option_to_list (cond a (Some (cond b (entry.Scope s.scope s.in_parameters f) entry.Body)) None)) ≡ 0
-  of-scope s true true f = refl
-  of-scope s true false f = refl
-  of-scope s false b f = refl
+  of-scope : (m : NodeId) (s : Surroundings) (a b : Bool) (f : ScopeFlags) → held (option_to_list (cond a (Some (cond b (entry.Scope m s.scope s.in_parameters f) (entry.Body m))) None)) ≡ 0
+  of-scope m s true true f = refl
+  of-scope m s true false f = refl
+  of-scope m s false b f = refl
 
   entry-held : (kind : Kind) (m : NodeId) (ps : Parts) (s : Surroundings) → held (option_to_list (entry_of kind m ps s)) ≡ own_held kind m.0 ps s.declares
   entry-held Kind.BindingIdentifier m ps s = of-binding m ps s s.declares
   entry-held Kind.IdentifierReference m ps s = refl
-  entry-held kind m ps s = of-scope s (has_scope kind) (opens kind (scope_place s)) (scope_flags kind s.given.0 (is_strict kind ps (scope_place s)))
+  entry-held kind m ps s = of-scope m s (has_scope kind) (opens kind (scope_place s)) (scope_flags kind s.given.0 (is_strict kind ps (scope_place s)))
 
   node-gives : (kind : Kind) (m next : ℕ) (ps : Parts) (place : Place) (d : Declares) → n < next → stands_in place kind ≡ true → fit_place d place ≡ true → Parts_conform kind ps → own_held kind m ps d + gives_parts (declares_in kind (record { 0 = next }) ps d) ps ≡ gives d (child (Node kind m None None ps))
   node-gives kind m next ps place declares.Nothing l stands fit h = nothing-kinds (record { 0 = next }) (own-away next l) m None None kind ps
@@ -952,8 +952,8 @@ module _ (w : ℕ → List ℕ → ℕ) (n : ℕ) where
   at-own : (x : ℕ) → at_scope (Some (record { 0 = n })) x ≡ x
   at-own x = ap (λ b. cond b x 0) ((Decides-eqb n n).1 refl)
 
-  total-alone : (xs : List Declaration) → total (xs ++ []) ≡ total xs
-  total-alone xs = omega (arith, total-append xs [])
+  total-alone : (xs : List Declaration) → total declarer.Other (xs ++ []) ≡ total declarer.Other xs
+  total-alone xs = omega (arith, total-append declarer.Other xs [])
 
   plain-mute : (p : Part) → IsPlain p → Mute p
   plain-mute (child t) h = absurd h
@@ -964,7 +964,7 @@ module _ (w : ℕ → List ℕ → ℕ) (n : ℕ) where
   plain-mute (boolean b) h = (refl, refl)
   plain-mute (literal v) h = (refl, refl)
 
-  plain-body : (p : Part) → IsPlain p → total (body_names (block_items p)) ≡ 0
+  plain-body : (p : Part) → IsPlain p → total declarer.Other (body_names (block_items p)) ≡ 0
   plain-body (child t) h = absurd h
   plain-body absent h = refl
   plain-body (list ps) h = absurd h
@@ -973,7 +973,7 @@ module _ (w : ℕ → List ℕ → ℕ) (n : ℕ) where
   plain-body (boolean b) h = refl
   plain-body (literal v) h = refl
 
-  list-lexical : (computed : Bool) (place : Place) (p : Part) → part_conforms computed (Sort.List place) p ≡ true → total (lexical_part p) ≡ total (lexical_items (items p))
+  list-lexical : (computed : Bool) (place : Place) (p : Part) → part_conforms computed (Sort.List place) p ≡ true → total declarer.Other (lexical_part p) ≡ total declarer.Other (lexical_items (items p))
   list-lexical computed place (list ps) h = refl
   list-lexical computed place (child t) h = absurd (true≢false (sym h))
   list-lexical computed place absent h = refl
@@ -984,71 +984,65 @@ module _ (w : ℕ → List ℕ → ℕ) (n : ℕ) where
 
   -- what the scope of a node holds, and what its parts declare there
   abbrev OwnGoal : Kind → ℕ → Parts → Declares → Type 0
-  OwnGoal kind m ps d = gives_parts (declares_in kind (record { 0 = n }) ps d) ps ≡ total (names_of_node (Node kind m None None ps))
+  OwnGoal kind m ps d = gives_parts (declares_in kind (record { 0 = n }) ps d) ps ≡ node_weight w (Node kind m None None ps)
 
   abbrev mine : Option ScopeId
   mine = Some (record { 0 = n })
 
   program-own : (m : ℕ) (d : Declares) (computed : Bool) (a b : Part) → IsPlain a → part_conforms computed (Sort.List Place.Statement) b ≡ true → OwnGoal Kind.Program m (more a (more b end)) d
-  program-own m d computed a b plain h = omega (arith, ap (at_scope mine) (plain-mute a plain).0, ap (at_scope mine) (plain-mute a plain).1, at-zero mine, block-body (record { 0 = n }) computed b h, at-own (total (body_names (items b))), total-alone (body_names (items b)))
+  program-own m d computed a b plain h = omega (arith, ap (at_scope mine) (plain-mute a plain).0, ap (at_scope mine) (plain-mute a plain).1, at-zero mine, block-body (record { 0 = n }) computed b h, at-own (total declarer.Other (body_names (items b))))
 
   static-own : (m : ℕ) (d : Declares) (computed : Bool) (a : Part) → part_conforms computed (Sort.List Place.Statement) a ≡ true → OwnGoal Kind.StaticBlock m (more a end) d
-  static-own m d computed a h = omega (arith, block-body (record { 0 = n }) computed a h, at-own (total (body_names (items a))), total-alone (body_names (items a)))
+  static-own m d computed a h = omega (arith, block-body (record { 0 = n }) computed a h, at-own (total declarer.Other (body_names (items a))))
 
   declaration-own : (m : ℕ) (d : Declares) (a b c e f : Part) → Quiet d → IsPlain e → IsPlain f → OwnGoal Kind.FunctionDeclaration m (more a (more b (more c (more e (more f end))))) d
   declaration-own m d a b c e f quiet is_e is_f = omega (
     arith,
-    quiet-lexical d quiet (total (bound_part no_class a)),
-    at-own (total (bound_part no_class b)),
-    at-own (total (body_names (block_items c))),
-    at-own (total (body_names (block_items e))),
+    quiet-lexical d quiet (total declarer.Other (bound_part no_class a)),
+    at-own (total declarer.Parameter (bound_part no_class b)),
+    at-own (total declarer.Other (body_names (block_items c))),
+    at-own (total declarer.Other (body_names (block_items e))),
     plain-body e is_e,
-    at-own (total (body_names (block_items f))),
+    at-own (total declarer.Other (body_names (block_items f))),
     plain-body f is_f,
-    total-append (bound_part no_class b) (body_names (block_items c)),
-    total-alone (bound_part no_class b ++ body_names (block_items c)),
   )
 
   expression-own : (m : ℕ) (d : Declares) (a b c e f : Part) → IsPlain e → IsPlain f → OwnGoal Kind.FunctionExpression m (more a (more b (more c (more e (more f end))))) d
   expression-own m d a b c e f is_e is_f = omega (
     arith,
-    at-own (total (bound_part no_class a)),
-    at-own (total (bound_part no_class b)),
-    at-own (total (body_names (block_items c))),
-    at-own (total (body_names (block_items e))),
+    at-own (total declarer.OwnName (bound_part no_class a)),
+    at-own (total declarer.Parameter (bound_part no_class b)),
+    at-own (total declarer.Other (body_names (block_items c))),
+    at-own (total declarer.Other (body_names (block_items e))),
     plain-body e is_e,
-    at-own (total (body_names (block_items f))),
+    at-own (total declarer.Other (body_names (block_items f))),
     plain-body f is_f,
-    total-append (bound_part no_class b) (body_names (block_items c)),
-    total-append (bound_part no_class b ++ body_names (block_items c)) (bound_part no_class a),
   )
 
   arrow-own : (m : ℕ) (d : Declares) (a b c : Part) → IsPlain c → OwnGoal Kind.ArrowFunctionExpression m (more a (more b (more c end))) d
   arrow-own m d a b c is_c = omega (
     arith,
-    at-own (total (bound_part no_class a)),
-    at-own (total (body_names (block_items b))),
-    at-own (total (body_names (block_items c))),
+    at-own (total declarer.Parameter (bound_part no_class a)),
+    at-own (total declarer.Other (body_names (block_items b))),
+    at-own (total declarer.Other (body_names (block_items c))),
     plain-body c is_c,
-    total-append (bound_part no_class a) (body_names (block_items b)),
-    total-alone (bound_part no_class a ++ body_names (block_items b)),
   )
 
   away-later : (j : ℕ) → Away (cond (nat_eq (suc j) 0) mine None)
   away-later j = subst (λ (b : Bool). Away (cond b mine None)) (sym (suc_not_zero j)) away-none
 
-  loop-own : (v : Option ScopeId) (ps : Parts) → Away v → gives_parts (λ j. declares.Statement (cond (nat_eq j 0) mine None) v) ps ≡ total (lexical_part (at 0 ps) ++ [])
+  loop-own : (v : Option ScopeId) (ps : Parts) → Away v → gives_parts (λ j. declares.Statement (cond (nat_eq j 0) mine None) v) ps ≡ total declarer.Other (lexical_part (at 0 ps))
   loop-own v end away = refl
-  loop-own v (more p ps) away = omega (arith, at-own (total (lexical_part p)), away (total (var_part p)), quiet-parts (λ j. declares.Statement (cond (nat_eq (suc j) 0) mine None) v) ps (λ j. (away-later j, away)), total-alone (lexical_part p))
+  loop-own v (more p ps) away = omega (arith, at-own (total declarer.Other (lexical_part p)), away (total declarer.Other (var_part p)), quiet-parts (λ j. declares.Statement (cond (nat_eq (suc j) 0) mine None) v) ps (λ j. (away-later j, away)))
 
-  switch-own : (v : Option ScopeId) (a b : Part) → Away v → gives_parts (λ j. declares.Statement (cond (nat_eq j 1) mine None) v) (more a (more b end)) ≡ total (lexical_part b ++ [])
-  switch-own v a b away = omega (arith, away (total (var_part a)), at-own (total (lexical_part b)), away (total (var_part b)), total-alone (lexical_part b))
+  switch-own : (v : Option ScopeId) (a b : Part) → Away v → gives_parts (λ j. declares.Statement (cond (nat_eq j 1) mine None) v) (more a (more b end)) ≡ total declarer.Other (lexical_part b)
+  switch-own v a b away = omega (arith, away (total declarer.Other (var_part a)), at-own (total declarer.Other (lexical_part b)), away (total declarer.Other (var_part b)))
 
-  block-own : (v : Option ScopeId) (computed : Bool) (a : Part) → Away v → part_conforms computed (Sort.List Place.Statement) a ≡ true → gives_parts (λ j. declares.Statement mine v) (more a end) ≡ total (lexical_items (items a) ++ [])
-  block-own v computed a away h = omega (arith, at-own (total (lexical_part a)), away (total (var_part a)), list-lexical computed Place.Statement a h, total-alone (lexical_items (items a)))
+  block-own : (v : Option ScopeId) (computed : Bool) (a : Part) → Away v → part_conforms computed (Sort.List Place.Statement) a ≡ true → gives_parts (λ j. declares.Statement mine v) (more a end) ≡ total declarer.Other (lexical_items (items a))
+  block-own v computed a away h = omega (arith, at-own (total declarer.Other (lexical_part a)), away (total declarer.Other (var_part a)), list-lexical computed Place.Statement a h)
 
-  catch-own : (v : Option ScopeId) (a b : Part) → Away v → gives_parts (λ j. cond (nat_eq j 0) (in_scope mine) (declares.Statement None v)) (more a (more b end)) ≡ total (bound_part no_class a ++ [])
-  catch-own v a b away = omega (arith, at-own (total (bound_part no_class a)), away (total (var_part b)), total-alone (bound_part no_class a))
+  catch-own : (v : Option ScopeId) (a b : Part) → Away v → gives_parts (λ j. cond (nat_eq j 0) (in_scope mine) (declares.Statement None v)) (more a (more b end)) ≡ total declarer.Other (bound_part no_class a)
+  catch-own v a b away = omega (arith, at-own (total declarer.Other (bound_part no_class a)), away (total declarer.Other (var_part b)))
 
   boolean-plain : (computed : Bool) (p : Part) → part_conforms computed Sort.Boolean p ≡ true → IsPlain p
   boolean-plain computed (child t) h = true≢false (sym h)
@@ -1063,10 +1057,10 @@ module _ (w : ℕ → List ℕ → ℕ) (n : ℕ) where
   NoBody d = IsNoBody d
 
   block-kinds : (m : ℕ) (d : Declares) (computed : Bool) (a : Part) → Quiet d → NoBody d → part_conforms computed (Sort.List Place.Statement) a ≡ true → OwnGoal Kind.BlockStatement m (more a end) d
-  block-kinds m declares.Nothing computed a quiet none h = block-own None computed a away-none h
-  block-kinds m (declares.Statement lexical var) computed a quiet none h = block-own var computed a quiet.1 h
+  block-kinds m declares.Nothing computed a quiet none h = omega (arith, block-own None computed a away-none h)
+  block-kinds m (declares.Statement lexical var) computed a quiet none h = omega (arith, block-own var computed a quiet.1 h)
   block-kinds m (declares.Body s) computed a quiet none h = absurd none
-  block-kinds m (declares.Pattern holder who) computed a quiet none h = block-own None computed a away-none h
+  block-kinds m (declares.Pattern holder who) computed a quiet none h = omega (arith, block-own None computed a away-none h)
 
   own-kinds : (kind : Kind) (m : ℕ) (ps : Parts) (d : Declares) → has_scope kind ≡ true → Quiet d → (kind ≡ Kind.BlockStatement → NoBody d) → Parts_conform kind ps → OwnGoal kind m ps d
   own-kinds Kind.Program m ps d is quiet none h =
@@ -1100,25 +1094,25 @@ module _ (w : ℕ → List ℕ → ℕ) (n : ℕ) where
       let c = cons-of _ _ _ b.rest b.others in
       let shape : ps ≡ more a.first (more b.first (more c.first end)) = a.is ∙ ap (more a.first) (b.is ∙ ap (more b.first) (c.is ∙ ap (more c.first) (nil-of _ c.rest c.others))) in
       subst (λ (qs : Parts). OwnGoal Kind.ArrowFunctionExpression m qs d) (sym shape) (arrow-own m d a.first b.first c.first (boolean-plain _ c.first c.fits))
-  own-kinds Kind.ClassDeclaration m ps d is quiet none h = quiet-parts (in_first (in_scope (lexical_scope d))) ps (λ j. quiet-cond (nat_eq j 0) _ _ (quiet-lexical d quiet) tt)
-  own-kinds Kind.ClassExpression m ps d is quiet none h = omega (arith, first-parts (in_first (in_scope mine)) mine ps refl (λ j. quiet-after _ _ j tt), at-own (total (bound_part no_class (at 0 ps))), total-part (class_own m) (at 0 ps), total-alone (bound_part (class_own m) (at 0 ps)))
+  own-kinds Kind.ClassDeclaration m ps d is quiet none h = omega (arith, quiet-parts (in_first (in_scope (lexical_scope d))) ps (λ j. quiet-cond (nat_eq j 0) _ _ (quiet-lexical d quiet) tt))
+  own-kinds Kind.ClassExpression m ps d is quiet none h = omega (arith, first-parts (in_first (in_scope mine)) mine ps refl (λ j. quiet-after _ _ j tt), at-own (total declarer.Other (bound_part no_class (at 0 ps))), total-part declarer.Other (class_own m) (at 0 ps))
   own-kinds Kind.BlockStatement m ps d is quiet none h =
       let a = cons-of _ _ _ ps h in
       let shape : ps ≡ more a.first end = a.is ∙ ap (more a.first) (nil-of _ a.rest a.others) in
       subst (λ (qs : Parts). OwnGoal Kind.BlockStatement m qs d) (sym shape) (block-kinds m d _ a.first quiet (none refl) a.fits)
-  own-kinds Kind.ForStatement m ps d is quiet none h = loop-own (var_scope d) ps (quiet-var d quiet)
-  own-kinds Kind.ForInStatement m ps d is quiet none h = loop-own (var_scope d) ps (quiet-var d quiet)
-  own-kinds Kind.ForOfStatement m ps d is quiet none h = loop-own (var_scope d) ps (quiet-var d quiet)
+  own-kinds Kind.ForStatement m ps d is quiet none h = omega (arith, loop-own (var_scope d) ps (quiet-var d quiet))
+  own-kinds Kind.ForInStatement m ps d is quiet none h = omega (arith, loop-own (var_scope d) ps (quiet-var d quiet))
+  own-kinds Kind.ForOfStatement m ps d is quiet none h = omega (arith, loop-own (var_scope d) ps (quiet-var d quiet))
   own-kinds Kind.SwitchStatement m ps d is quiet none h =
       let a = cons-of _ _ _ ps h in
       let b = cons-of _ _ _ a.rest a.others in
       let shape : ps ≡ more a.first (more b.first end) = a.is ∙ ap (more a.first) (b.is ∙ ap (more b.first) (nil-of _ b.rest b.others)) in
-      subst (λ (qs : Parts). OwnGoal Kind.SwitchStatement m qs d) (sym shape) (switch-own (var_scope d) a.first b.first (quiet-var d quiet))
+      subst (λ (qs : Parts). OwnGoal Kind.SwitchStatement m qs d) (sym shape) (omega (arith, switch-own (var_scope d) a.first b.first (quiet-var d quiet)))
   own-kinds Kind.CatchClause m ps d is quiet none h =
       let a = cons-of _ _ _ ps h in
       let b = cons-of _ _ _ a.rest a.others in
       let shape : ps ≡ more a.first (more b.first end) = a.is ∙ ap (more a.first) (b.is ∙ ap (more b.first) (nil-of _ b.rest b.others)) in
-      subst (λ (qs : Parts). OwnGoal Kind.CatchClause m qs d) (sym shape) (catch-own (var_scope d) a.first b.first (quiet-var d quiet))
+      subst (λ (qs : Parts). OwnGoal Kind.CatchClause m qs d) (sym shape) (omega (arith, catch-own (var_scope d) a.first b.first (quiet-var d quiet)))
   own-kinds kind m ps d is quiet none h = absurd (true≢false (sym is))
 
   -- a node with a scope is no identifier
@@ -1127,22 +1121,22 @@ module _ (w : ℕ → List ℕ → ℕ) (n : ℕ) where
   own-plus kind m ps d x y is e = omega arith
 
   -- the scope of a node gets the names that `es_steps` collects for it
-  pub own-tree : (place : Place) (s : Surroundings) (c : Collected) (kind : Kind) (m : ℕ) (span : Option (ℕ × ℕ)) (id : Option ℕ) (ps : Parts) → conforms place (Node kind m span id ps) ≡ true → has_scope kind ≡ true → opens kind (scope_place s) ≡ true → c.next ≡ n → Quiet s.declares → (kind ≡ Kind.BlockStatement → NoBody s.declares) → held (collected s c (Node kind m span id ps)).entries ≡ held c.entries + total (names_of_node (Node kind m span id ps))
+  pub own-tree : (place : Place) (s : Surroundings) (c : Collected) (kind : Kind) (m : ℕ) (span : Option (ℕ × ℕ)) (id : Option ℕ) (ps : Parts) → conforms place (Node kind m span id ps) ≡ true → has_scope kind ≡ true → opens kind (scope_place s) ≡ true → c.next ≡ n → Quiet s.declares → (kind ≡ Kind.BlockStatement → NoBody s.declares) → held (collected s c (Node kind m span id ps)).entries ≡ held c.entries + node_weight w (Node kind m span id ps)
   own-tree place s c kind m span id ps h has is_open next quiet none =
       let rules = and_parts (stands_in place kind) _ h in
       let parts = (and_parts (kind_rule kind ps) _ (and_parts (place_rule place kind ps) _ rules.1).1).1 in
       let own : ScopeId = record { 0 = c.next } in
       let after : n < cond (opens kind (scope_place s)) (c.next + 1) c.next = subst (λ (b : Bool). n < cond b (c.next + 1) c.next) (sym is_open) (omega (arith, next)) in
-      joined (held c.entries) (held (entered kind (record { 0 = m }) ps s c).entries) (own_held kind m ps s.declares) (gives_parts (declares_in kind own ps s.declares) ps) (total (names_of_node (Node kind m span id ps))) (held (collected s c (Node kind m span id ps)).entries)
+      joined (held c.entries) (held (entered kind (record { 0 = m }) ps s c).entries) (own_held kind m ps s.declares) (gives_parts (declares_in kind own ps s.declares) ps) (node_weight w (Node kind m span id ps)) (held (collected s c (Node kind m span id ps)).entries)
       (held-parts (inside kind own ps s) 0 (entered kind (record { 0 = m }) ps s c) _ (members_of kind) ps (declares_in kind own ps s.declares) (λ j. let same : 0 + j ≡ j = omega arith in ap (declares_in kind own ps s.declares) (sym same)) parts (fit-parts kind own ps s.declares) after)
       (held-append c.entries (option_to_list (entry_of kind (record { 0 = m }) ps s)) ∙ ap (λ x. held c.entries + x) (entry-held kind (record { 0 = m }) ps s))
       (own-plus kind m ps s.declares _ _ has (ap (λ (q : ℕ). gives_parts (declares_in kind (record { 0 = q }) ps s.declares) ps) next ∙ own-kinds kind m ps s.declares has quiet none parts))
 
-pub program-names : (w : ℕ → List ℕ → ℕ) (m : ℕ) (span : Option (ℕ × ℕ)) (id : Option ℕ) (ps : Parts) → conforms Place.Program (Node Kind.Program m span id ps) ≡ true → held_weight w 0 (entries_of (Node Kind.Program m span id ps)) ≡ weight w (names_of_node (Node Kind.Program m span id ps))
+pub program-names : (w : Declarer → ℕ → List ℕ → ℕ) (m : ℕ) (span : Option (ℕ × ℕ)) (id : Option ℕ) (ps : Parts) → conforms Place.Program (Node Kind.Program m span id ps) ≡ true → held_weight w 0 (entries_of (Node Kind.Program m span id ps)) ≡ node_weight w (Node Kind.Program m span id ps)
 program-names w m span id ps h = own-tree w 0 Place.Program nowhere nothing_yet Kind.Program m span id ps h refl refl refl tt (λ e. tt) ∙ omega arith
 
-statement-given : (w : ℕ → List ℕ → ℕ) (n : ℕ) (d : Declares) (lexical var : Option ScopeId) (t : Tree) → d ≡ declares.Statement lexical var → given_weight w n d (child t) ≡ scope_gets n lexical (weight w (lexical_names t)) + scope_gets n var (weight w (var_names t))
+statement-given : (w : Declarer → ℕ → List ℕ → ℕ) (n : ℕ) (d : Declares) (lexical var : Option ScopeId) (t : Tree) → d ≡ declares.Statement lexical var → given_weight w n d (child t) ≡ scope_gets n lexical (weight (w declarer.Other) (lexical_names t)) + scope_gets n var (weight (w declarer.Other) (var_names t))
 statement-given w n d lexical var t is = ap (λ e. given_weight w n e (child t)) is
 
-pub statement-names : (w : ℕ → List ℕ → ℕ) (n : ℕ) (s : Surroundings) (c : Collected) (lexical var : Option ScopeId) (t : Tree) → conforms Place.Statement t ≡ true → s.declares ≡ declares.Statement lexical var → n < c.next → held_weight w n (collected s c t).entries ≡ held_weight w n c.entries + (scope_gets n lexical (weight w (lexical_names t)) + scope_gets n var (weight w (var_names t)))
+pub statement-names : (w : Declarer → ℕ → List ℕ → ℕ) (n : ℕ) (s : Surroundings) (c : Collected) (lexical var : Option ScopeId) (t : Tree) → conforms Place.Statement t ≡ true → s.declares ≡ declares.Statement lexical var → n < c.next → held_weight w n (collected s c t).entries ≡ held_weight w n c.entries + (scope_gets n lexical (weight (w declarer.Other) (lexical_names t)) + scope_gets n var (weight (w declarer.Other) (var_names t)))
 statement-names w n s c lexical var t h is l = held-tree w n Place.Statement s c t h (ap (λ d. fit_place d Place.Statement) is) l ∙ ap (λ x. held_weight w n c.entries + x) (statement-given w n s.declares lexical var t is)

@@ -1,30 +1,31 @@
 -- The scopes of a built table hold the names that their nodes have by the definitions of `es_steps`.
-use Rattle.std.proofs.Common.{◌≡◌, ◌≢◌, refl, sym, ap, subst, ◌∙◌, ℕ, zero, suc, ◌+◌, ◌<◌, ◌≤◌, ◌⊎◌, inl, inr, List, [], ◌∷◌, ◌++◌, length, Bool, true, false, true≢false, cond, ◌&&◌, ◌||◌, not, nat_eq, Option, Some, None, arith}
+use Rattle.std.proofs.Common.{◌≡◌, refl, sym, ap, subst, ◌∙◌, ℕ, zero, suc, ◌+◌, inl, inr, List, [], ◌∷◌, ◌++◌, length, Bool, true, false, true≢false, cond, ◌&&◌, ◌||◌, nat_eq, Option, Some, None, arith}
 use Rattle.std.specs.Prelude.{is_some, slice_get, option_map, bytes_eq}
-use Rattle.std.specs.Option.{option_and_then}
 use Rattle.std.proofs.lemmas.Bool.{and_parts}
 use Rattle.std.proofs.lemmas.Bool.Decides.{Decides-eqb}
 use Rattle.std.proofs.lemmas.Slice.Eq.{bytes_eq-Decides}
 use Rattle.es_base.specs.Conforms.{conforms}
 use Rattle.es_base.specs.Preorder.{one_if}
-use Rattle.es_base.specs.Tree.{Tree}
+use Rattle.es_base.specs.Tree.{Tree, Parts, Node}
 use Rattle.es_base.specs.declared.ids.ScopeId.{ScopeId}
 use Rattle.es_base.specs.declared.ids.SymbolId.{SymbolId}
+use Rattle.es_base.specs.declared.kind.Kind.{Kind}
 use Rattle.es_base.specs.declared.table.Place.{Place}
-use Rattle.es_scopes.specs.Agreement.{names_of_node}
+use Rattle.es_scopes.specs.Agreement.{names_of_node, own_name}
 use Rattle.es_scopes.specs.Bindings.{Names, lookup}
 use Rattle.es_scopes.specs.Built.{built_table}
 use Rattle.es_scopes.specs.Entries.{entries_of}
-use Rattle.es_scopes.specs.Held.{weight, scope_gets, held_weight}
+use Rattle.es_scopes.specs.Held.{weight, node_weight, parameter_names, other_names, held_weight}
 use Rattle.es_scopes.specs.Opened.{opened}
-use Rattle.es_scopes.specs.Table.{Table, row_at, names_of_row, changed_at, get_binding, holding, new_scope, with_binding}
-use Rattle.es_scopes.specs.Tables.{marked_if, bound_first, bound_over, bound_more, bound_where, opened as with_opened, declare, declared, none_declared, numbered, Fits, AreOrdered, IsWhole, scope_count, is_own_name, declarer_at}
+use Rattle.es_scopes.specs.Table.{row_at, names_of_row, changed_at, get_binding, holding, new_scope, with_binding}
+use Rattle.es_scopes.specs.Tables.{bound_where, declare, declared, none_declared, Fits, AreOrdered, IsWhole}
 use Rattle.es_scopes.specs.declared.declare.Declarations.{Declarations}
 use Rattle.es_scopes.specs.declared.entry.Entry.{Entry}
 use Rattle.es_scopes.specs.declared.entry.Entry.TheVariants as entry
 use Rattle.es_scopes.specs.declared.flags.ScopeFlags.{ScopeFlags}
 use Rattle.es_scopes.specs.declared.flags.SymbolFlags.{SymbolFlags}
 use Rattle.es_scopes.specs.declared.surroundings.Declarer.{Declarer}
+use Rattle.es_scopes.specs.declared.surroundings.Declarer.TheVariants as declarer
 use Rattle.es_scopes.specs.declared.table.Scope.{Scope}
 use Rattle.es_scopes.proofs.EachScope.{each-program}
 use Rattle.es_scopes.proofs.OrderLemmas.{entries-ordered}
@@ -104,7 +105,7 @@ name-bound : (o : Option SymbolId) (d : Declarations) (q : ScopeId) (who : Decla
 name-bound None d q who name flags head s x there is =
     ap (λ (rows : List (Option Scope)). has_name rows s x) (marked-rows head (record { 0 = length d.scoping.symbols }) (with_binding d.scoping q name flags)) ∙ name-held d.scoping.scopes q.0 s name x (record { 0 = length d.scoping.symbols }) there
 name-bound (Some y) d q who name flags head s x there is =
-    ap (λ (rows : List (Option Scope)). has_name rows s x) (again-rows d y flags head (is_own_name (declarer_at d.declarers y)))
+    ap (λ (rows : List (Option Scope)). has_name rows s x) (again-rows d y who flags head)
     ∙ implied-or (has_name d.scoping.scopes s x) (nat_eq q.0 s && bytes_eq x name) (λ h.
     let both = and_parts (nat_eq q.0 s) (bytes_eq x name) h in
     let scope : q.0 ≡ s = (Decides-eqb q.0 s).0 both.0 in
@@ -112,8 +113,8 @@ name-bound (Some y) d q who name flags head s x there is =
     (λ i. is_some (lookup (spelled i) (names_of_row (row_at d.scoping.scopes (sym scope i))))) ∙ ap is_some is)
 
 name-declare : (d : Declarations) (e : Entry) (s : ℕ) (x : List ℕ) → IsWhole d.scoping → Fits (length d.scoping.scopes) e → has_name (declare d e).scoping.scopes s x ≡ (has_name d.scoping.scopes s x || declares_name s x e)
-name-declare d (entry.Scope parent in_parameters flags) s x whole fits = name-push d.scoping.scopes parent flags s x ∙ sym (or-false (has_name d.scoping.scopes s x))
-name-declare d entry.Body s x whole fits = sym (or-false (has_name d.scoping.scopes s x))
+name-declare d (entry.Scope node parent in_parameters flags) s x whole fits = name-push d.scoping.scopes parent flags s x ∙ sym (or-false (has_name d.scoping.scopes s x))
+name-declare d (entry.Body node) s x whole fits = sym (or-false (has_name d.scoping.scopes s x))
 name-declare d (entry.Binding node None who name flags head) s x whole fits = sym (or-false (has_name d.scoping.scopes s x))
 name-declare d (entry.Binding node (Some q) who name flags head) s x whole fits = name-bound (get_binding d.scoping q name) d q who name flags head s x (whole q (fits q refl)) refl
 name-declare d (entry.Reference node scope in_parameters name flags) s x whole fits = sym (or-false (has_name d.scoping.scopes s x))
@@ -125,6 +126,11 @@ name-declared d (e ∷ es) s x whole ordered =
     ∙ ap (λ b. b || some_declares s x es) (name-declare d e s x whole ordered.0)
     ∙ or-assoc (has_name d.scoping.scopes s x) (declares_name s x e) (some_declares s x es)
 
+-- the names of a node: its parameters, its other names, and its own name
+pub names-by : (kind : Kind) (m : ℕ) (span : Option (ℕ × ℕ)) (id : Option ℕ) (ps : Parts) → names_of_node (Node kind m span id ps) ≡ (parameter_names kind ps ++ other_names kind m ps) ++ own_name kind ps
+names-by Kind.Program m span id ps = refl
+names-by kind m span id ps = refl
+
 -- ---- by weight
 
 abbrev some_weight : ℕ → Bool
@@ -132,8 +138,8 @@ some_weight zero = false
 some_weight (suc n) = true
 
 -- an identifier of this name weighs one
-abbrev of_name : List ℕ → ℕ → List ℕ → ℕ
-of_name x m name = one_if (bytes_eq x name)
+abbrev of_name : List ℕ → Declarer → ℕ → List ℕ → ℕ
+of_name x who m name = one_if (bytes_eq x name)
 
 weight-or : (a b : ℕ) → some_weight (a + b) ≡ (some_weight a || some_weight b)
 weight-or zero b = let e : 0 + b ≡ b = omega arith in ap some_weight e
@@ -146,8 +152,8 @@ gets-some false b = refl
 
 held-some : (s : ℕ) (x : List ℕ) (es : List Entry) → some_weight (held_weight (of_name x) s es) ≡ some_declares s x es
 held-some s x [] = refl
-held-some s x (entry.Scope parent in_parameters flags ∷ es) = held-some s x es
-held-some s x (entry.Body ∷ es) = held-some s x es
+held-some s x (entry.Scope node parent in_parameters flags ∷ es) = held-some s x es
+held-some s x (entry.Body node ∷ es) = held-some s x es
 held-some s x (entry.Binding node None who name flags head ∷ es) = weight-or 0 (held_weight (of_name x) s es) ∙ held-some s x es
 held-some s x (entry.Binding node (Some q) who name flags head ∷ es) =
     weight-or (cond (nat_eq q.0 s) (one_if (bytes_eq x name)) 0) (held_weight (of_name x) s es) ∙ (λ i. gets-some (nat_eq q.0 s) (bytes_eq x name) i || held-some s x es i)
@@ -157,9 +163,24 @@ one-some : (b : Bool) → some_weight (one_if b) ≡ b
 one-some true = refl
 one-some false = refl
 
-weight-some : (x : List ℕ) (ds : List Declaration) → some_weight (weight (of_name x) ds) ≡ is_declared x ds
-weight-some x [] = refl
-weight-some x (d ∷ ds) = weight-or (one_if (bytes_eq x d.spelling)) (weight (of_name x) ds) ∙ (λ i. one-some (bytes_eq x d.spelling) i || weight-some x ds i)
+weight-some : (x : List ℕ) (who : Declarer) (ds : List Declaration) → some_weight (weight (of_name x who) ds) ≡ is_declared x ds
+weight-some x who [] = refl
+weight-some x who (d ∷ ds) = weight-or (one_if (bytes_eq x d.spelling)) (weight (of_name x who) ds) ∙ (λ i. one-some (bytes_eq x d.spelling) i || weight-some x who ds i)
+
+declared-append : (x : List ℕ) (ds es : List Declaration) → is_declared x (ds ++ es) ≡ (is_declared x ds || is_declared x es)
+declared-append x [] es = refl
+declared-append x (d ∷ ds) es = ap (λ b. bytes_eq x d.spelling || b) (declared-append x ds es) ∙ sym (or-assoc (bytes_eq x d.spelling) (is_declared x ds) (is_declared x es))
+
+node-some : (x : List ℕ) (t : Tree) → some_weight (node_weight (of_name x) t) ≡ is_declared x (names_of_node t)
+node-some x (Node kind m span id ps) =
+    let a = parameter_names kind ps in
+    let b = other_names kind m ps in
+    let c = own_name kind ps in
+    weight-or (weight (of_name x declarer.Parameter) a + weight (of_name x declarer.Other) b) (weight (of_name x declarer.OwnName) c)
+    ∙ (λ i. (weight-or (weight (of_name x declarer.Parameter) a) (weight (of_name x declarer.Other) b) ∙ (λ j. weight-some x declarer.Parameter a j || weight-some x declarer.Other b j)) i || weight-some x declarer.OwnName c i)
+    ∙ ap (λ q. q || is_declared x c) (sym (declared-append x a b))
+    ∙ sym (declared-append x (a ++ b) c)
+    ∙ ap (is_declared x) (sym (names-by kind m span id ps))
 
 -- the scope of the j-th node with one holds just the names of that node
 pub names-built : (t node : Tree) (j : ℕ) (x : List ℕ) → conforms Place.Program t ≡ true → slice_get (opened false t) j ≡ Some node → is_some (get_binding (built_table t) (record { 0 = j }) x) ≡ is_declared x (names_of_node node)
@@ -168,4 +189,4 @@ names-built t node j x h at =
     ∙ name-declared none_declared (entries_of t) j x (λ s l. absurd (omega arith)) (entries-ordered t)
     ∙ sym (held-some j x (entries_of t))
     ∙ ap some_weight (each-program (of_name x) t node j h at)
-    ∙ weight-some x (names_of_node node)
+    ∙ node-some x node

@@ -20,3 +20,4 @@ pub mod ScopeOrder
 pub mod EachScope
 pub mod HeldNames
 pub mod HeldTable
+pub mod AlikeCalls

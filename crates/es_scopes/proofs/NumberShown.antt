@@ -1,5 +1,5 @@
 -- The numbers of entries, and what references mean.
-use Rattle.std.proofs.Common.{◌≡◌, refl, sym, ap, ◌∙◌, ℕ, ◌+◌, List, [], ◌∷◌, ◌++◌, append_assoc, map, length, Bool, true, false, Option, Some, None, arith}
+use Rattle.std.proofs.Common.{◌≡◌, refl, sym, ap, ◌∙◌, ℕ, ◌+◌, List, [], ◌∷◌, ◌++◌, append_assoc, map, length, Bool, Option, Some, None, arith}
 use Rattle.std.proofs.lemmas.List.{map-append, append-nil}
 use Rattle.es_base.specs.Carried.{symbol_number}
 use Rattle.es_base.specs.Tree.{Tree}
@@ -9,8 +9,8 @@ use Rattle.es_scopes.specs.Bindings.{lookup}
 use Rattle.es_scopes.specs.Built.{built_table}
 use Rattle.es_scopes.specs.Entries.{entries_of}
 use Rattle.es_scopes.specs.Shown.{ids_from, targets_from}
-use Rattle.es_scopes.specs.Table.{Table, row_at, names_of_row, get_binding, or_else, scope_ancestors, chain, parents, with_created_reference}
-use Rattle.es_scopes.specs.Tables.{declared, none_declared, visible, is_in_parameters, first_seen, meant, held_symbol, id_of, referred, number, numbered, numbering_of}
+use Rattle.es_scopes.specs.Table.{Table, row_at, names_of_row, or_else, scope_ancestors, chain, parents, with_created_reference}
+use Rattle.es_scopes.specs.Tables.{declared, none_declared, visible, is_in_parameters, first_seen, meant, held_symbol, referred, number, numbered, numbering_of}
 use Rattle.es_scopes.specs.declared.declare.Declarations.{Declarations}
 use Rattle.es_scopes.specs.declared.entry.Entry.{Entry}
 use Rattle.es_scopes.specs.declared.entry.Entry.TheVariants as entry
@@ -28,10 +28,10 @@ held-same t u (Some s) name same = ap (λ (rows : List (Option Scope)). symbol_n
 -- the ids of entries, by the table that they lead to
 numbered-ids : (n : Numbering) (es : List Entry) → (numbered n es).ids ≡ n.ids ++ ids_from (numbered n es).declarations.scoping n.next_scope (length n.declarations.scoping.references) es
 numbered-ids n [] = sym (append-nil n.ids)
-numbered-ids n (entry.Scope parent in_parameters flags ∷ es) = numbered-ids (number n (entry.Scope parent in_parameters flags)) es ∙ append_assoc n.ids (Some n.next_scope ∷ []) (ids_from (numbered n (entry.Scope parent in_parameters flags ∷ es)).declarations.scoping (n.next_scope + 1) (length n.declarations.scoping.references) es)
-numbered-ids n (entry.Body ∷ es) =
-    numbered-ids (number n entry.Body) es ∙ append_assoc n.ids (None ∷ []) (ids_from (numbered n (entry.Body ∷ es)).declarations.scoping (n.next_scope + 0) (length n.declarations.scoping.references) es)
-    ∙ (let same : n.next_scope + 0 ≡ n.next_scope = omega arith in ap (λ (k : ℕ). n.ids ++ None ∷ ids_from (numbered n (entry.Body ∷ es)).declarations.scoping k (length n.declarations.scoping.references) es) same)
+numbered-ids n (entry.Scope node parent in_parameters flags ∷ es) = numbered-ids (number n (entry.Scope node parent in_parameters flags)) es ∙ append_assoc n.ids (Some n.next_scope ∷ []) (ids_from (numbered n (entry.Scope node parent in_parameters flags ∷ es)).declarations.scoping (n.next_scope + 1) (length n.declarations.scoping.references) es)
+numbered-ids n (entry.Body node ∷ es) =
+    numbered-ids (number n (entry.Body node)) es ∙ append_assoc n.ids (None ∷ []) (ids_from (numbered n (entry.Body node ∷ es)).declarations.scoping (n.next_scope + 0) (length n.declarations.scoping.references) es)
+    ∙ (let same : n.next_scope + 0 ≡ n.next_scope = omega arith in ap (λ (k : ℕ). n.ids ++ None ∷ ids_from (numbered n (entry.Body node ∷ es)).declarations.scoping k (length n.declarations.scoping.references) es) same)
 numbered-ids n (entry.Binding node holder who name flags head ∷ es) =
     let e : Entry = entry.Binding node holder who name flags head in
     numbered-ids (number n e) es ∙ append_assoc n.ids (held_symbol n.declarations.scoping holder name ∷ []) (ids_from (numbered n (e ∷ es)).declarations.scoping (n.next_scope + 0) (length n.declarations.scoping.references) es)
@@ -60,8 +60,8 @@ meant-same d t (Some s) b x same = ap (λ (rows : List (Option Scope)). first_se
 
 targets-same : (d : Declarations) (t : Table) (es : List Entry) → t.scopes ≡ d.scoping.scopes → targets_from (record d { scoping = t }) es ≡ targets_from d es
 targets-same d t [] same = refl
-targets-same d t (entry.Scope parent in_parameters flags ∷ es) same = targets-same d t es same
-targets-same d t (entry.Body ∷ es) same = targets-same d t es same
+targets-same d t (entry.Scope node parent in_parameters flags ∷ es) same = targets-same d t es same
+targets-same d t (entry.Body node ∷ es) same = targets-same d t es same
 targets-same d t (entry.Binding node holder who name flags head ∷ es) same = targets-same d t es same
 targets-same d t (entry.Reference node scope in_parameters name flags ∷ es) same = λ i. meant-same d t scope in_parameters name same i ∷ targets-same d t es same i
 
@@ -71,8 +71,8 @@ created-targets t (Some y) f = map-append (λ (r : Reference). r.symbol_id) t.re
 
 numbered-targets : (n : Numbering) (es : List Entry) → map (λ r. r.symbol_id) (numbered n es).declarations.scoping.references ≡ map (λ r. r.symbol_id) n.declarations.scoping.references ++ targets_from n.declarations es
 numbered-targets n [] = sym (append-nil _)
-numbered-targets n (entry.Scope parent in_parameters flags ∷ es) = numbered-targets (number n (entry.Scope parent in_parameters flags)) es
-numbered-targets n (entry.Body ∷ es) = numbered-targets (number n entry.Body) es
+numbered-targets n (entry.Scope node parent in_parameters flags ∷ es) = numbered-targets (number n (entry.Scope node parent in_parameters flags)) es
+numbered-targets n (entry.Body node ∷ es) = numbered-targets (number n (entry.Body node)) es
 numbered-targets n (entry.Binding node holder who name flags head ∷ es) = numbered-targets (number n (entry.Binding node holder who name flags head)) es
 numbered-targets n (entry.Reference node scope in_parameters name flags ∷ es) =
     let e : Entry = entry.Reference node scope in_parameters name flags in

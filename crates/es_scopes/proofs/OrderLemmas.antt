@@ -207,11 +207,11 @@ entry-fits Kind.BindingIdentifier m ps n s h = (of_binding s.declares h.holders,
 entry-fits Kind.IdentifierReference m ps n s h = (h.scope, tt)
 entry-fits kind m ps n s h = of_scope (has_scope kind)
   where
-    of_entry : (b strict : Bool) → Fits n (cond b (entry.Scope s.scope s.in_parameters (scope_flags kind s.given.0 strict)) entry.Body)
+    of_entry : (b strict : Bool) → Fits n (cond b (entry.Scope m s.scope s.in_parameters (scope_flags kind s.given.0 strict)) (entry.Body m))
     of_entry true strict = h.scope
     of_entry false strict = tt
 
-    of_scope : (b : Bool) → AreOrdered n (option_to_list (cond b (Some (scope_entry kind (is_strict kind ps (scope_place s)) s)) None))
+    of_scope : (b : Bool) → AreOrdered n (option_to_list (cond b (Some (scope_entry kind m (is_strict kind ps (scope_place s)) s)) None))
     of_scope true = (of_entry (opens kind (scope_place s)) (is_strict kind ps (scope_place s)), tt)
     of_scope false = tt
 
@@ -226,12 +226,12 @@ entry-count Kind.BindingIdentifier m ps n s = of_binding s.declares
 entry-count Kind.IdentifierReference m ps n s = omega arith
 entry-count Kind.BlockStatement m ps n s = of_entry (not s.is_body) (is_strict Kind.BlockStatement ps (scope_place s))
   where
-    of_entry : (b strict : Bool) → n + scopes_in (cond b (entry.Scope s.scope s.in_parameters (scope_flags Kind.BlockStatement s.given.0 strict)) entry.Body ∷ []) ≡ cond b (n + 1) n
+    of_entry : (b strict : Bool) → n + scopes_in (cond b (entry.Scope m s.scope s.in_parameters (scope_flags Kind.BlockStatement s.given.0 strict)) (entry.Body m) ∷ []) ≡ cond b (n + 1) n
     of_entry true strict = omega arith
     of_entry false strict = omega arith
 entry-count kind m ps n s = of_scope (has_scope kind) (is_strict kind ps (scope_place s))
   where
-    of_scope : (b strict : Bool) → n + scopes_in (option_to_list (cond b (Some (cond b (entry.Scope s.scope s.in_parameters (scope_flags kind s.given.0 strict)) entry.Body)) None)) ≡ cond b (n + 1) n
+    of_scope : (b strict : Bool) → n + scopes_in (option_to_list (cond b (Some (cond b (entry.Scope m s.scope s.in_parameters (scope_flags kind s.given.0 strict)) (entry.Body m))) None)) ≡ cond b (n + 1) n
     of_scope true strict = omega arith
     of_scope false strict = omega arith
 

@@ -18,8 +18,8 @@ use Rattle.es_scopes.specs.declared.surroundings.Surroundings.{Surroundings}
 
 references-append : (es fs : List Entry) → references_in (es ++ fs) ≡ references_in es ++ references_in fs
 references-append [] fs = refl
-references-append (entry.Scope parent in_parameters flags ∷ es) fs = references-append es fs
-references-append (entry.Body ∷ es) fs = references-append es fs
+references-append (entry.Scope node parent in_parameters flags ∷ es) fs = references-append es fs
+references-append (entry.Body node ∷ es) fs = references-append es fs
 references-append (entry.Binding node holder who name flags head ∷ es) fs = references-append es fs
 references-append (entry.Reference node scope in_parameters name flags ∷ es) fs = ap (λ l. record { node = node.0; name = name; flags = flags } ∷ l) (references-append es fs)
 
@@ -35,7 +35,7 @@ own-reference Kind.BindingIdentifier m ps s = of_binding s.declares
     of_binding (declares.Pattern holder who) = refl
 own-reference kind m ps s = of_scope (has_scope kind) (opens kind (scope_place s)) (is_strict kind ps (scope_place s))
   where
-    of_scope : (a b strict : Bool) → references_in (option_to_list (cond a (Some (cond b (entry.Scope s.scope s.in_parameters (scope_flags kind s.given.0 strict)) entry.Body)) None)) ≡ []
+    of_scope : (a b strict : Bool) → references_in (option_to_list (cond a (Some (cond b (entry.Scope (record { 0 = m }) s.scope s.in_parameters (scope_flags kind s.given.0 strict)) (entry.Body (record { 0 = m })))) None)) ≡ []
     of_scope true true strict = refl
     of_scope true false strict = refl
     of_scope false b strict = refl

@@ -96,3 +96,8 @@ pub changed_at_beyond : {X : Type 0} (f : X → X) (i : ℕ) (xs : List X) → l
 changed_at_beyond f i [] beyond = refl
 changed_at_beyond f zero (x ∷ xs) beyond = absurd (omega arith)
 changed_at_beyond f (suc i) (x ∷ xs) beyond = ap (λ l. x ∷ l) (changed_at_beyond f i xs (omega arith))
+
+pub set_changed : {X : Type 0} (f : X → X) (i : ℕ) (xs : List X) (d v : X) → i < length xs → v ≡ f (get_or xs i d) → set xs i v ≡ changed_at f i xs
+set_changed f i [] d v within is = absurd (omega arith)
+set_changed f zero (y ∷ xs) d v within is = ap (λ z. z ∷ xs) is
+set_changed f (suc i) (y ∷ xs) d v within is = ap (λ l. y ∷ l) (set_changed f i xs d v (omega arith) is)

@@ -28,8 +28,8 @@ pub record Alike (p : scopes.Place) (s : Surroundings) : Type 0 where
 
 scopes-append : (es fs : List Entry) → scope_flags_in (es ++ fs) ≡ scope_flags_in es ++ scope_flags_in fs
 scopes-append [] fs = refl
-scopes-append (entry.Scope parent in_parameters flags ∷ es) fs = ap (λ l. flags ∷ l) (scopes-append es fs)
-scopes-append (entry.Body ∷ es) fs = scopes-append es fs
+scopes-append (entry.Scope node parent in_parameters flags ∷ es) fs = ap (λ l. flags ∷ l) (scopes-append es fs)
+scopes-append (entry.Body node ∷ es) fs = scopes-append es fs
 scopes-append (entry.Binding node holder who name flags head ∷ es) fs = scopes-append es fs
 scopes-append (entry.Reference node scope in_parameters name flags ∷ es) fs = scopes-append es fs
 
@@ -38,7 +38,7 @@ module _ (kind : Kind) (m : ℕ) (ps : Parts) (p : scopes.Place) (s : Surroundin
   flags-alike : scope_flags kind p.given (is_strict kind ps p) ≡ scope_flags kind s.given.0 (is_strict kind ps (scope_place s))
   flags-alike = λ i. scope_flags kind (h.given i) (h.strict i || makes_strict kind ps)
 
-  scope-where : (a b : Bool) → (a ≡ false → b ≡ false) → scope_flags_in (option_to_list (cond a (Some (cond b (entry.Scope s.scope s.in_parameters (scope_flags kind s.given.0 (is_strict kind ps (scope_place s)))) entry.Body)) None)) ≡ flags_of (cond b (record { node = m; around = p.around; flags = scope_flags kind p.given (is_strict kind ps p) } ∷ []) [])
+  scope-where : (a b : Bool) → (a ≡ false → b ≡ false) → scope_flags_in (option_to_list (cond a (Some (cond b (entry.Scope (record { 0 = m }) s.scope s.in_parameters (scope_flags kind s.given.0 (is_strict kind ps (scope_place s)))) (entry.Body (record { 0 = m })))) None)) ≡ flags_of (cond b (record { node = m; around = p.around; flags = scope_flags kind p.given (is_strict kind ps p) } ∷ []) [])
   scope-where true true k = ap (λ f. f ∷ []) (sym flags-alike)
   scope-where true false k = refl
   scope-where false true k = absurd (cc (k refl))

@@ -296,7 +296,7 @@ module _ (scopes : List (Option Scope)) (s : ScopeId) (up : Option ScopeId) wher
   without-at : row_at without s.0 ≡ None
   without-at = ap row_of (slice_get-changed_at_same (λ row. None) s.0 (map (option_map (lifted s up)) scopes)) ∙ gone (slice_get (map (option_map (lifted s up)) scopes) s.0)
 
-  without-elsewhere : (i : ℕ) → i ≢ s.0 → row_at without i ≡ option_map (lifted s up) (row_at scopes i)
+  pub without-elsewhere : (i : ℕ) → i ≢ s.0 → row_at without i ≡ option_map (lifted s up) (row_at scopes i)
   without-elsewhere i apart = row_at-changed_other (λ row. None) s.0 i (map (option_map (lifted s up)) scopes) apart ∙ row_at-map (lifted s up) scopes i
 
   lifted_of : (o : Option Scope) → option_map (λ x. x.parent) (option_map (lifted s up) o) ≡ lifted_parent s up (option_map (λ x. x.parent) o)

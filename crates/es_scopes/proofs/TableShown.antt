@@ -1,5 +1,5 @@
 -- What a table shows of the entries that it is made of.
-use Rattle.std.proofs.Common.{◌≡◌, refl, sym, ap, ◌∙◌, ℕ, zero, suc, List, [], ◌∷◌, ◌++◌, append_assoc, map, length, Bool, true, false, cond, Option, Some, None}
+use Rattle.std.proofs.Common.{◌≡◌, refl, sym, ap, ◌∙◌, ℕ, zero, suc, List, [], ◌∷◌, ◌++◌, append_assoc, map, length, Bool, true, false, ◌||◌, Option, Some, None}
 use Rattle.std.specs.Prelude.{option_map}
 use Rattle.std.proofs.lemmas.List.{map-append, append-nil}
 use Rattle.es_base.specs.Tree.{Tree}
@@ -15,7 +15,7 @@ use Rattle.es_scopes.specs.declared.table.Scope.{Scope}
 use Rattle.es_scopes.specs.Built.{built_table}
 use Rattle.es_scopes.specs.Entries.{entries_of}
 use Rattle.es_scopes.specs.Shown.{references_in, scope_flags_in}
-use Rattle.es_scopes.specs.Tables.{marked_if, bound_over, bound_more, bound_where, declare, declared, none_declared, meant, number, numbered, is_own_name, declarer_at}
+use Rattle.es_scopes.specs.Tables.{marked_if, bound_again, bound_where, declare, declared, none_declared, meant, number, numbered, repeats, declarer_at}
 use Rattle.es_scopes.specs.declared.declare.Declarations.{Declarations}
 use Rattle.es_scopes.specs.declared.entry.Entry.{Entry}
 use Rattle.es_scopes.specs.declared.entry.Entry.TheVariants as entry
@@ -31,17 +31,13 @@ marked-references : (b : Bool) (y : SymbolId) (t : Table) → (marked_if b y t).
 marked-references true y t = refl
 marked-references false y t = refl
 
-again-references : (d : Declarations) (y : SymbolId) (flags : SymbolFlags) (head b : Bool) → (cond b (bound_over d y flags head) (bound_more d y flags)).scoping.references ≡ d.scoping.references
-again-references d y flags head true = marked-references head y _
-again-references d y flags head false = refl
-
 where-references : (o : Option SymbolId) (d : Declarations) (s : ScopeId) (who : Declarer) (name : List ℕ) (flags : SymbolFlags) (head : Bool) → (bound_where o d s who name flags head).scoping.references ≡ d.scoping.references
 where-references None d s who name flags head = marked-references head _ _
-where-references (Some y) d s who name flags head = again-references d y flags head (is_own_name (declarer_at d.declarers y))
+where-references (Some y) d s who name flags head = marked-references (head || repeats (declarer_at d.declarers y) who) y _
 
 declare-references : (d : Declarations) (e : Entry) → (declare d e).scoping.references ≡ d.scoping.references
-declare-references d (entry.Scope parent in_parameters flags) = refl
-declare-references d entry.Body = refl
+declare-references d (entry.Scope node parent in_parameters flags) = refl
+declare-references d (entry.Body node) = refl
 declare-references d (entry.Binding node None who name flags head) = refl
 declare-references d (entry.Binding node (Some s) who name flags head) = where-references (get_binding d.scoping s name) d s who name flags head
 declare-references d (entry.Reference node scope in_parameters name flags) = refl
@@ -57,8 +53,8 @@ created-flags t (Some y) f = map-append (λ (r : Reference). r.flags) t.referenc
 -- the flags of the references of a table are those of its entries
 numbered-flags : (n : Numbering) (es : List Entry) → map (λ r. r.flags) (numbered n es).declarations.scoping.references ≡ map (λ r. r.flags) n.declarations.scoping.references ++ map (λ r. r.flags) (references_in es)
 numbered-flags n [] = sym (append-nil _)
-numbered-flags n (entry.Scope parent in_parameters flags ∷ es) = numbered-flags (number n (entry.Scope parent in_parameters flags)) es
-numbered-flags n (entry.Body ∷ es) = numbered-flags (number n entry.Body) es
+numbered-flags n (entry.Scope node parent in_parameters flags ∷ es) = numbered-flags (number n (entry.Scope node parent in_parameters flags)) es
+numbered-flags n (entry.Body node ∷ es) = numbered-flags (number n (entry.Body node)) es
 numbered-flags n (entry.Binding node holder who name flags head ∷ es) = numbered-flags (number n (entry.Binding node holder who name flags head)) es
 numbered-flags n (entry.Reference node scope in_parameters name flags ∷ es) =
     numbered-flags (number n (entry.Reference node scope in_parameters name flags)) es
@@ -87,21 +83,20 @@ pub marked-rows : (b : Bool) (y : SymbolId) (t : Table) → (marked_if b y t).sc
 marked-rows true y t = refl
 marked-rows false y t = refl
 
-pub again-rows : (d : Declarations) (y : SymbolId) (flags : SymbolFlags) (head b : Bool) → (cond b (bound_over d y flags head) (bound_more d y flags)).scoping.scopes ≡ d.scoping.scopes
-again-rows d y flags head true = marked-rows head y _
-again-rows d y flags head false = refl
+pub again-rows : (d : Declarations) (y : SymbolId) (who : Declarer) (flags : SymbolFlags) (head : Bool) → (bound_again d y who flags head).scoping.scopes ≡ d.scoping.scopes
+again-rows d y who flags head = marked-rows (head || repeats (declarer_at d.declarers y) who) y _
 
 where-rows : (o : Option SymbolId) (d : Declarations) (s : ScopeId) (who : Declarer) (name : List ℕ) (flags : SymbolFlags) (head : Bool) → row_flags (bound_where o d s who name flags head).scoping.scopes ≡ row_flags d.scoping.scopes
 where-rows None d s who name flags head = ap row_flags (marked-rows head _ _) ∙ flags-changed name (record { 0 = length d.scoping.symbols }) s.0 d.scoping.scopes
-where-rows (Some y) d s who name flags head = ap row_flags (again-rows d y flags head (is_own_name (declarer_at d.declarers y)))
+where-rows (Some y) d s who name flags head = ap row_flags (again-rows d y who flags head)
 
 declared-rows : (d : Declarations) (es : List Entry) → row_flags (declared d es).scoping.scopes ≡ row_flags d.scoping.scopes ++ map (λ f. Some f) (scope_flags_in es)
 declared-rows d [] = sym (append-nil _)
-declared-rows d (entry.Scope parent in_parameters flags ∷ es) =
-    declared-rows (declare d (entry.Scope parent in_parameters flags)) es
+declared-rows d (entry.Scope node parent in_parameters flags ∷ es) =
+    declared-rows (declare d (entry.Scope node parent in_parameters flags)) es
     ∙ ap (λ l. l ++ map (λ f. Some f) (scope_flags_in es)) (map-append (option_map (λ (x : Scope). x.flags)) d.scoping.scopes (Some (new_scope parent flags) ∷ []))
     ∙ append_assoc (row_flags d.scoping.scopes) (Some flags ∷ []) (map (λ f. Some f) (scope_flags_in es))
-declared-rows d (entry.Body ∷ es) = declared-rows d es
+declared-rows d (entry.Body node ∷ es) = declared-rows d es
 declared-rows d (entry.Binding node None who name flags head ∷ es) = declared-rows d es
 declared-rows d (entry.Binding node (Some s) who name flags head ∷ es) =
     declared-rows (declare d (entry.Binding node (Some s) who name flags head)) es
@@ -114,8 +109,8 @@ created-rows t (Some y) f = refl
 
 pub numbered-rows : (n : Numbering) (es : List Entry) → (numbered n es).declarations.scoping.scopes ≡ n.declarations.scoping.scopes
 numbered-rows n [] = refl
-numbered-rows n (entry.Scope parent in_parameters flags ∷ es) = numbered-rows (number n (entry.Scope parent in_parameters flags)) es
-numbered-rows n (entry.Body ∷ es) = numbered-rows (number n entry.Body) es
+numbered-rows n (entry.Scope node parent in_parameters flags ∷ es) = numbered-rows (number n (entry.Scope node parent in_parameters flags)) es
+numbered-rows n (entry.Body node ∷ es) = numbered-rows (number n (entry.Body node)) es
 numbered-rows n (entry.Binding node holder who name flags head ∷ es) = numbered-rows (number n (entry.Binding node holder who name flags head)) es
 numbered-rows n (entry.Reference node scope in_parameters name flags ∷ es) =
     numbered-rows (number n (entry.Reference node scope in_parameters name flags)) es

@@ -1,18 +1,18 @@
 -- What each entry does to the sizes of a table, where no scope is removed.
-use Rattle.std.proofs.Common.{◌≡◌, refl, sym, ap, subst, ◌∙◌, ℕ, ◌+◌, ◌<◌, ◌≤◌, List, [], ◌∷◌, ◌++◌, length, drop, get_or, Bool, true, false, cond, Option, Some, None, ◌⊎◌, inl, inr, arith}
-use Rattle.std.specs.Prelude.{option_map, is_some, slice_get, bit_or}
+use Rattle.std.proofs.Common.{◌≡◌, refl, sym, ap, subst, ◌∙◌, ℕ, ◌+◌, ◌<◌, ◌≤◌, List, [], ◌∷◌, ◌++◌, length, drop, get_or, Bool, true, false, ◌||◌, Option, Some, None, ◌⊎◌, inl, inr, arith}
+use Rattle.std.specs.Prelude.{option_map, is_some, slice_get}
 use Rattle.std.specs.Option.{option_and_then}
 use Rattle.std.proofs.lemmas.List.{length-append, drop_more}
 use Rattle.es_base.specs.declared.ids.ScopeId.{ScopeId}
 use Rattle.es_base.specs.declared.ids.SymbolId.{SymbolId}
-use Rattle.es_scopes.specs.Table.{Table, row_at, changed_at, get_binding, holding, new_scope, new_symbol, marked, symbol_flagged, with_binding, with_created_reference}
+use Rattle.es_scopes.specs.Table.{Table, row_at, changed_at, get_binding, holding, new_scope, new_symbol, marked, symbol_flagged, with_symbol_flags, with_binding, with_created_reference}
 use Rattle.es_scopes.specs.declared.flags.SymbolFlags.{SymbolFlags}
 use Rattle.es_scopes.specs.declared.flags.ReferenceFlags.{ReferenceFlags}
 use Rattle.es_scopes.specs.declared.table.Scope.{Scope}
 use Rattle.es_scopes.proofs.RowLemmas.{length-changed_at, slice_get-push_within, slice_get-push_last, is_some-option_map}
 use Rattle.es_scopes.proofs.TableLemmas.{part-changed}
 use Rattle.es_scopes.proofs.TableShown.{declared-references}
-use Rattle.es_scopes.specs.Tables.{marked_if, bound_first, bound_over, bound_more, bound_where, declare, declared, none_declared, meant, referred, number, numbered, Fits, AreOrdered, IsWhole, scope_count, scopes_in, flags_of, is_own_name, declarer_at}
+use Rattle.es_scopes.specs.Tables.{marked_if, bound_first, bound_where, declare, declared, none_declared, meant, referred, number, numbered, Fits, AreOrdered, IsWhole, scope_count, scopes_in, flags_of, flags_with, repeats, declarer_at}
 use Rattle.es_scopes.specs.declared.declare.Declarations.{Declarations}
 use Rattle.es_scopes.specs.declared.refer.Numbering.{Numbering}
 use Rattle.es_scopes.specs.declared.entry.Entry.{Entry}
@@ -58,33 +58,24 @@ first-keeps d s who name flags head =
       symbols = omega (arith, marked-symbols head (record { 0 = length d.scoping.symbols }) t, length-append d.scoping.symbols (new_symbol name s flags ∷ []));
     }
 
-over-keeps : (d : Declarations) (y : SymbolId) (flags : SymbolFlags) (head : Bool) → Keeps 0 d.scoping (bound_over d y flags head).scoping
-over-keeps d y flags true = record { there = λ h. h; scopes = omega arith; symbols = omega (arith, length-changed_at marked y.0 (changed_at (symbol_flagged flags) y.0 d.scoping.symbols), length-changed_at (symbol_flagged flags) y.0 d.scoping.symbols) }
-over-keeps d y flags false = record { there = λ h. h; scopes = omega arith; symbols = omega (arith, length-changed_at (symbol_flagged flags) y.0 d.scoping.symbols) }
-
-more-keeps : (d : Declarations) (y : SymbolId) (flags : SymbolFlags) → Keeps 0 d.scoping (bound_more d y flags).scoping
-more-keeps d y flags =
-    let all : SymbolFlags = record { 0 = bit_or (flags_of d.scoping y) flags.0 } in
-    record { there = λ h. h; scopes = omega arith; symbols = omega (arith, length-changed_at marked y.0 (changed_at (symbol_flagged all) y.0 d.scoping.symbols), length-changed_at (symbol_flagged all) y.0 d.scoping.symbols) }
-
-again-keeps : (d : Declarations) (y : SymbolId) (flags : SymbolFlags) (head : Bool) (b : Bool) → Keeps 0 d.scoping (cond b (bound_over d y flags head) (bound_more d y flags)).scoping
-again-keeps d y flags head true = over-keeps d y flags head
-again-keeps d y flags head false = more-keeps d y flags
+again-keeps : (d : Declarations) (y : SymbolId) (f : SymbolFlags) (b : Bool) → Keeps 0 d.scoping (marked_if b y (with_symbol_flags d.scoping y f))
+again-keeps d y f true = record { there = λ h. h; scopes = omega arith; symbols = omega (arith, length-changed_at marked y.0 (changed_at (symbol_flagged f) y.0 d.scoping.symbols), length-changed_at (symbol_flagged f) y.0 d.scoping.symbols) }
+again-keeps d y f false = record { there = λ h. h; scopes = omega arith; symbols = omega (arith, length-changed_at (symbol_flagged f) y.0 d.scoping.symbols) }
 
 where-keeps : (o : Option SymbolId) (d : Declarations) (s : ScopeId) (who : Declarer) (name : List ℕ) (flags : SymbolFlags) (head : Bool) → Keeps 0 d.scoping (bound_where o d s who name flags head).scoping
 where-keeps None d s who name flags head = first-keeps d s who name flags head
-where-keeps (Some y) d s who name flags head = again-keeps d y flags head (is_own_name (declarer_at d.declarers y))
+where-keeps (Some y) d s who name flags head = again-keeps d y (flags_with (declarer_at d.declarers y) who (flags_of d.scoping y) flags) (head || repeats (declarer_at d.declarers y) who)
 
 same-keeps : (t : Table) → Keeps 0 t t
 same-keeps t = record { there = λ h. h; scopes = omega arith; symbols = omega arith }
 
 declare-keeps : (d : Declarations) (e : Entry) → Keeps (scope_count e) d.scoping (declare d e).scoping
-declare-keeps d (entry.Scope parent in_parameters flags) = record {
+declare-keeps d (entry.Scope node parent in_parameters flags) = record {
   there = there-push d.scoping.scopes (new_scope parent flags);
   scopes = length-append d.scoping.scopes (Some (new_scope parent flags) ∷ []);
   symbols = omega arith;
 }
-declare-keeps d entry.Body = same-keeps d.scoping
+declare-keeps d (entry.Body node) = same-keeps d.scoping
 declare-keeps d (entry.Binding node None who name flags head) = same-keeps d.scoping
 declare-keeps d (entry.Binding node (Some s) who name flags head) = where-keeps (get_binding d.scoping s name) d s who name flags head
 declare-keeps d (entry.Reference node scope in_parameters name flags) = same-keeps d.scoping
@@ -107,8 +98,8 @@ scopes-declared d [] = omega arith
 scopes-declared d (e ∷ es) = omega (arith, scopes-declared (declare d e) es, scopes-declare d e)
 
 pub at_most_one : (e : Entry) → scope_count e ≤ 1
-at_most_one (entry.Scope parent in_parameters flags) = omega arith
-at_most_one entry.Body = omega arith
+at_most_one (entry.Scope node parent in_parameters flags) = omega arith
+at_most_one (entry.Body node) = omega arith
 at_most_one (entry.Binding node holder who name flags head) = omega arith
 at_most_one (entry.Reference node scope in_parameters name flags) = omega arith
 
@@ -123,14 +114,14 @@ created-references t None f = length-append t.references (record { symbol_id = N
 created-references t (Some y) f = length-append t.references (record { symbol_id = Some y; flags = f } ∷ [])
 
 pub scopes-referred : (d : Declarations) (e : Entry) → (referred d e).scoping.scopes ≡ d.scoping.scopes
-scopes-referred d (entry.Scope parent in_parameters flags) = refl
-scopes-referred d entry.Body = refl
+scopes-referred d (entry.Scope node parent in_parameters flags) = refl
+scopes-referred d (entry.Body node) = refl
 scopes-referred d (entry.Binding node holder who name flags head) = refl
 scopes-referred d (entry.Reference node scope in_parameters name flags) = created-scopes d.scoping (meant d scope in_parameters name) flags
 
 pub references-referred : (d : Declarations) (e : Entry) → length (referred d e).scoping.references ≤ length d.scoping.references + 1
-references-referred d (entry.Scope parent in_parameters flags) = omega arith
-references-referred d entry.Body = omega arith
+references-referred d (entry.Scope node parent in_parameters flags) = omega arith
+references-referred d (entry.Body node) = omega arith
 references-referred d (entry.Binding node holder who name flags head) = omega arith
 references-referred d (entry.Reference node scope in_parameters name flags) = omega (arith, created-references d.scoping (meant d scope in_parameters name) flags)
 
@@ -145,8 +136,8 @@ AllFit n [] = Unit
 AllFit n (e ∷ es) = Fits n e × AllFit n es
 
 fits-le : (n m : ℕ) (e : Entry) → n ≤ m → Fits n e → Fits m e
-fits-le n m (entry.Scope parent in_parameters flags) le h = λ s e. let k = h s e in omega arith
-fits-le n m entry.Body le h = tt
+fits-le n m (entry.Scope node parent in_parameters flags) le h = λ s e. let k = h s e in omega arith
+fits-le n m (entry.Body node) le h = tt
 fits-le n m (entry.Binding node holder who name flags head) le h = λ s e. let k = h s e in omega arith
 fits-le n m (entry.Reference node scope in_parameters name flags) le h = λ s e. let k = h s e in omega arith
 

@@ -25,14 +25,14 @@ binding (declares.Pattern holder who) m name s = entry.Binding m holder who name
 binding d m name s = entry.Binding m None declarer.Other name s.symbol_flags s.head_var
 
 -- a node of a kind that has scopes, in strict code or not
-abbrev pub scope_entry : Kind → Bool → Surroundings → Entry
-scope_entry kind strict s = cond (opens kind (scope_place s)) (entry.Scope s.scope s.in_parameters (scope_flags kind s.given.0 strict)) entry.Body
+abbrev pub scope_entry : Kind → NodeId → Bool → Surroundings → Entry
+scope_entry kind m strict s = cond (opens kind (scope_place s)) (entry.Scope m s.scope s.in_parameters (scope_flags kind s.given.0 strict)) (entry.Body m)
 
 -- what a node has to do with scopes
 abbrev pub entry_of : Kind → NodeId → Parts → Surroundings → Option Entry
 entry_of Kind.BindingIdentifier m ps s = Some (binding s.declares m (string_of (at 0 ps)) s)
 entry_of Kind.IdentifierReference m ps s = Some (entry.Reference m s.scope s.in_parameters (string_of (at 0 ps)) s.usage)
-entry_of kind m ps s = cond (has_scope kind) (Some (scope_entry kind (is_strict kind ps (scope_place s)) s)) None
+entry_of kind m ps s = cond (has_scope kind) (Some (scope_entry kind m (is_strict kind ps (scope_place s)) s)) None
 
 abbrev pub entered : Kind → NodeId → Parts → Surroundings → Collected → Collected
 entered kind m ps s c = record { entries = c.entries ++ option_to_list (entry_of kind m ps s); next = cond (opens kind (scope_place s)) (c.next + 1) c.next }

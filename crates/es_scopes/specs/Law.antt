@@ -10,7 +10,7 @@ use Rattle.es_base.specs.declared.table.Place.{Place}
 use Rattle.es_scopes.specs.Agreement.{Agrees, AreAlike, HasScopeOf, HasSymbolOf, HasReferenceOf, carried, target_number, meant_symbol, names_of_node}
 use Rattle.es_scopes.specs.Built.{built_table}
 use Rattle.es_scopes.specs.Entries.{Collected, collected, entries_of}
-use Rattle.es_scopes.specs.Held.{weight, scope_gets, held_weight, IsElsewhere, IsNoBody}
+use Rattle.es_scopes.specs.Held.{weight, node_weight, scope_gets, held_weight, IsElsewhere, IsNoBody}
 use Rattle.es_scopes.specs.NodeBindings.{bindings_of}
 use Rattle.es_scopes.specs.NodeReferences.{references_of}
 use Rattle.es_scopes.specs.NodeScopes.{scopes_of, has_scope, opens}
@@ -19,9 +19,11 @@ use Rattle.es_scopes.specs.References.{writes}
 use Rattle.es_scopes.specs.Shown.{bindings_in, references_in, ids_from, targets_from}
 use Rattle.es_scopes.specs.Surroundings.{scope_place}
 use Rattle.es_scopes.specs.Tables.{AreOrdered, scopes_in, numbering_of, declared, none_declared}
+use Rattle.es_scopes.specs.declared.surroundings.Declarer.{Declarer}
+use Rattle.es_scopes.specs.declared.surroundings.Declarer.TheVariants as declarer
 use Rattle.es_scopes.specs.declared.surroundings.Declares.TheVariants as declares
 use Rattle.es_scopes.specs.declared.surroundings.Surroundings.{Surroundings}
-use Rattle.es_scopes.specs.Table.{Table, IsTable, get_binding, with_scope_flags, with_parent, with_new_scope, with_binding, with_name, with_symbol_flags, with_mark, with_reference_flags, with_target, with_new_reference, reference_flagged}
+use Rattle.es_scopes.specs.Table.{Table, IsTable, IsMutated, parent_of, reference_at, without_scope, with_listed, without_listed, with_created_reference, get_binding, with_scope_flags, with_parent, with_new_scope, with_binding, with_name, with_symbol_flags, with_mark, with_reference_flags, with_target, with_new_reference, reference_flagged}
 use Rattle.es_scopes.specs.declared.flags.ScopeFlags.{ScopeFlags}
 use Rattle.es_scopes.specs.declared.flags.SymbolFlags.{SymbolFlags}
 use Rattle.es_scopes.specs.declared.flags.ReferenceFlags.{ReferenceFlags}
@@ -72,6 +74,22 @@ TargetLaw = (t : Tree) (table : Table) → IsTable table → (r : ReferenceId) (
 abbrev pub NewReferenceLaw : Type 0
 NewReferenceLaw = (t : Tree) (table : Table) → IsTable table → (y : Option SymbolId) (f : ReferenceFlags) → AreAlike t table (with_new_reference table y f)
 
+-- a scope removed that is no node's, and that no scope of a node stands right below
+abbrev pub RemovedScopeLaw : Type 0
+RemovedScopeLaw = (t : Tree) (table : Table) (s : ScopeId) → (HasScopeOf t s → ⊥) → ((q : ScopeId) → HasScopeOf t q → parent_of table q ≡ Some s → ⊥) → AreAlike t table (without_scope table s)
+
+-- a reference put on the list of a symbol or taken off it: where an identifier carries the symbol and the reference writes, the
+-- symbol is mutated before, or still
+abbrev pub ListedLaw : Type 0
+ListedLaw = (t : Tree) (table : Table) (y : SymbolId) (r : ReferenceId) → (HasSymbolOf t y → writes (reference_at table r) ≡ true → IsMutated table y) → AreAlike t table (with_listed table y r)
+
+abbrev pub UnlistedLaw : Type 0
+UnlistedLaw = (t : Tree) (table : Table) (y : SymbolId) (r : ReferenceId) → (HasSymbolOf t y → writes (reference_at table r) ≡ true → IsMutated (without_listed table y r) y) → AreAlike t table (without_listed table y r)
+
+-- a new reference, on the list of its symbol
+abbrev pub CreatedReferenceLaw : Type 0
+CreatedReferenceLaw = (t : Tree) (table : Table) → IsTable table → (o : Option SymbolId) (f : ReferenceFlags) → ((y : SymbolId) → o ≡ Some y → HasSymbolOf t y → writes (Some (record { symbol_id = o; flags = f })) ≡ true → IsMutated table y) → AreAlike t table (with_created_reference table o f)
+
 -- ---- what a table is built from
 
 -- the entries of a tree have its identifiers that declare and its references, in order
@@ -105,16 +123,16 @@ BuiltTargetsLaw = (t : Tree) → map (λ r. r.symbol_id) (built_table t).referen
 -- In a tree that conforms, a node's own scope gets the names that `es_steps` collects for it, and nothing else of what stands
 -- below it: `var` out of nested statements, parameters, the own name of a function expression.
 abbrev pub OwnNamesLaw : Type 0
-OwnNamesLaw = (w : ℕ → List ℕ → ℕ) (place : Place) (s : Surroundings) (c : Collected) (kind : Kind) (m : ℕ) (span : Option (ℕ × ℕ)) (id : Option ℕ) (ps : Parts) → conforms place (Node kind m span id ps) ≡ true → has_scope kind ≡ true → opens kind (scope_place s) ≡ true → IsElsewhere c.next s.declares → (kind ≡ Kind.BlockStatement → IsNoBody s.declares)
-    → held_weight w c.next (collected s c (Node kind m span id ps)).entries ≡ held_weight w c.next c.entries + weight w (names_of_node (Node kind m span id ps))
+OwnNamesLaw = (w : Declarer → ℕ → List ℕ → ℕ) (place : Place) (s : Surroundings) (c : Collected) (kind : Kind) (m : ℕ) (span : Option (ℕ × ℕ)) (id : Option ℕ) (ps : Parts) → conforms place (Node kind m span id ps) ≡ true → has_scope kind ≡ true → opens kind (scope_place s) ≡ true → IsElsewhere c.next s.declares → (kind ≡ Kind.BlockStatement → IsNoBody s.declares)
+    → held_weight w c.next (collected s c (Node kind m span id ps)).entries ≡ held_weight w c.next c.entries + node_weight w (Node kind m span id ps)
 
 -- so the scope of a program holds the names of the program
 abbrev pub ProgramNamesLaw : Type 0
-ProgramNamesLaw = (w : ℕ → List ℕ → ℕ) (m : ℕ) (span : Option (ℕ × ℕ)) (id : Option ℕ) (ps : Parts) → conforms Place.Program (Node Kind.Program m span id ps) ≡ true → held_weight w 0 (entries_of (Node Kind.Program m span id ps)) ≡ weight w (names_of_node (Node Kind.Program m span id ps))
+ProgramNamesLaw = (w : Declarer → ℕ → List ℕ → ℕ) (m : ℕ) (span : Option (ℕ × ℕ)) (id : Option ℕ) (ps : Parts) → conforms Place.Program (Node Kind.Program m span id ps) ≡ true → held_weight w 0 (entries_of (Node Kind.Program m span id ps)) ≡ node_weight w (Node Kind.Program m span id ps)
 
 -- and the scope of each node with one, in preorder, gets the names of that node, and no others
 abbrev pub EachNamesLaw : Type 0
-EachNamesLaw = (w : ℕ → List ℕ → ℕ) (t x : Tree) (j : ℕ) → conforms Place.Program t ≡ true → slice_get (opened false t) j ≡ Some x → held_weight w j (entries_of t) ≡ weight w (names_of_node x)
+EachNamesLaw = (w : Declarer → ℕ → List ℕ → ℕ) (t x : Tree) (j : ℕ) → conforms Place.Program t ≡ true → slice_get (opened false t) j ≡ Some x → held_weight w j (entries_of t) ≡ node_weight w x
 
 -- so each scope of a built table holds just the names of its node
 abbrev pub BuiltNamesLaw : Type 0
@@ -126,4 +144,4 @@ ScopeCountLaw = (t : Tree) → scopes_in (entries_of t) ≡ length (opened false
 
 -- a scope around a statement gets the lexical names or the `var` that `es_steps` collects of it, or both
 abbrev pub StatementNamesLaw : Type 0
-StatementNamesLaw = (w : ℕ → List ℕ → ℕ) (n : ℕ) (s : Surroundings) (c : Collected) (lexical var : Option ScopeId) (t : Tree) → conforms Place.Statement t ≡ true → s.declares ≡ declares.Statement lexical var → n < c.next → held_weight w n (collected s c t).entries ≡ held_weight w n c.entries + (scope_gets n lexical (weight w (lexical_names t)) + scope_gets n var (weight w (var_names t)))
+StatementNamesLaw = (w : Declarer → ℕ → List ℕ → ℕ) (n : ℕ) (s : Surroundings) (c : Collected) (lexical var : Option ScopeId) (t : Tree) → conforms Place.Statement t ≡ true → s.declares ≡ declares.Statement lexical var → n < c.next → held_weight w n (collected s c t).entries ≡ held_weight w n c.entries + (scope_gets n lexical (weight (w declarer.Other) (lexical_names t)) + scope_gets n var (weight (w declarer.Other) (var_names t)))

@@ -22,15 +22,15 @@ bindings_in (e ∷ es) = bindings_in es
 
 abbrev pub scope_flags_in : List Entry → List ScopeFlags
 scope_flags_in [] = []
-scope_flags_in (entry.Scope parent in_parameters flags ∷ es) = flags ∷ scope_flags_in es
+scope_flags_in (entry.Scope node parent in_parameters flags ∷ es) = flags ∷ scope_flags_in es
 scope_flags_in (e ∷ es) = scope_flags_in es
 
 -- the semantic ids of entries: of a scope and of a reference the next number, of an identifier that declares the symbol that
 -- its scope holds for its name in this table
 abbrev pub ids_from : Table → ℕ → ℕ → List Entry → List (Option ℕ)
 ids_from t n r [] = []
-ids_from t n r (entry.Scope parent in_parameters flags ∷ es) = Some n ∷ ids_from t (n + 1) r es
-ids_from t n r (entry.Body ∷ es) = None ∷ ids_from t n r es
+ids_from t n r (entry.Scope node parent in_parameters flags ∷ es) = Some n ∷ ids_from t (n + 1) r es
+ids_from t n r (entry.Body node ∷ es) = None ∷ ids_from t n r es
 ids_from t n r (entry.Binding node holder who name flags head ∷ es) = held_symbol t holder name ∷ ids_from t n r es
 ids_from t n r (entry.Reference node scope in_parameters name flags ∷ es) = Some r ∷ ids_from t n (r + 1) es
 

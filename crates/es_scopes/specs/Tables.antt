@@ -1,6 +1,6 @@
 -- The table of a list of entries: first the scopes and the names that they hold, then the references, which may mean what
 -- is declared behind them. (ECMA-262, 9.1: a reference means the nearest scope that holds its name.)
-use Rattle.std.specs.Prelude.{ℕ, ◌+◌, ◌<◌, List, [], ◌∷◌, ◌++◌, length, Bool, true, false, cond, Option, Some, None, slice_get, option_map, unwrap_or, bit_or}
+use Rattle.std.specs.Prelude.{ℕ, ◌+◌, ◌<◌, List, [], ◌∷◌, ◌++◌, length, Bool, true, false, cond, not, ◌||◌, Option, Some, None, slice_get, option_map, unwrap_or, bit_or}
 use Rattle.std.specs.Option.{ForSome}
 use Rattle.es_base.specs.Carried.{symbol_number}
 use Rattle.es_base.specs.declared.ids.ScopeId.{ScopeId}
@@ -17,42 +17,54 @@ use Rattle.es_scopes.specs.declared.surroundings.Declarer.TheVariants as declare
 
 -- ---- names
 
--- a symbol is marked where it is a `var` in the head of a for-in or for-of
+-- with the mark of a symbol, or as before
 abbrev pub marked_if : Bool → SymbolId → Table → Table
 marked_if true y t = with_mark t y
 marked_if false y t = t
 
 -- the flags of a symbol
-abbrev pub flags_of : Table → SymbolId → ℕ
-flags_of t y = unwrap_or (option_map (λ x. x.flags.0) (symbol_at t y)) 0
+abbrev pub flags_of : Table → SymbolId → SymbolFlags
+flags_of t y = unwrap_or (option_map (λ x. x.flags) (symbol_at t y)) (record { 0 = 0 })
 
--- as what the first identifier of a symbol declares it
+-- as what the identifiers of a symbol declare it
 abbrev pub declarer_at : List Declarer → SymbolId → Declarer
 declarer_at who y = unwrap_or (slice_get who y.0) declarer.Other
 
+-- as what they declare it with one more: as a parameter, where they differ
+abbrev pub joined : Declarer → Declarer → Declarer
+joined declarer.OwnName declarer.OwnName = declarer.OwnName
+joined declarer.Other declarer.Other = declarer.Other
+joined who also = declarer.Parameter
+
+-- the flags of all; the own name of a function expression counts where no other identifier declares the symbol
+abbrev pub flags_with : Declarer → Declarer → SymbolFlags → SymbolFlags → SymbolFlags
+flags_with declarer.OwnName declarer.OwnName before flags = record { 0 = bit_or before.0 flags.0 }
+flags_with declarer.OwnName who before flags = flags
+flags_with old declarer.OwnName before flags = before
+flags_with old who before flags = record { 0 = bit_or before.0 flags.0 }
+
+-- two identifiers declare a name, of which neither is the own name of a function expression
 abbrev pub is_own_name : Declarer → Bool
 is_own_name declarer.OwnName = true
 is_own_name who = false
+
+abbrev pub repeats : Declarer → Declarer → Bool
+repeats old who = not (is_own_name old || is_own_name who)
 
 -- the first identifier of a name in a scope
 abbrev pub bound_first : Declarations → ScopeId → Declarer → List ℕ → SymbolFlags → Bool → Declarations
 bound_first d s who name flags head = record d { scoping = marked_if head (record { 0 = length d.scoping.symbols }) (with_binding d.scoping s name flags); declarers = d.declarers ++ who ∷ [] }
 
--- A parameter or a declaration of the body that has the own name of a function expression stands in its place, where the
--- parameters see the name as before.
-abbrev pub bound_over : Declarations → SymbolId → SymbolFlags → Bool → Declarations
-bound_over d y flags head = record d { scoping = marked_if head y (with_symbol_flags d.scoping y flags); declarers = changed_at (λ who. declarer.Parameter) y.0 d.declarers }
-
--- a further identifier of a name
-abbrev pub bound_more : Declarations → SymbolId → SymbolFlags → Declarations
-bound_more d y flags = record d { scoping = with_mark (with_symbol_flags d.scoping y (record { 0 = bit_or (flags_of d.scoping y) flags.0 })) y }
-
-abbrev pub bound_again : Declarations → SymbolId → SymbolFlags → Bool → Declarations
-bound_again d y flags head = cond (is_own_name (declarer_at d.declarers y)) (bound_over d y flags head) (bound_more d y flags)
+-- a further identifier of a symbol
+abbrev pub bound_again : Declarations → SymbolId → Declarer → SymbolFlags → Bool → Declarations
+bound_again d y who flags head = record d {
+  scoping = marked_if (head || repeats (declarer_at d.declarers y) who) y (with_symbol_flags d.scoping y (flags_with (declarer_at d.declarers y) who (flags_of d.scoping y) flags));
+  declarers = changed_at (joined who) y.0 d.declarers;
+}
 
 abbrev pub bound_where : Option SymbolId → Declarations → ScopeId → Declarer → List ℕ → SymbolFlags → Bool → Declarations
 bound_where None d s who name flags head = bound_first d s who name flags head
-bound_where (Some y) d s who name flags head = bound_again d y flags head
+bound_where (Some y) d s who name flags head = bound_again d y who flags head
 
 abbrev pub bound : Declarations → ScopeId → Declarer → List ℕ → SymbolFlags → Bool → Declarations
 bound d s who name flags head = bound_where (get_binding d.scoping s name) d s who name flags head
@@ -63,7 +75,7 @@ abbrev pub opened : Declarations → Option ScopeId → Bool → ScopeFlags → 
 opened d parent in_parameters flags = record d { scoping = with_new_scope d.scoping parent flags; in_parameters = d.in_parameters ++ in_parameters ∷ [] }
 
 abbrev pub declare : Declarations → Entry → Declarations
-declare d (entry.Scope parent in_parameters flags) = opened d parent in_parameters flags
+declare d (entry.Scope node parent in_parameters flags) = opened d parent in_parameters flags
 declare d (entry.Binding node (Some s) who name flags head) = bound d s who name flags head
 declare d e = d
 
@@ -103,7 +115,7 @@ meant d (Some s) in_parameters name = first_seen d name in_parameters (scope_anc
 -- ---- references, and the semantic ids of all entries
 
 abbrev pub scope_count : Entry → ℕ
-scope_count (entry.Scope parent in_parameters flags) = 1
+scope_count (entry.Scope node parent in_parameters flags) = 1
 scope_count e = 0
 
 abbrev pub scopes_in : List Entry → ℕ
@@ -116,8 +128,8 @@ held_symbol t None name = None
 held_symbol t (Some s) name = symbol_number (get_binding t s name)
 
 abbrev pub id_of : Numbering → Entry → Option ℕ
-id_of n (entry.Scope parent in_parameters flags) = Some n.next_scope
-id_of n entry.Body = None
+id_of n (entry.Scope node parent in_parameters flags) = Some n.next_scope
+id_of n (entry.Body node) = None
 id_of n (entry.Binding node holder who name flags head) = held_symbol n.declarations.scoping holder name
 id_of n (entry.Reference node scope in_parameters name flags) = Some (length n.declarations.scoping.references)
 
@@ -140,8 +152,8 @@ numbering_of es = numbered (record { declarations = declared none_declared es; i
 
 -- the scopes that an entry names are among the first n
 abbrev pub Fits : ℕ → Entry → Type 0
-Fits n (entry.Scope parent in_parameters flags) = ForSome parent (λ s. s.0 < n)
-Fits n entry.Body = Unit
+Fits n (entry.Scope node parent in_parameters flags) = ForSome parent (λ s. s.0 < n)
+Fits n (entry.Body node) = Unit
 Fits n (entry.Binding node holder who name flags head) = ForSome holder (λ s. s.0 < n)
 Fits n (entry.Reference node scope in_parameters name flags) = ForSome scope (λ s. s.0 < n)
 

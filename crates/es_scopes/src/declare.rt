@@ -3,7 +3,7 @@
 ghost use Rattle.std.specs.Prelude.{◌≡◌, ◌<◌, ◌≤◌, ◌+◌, ◌^◌, OnOk, IfOk, length, None, Some, IsSome, true, cond};
 ghost use Rattle.std.specs.Str.{chars};
 ghost use Rattle.es_scopes.specs.Table.{HasScope, HasScopeIfAny, HasSymbol, HasRoom, get_binding, changed_at};
-ghost use Rattle.es_scopes.specs.Tables.{declare, declared, opened, none_declared, bound, bound_first, bound_again, marked_if, declarer_at, Fits, AreOrdered, IsWhole};
+ghost use Rattle.es_scopes.specs.Tables.{declare, declared, opened, none_declared, bound, bound_first, bound_again, marked_if, declarer_at, joined, flags_with, Fits, AreOrdered, IsWhole};
 
 use crate::entry::Entry;
 use crate::flags::{ScopeFlags, SymbolFlags};
@@ -20,7 +20,7 @@ pub struct Declarations {
     /// By the numbers of scopes: whether the scope stands in the parameters of the function whose scope
     /// is around it.
     pub in_parameters: List<bool>,
-    /// By the numbers of symbols: as what the first identifier declares it.
+    /// By the numbers of symbols: as what their identifiers declare them.
     pub declarers: List<Declarer>,
 }
 
@@ -46,14 +46,31 @@ pub(crate) fn declarer_at(declarers: &[Declarer], symbol: SymbolId) -> Declarer
     }
 }
 
-/// Notes that the symbol is seen from the parameters of a function.
-#[tactic(auto, using(crate::proofs::RowLemmas::set_constant, crate::proofs::RowLemmas::changed_at_beyond))]
-fn see_as_parameter(declarers: &mut [Declarer], symbol: SymbolId)
-    ensures { declarers.new ≡ changed_at (λ who. Declarer.Parameter) symbol.0 declarers.old }
+/// Notes as what one more identifier declares the symbol.
+#[tactic(auto, using(crate::proofs::RowLemmas::set_changed, crate::proofs::RowLemmas::changed_at_beyond))]
+fn join_declarer(declarers: &mut [Declarer], symbol: SymbolId, declarer: Declarer)
+    ensures { declarers.new ≡ changed_at (joined declarer) symbol.0 declarers.old }
 {
     let i = symbol.0 as usize;
     if i < declarers.len() {
-        declarers[i] = Declarer::Parameter;
+        declarers[i] = declarer.joined(declarers[i]);
+    }
+}
+
+/// The flags of a symbol with those of one more identifier.
+fn flags_with(
+    old: Declarer,
+    declarer: Declarer,
+    before: SymbolFlags,
+    flags: SymbolFlags,
+) -> SymbolFlags
+    ensures { result ≡ flags_with old declarer before flags }
+{
+    match (old, declarer) {
+        (Declarer::OwnName, Declarer::OwnName) => before.with(flags),
+        (Declarer::OwnName, _) => flags,
+        (_, Declarer::OwnName) => before,
+        _ => before.with(flags),
     }
 }
 
@@ -77,24 +94,25 @@ impl Declarations {
         self.declarers.push(declarer)
     }
 
-    /// Adds a further identifier of a symbol.
+    /// Adds a further identifier of a symbol. The symbol is marked if two identifiers declare it that are
+    /// not the own name of a function expression.
     #[tactic(auto, using(crate::proofs::BindSteps::has_flags))]
-    fn bind_again(&mut self, symbol: SymbolId, flags: SymbolFlags, head_var: bool)
+    fn bind_again(
+        &mut self,
+        symbol: SymbolId,
+        declarer: Declarer,
+        flags: SymbolFlags,
+        head_var: bool,
+    )
         requires { HasSymbol self.old.scoping symbol }
-        ensures { self.new ≡ bound_again self.old symbol flags head_var }
+        ensures { self.new ≡ bound_again self.old symbol declarer flags head_var }
     {
-        match declarer_at(self.declarers.as_slice(), symbol) {
-            Declarer::OwnName => {
-                self.scoping.set_symbol_flags(symbol, flags);
-                mark_if(&mut self.scoping, head_var, symbol);
-                see_as_parameter(self.declarers.as_mut_slice(), symbol);
-            }
-            _ => {
-                let flags = self.scoping.symbol_flags(symbol).with(flags);
-                self.scoping.set_symbol_flags(symbol, flags);
-                self.scoping.mark_symbol(symbol);
-            }
-        }
+        let old = declarer_at(self.declarers.as_slice(), symbol);
+        let flags = flags_with(old, declarer, self.scoping.symbol_flags(symbol), flags);
+        self.scoping.set_symbol_flags(symbol, flags);
+        let repeats = !(old.is_own_name() || declarer.is_own_name());
+        mark_if(&mut self.scoping, head_var || repeats, symbol);
+        join_declarer(self.declarers.as_mut_slice(), symbol, declarer);
     }
 
     /// Adds an identifier that declares a name in a scope.
@@ -112,7 +130,7 @@ impl Declarations {
     {
         match self.scoping.get_binding(scope, name) {
             Some(symbol) => {
-                self.bind_again(symbol, flags, head_var);
+                self.bind_again(symbol, declarer, flags, head_var);
                 Ok(())
             }
             None => self.bind_first(scope, declarer, name, flags, head_var),
@@ -147,6 +165,7 @@ impl Declarations {
                 parent,
                 in_parameters,
                 flags,
+                ..
             } => self.open(*parent, *in_parameters, *flags),
             Entry::Binding {
                 holder: Some(holder),

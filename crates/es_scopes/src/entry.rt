@@ -10,6 +10,7 @@ use es_base::name::Name;
 pub enum Entry {
     /// It has a scope.
     Scope {
+        node: NodeId,
         /// The scope around.
         parent: Option<ScopeId>,
         /// Whether it stands in the parameters of the function whose scope that is.
@@ -17,7 +18,9 @@ pub enum Entry {
         flags: ScopeFlags,
     },
     /// It is the block of a function, which has no scope of its own.
-    Body,
+    Body {
+        node: NodeId,
+    },
     /// It is an identifier that declares.
     Binding {
         node: NodeId,

@@ -1,6 +1,6 @@
 // The laws of agreement and of built tables: functions that do nothing.
 
-ghost use Rattle.es_scopes.specs.Law.{AlikeLaw, MeaningLaw, ScopeFlagsLaw, SymbolFlagsLaw, NewScopeLaw, ParentLaw, BindingLaw, NameLaw, MarkLaw, ReferenceFlagsLaw, TargetLaw, NewReferenceLaw, BindingsLaw, ReferencesLaw, OrderLaw, BuiltScopesLaw, BuiltReferencesLaw, BuiltIdsLaw, BuiltTargetsLaw, OwnNamesLaw, ProgramNamesLaw, EachNamesLaw, BuiltNamesLaw, ScopeCountLaw, StatementNamesLaw};
+ghost use Rattle.es_scopes.specs.Law.{AlikeLaw, MeaningLaw, RemovedScopeLaw, ListedLaw, UnlistedLaw, CreatedReferenceLaw, ScopeFlagsLaw, SymbolFlagsLaw, NewScopeLaw, ParentLaw, BindingLaw, NameLaw, MarkLaw, ReferenceFlagsLaw, TargetLaw, NewReferenceLaw, BindingsLaw, ReferencesLaw, OrderLaw, BuiltScopesLaw, BuiltReferencesLaw, BuiltIdsLaw, BuiltTargetsLaw, OwnNamesLaw, ProgramNamesLaw, EachNamesLaw, BuiltNamesLaw, ScopeCountLaw, StatementNamesLaw};
 
 /// In a tree that agrees with a table, what a reference means is what its number says.
 pub fn references_mean_what_their_numbers_say()
@@ -17,6 +17,7 @@ pub fn scopes_stay_alike()
     ensures flags { ScopeFlagsLaw }
     ensures added { NewScopeLaw }
     ensures parent { ParentLaw }
+    ensures removed { RemovedScopeLaw }
     ensures name { BindingLaw }
 {}
 
@@ -32,6 +33,9 @@ pub fn references_stay_alike()
     ensures flags { ReferenceFlagsLaw }
     ensures target { TargetLaw }
     ensures added { NewReferenceLaw }
+    ensures listed { ListedLaw }
+    ensures unlisted { UnlistedLaw }
+    ensures created { CreatedReferenceLaw }
 {}
 
 /// The entries of a tree have its identifiers that declare and its references, in preorder, and each names

@@ -102,7 +102,7 @@ impl Numbering {
     {
         match entry {
             Entry::Scope { .. } => Ok(Some(self.next_scope)),
-            Entry::Body => Ok(None),
+            Entry::Body { .. } => Ok(None),
             Entry::Binding { holder, name, .. } => {
                 Ok(self.declarations.held_symbol(*holder, name.as_str()))
             }

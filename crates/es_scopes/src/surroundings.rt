@@ -2,6 +2,7 @@
 
 ghost use Rattle.std.specs.Prelude.{◌≡◌};
 ghost use Rattle.es_scopes.specs.Surroundings.{lexical_scope, var_scope, nowhere};
+ghost use Rattle.es_scopes.specs.Tables.{is_own_name, joined};
 
 use crate::flags::{ReferenceFlags, ScopeFlags, SymbolFlags};
 use es_base::ids::ScopeId;
@@ -15,6 +16,30 @@ pub enum Declarer {
     Parameter,
     /// Otherwise.
     Other,
+}
+
+impl Declarer {
+    /// Whether it is the own name of a function expression.
+    pub fn is_own_name(self) -> bool
+        ensures { result ≡ is_own_name self }
+    {
+        match self {
+            Declarer::OwnName => true,
+            _ => false,
+        }
+    }
+
+    /// As what two identifiers declare a symbol: as a parameter, where they differ. Like one it is seen from
+    /// the parameters of a function, and may stand beside an own name.
+    pub fn joined(self, other: Declarer) -> Declarer
+        ensures { result ≡ joined self other }
+    {
+        match (self, other) {
+            (Declarer::OwnName, Declarer::OwnName) => Declarer::OwnName,
+            (Declarer::Other, Declarer::Other) => Declarer::Other,
+            _ => Declarer::Parameter,
+        }
+    }
 }
 
 /// Which scopes hold what is declared at a place.

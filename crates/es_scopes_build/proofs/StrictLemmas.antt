@@ -1,13 +1,13 @@
 -- Directives.
-use Rattle.std.proofs.Common.{◌≡◌, refl, sym, ap, ◌∙◌, List, ℕ, Bool, false}
+use Rattle.std.proofs.Common.{◌≡◌, refl, sym, ap, List, ℕ, false}
 use Rattle.std.specs.Prelude.{codes, bytes_eq}
 use Rattle.std.specs.Str.{chars}
 use Rattle.std.proofs.lemmas.Slice.Eq.{bytes_eq-Decides}
 use Rattle.std.proofs.lemmas.Bool.Decides.{same_from_decides}
-use Rattle.es_base.specs.Tree.{Tree, Part, Parts, Node, end, more, child, list, trees}
+use Rattle.es_base.specs.Tree.{Tree, Node, end, child}
 use Rattle.es_base.specs.declared.kind.Kind.{Kind}
 use Rattle.es_node.specs.View.{kind_of, parts_in}
-use Rattle.es_scopes.specs.NodeScopes.{directives, has_use_strict, is_use_strict}
+use Rattle.es_scopes.specs.NodeScopes.{directives, is_use_strict}
 use Rattle.es_steps.specs.Parts.{at, items, string_of}
 
 pub block_is : (t : Tree) → kind_of t ≡ Kind.BlockStatement → directives (child t) ≡ items (at 0 (parts_in t))

@@ -4,7 +4,7 @@ use Rattle.es_base.specs.Carried.{stripped, stripped_part, stripped_parts}
 use Rattle.es_base.specs.Preorder.{one_if}
 use Rattle.es_base.specs.Tree.{Tree, Part, Parts, Node, end, more, child, absent, list, string, no_string, boolean, literal}
 use Rattle.es_node.specs.Bearing.{bears_semantic_id}
-use Rattle.es_scopes_build.specs.Written.{written, written_part, written_parts, bearers_of_part}
+use Rattle.es_scopes_law.specs.Written.{written, written_part, written_parts, bearers_of_part}
 
 mutual
   pub stripped-written : (ids : List (Option ℕ)) (n : ℕ) (t : Tree) → stripped (written ids n t) ≡ stripped t

@@ -1,5 +1,5 @@
 -- A walk that collects the entries of a tree: how far it has come, and how much it collects.
-use Rattle.std.proofs.Common.{◌≡◌, refl, sym, ap, ◌∙◌, ℕ, ◌+◌, ◌<◌, ◌≤◌, List, [], ◌∷◌, ◌++◌, length, drop, get_or, Bool, true, false, cond, Option, Some, None, Result, Ok, Err, arith}
+use Rattle.std.proofs.Common.{◌≡◌, refl, sym, ap, ◌∙◌, ℕ, ◌+◌, ◌<◌, ◌≤◌, List, [], ◌∷◌, length, drop, get_or, Bool, true, false, cond, Result, Ok, Err, arith}
 use Rattle.std.specs.Prelude.{option_to_list, IfOk}
 use Rattle.std.proofs.lemmas.List.{drop_more, drop_all, length-append}
 use Rattle.es_base.specs.Preorder.{nodes, nodes_of, nodes_of_part, one_if}
@@ -11,7 +11,7 @@ use Rattle.es_node.specs.View.{kind_of, number_in, parts_in}
 use Rattle.es_scopes.specs.NodeScopes.{opens}
 use Rattle.es_scopes.specs.Entries.{Collected, entry_of, entered, collected, collected_parts, collected_part, collected_items}
 use Rattle.es_scopes.specs.Surroundings.{scope_place, inside}
-use Rattle.es_scopes_build.specs.Written.{bearers, bearers_of, bearers_of_part}
+use Rattle.es_scopes_law.specs.Written.{bearers, bearers_of, bearers_of_part}
 use Rattle.es_scopes.specs.declared.surroundings.Surroundings.{Surroundings}
 
 pub collected_node : (s : Surroundings) (c : Collected) (t : Tree) → collected s c t ≡ collected_parts (inside (kind_of t) (record { 0 = c.next }) (parts_in t) s) 0 (entered (kind_of t) (record { 0 = number_in t }) (parts_in t) s c) (parts_in t)

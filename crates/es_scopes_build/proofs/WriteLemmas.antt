@@ -1,6 +1,6 @@
 -- A loop that writes numbers on the items of a list in turn.
-use Rattle.std.proofs.Common.{◌≡◌, refl, sym, ap, ◌∙◌, ℕ, zero, suc, ◌+◌, ◌<◌, ◌≤◌, List, [], ◌∷◌, ◌++◌, length, take, drop, get_or, set, ◌&&◌, cond, Bool, true, false, Option, Some, None, arith}
-use Rattle.std.specs.Prelude.{slice_get, option_and_then}
+use Rattle.std.proofs.Common.{◌≡◌, refl, sym, ap, ◌∙◌, ℕ, ◌+◌, ◌<◌, ◌≤◌, List, [], ◌∷◌, ◌++◌, length, take, drop, get_or, set, cond, true, Option, Some, None, arith}
+use Rattle.std.specs.Prelude.{option_and_then}
 use Rattle.std.proofs.lemmas.List.{take_more_set, drop-set-lt, drop_more, take_all, drop_all}
 use Rattle.std.proofs.lemmas.Option.{slice_get-get_or}
 use Rattle.es_base.specs.Preorder.{nodes_of, nodes_of_part, one_if}
@@ -8,7 +8,7 @@ use Rattle.es_base.specs.Tree.{Tree, Node, Part, Parts, end, more}
 use Rattle.es_base.specs.declared.kind.Kind.{Kind}
 use Rattle.es_node.specs.Bearing.{bears_semantic_id, semantic_id_fits}
 use Rattle.es_node.specs.View.{kind_of, number_in, span_in, semantic_id_in, parts_in}
-use Rattle.es_scopes_build.specs.Written.{bearers, bearers_of, bearers_of_part, id_at, written, written_part, written_parts}
+use Rattle.es_scopes_law.specs.Written.{bearers, bearers_of, bearers_of_part, id_at, written, written_part, written_parts}
 
 -- the parts of the items, and then others
 abbrev joined : {X : Type 0} → (X → Part) → List X → Parts → Parts

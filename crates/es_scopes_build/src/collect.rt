@@ -65,17 +65,18 @@ fn binding(node: NodeId, name: Name, around: Surroundings) -> Entry
 }
 
 /// A node of a kind that has scopes.
-fn scope_entry(kind: Kind, strict: bool, around: Surroundings) -> Entry
-    ensures { result ≡ scope_entry kind strict around }
+fn scope_entry(kind: Kind, node: NodeId, strict: bool, around: Surroundings) -> Entry
+    ensures { result ≡ scope_entry kind node strict around }
 {
     if opens(kind, around) {
         Entry::Scope {
+            node,
             parent: around.scope,
             in_parameters: around.in_parameters,
             flags: scope_flags(kind, around.given, strict),
         }
     } else {
-        Entry::Body
+        Entry::Body { node }
     }
 }
 
@@ -103,7 +104,7 @@ fn entry_of(
         })),
         _ => {
             if has_scope(kind) {
-                Ok(Some(scope_entry(kind, strict, around)))
+                Ok(Some(scope_entry(kind, node, strict, around)))
             } else {
                 Ok(None)
             }

@@ -5,7 +5,7 @@ ghost use Rattle.es_base.specs.Table.{Field};
 ghost use Rattle.es_base.specs.Tree.{trees, nullable, nullable_trees};
 ghost use Rattle.es_base.specs.declared.table.Sort.{Sort};
 ghost use Rattle.es_node.specs.View.{part_of, parts_of, has_shape, have_shapes};
-ghost use Rattle.es_scopes_build.specs.Written.{bearers, bearers_of, bearers_of_part, written, written_part, written_parts};
+ghost use Rattle.es_scopes_law.specs.Written.{bearers, bearers_of, bearers_of_part, written, written_part, written_parts};
 
 use es_base::list::List;
 use es_node::node::{Node, Part};

@@ -9,6 +9,7 @@ use Rattle.es_base.specs.Preorder.{preorder, preorder_of, preorder_of_part, numb
 use Rattle.es_base.specs.Tree.{Tree, Part, Parts, Node, end, more, child, list}
 use Rattle.es_base.specs.declared.ledger.LedgerEntry.{LedgerEntry}
 use Rattle.es_steps.specs.Definitions.{definitions_stand, all_temporaries, elements_kept}
+use Rattle.es_steps.specs.HelperCalls.{computed_keys, helper_calls_fit}
 use Rattle.es_steps.specs.KeptNodes.{nodes_kept, statements_kept, lists_kept, homes_kept}
 use Rattle.es_steps.specs.Law.{ClausesLaw}
 use Rattle.es_steps.specs.Lowered.{nothing_left, names_declared, declarations_accounted, initializations_stand, keys_stand}
@@ -21,6 +22,7 @@ use Rattle.es_steps.proofs.TemporariesMapped.{temporaries_steady-mapped}
 use Rattle.es_steps.proofs.TimelyMapped.{names_timely-mapped}
 use Rattle.es_steps.specs.declared.options.Options.{Options}
 use Rattle.es_steps.proofs.DefinitionsMapped.{definitions_stand-mapped, all_temporaries-mapped, elements_kept-mapped}
+use Rattle.es_steps.proofs.HelperCallsMapped.{all_computed_keys-mapped, helper_calls_fit-mapped}
 use Rattle.es_steps.proofs.KeptNodesMapped.{nodes_kept-mapped, statements_kept-mapped, lists_kept-mapped, homes_kept-mapped}
 use Rattle.es_steps.proofs.LoweredMapped.{nothing_left-mapped, names_declared-mapped, declarations_accounted-mapped, initializations_stand-mapped, keys_stand-mapped}
 use Rattle.es_steps.proofs.Mapped.{Renames, mapped, mapped_part, mapped_parts, mapped_ledger, mapped_privates}
@@ -99,6 +101,14 @@ module _ (first : ℕ) (o : Options) where
   elements-unchanging : Unchanging first (λ l p q. elements_kept o (preorder p) (preorder q))
   elements-unchanging f r l p q = ap₂ (elements_kept o) (preorder-mapped f p) (preorder-mapped f q) ∙ elements_kept-mapped r o (preorder p) (preorder q)
 
+  timely-unchanging : Unchanging first (λ l p q. names_timely first l (private_members p) q)
+  timely-unchanging f r l p q = ap (λ ms. names_timely first (mapped_ledger f l) ms (mapped f q)) (private_members-mapped f p) ∙ names_timely-mapped r l (private_members p) q
+
+  calls-unchanging : Unchanging first (λ l p q. helper_calls_fit first l (computed_keys (preorder p)) q)
+  calls-unchanging f r l p q =
+      ap (λ ks. helper_calls_fit first (mapped_ledger f l) ks (mapped f q)) (all_computed_keys-mapped f p)
+      ∙ helper_calls_fit-mapped r l (computed_keys (preorder p)) q
+
   printable-unchanging : Unchanging first (λ l p q. not (is_printable p) || is_printable q)
   printable-unchanging f r l p q = ap₂ (λ a b. not a || b) (is_printable-mapped f p) (is_printable-mapped f q)
 
@@ -110,15 +120,16 @@ clauses_law first o ledger p q once old generated met = record {
     declared = kept first ledger p q once old generated (λ l p q. names_declared first l q) (λ f r l p q. names_declared-mapped r l q) met.declared;
     accounted = kept first ledger p q once old generated (declarations_accounted first) (λ f r l p q. declarations_accounted-mapped r l p q) met.accounted;
     initialized = kept first ledger p q once old generated (λ l p q. initializations_stand first l (private_members p) q l) (initialized-unchanging first o) met.initialized;
-    timely = kept first ledger p q once old generated (λ l p q. names_timely first l q) (λ f r l p q. names_timely-mapped r l q) met.timely;
+    timely = kept first ledger p q once old generated (λ l p q. names_timely first l (private_members p) q) (timely-unchanging first o) met.timely;
     temporaries = kept first ledger p q once old generated (λ l p q. temporaries_steady first l q) (λ f r l p q. temporaries_steady-mapped r l q) met.temporaries;
     keys = kept first ledger p q once old generated (λ l p q. keys_clause first o l (private_members p) q (preorder q)) (keys-unchanging first o) met.keys;
     nodes = kept first ledger p q once old generated (λ l p q. nodes_kept p q) (λ f r l p q. nodes_kept-mapped r p q) met.nodes;
     statements = kept first ledger p q once old generated (λ l p q. statements_kept o p q) (λ f r l p q. statements_kept-mapped r o p q) met.statements;
     lists = kept first ledger p q once old generated (λ l p q. lists_kept o p q) (λ f r l p q. lists_kept-mapped r o p q) met.lists;
-    homes = kept first ledger p q once old generated (λ l p q. homes_kept o p q) (λ f r l p q. homes_kept-mapped r o p q) met.homes;
+    homes = kept first ledger p q once old generated (λ l p q. homes_kept first o p q) (λ f r l p q. homes_kept-mapped r o p q) met.homes;
     definitions = kept first ledger p q once old generated (λ l p q. definitions_stand first o l (private_members p) p q) (definitions-unchanging first o) met.definitions;
     elements = kept first ledger p q once old generated (λ l p q. elements_kept o (preorder p) (preorder q)) (elements-unchanging first o) met.elements;
+    calls = kept first ledger p q once old generated (λ l p q. helper_calls_fit first l (computed_keys (preorder p)) q) (calls-unchanging first o) met.calls;
     printable = kept first ledger p q once old generated (λ l p q. not (is_printable p) || is_printable q) (printable-unchanging first o) met.printable;
   };
 }

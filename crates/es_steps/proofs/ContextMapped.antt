@@ -1,23 +1,23 @@
 -- Contexts follow a change of numbers: what a name is, what is known inside a node, and at the start.
-use Rattle.std.specs.Prelude.{◌≡◌, ℕ, List, [], ◌∷◌, ◌||◌, map, Bool, true, false, cond, bytes_eq, codes, nat_eq, Option, Some, None}
+use Rattle.std.specs.Prelude.{◌≡◌, ℕ, List, [], ◌∷◌, ◌++◌, ◌||◌, map, Bool, true, false, cond, bytes_eq, codes, nat_eq, Option, Some, None}
 use Rattle.std.proofs.Common.{refl, ap, ◌∙◌}
 use Rattle.es_base.specs.Numbered.{is_new}
 use Rattle.es_base.specs.Tree.{Tree, Part, Parts, Node, end, more, child, list}
 use Rattle.es_base.specs.declared.kind.Kind.{Kind}
 use Rattle.es_base.specs.declared.ledger.GeneratedKind.{GeneratedKind}
 use Rattle.es_base.specs.declared.ledger.LedgerEntry.{LedgerEntry}
-use Rattle.es_steps.specs.Context.{NameKind, Fixed, Changing, MeansClass, Generated, FunctionRole, a_function, constructor_of, method_on, super_function_of, Context, is_private_entry, generated_as, is_private_for, is_generated_private, unless_varying, declared_kind, found_kind, generated_or, name_kind, is_function, is_super_call, holds_super, part_holds_super, parts_hold_super, rest_among, super_statement, first_super, initializing_call, Frame, function_frame, arrow_frame, class_frame, field_frame, method_frame, static_block_frame, object_frame, property_frame, assignment_frame, declarator_frame, same_frame, frame_of, in_function, in_element, is_constructor, method_role, property_role, role_of_generated, name_in, let_class_of, framed, role_in, inside}
+use Rattle.es_steps.specs.Context.{NameKind, Fixed, Changing, MeansClass, FunctionRole, a_function, constructor_of, method_on, super_function_of, Context, is_private_entry, generated_as, is_private_for, is_generated_private, unless_varying, declared_kind, found_kind, generated_or, name_kind, is_super_call, holds_super, part_holds_super, parts_hold_super, rest_among, super_statement, first_super, initializing_call, Frame, function_frame, arrow_frame, class_frame, field_frame, method_frame, static_block_frame, object_frame, property_frame, assignment_frame, declarator_frame, same_frame, frame_of, in_function, in_element, is_constructor, method_role, property_role, role_of_generated, name_in, let_class_of, framed, role_in, inner_name, inside}
 use Rattle.es_steps.specs.Meaning.{Terms, start}
 use Rattle.es_steps.specs.Parts.{at, items, block_items, string_of, is_true, is_present}
 use Rattle.es_steps.specs.PrivateNames.{seen_members}
 use Rattle.es_steps.specs.References.{declared, has_number, resolve}
-use Rattle.es_steps.specs.Scopes.{ClassName, no_class, declares, own_name, let_names, Declaration, names_at, class_in}
+use Rattle.es_steps.specs.Scopes.{ClassName, no_class, declares, own_name, let_names, Declaration, bound_part, names_at, class_in}
 use Rattle.es_steps.specs.Values.{String, Bound, Home, OfClass, OfPrototype}
-use Rattle.es_steps.proofs.Mapped.{mapped, mapped_part, mapped_parts, mapped_class_name, mapped_declaration, mapped_option, mapped_generated, mapped_ledger, mapped_name_kind, mapped_private, mapped_home, mapped_role, mapped_pair, mapped_context, mapped_terms, Renames}
-use Rattle.es_steps.proofs.PartsMapped.{cond-mapped, append-mapped, at-mapped, items_at-mapped, block_items-mapped, block_items_at-mapped, string_at-mapped, is_true_at-mapped, is_present_at-mapped, number_of-mapped}
+use Rattle.es_steps.proofs.Mapped.{mapped, mapped_part, mapped_parts, mapped_class_name, mapped_declaration, mapped_declarations, mapped_option, mapped_generated, mapped_ledger, mapped_name_kind, mapped_private, mapped_home, mapped_role, mapped_pair, mapped_context, mapped_terms, Renames}
+use Rattle.es_steps.proofs.PartsMapped.{cond-mapped, append-mapped, at-mapped, items_at-mapped, block_items_at-mapped, string_at-mapped, is_true_at-mapped, is_present_at-mapped, number_of-mapped}
 use Rattle.es_steps.proofs.PrivatesMapped.{seen_members-mapped}
 use Rattle.es_steps.proofs.ReferencesMapped.{declared-mapped, has_number-mapped, resolve-mapped, writes_free-mapped, varying-mapped}
-use Rattle.es_steps.proofs.ScopesMapped.{names_at-mapped, class_in-mapped}
+use Rattle.es_steps.proofs.ScopesMapped.{bound_at-mapped, names_at-mapped, class_in-mapped}
 
 -- ---- the ledger
 
@@ -174,9 +174,19 @@ module _ {first : ℕ} {f : ℕ → ℕ} (r : Renames first f) where
   framed-mapped declarator_frame m ps i c e = rw (new_here-mapped c e m) (cond-mapped (mapped_context f) (is_new c.first_new m) (record c { let_class = let_class_of (generated_as (name_in (at 0 ps)) c.ledger) (class_in (at 1 ps)) (at 0 ps) }) c (ap (λ k. record (mapped_context f c) { let_class = k }) (let_class_at-mapped f ps c)) refl)
   framed-mapped same_frame m ps i c e = refl
 
+  inner_name-mapped : (kind : Kind) (m : ℕ) (ps : Parts) (i : ℕ) → inner_name kind (f m) (mapped_parts f ps) i ≡ mapped_declarations f (inner_name kind m ps i)
+  inner_name-mapped Kind.ClassDeclaration m ps i = cond-mapped (mapped_declarations f) (nat_eq i 0) [] (bound_part (own_name m) (at 0 ps)) refl (bound_at-mapped f (own_name m) 0 ps)
+  inner_name-mapped kind m ps i = refl
+
+  seen_names-mapped : (c : Context) (kind : Kind) (m : ℕ) (ps : Parts) (i : ℕ) → inner_name kind (f m) (mapped_parts f ps) i ++ names_at c.is_body kind (f m) (mapped_parts f ps) i ++ mapped_declarations f c.names ≡ mapped_declarations f (inner_name kind m ps i ++ names_at c.is_body kind m ps i ++ c.names)
+  seen_names-mapped c kind m ps i =
+      append-mapped (mapped_declaration f) (inner_name kind m ps i ++ names_at c.is_body kind m ps i) c.names
+      (append-mapped (mapped_declaration f) (inner_name kind m ps i) (names_at c.is_body kind m ps i) (inner_name-mapped kind m ps i) (names_at-mapped f c.is_body kind m ps i))
+      refl
+
   pub inside-mapped : (c : Context) → c.first_new ≡ first → (kind : Kind) (m : ℕ) (ps : Parts) (i : ℕ) → inside (mapped_context f c) kind (f m) (mapped_parts f ps) i ≡ mapped_context f (inside c kind m ps i)
   inside-mapped c e kind m ps i =
-      rw (framed-mapped (frame_of kind) m ps i c e, append-mapped (mapped_declaration f) (names_at c.is_body kind m ps i) c.names (names_at-mapped f c.is_body kind m ps i) refl, append-mapped (mapped_private f) (seen_members kind m ps i) c.privates (seen_members-mapped f kind m ps i) refl, role_in-mapped f (frame_of kind) ps i c)
+      rw (framed-mapped (frame_of kind) m ps i c e, seen_names-mapped c kind m ps i, append-mapped (mapped_private f) (seen_members kind m ps i) c.privates (seen_members-mapped f kind m ps i) refl, role_in-mapped f (frame_of kind) ps i c)
       refl
 
   -- ---- the start

@@ -1,18 +1,16 @@
 -- The entries of functions and classes follow a change of numbers.
-use Rattle.std.specs.Prelude.{◌≡◌, ℕ, suc, List, [], ◌∷◌, ◌++◌, map, Bool, true, false, cond, ◌&&◌, ◌||◌, bytes_eq, Option, Some, None}
+use Rattle.std.specs.Prelude.{◌≡◌, ℕ, suc, List, [], ◌∷◌, ◌++◌, map, Bool, true, false, cond, ◌&&◌, Option, Some, None}
 use Rattle.std.proofs.Common.{refl, ap, ap₂, ◌∙◌}
-use Rattle.es_base.specs.declared.ledger.GeneratedKind.{GeneratedKind}
-use Rattle.es_steps.specs.Code.{Code, Codes, Target, Callee, FunctionForm, Opened, InitializersOf, nothing, binding, rest, member, private_member, super_member, private_in, assign, compound, logical, logical_assign, update, call, tag, construct, super_call, sequence, template, operation, chain, short, tested, pattern, takes, steps, gives_to, export_default, function, new_function, class_code, field, private_field, method, private_method, constructor, static_block, generated_element, from_call, from_member, key_of, define, private_initialize, call_arrow, call_closure, give_function, give_class, to_name, to_member, to_private, to_super, to_setter, to_pattern, to_default, plain, on_member, on_private, on_super, with_receiver, checked, on_chain, behind_test, done, and}
-use Rattle.es_steps.specs.Context.{NameKind, Generated}
-use Rattle.es_steps.specs.Entries.{Parameter, Identifier, RestIdentifier, Pattern, Method, Listed, Entry, is_string_among, without, parameter_of, parameters_of, constructor_form, constructor_parameters, no_constructor, if_one, in_order, is_identifier, all_identifiers, entered, ev_parameter, ev_parameters, ev_given, ev_body, ev_construction, listed, value_in, after_run, function_entry, class_entry, some_value, method_with, Entries, heritage_in, same_nullable, behind_key, methods_in, keys_stay, behind_code, behind_all, behind_target, behind_callee, behind_arguments, behind_parameters, behind_fields, own_function, entries, target_entries, pattern_entries, taken_entries, take_entries, callee_entries, all_entries, held_entries, parameter_entries, key_entries, key_entry, static_entries, static_entry, field_entries, field_entry, function_entries, element_function}
-use Rattle.es_steps.specs.Evaluation.{Environment, Run, Evaluation, no_meaning, gives, event, bind, write_ready, bind_parameters, ev, ev_all, ev_target, ev_take, ev_callee, ev_key, ev_keys, ev_static, ev_field, ev_initializers}
+use Rattle.es_steps.specs.Code.{Code, Codes, Target, Callee, FunctionForm, Opened, binding, rest, member, private_member, super_member, private_in, assign, compound, logical, logical_assign, update, call, tag, construct, super_call, sequence, template, operation, chain, short, tested, pattern, takes, steps, gives_to, export_default, function, new_function, class_code, field, private_field, method, private_method, constructor, static_block, generated_element, from_call, from_member, key_of, define, private_initialize, call_arrow, call_closure, give_function, give_class, to_name, to_member, to_private, to_super, to_setter, to_pattern, to_default, plain, on_member, on_private, on_super, with_receiver, checked, on_chain, behind_test, done, and}
+use Rattle.es_steps.specs.Entries.{Parameter, Identifier, RestIdentifier, Pattern, Method, Listed, is_string_among, without, parameter_of, parameters_of, constructor_form, constructor_parameters, no_constructor, if_one, in_order, is_identifier, all_identifiers, entered, ev_parameter, ev_parameters, ev_given, ev_body, ev_construction, listed, value_in, after_run, function_entry, class_entry, some_value, method_with, Entries, heritage_in, same_nullable, behind_key, methods_in, keys_stay, behind_code, behind_all, behind_target, behind_callee, behind_arguments, behind_parameters, behind_fields, entries, target_entries, pattern_entries, taken_entries, take_entries, callee_entries, all_entries, held_entries, parameter_entries, key_entries, key_entry, static_entries, static_entry, field_entries, field_entry, function_entries, element_function}
+use Rattle.es_steps.specs.Evaluation.{Environment, Run, Evaluation, gives, event, bind, write_ready, ev, ev_target, ev_take, ev_keys, ev_static, ev_field, ev_initializers}
 use Rattle.es_steps.specs.Events.{Take, Index, Rest, Operate, SuperCallWithAll, EnterBody}
 use Rattle.es_steps.specs.GeneratedForms.{is_plain}
 use Rattle.es_steps.specs.Opening.{all_arguments, assigned_in, assigned_in_all}
 use Rattle.es_steps.specs.References.{has_number}
-use Rattle.es_steps.specs.Values.{String, Value, Undefined, ThisOf, ResultOf, as_key}
-use Rattle.es_steps.proofs.EvaluationMapped.{as_key-mapped, same_value-mapped, Follows, ReadyFollows, no_meaning-follows, gives-follows, event-follows, bind-follows, value_behind-mapped, bind_parameters-follows, ev-follows, ev_target-follows, ev_take-follows, ev_callee-follows, ev_all-follows, ev_keys-follows, ev_key-follows, ev_static-follows, ev_field-follows, ev_initializers-follows}
-use Rattle.es_steps.proofs.Mapped.{Renames, mapped_option, mapped_generated, mapped_name_kind, mapped_value, mapped_nullable, mapped_environment, mapped_runs, mapped_opened, mapped_code, mapped_target, mapped_callee, mapped_codes, mapped_listed, mapped_parameter, mapped_parameters, mapped_method, mapped_methods, mapped_entry, mapped_nullable_entry, mapped_entries}
+use Rattle.es_steps.specs.Values.{String, Value, Undefined, ThisOf, ResultOf}
+use Rattle.es_steps.proofs.EvaluationMapped.{as_key-mapped, same_value-mapped, Follows, no_meaning-follows, gives-follows, event-follows, bind-follows, value_behind-mapped, bind_parameters-follows, ev-follows, ev_target-follows, ev_take-follows, ev_callee-follows, ev_all-follows, ev_keys-follows, ev_key-follows, ev_static-follows, ev_field-follows, ev_initializers-follows}
+use Rattle.es_steps.proofs.Mapped.{Renames, mapped_option, mapped_value, mapped_nullable, mapped_environment, mapped_runs, mapped_opened, mapped_code, mapped_target, mapped_callee, mapped_codes, mapped_listed, mapped_parameter, mapped_parameters, mapped_methods, mapped_entry, mapped_nullable_entry, mapped_entries}
 use Rattle.es_steps.proofs.OpeningMapped.{all_arguments-mapped, assigned_in-mapped, assigned_in_all-mapped}
 use Rattle.es_steps.proofs.PartsMapped.{cond-mapped, append-mapped}
 use Rattle.es_steps.proofs.ReferencesMapped.{has_number-mapped}

@@ -5,10 +5,10 @@ use Rattle.es_base.specs.declared.ledger.GeneratedKind.{GeneratedKind}
 use Rattle.es_steps.proofs.Mapped.{Renames, mapped_option, mapped_generated, mapped_name_kind, mapped_value, mapped_values, mapped_nullable, mapped_event, mapped_events, mapped_environment, mapped_run, mapped_runs, mapped_opened, mapped_code, mapped_target, mapped_callee, mapped_codes}
 use Rattle.es_steps.specs.Code.{Code, Codes, Target, Callee, FieldForm, defines, sets, leaves_out, TemplateString, Opened, InitializersOf, BodyOf, CalledBodyOf, nothing, no_rule, value, spelled, private_name, binding, rest, name, super, member, private_member, super_member, private_in, assign, compound, logical, logical_assign, update, call, tag, construct, super_call, super_call_with_all, sequence, template_string, template, operation, piece, chain, short, tested, pattern, takes, steps, gives_to, export_default, function, new_function, new_return, class_code, field, private_field, method, private_method, constructor, static_block, generated_element, from_call, from_member, key_of, helper, helper_call, throw, define, private_initialize, add_brand, bound, setter, private_value, call_arrow, call_closure, initializers, give_function, give_class, to_name, to_member, to_private, to_super, to_setter, to_pattern, to_default, no_target, plain, on_member, on_private, on_super, with_receiver, checked, on_chain, behind_test, done, and}
 use Rattle.es_steps.specs.Context.{NameKind, Fixed, Changing, MeansClass, Generated, StaticMethod}
-use Rattle.es_steps.specs.Evaluation.{is_binding_value, kept_as, given_as, Environment, Run, Evaluation, no_meaning, gives, event, run_behind, go_on, bind, settle_run, settle, held_run, held, quiet_run, quiet, is_none, same_run, stays, class_run, gives_class, this_run, gives_this, found, give_found, read_given, read_generated, read_name, stands_for, write_generated, write_name, private_key, default_key, read_private, write_private, Ready, ready_name, ready_member, ready_private, ready_super, ready_setter, ready_pattern, read_ready, write_ready, initialized, last_of, operator_step, new_or_former, nullable_gives, has_receiver, receiver_in, template_constant, ev_template, tag_values, bind_parameters, tested_then, has_instance_methods, brand_first, declared_first, ev_behind, ev, ev_target, ev_taken, ev_take, ev_callee, ev_again, ev_all, ev_held, ev_keys, ev_key, ev_statics, ev_static, ev_fields, ev_field, ev_initializers}
-use Rattle.es_steps.specs.Events.{Operation, OfKind, Take, Place, RightOf, Default, Part, Event, AddBrand, SuperCall, SuperCallWithAll, InitializeClass, Update, Throw, Events, none, then, is_throw, throws, behind, value_behind, Short, Operate}
+use Rattle.es_steps.specs.Evaluation.{is_binding_value, element_holds, kept_as, given_as, Environment, Run, Evaluation, no_meaning, gives, event, run_behind, go_on, bind, settle_run, settle, held_run, held, quiet_run, quiet, is_none, same_run, stays, class_run, gives_class, this_run, gives_this, found, give_found, read_given, read_generated, read_name, stands_for, write_generated, write_name, private_key, default_key, read_private, write_private, Ready, ready_member, ready_private, ready_setter, ready_pattern, read_ready, write_ready, initialized, last_of, new_or_former, nullable_gives, has_receiver, receiver_in, ev_template, tag_values, bind_parameters, tested_then, has_instance_methods, brand_first, declared_first, ev_behind, ev, ev_target, ev_taken, ev_take, ev_callee, ev_again, ev_all, ev_converted, ev_held, ev_keys, ev_key, ev_statics, ev_static, ev_fields, ev_field, ev_initializers}
+use Rattle.es_steps.specs.Events.{OfKind, Take, Index, Place, RightOf, Default, Part, Event, AddBrand, SuperCall, SuperCallWithAll, InitializeClass, Throw, Events, none, then, is_throw, throws, behind, value_behind, Short, Operate}
 use Rattle.es_steps.specs.SameValues.{same_value}
-use Rattle.es_steps.specs.Values.{String, Value, ConstantOf, Undefined, BindingOf, FunctionOf, ClassOf, ThisOf, ArgumentsOf, NewTargetOf, ResultOf, FormerOf, KeyOf, TagString, as_key, is_class_value}
+use Rattle.es_steps.specs.Values.{String, RegExpOf, Value, ConstantOf, Undefined, BindingOf, FunctionOf, ClassOf, ThisOf, ArgumentsOf, NewTargetOf, ResultOf, FormerOf, KeyOf, TagString, as_key, is_class_value}
 
 -- a write whose value is what is written
 abbrev pub write_and_give : Ready → Value → Evaluation
@@ -119,6 +119,7 @@ module _ (f : ℕ → ℕ) where
 
   is_binding_value-mapped : (v : Value) → is_binding_value (mapped_value f v) ≡ is_binding_value v
   is_binding_value-mapped (BindingOf b) = refl
+  is_binding_value-mapped (ConstantOf (RegExpOf s t)) = refl
   is_binding_value-mapped (KeyOf v) = is_binding_value-mapped v
   is_binding_value-mapped v = refl
 
@@ -131,6 +132,13 @@ module _ (f : ℕ → ℕ) where
       kept : (holds : Bool) → Follows f (cond holds no_meaning (stands_for t v)) (cond holds no_meaning (stands_for t (mapped_value f v)))
       kept true = no_meaning-follows
       kept false = stands_for-follows t v
+
+  element_holds-follows : (t : String) (v : Value) → Follows f (element_holds t v) (element_holds t (mapped_value f v))
+  element_holds-follows t v = rw (is_binding_value-mapped v) (either (is_binding_value v))
+    where
+      either : (holds : Bool) → Follows f (cond holds (gives v) (stands_for t v)) (cond holds (gives (mapped_value f v)) (stands_for t (mapped_value f v)))
+      either true = gives-follows v
+      either false = stands_for-follows t v
 
   given_as-follows : (m : ℕ) (t : String) (v : Value) → Follows f (given_as m t v) (given_as (f m) t (mapped_value f v))
   given_as-follows m t (KeyOf v) = rw (is_binding_value-mapped v) (either (is_binding_value v))
@@ -361,7 +369,7 @@ module _ {first : ℕ} {f : ℕ → ℕ} (r : Renames first f) where
       ev-follows (super_call_with_all n) = settle-follows f (bind-follows f (λ v. bind (opens (InitializersOf n)) (λ w. gives (ThisOf n))) (λ v. bind (there (InitializersOf (f n))) (λ w. gives (ThisOf (f n)))) (event-follows f (SuperCallWithAll n) (ThisOf n)) (λ v. bind-follows f _ _ (opens_follow (InitializersOf n)) (λ w. gives-follows f (ThisOf n))))
       ev-follows (sequence es) = settle-follows f (ev_all-follows es _ _ (last_of-follows f))
       ev-follows (template_string t) = no_meaning-follows f
-      ev-follows (template m ts es) = settle-follows f (ev_all-follows es _ _ (template_follows f m ts))
+      ev-follows (template m ts es) = settle-follows f (ev_converted-follows m 0 es _ _ (template_follows f m ts))
       ev-follows (operation m op es parts) = settle-follows f (ev_all-follows es _ _ (λ vs. ev_held-follows m 0 parts (event-follows f _ _)))
       ev-follows (piece ds es) = no_meaning-follows f
       ev-follows (chain m e) = held-follows f m (Part 0) None (ev-follows e)
@@ -443,6 +451,13 @@ module _ {first : ℕ} {f : ℕ → ℕ} (r : Renames first f) where
       ev_all-follows done g h next = next []
       ev_all-follows (and e es) g h next = bind-follows f _ _ (ev-follows e) (λ v. ev_all-follows es (λ vs. g (v ∷ vs)) (λ vs. h (mapped_value f v ∷ vs)) (λ vs. next (v ∷ vs)))
 
+      ev_converted-follows : (m i : ℕ) (es : Codes) (g h : List Value → Evaluation) → ((vs : List Value) → Follows f (g vs) (h (mapped_values f vs))) → Follows f (ev_converted opens m i es g) (ev_converted there (f m) i (mapped_codes f es) h)
+      ev_converted-follows m i done g h next = next []
+      ev_converted-follows m i (and e es) g h next =
+          bind-follows f _ _ (ev-follows e)
+          (λ v. bind-follows f (λ w. ev_converted opens m (suc i) es (λ vs. g (v ∷ vs))) (λ w. ev_converted there (f m) (suc i) (mapped_codes f es) (λ vs. h (mapped_value f v ∷ vs)))
+          (event-follows f (Operate m (Take (Index i ∷ [])) (v ∷ [])) v) (λ w. ev_converted-follows m (suc i) es (λ vs. g (v ∷ vs)) (λ vs. h (mapped_value f v ∷ vs)) (λ vs. next (v ∷ vs))))
+
       ev_held-follows : {a b : Evaluation} (m i : ℕ) (es : Codes) → Follows f a b → Follows f (ev_held opens m i es a) (ev_held there (f m) i (mapped_codes f es) b)
       ev_held-follows m i done all = all
       ev_held-follows {a = a} {b = b} m i (and e es) all = bind-follows f (λ v. ev_held opens m (suc i) es a) (λ v. ev_held there (f m) (suc i) (mapped_codes f es) b) (held-follows f m (Part i) None (ev-follows e)) (λ v. ev_held-follows m (suc i) es all)
@@ -470,7 +485,7 @@ module _ {first : ℕ} {f : ℕ → ℕ} (r : Renames first f) where
       ev_static-follows n a (field true form k e) = bind-follows f _ _ (ev-follows e) (λ v. initialized-follows f form (ClassOf n) a v)
       ev_static-follows n a (private_field true d e) = bind-follows f _ _ (ev-follows e) (λ v. event-follows f _ _)
       ev_static-follows n a (static_block es) = ev_all-follows es _ _ (λ vs. gives-follows f Undefined)
-      ev_static-follows n a (generated_element s e) = bind-follows f _ _ (ev-follows e) (λ v. kept_as-follows f (private_key s) v)
+      ev_static-follows n a (generated_element s e) = bind-follows f _ _ (ev-follows e) (λ v. element_holds-follows f (private_key s) v)
       ev_static-follows n a e = gives-follows f _
 
       pub ev_fields-follows : (n : ℕ) (es : Codes) → Follows f (ev_fields opens n es) (ev_fields there (f n) (mapped_codes f es))

@@ -1,17 +1,17 @@
 -- The codes of expressions follow a change of numbers.
-use Rattle.std.specs.Prelude.{◌≡◌, ℕ, [], ◌∷◌, ◌++◌, Bool, true, false, cond, not, ◌&&◌, codes, bytes_eq, Option, Some, None}
+use Rattle.std.specs.Prelude.{◌≡◌, ℕ, [], ◌∷◌, ◌++◌, Bool, true, false, cond, ◌&&◌, codes, bytes_eq, Option, Some, None}
 use Rattle.std.proofs.Common.{refl, ap, ap₂, ◌∙◌}
 use Rattle.es_base.specs.Numbered.{is_new}
 use Rattle.es_base.specs.declared.kind.Kind.{Kind}
 use Rattle.es_base.specs.declared.ledger.GeneratedKind.{GeneratedKind}
-use Rattle.es_steps.specs.Code.{Code, Codes, Target, Callee, TemplateString, no_rule, value, spelled, private_name, rest, name, super, member, private_member, super_member, private_in, assign, compound, logical, logical_assign, call, tag, template_string, template, operation, piece, chain, short, tested, private_value, checked, on_chain, behind_test, done, and, from_call, from_member, bound, with_receiver}
-use Rattle.es_steps.specs.Context.{Context, NameKind, Changing, Generated, StaticMethod, name_kind, new_here}
-use Rattle.es_steps.specs.Events.{Detail, Operand, Spelled, Flag, Key, Prototype, OfKind, Delete}
-use Rattle.es_steps.specs.Expressions.{operation_of, the_code, literal_code, is_arguments, static_method, name_or_arguments, name_code, private_name_code, cooked_of, template_string_code, template_strings, template_code, spelling_of, meta_code, key_code, super_member_at, checked_object, member_on, member_code, is_made_private, names_class, private_on, private_field_of, private_field_code, private_in_of, private_in_code, target_of, is_logical, without_sign, assignment_code, update_code, void_code, deleted, delete_code, unary_code, binary_code, quiet_logical, logical_code, chain_code, spliced, deleted_as, ended_alone, chain_or, conditional_code, callee_of, checked_callee, call_code, new_code, tag_of, tag_code, is_prototype, key_details, property_code}
-use Rattle.es_steps.specs.GeneratedForms.{generated_member, generated_call, generated_binary, generated_assignment, helper_member, is_undefined_test, again_of, tested_object, class_named, is_method_kind}
-use Rattle.es_steps.specs.Members.{Member, Members, code, list, string, literal, end, more, at, codes_of, word_of, flag_of, details}
-use Rattle.es_steps.specs.PrivateNames.{PrivateMember, PrivateReference, private_reference, test_of, member_at}
-use Rattle.es_steps.specs.Values.{String, StringOf, BooleanOf, Value, ConstantOf, Undefined, ResultOf, ThisOf, ClassOf, Free, Home}
+use Rattle.es_steps.specs.Code.{Code, Codes, Target, Callee, no_rule, value, spelled, private_name, name, super, member, private_member, super_member, private_in, compound, logical, logical_assign, call, tag, template_string, template, operation, piece, chain, tested, private_value, on_chain, behind_test, done, and, from_call, from_member, bound, with_receiver}
+use Rattle.es_steps.specs.Context.{Context, NameKind, Changing, Generated, StaticMethod, name_kind}
+use Rattle.es_steps.specs.Events.{Operand, Spelled, Flag, OfKind, Delete}
+use Rattle.es_steps.specs.Expressions.{operation_of, the_code, literal_code, is_arguments, static_method, arguments_of, name_or_arguments, name_code, private_name_code, cooked_of, template_string_code, template_strings, template_code, spelling_of, meta_code, key_code, super_member_at, checked_object, member_on, member_code, is_made_private, names_class, private_on, private_field_of, private_field_code, private_in_of, private_in_code, target_of, is_logical, without_sign, assignment_code, update_code, void_code, deleted, delete_code, is_free_name, is_any_name, unary_operation, unary_code, binary_code, quiet_logical, logical_code, chain_code, spliced, deleted_as, ended_alone, chain_or, conditional_code, callee_of, checked_callee, call_code, new_code, tag_of, tag_code, is_prototype, key_details, property_code}
+use Rattle.es_steps.specs.GeneratedForms.{generated_member, generated_call, generated_assignment, is_undefined_test, tested_object, class_named, is_method_kind}
+use Rattle.es_steps.specs.Members.{Member, Members, code, string, literal, at, codes_of, word_of, flag_of, details}
+use Rattle.es_steps.specs.PrivateNames.{PrivateMember, PrivateReference, member_at}
+use Rattle.es_steps.specs.Values.{String, StringOf, BooleanOf, Value, ConstantOf, Undefined, ResultOf, ThisOf, ClassOf, ArgumentsOf, Free, Home}
 use Rattle.es_steps.proofs.ContextMapped.{name_kind-mapped, is_generated_private-mapped}
 use Rattle.es_steps.proofs.FormsMapped.{code-cond, cond-code, here, class_named-mapped, tested_object-mapped, again_of-mapped, helper_member-mapped, generated_member-mapped, generated_call-mapped, generated_binary-mapped, is_undefined_test-mapped, generated_assignment-mapped}
 use Rattle.es_steps.proofs.Mapped.{Renames, mapped_option, mapped_name_kind, mapped_private, mapped_private_reference, mapped_value, mapped_home, mapped_context, mapped_code, mapped_codes, mapped_callee, mapped_target, mapped_member, mapped_members}
@@ -139,10 +139,28 @@ module _ (f : ℕ → ℕ) where
       code-cond f (bytes_eq operator (codes "void")) (void_code e whole) (cond (bytes_eq operator (codes "delete")) (delete_code m e whole) whole) (void_code-mapped e whole)
       (code-cond f (bytes_eq operator (codes "delete")) (delete_code m e whole) whole (delete_code-mapped m e whole) refl)
 
+  is_free_name-mapped : (e : Code) → is_free_name (mapped_code f e) ≡ is_free_name e
+  is_free_name-mapped (name m s (Changing (Free spelling))) = refl
+  is_free_name-mapped e = refl
+
+  is_any_name-mapped : (e : Code) → is_any_name (mapped_code f e) ≡ is_any_name e
+  is_any_name-mapped (name m s kind) = refl
+  is_any_name-mapped (value (ArgumentsOf k)) = refl
+  is_any_name-mapped e = refl
+
+  unary_operation-mapped : (m : ℕ) (ps : Members) (e : Code) → unary_operation (f m) (mapped_members f ps) (mapped_code f e) ≡ mapped_code f (unary_operation m ps e)
+  unary_operation-mapped m ps e = rw (word_at-mapped f 0 ps, is_free_name-mapped e, is_any_name-mapped e, details-mapped f ps, operands-mapped f ps) refl
+
   pub unary_code-mapped : (m : ℕ) (ps : Members) → unary_code (f m) (mapped_members f ps) ≡ mapped_code f (unary_code m ps)
   unary_code-mapped m ps =
-      rw (word_at-mapped f 0 ps, the_code_at-mapped 1 ps, operation_of-mapped Kind.UnaryExpression m ps)
-      (unary_of-mapped m (word_of (at 0 ps)) (the_code (at 1 ps)) (operation_of Kind.UnaryExpression m ps))
+      rw (the_code_at-mapped 1 ps, unary_operation-mapped m ps (the_code (at 1 ps)), word_at-mapped f 0 ps)
+      (unary_of-mapped m (word_of (at 0 ps)) (the_code (at 1 ps)) (unary_operation m ps (the_code (at 1 ps))))
+
+  arguments_of-mapped : (writes : Bool) (m : ℕ) (s : String) (v : Value) → arguments_of writes (f m) s (mapped_value f v) ≡ mapped_code f (arguments_of writes m s v)
+  arguments_of-mapped true m s (ArgumentsOf k) = refl
+  arguments_of-mapped false m s (ArgumentsOf k) = refl
+  arguments_of-mapped true m s v = refl
+  arguments_of-mapped false m s v = refl
 
   pub chain_code-mapped : (m : ℕ) (ps : Members) → chain_code (f m) (mapped_members f ps) ≡ mapped_code f (chain_code m ps)
   chain_code-mapped m ps = rw (the_code_at-mapped 0 ps) refl
@@ -198,7 +216,7 @@ module _ {first : ℕ} {f : ℕ → ℕ} (r : Renames first f) (c : Context) (e 
   static_method-mapped (Some x) kind = cond-mapped (mapped_name_kind f) (x.is_static && is_method_kind x.kind) (StaticMethod x.number x.class) kind refl refl
 
   name_or_arguments-mapped : (m : ℕ) (s : String) (kind : NameKind) → name_or_arguments there (f m) s (mapped_name_kind f kind) ≡ mapped_code f (name_or_arguments c m s kind)
-  name_or_arguments-mapped m s (Changing (Free spelling)) = cond-code f (is_arguments s && not c.writes_arguments) (value c.arguments) (name m s (Changing (Free spelling)))
+  name_or_arguments-mapped m s (Changing (Free spelling)) = code-cond f (is_arguments s) (arguments_of c.writes_arguments m s c.arguments) (name m s (Changing (Free spelling))) (arguments_of-mapped f c.writes_arguments m s c.arguments) refl
   name_or_arguments-mapped m s (Generated (GeneratedKind.Method d)) = ap (λ x. name (f m) s x) (ap (λ x. static_method x (mapped_name_kind f (Generated (GeneratedKind.Method d)))) (member_at-mapped r d.0 c.members) ∙ static_method-mapped (member_at d.0 c.members) (Generated (GeneratedKind.Method d)))
   name_or_arguments-mapped m s kind = refl
 
@@ -254,7 +272,7 @@ module _ {first : ℕ} {f : ℕ → ℕ} (r : Renames first f) (c : Context) (e 
       (generated_binary-mapped r c e m (word_of (at 0 ps)) (the_code (at 1 ps)) (the_code (at 2 ps)) (operation_of Kind.BinaryExpression m ps))
 
   quiet_logical-mapped : (m : ℕ) (operator : String) (l x whole : Code) → quiet_logical there (f m) operator (mapped_code f l) (mapped_code f x) (mapped_code f whole) ≡ mapped_code f (quiet_logical c m operator l x whole)
-  quiet_logical-mapped m operator (value (ResultOf k)) (value v) whole = rw (here r c e m, here r c e k) (cond-code f (is_new c.first_new m && (is_new c.first_new k && bytes_eq operator (codes "&&"))) (value (ResultOf m)) whole)
+  quiet_logical-mapped m operator (value (ResultOf k)) (from_call (value v)) whole = rw (here r c e m, here r c e k) (cond-code f (is_new c.first_new m && (is_new c.first_new k && bytes_eq operator (codes "&&"))) (value (ResultOf m)) whole)
   quiet_logical-mapped m operator l x whole = refl
 
   pub logical_code-mapped : (m : ℕ) (ps : Members) → logical_code there (f m) (mapped_members f ps) ≡ mapped_code f (logical_code c m ps)

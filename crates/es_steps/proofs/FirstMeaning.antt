@@ -14,9 +14,9 @@ use Rattle.es_base.specs.declared.kind.Kind.{Kind}
 use Rattle.es_base.specs.declared.table.Place.{Place}
 use Rattle.es_base.specs.declared.table.Sort.{Sort}
 use Rattle.es_base.specs.declared.table.Words.{Words}
-use Rattle.es_steps.specs.Code.{Code, Codes, Opened, value, spelled, name, steps, done, and, joined}
+use Rattle.es_steps.specs.Code.{Code, Codes, Opened, spelled, name, steps, done, and, joined}
 use Rattle.es_steps.specs.Context.{Context, NameKind, Fixed, Changing, MeansClass, found_kind, declared_kind, unless_varying, inside}
-use Rattle.es_steps.specs.Expressions.{constant_of, is_arguments, name_or_arguments, name_code}
+use Rattle.es_steps.specs.Expressions.{constant_of, is_arguments, arguments_of, name_or_arguments, name_code}
 use Rattle.es_steps.specs.FirstForm.{is_plain_value, is_plain_key, is_plain_field, is_new_name, unless, element_breaches, elements_breaches, body_breaches, statement_breaches, statements_breaches, class_names, breaches, no_numbers, most_nodes}
 use Rattle.es_steps.specs.Law.{FirstFormLaw}
 use Rattle.es_steps.specs.Meaning.{Terms, MemberEntry, start, source_terms, body_of, in_body, with_all, means_of, has_meaning, member_entries, private_functions, all_exports}
@@ -30,7 +30,7 @@ use Rattle.es_steps.specs.Reading.{read, read_part, read_parts, read_items}
 use Rattle.es_steps.specs.References.{has_number, declared}
 use Rattle.es_steps.specs.Scopes.{ClassName, no_class, declares, own_name, let_names, Declaration}
 use Rattle.es_steps.specs.Statements.{value_or_undefined, field_code, declared_by, elements_of, class_of}
-use Rattle.es_steps.specs.Values.{String, ConstantOf, Undefined, Bound, Free}
+use Rattle.es_steps.specs.Values.{String, Value, ConstantOf, Undefined, ArgumentsOf, Bound, Free}
 use Rattle.es_steps.proofs.PlainClasses.{IsNotGenerated, fixed, changing, means_class, IsPlain, a_value, a_name, IsField, plain_field, AreFields, IsClass, plain_class, AreClasses, classes-run, all-there}
 
 pub no_false : {A : Type 0} → false ≡ true → A
@@ -76,10 +76,16 @@ not_generated-found first varying s (Some d) = not_generated-declared first vary
 pub plain-name : (c : Context) (m : ℕ) (s : String) (kind : NameKind) → IsNotGenerated kind → IsPlain (name_or_arguments c m s kind)
 plain-name c m s kind (fixed b) = a_name m s (Fixed b) (fixed b)
 plain-name c m s kind (changing (Bound b)) = a_name m s (Changing (Bound b)) (changing (Bound b))
-plain-name c m s kind (changing (Free t)) = chosen (is_arguments s && not c.writes_arguments)
+plain-name c m s kind (changing (Free t)) = chosen (is_arguments s)
   where
-    chosen : (b : Bool) → IsPlain (cond b (value c.arguments) (name m s (Changing (Free t))))
-    chosen true = a_value c.arguments
+    either : (writes : Bool) (v : Value) → IsPlain (arguments_of writes m s v)
+    either true (ArgumentsOf k) = a_name m s (Changing (Bound k)) (changing (Bound k))
+    either false (ArgumentsOf k) = a_value (ArgumentsOf k)
+    either true v = a_name m s (Changing (Free s)) (changing (Free s))
+    either false v = a_name m s (Changing (Free s)) (changing (Free s))
+
+    chosen : (b : Bool) → IsPlain (cond b (arguments_of c.writes_arguments m s c.arguments) (name m s (Changing (Free t))))
+    chosen true = either c.writes_arguments c.arguments
     chosen false = a_name m s (Changing (Free t)) (changing (Free t))
 plain-name c m s kind (means_class n b) = a_name m s (MeansClass n b) (means_class n b)
 

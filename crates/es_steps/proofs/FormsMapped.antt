@@ -4,15 +4,15 @@ use Rattle.std.proofs.Common.{refl, ap, ◌∙◌}
 use Rattle.es_base.specs.Numbered.{is_new}
 use Rattle.es_base.specs.declared.kind.Kind.{Kind}
 use Rattle.es_base.specs.declared.ledger.GeneratedKind.{GeneratedKind}
-use Rattle.es_steps.specs.Code.{Code, Codes, Target, FunctionForm, Opened, InitializersOf, BodyOf, CalledBodyOf, no_rule, value, spelled, binding, rest, name, super, member, private_member, super_member, private_in, assign, call, construct, super_call, super_call_with_all, sequence, logical, operation, short, steps, function, new_function, new_return, class_code, from_call, from_member, key_of, helper, helper_call, throw, define, private_initialize, add_brand, bound, setter, private_value, call_arrow, call_closure, initializers, give_function, give_class, to_name, to_private, to_super, plain, on_super, with_receiver, done, and, one}
-use Rattle.es_steps.specs.Context.{Context, NameKind, Changing, MeansClass, Generated, StaticMethod, new_here}
-use Rattle.es_steps.specs.Events.{Detail, Operation, Operand, Spelled, Flag, Key, Opens, Closes, OfKind}
+use Rattle.es_steps.specs.Code.{Code, Codes, Target, FunctionForm, InitializersOf, CalledBodyOf, no_rule, value, spelled, binding, name, super, member, private_member, assign, construct, super_call, super_call_with_all, sequence, logical, operation, steps, function, new_function, new_return, class_code, from_call, from_member, helper, helper_call, throw, private_initialize, bound, setter, private_value, call_arrow, to_name, to_private, done, and}
+use Rattle.es_steps.specs.Context.{Context, Changing, MeansClass, Generated, StaticMethod}
+use Rattle.es_steps.specs.Events.{Operand, Spelled, Flag, Key, Opens, Closes, OfKind}
 use Rattle.es_steps.specs.GeneratedForms.{if_kept, is_named, if_member, is_instance_field, is_static_field, is_function_member, weak_map, static_field, private_function, loose_key, class_named, is_number, is_class_named, is_brand, class_value, known_object, class_home, prototype_home, is_string, home_of, is_plain_property, single_property, is_writable_form, writable_value, only_operands, array_elements, is_spread, read_private, set_private, is_method_kind, is_getter_kind, is_setter_kind, asserted, initialized_on, brand_on, define_on, super_get, super_set, is_number_literal, is_constant, is_quiet_key, helper_code, is_helper_object, helper_or_none, helper_or, helper_member, branded_field, own_field, setter_on, field_setter, setter_of_pair, setter_of, underscore_of, same_number, loose_member, is_same_key, kept_name, generated_member, with_name, parameter_names, value_or_undefined, ended, opened_body, no_spread, is_plain_arrow, arrow_call, is_pick, picked, new_function_call, getter_call, received_call, getter_or_received, super_function_call, called_with, bound_to, has_field, has_brand, loose_initialized, object_call, member_call, new_member_call, runs_initializers, initializers_behind, passes_all, super_call_in, super_method_call, helper_call_call, generated_call, is_class_test, generated_binary, is_null, is_undefined, is_comparison, is_null_test, is_void_test, is_undefined_test, left_of, tested_object, again_of, is_new_collection, only_if, is_loose_key_call, field_object, given_function, given, is_own_class, private_assignment, generated_assignment}
 use Rattle.es_steps.specs.Helpers.{Helper, DefineProperty, ClassPrivateFieldInitSpec, ClassPrivateMethodInitSpec, ClassPrivateFieldGet2, ClassPrivateFieldSet2, AssertClassBrand, ToSetter, CheckInRHS, ReadOnlyError, WriteOnlyError, SuperPropGet, SuperPropSet, ClassPrivateFieldLooseKey, ClassPrivateFieldLooseBase, SetFunctionName, ToPropertyKey, helper_named}
 use Rattle.es_steps.specs.Options.{keeps_privates_as_properties}
 use Rattle.es_steps.specs.SameValues.{same_boolean}
 use Rattle.es_steps.specs.PrivateNames.{PrivateMember, PrivateReference, member_at, reference_of, is_a_field}
-use Rattle.es_steps.specs.Values.{String, Constant, StringOf, NumberOf, BooleanOf, Null, Value, ConstantOf, Undefined, ClassOf, ThisOf, ResultOf, Free, Home, OfClass, OfPrototype, HasField, HasBrand, IsClass}
+use Rattle.es_steps.specs.Values.{String, StringOf, NumberOf, BooleanOf, Null, Value, ConstantOf, Undefined, ClassOf, ThisOf, ResultOf, Free, Home}
 use Rattle.es_steps.proofs.ContextMapped.{new_here-mapped}
 use Rattle.es_steps.proofs.Mapped.{Renames, mapped_option, mapped_generated, mapped_private, mapped_private_reference, mapped_nullable, mapped_home, mapped_context, mapped_opened, mapped_code, mapped_codes, mapped_target}
 use Rattle.es_steps.proofs.PartsMapped.{cond-mapped}
@@ -147,7 +147,7 @@ module _ (f : ℕ → ℕ) where
   is_same_key-mapped k l = refl
 
   kept_name-mapped : (key : Code) (p : Option (Code × Code)) (whole : Code) → kept_name (mapped_code f key) (mapped_option (mapped_two f) p) (mapped_code f whole) ≡ mapped_code f (kept_name key p whole)
-  kept_name-mapped key (Some p) whole = rw (is_same_key-mapped key p.0) (cond-code (is_same_key key p.0) (from_member (from_call p.1)) whole)
+  kept_name-mapped key (Some p) whole = rw (is_same_key-mapped key p.0) (cond-code (is_same_key key p.0) (from_member (from_call (sequence (and p.0 (and p.1 done))))) whole)
   kept_name-mapped key None whole = refl
 
   parameter_names-mapped : (ps : Codes) → parameter_names (mapped_codes f ps) ≡ parameter_names ps

@@ -1,12 +1,12 @@
 -- Classes that are lowered, and nodes that are kept, under a change of numbers.
-use Rattle.std.specs.Prelude.{◌≡◌, ℕ, suc, List, [], ◌∷◌, ◌++◌, map, Bool, true, false, cond, not, ◌&&◌, ◌||◌, nat_eq, Option, Some, None}
+use Rattle.std.specs.Prelude.{◌≡◌, ℕ, suc, List, [], ◌∷◌, map, false, cond, not, ◌&&◌, ◌||◌, nat_eq, Option, Some, None}
 use Rattle.std.proofs.Common.{refl, ap, ap₂, ◌∙◌}
 use Rattle.es_base.specs.Preorder.{preorder, number_of}
 use Rattle.es_base.specs.Table.{is_statement}
 use Rattle.es_base.specs.Tree.{Tree, Part, Parts, Node, end, more, child, absent, list, string, no_string, boolean, literal}
 use Rattle.es_base.specs.declared.kind.Kind.{Kind}
 use Rattle.es_steps.specs.Context.{is_constructor}
-use Rattle.es_steps.specs.KeptNodes.{NodeSort, sort_of, is_kept_sort, same_sort, stands_as, all_stand, nodes_kept, is_free_statement, free_statements, free_at, free_in, stands_equal, all_equal, statements_kept, statement_list, declared_classes, class_or_none, given_classes, carried_classes, is_static_block, item_number, item_numbers, is_function_declaration, free_number, free_numbers, free_lists, free_lists_at, free_lists_in, list_of, is_within, all_within, lists_kept, home_in, is_own_name, has_home, home_of, homes, homes_in, homes_at, homes_of, all_homes, pair_stands, all_pairs_stand, homes_kept}
+use Rattle.es_steps.specs.KeptNodes.{NodeSort, sort_of, is_kept_sort, same_sort, stands_as, all_stand, nodes_kept, is_free_statement, free_statements, free_at, free_in, stands_equal, all_equal, statements_kept, statement_list, declared_classes, class_or_none, given_classes, carried_classes, is_static_block, item_number, item_numbers, is_function_declaration, free_number, free_numbers, free_lists, free_lists_at, free_lists_in, list_of, is_within, all_within, lists_kept, Homed, HomeHere, function_around, is_constructor_part, home_in, has_home, name_of, homed, homes, homes_in, homes_at, homes_of, all_homes, block_numbers, lowered_blocks, home_fits, name_fits, stands_at_home, stands_nowhere, all_at_home, homes_kept}
 use Rattle.es_steps.specs.LoweredClasses.{Element, is_private_key, element_of, elements_in, body_elements, elements_of, is_lowered_element, any_element, is_lowered_class, holds_lowered, has_lowered_class, constructor_function, constructor_in, referent_of, is_fixed, has_no_items, needs_temporary, is_left_out}
 use Rattle.es_steps.specs.Options.{lowers_blocks}
 use Rattle.es_steps.specs.Parts.{at, items, string_of}
@@ -16,7 +16,7 @@ use Rattle.es_steps.specs.SameTrees.{same_kind, same_tree, same_part, same_parts
 use Rattle.es_steps.specs.Scopes.{class_in}
 use Rattle.es_steps.specs.Values.{Referent, Bound, Free}
 use Rattle.es_steps.specs.declared.options.Options.{Options}
-use Rattle.es_steps.proofs.Mapped.{Renames, mapped, mapped_part, mapped_parts, mapped_option, mapped_pair, mapped_referent, mapped_reference}
+use Rattle.es_steps.proofs.Mapped.{Renames, mapped, mapped_part, mapped_parts, mapped_option, mapped_referent, mapped_reference}
 use Rattle.es_steps.proofs.PartsMapped.{cond-mapped, append-mapped, at-mapped, items_at-mapped, string_at-mapped, is_true_at-mapped, is_present-mapped, number_of-mapped, preorder-mapped}
 use Rattle.es_steps.proofs.ReferencesMapped.{has_number-mapped}
 use Rattle.es_steps.proofs.ScopesMapped.{class_in-mapped}
@@ -189,40 +189,66 @@ module _ (f : ℕ → ℕ) where
 
   -- ---- homes
 
-  home_in-mapped : (o : Options) (home : Option ℕ) (kind : Kind) (m i : ℕ) → home_in o (mapped_option f home) kind (f m) i ≡ mapped_option f (home_in o home kind m i)
-  home_in-mapped o home Kind.FunctionDeclaration m i = cond-mapped (mapped_option f) (nat_eq i 0) home (Some m) refl refl
-  home_in-mapped o home Kind.StaticBlock m i = cond-mapped (mapped_option f) (lowers_blocks o) None (Some m) refl refl
-  home_in-mapped o home Kind.FunctionExpression m i = refl
-  home_in-mapped o home Kind.ArrowFunctionExpression m i = refl
-  home_in-mapped o home kind m i = refl
+  abbrev mapped_homed : Homed → Homed
+  mapped_homed x = record { number = f x.number; home = f x.home; spelling = x.spelling; is_own_name = x.is_own_name; in_constructor = x.in_constructor }
 
-  home_of-mapped : (here : Bool) (m : ℕ) (home : Option ℕ) → home_of here (f m) (mapped_option f home) ≡ map (mapped_pair f) (home_of here m home)
-  home_of-mapped true m (Some home) = refl
-  home_of-mapped true m None = refl
-  home_of-mapped false m home = refl
+  abbrev mapped_here : HomeHere → HomeHere
+  mapped_here x = record { of_function = f x.of_function; is_own_name = x.is_own_name; in_constructor = x.in_constructor }
+
+  function_around-mapped : (home : ℕ) (kind : Kind) (m i : ℕ) → function_around (f home) kind (f m) i ≡ f (function_around home kind m i)
+  function_around-mapped home Kind.FunctionDeclaration m i = cond-mapped f (nat_eq i 0) home m refl refl
+  function_around-mapped home Kind.StaticBlock m i = refl
+  function_around-mapped home Kind.FunctionExpression m i = refl
+  function_around-mapped home Kind.ArrowFunctionExpression m i = refl
+  function_around-mapped home kind m i = refl
+
+  is_constructor_part-mapped : (kind : Kind) (ps : Parts) (i : ℕ) → is_constructor_part kind (mapped_parts f ps) i ≡ is_constructor_part kind ps i
+  is_constructor_part-mapped Kind.MethodDefinition ps i = ap (λ s. nat_eq i 1 && is_constructor s) (string_at-mapped f 2 ps)
+  is_constructor_part-mapped kind ps i = refl
+
+  home_in-mapped : (x : HomeHere) (kind : Kind) (m : ℕ) (ps : Parts) (i : ℕ) → home_in (mapped_here x) kind (f m) (mapped_parts f ps) i ≡ mapped_here (home_in x kind m ps i)
+  home_in-mapped x kind m ps i = rw (function_around-mapped x.of_function kind m i, is_constructor_part-mapped kind ps i) refl
+
+  name_of-mapped : (kind : Kind) (ps : Parts) → name_of kind (mapped_parts f ps) ≡ name_of kind ps
+  name_of-mapped Kind.BindingIdentifier ps = string_at-mapped f 0 ps
+  name_of-mapped kind ps = refl
+
+  homed-mapped : (x : HomeHere) (kind : Kind) (m : ℕ) (ps : Parts) → homed (mapped_here x) kind (f m) (mapped_parts f ps) ≡ map mapped_homed (homed x kind m ps)
+  homed-mapped x kind m ps =
+      rw (name_of-mapped kind ps)
+      (cond-mapped (map mapped_homed) (has_home kind) (record { number = m; home = x.of_function; spelling = name_of kind ps; is_own_name = x.is_own_name; in_constructor = x.in_constructor } ∷ []) [] refl refl)
 
   mutual
-    homes-mapped : (o : Options) (home : Option ℕ) (is_own : Bool) (t : Tree) → homes o (mapped_option f home) is_own (mapped f t) ≡ map (mapped_pair f) (homes o home is_own t)
-    homes-mapped o home is_own (Node kind m span semantic_id ps) =
-        append-mapped (mapped_pair f) _ _ (home_of-mapped (has_home is_own kind) m home) (homes_in-mapped o _ (home_in o home kind m) (home_in-mapped o home kind m) (is_own_name kind) ps)
+    homes-mapped : (x : HomeHere) (t : Tree) → homes (mapped_here x) (mapped f t) ≡ map mapped_homed (homes x t)
+    homes-mapped x (Node kind m span semantic_id ps) =
+        append-mapped mapped_homed _ _ (homed-mapped x kind m ps) (homes_in-mapped _ (home_in x kind m ps) (home_in-mapped x kind m ps) ps)
 
-    homes_in-mapped : (o : Options) (x home : ℕ → Option ℕ) → ((i : ℕ) → x i ≡ mapped_option f (home i)) → (is_own : ℕ → Bool) (ps : Parts) → homes_in o x is_own (mapped_parts f ps) ≡ map (mapped_pair f) (homes_in o home is_own ps)
-    homes_in-mapped o x home same is_own end = refl
-    homes_in-mapped o x home same is_own (more p ps) =
-        append-mapped (mapped_pair f) _ _ (ap (λ h. homes_at o h (is_own 0) (mapped_part f p)) (same 0) ∙ homes_at-mapped o (home 0) (is_own 0) p)
-        (homes_in-mapped o (λ i. x (suc i)) (λ i. home (suc i)) (λ i. same (suc i)) (λ i. is_own (suc i)) ps)
+    homes_in-mapped : (y x : ℕ → HomeHere) → ((i : ℕ) → y i ≡ mapped_here (x i)) → (ps : Parts) → homes_in y (mapped_parts f ps) ≡ map mapped_homed (homes_in x ps)
+    homes_in-mapped y x same end = refl
+    homes_in-mapped y x same (more p ps) =
+        append-mapped mapped_homed _ _ (ap (λ h. homes_at h (mapped_part f p)) (same 0) ∙ homes_at-mapped (x 0) p)
+        (homes_in-mapped (λ i. y (suc i)) (λ i. x (suc i)) (λ i. same (suc i)) ps)
 
-    homes_at-mapped : (o : Options) (home : Option ℕ) (is_own : Bool) (p : Part) → homes_at o (mapped_option f home) is_own (mapped_part f p) ≡ map (mapped_pair f) (homes_at o home is_own p)
-    homes_at-mapped o home is_own (child t) = homes-mapped o home is_own t
-    homes_at-mapped o home is_own (list ps) = homes_of-mapped o home ps
-    homes_at-mapped o home is_own p = refl
+    homes_at-mapped : (x : HomeHere) (p : Part) → homes_at (mapped_here x) (mapped_part f p) ≡ map mapped_homed (homes_at x p)
+    homes_at-mapped x (child t) = homes-mapped x t
+    homes_at-mapped x (list ps) = homes_of-mapped x ps
+    homes_at-mapped x p = refl
 
-    homes_of-mapped : (o : Options) (home : Option ℕ) (ps : Parts) → homes_of o (mapped_option f home) (mapped_parts f ps) ≡ map (mapped_pair f) (homes_of o home ps)
-    homes_of-mapped o home end = refl
-    homes_of-mapped o home (more p ps) = append-mapped (mapped_pair f) _ _ (homes_at-mapped o home false p) (homes_of-mapped o home ps)
+    homes_of-mapped : (x : HomeHere) (ps : Parts) → homes_of (mapped_here x) (mapped_parts f ps) ≡ map mapped_homed (homes_of x ps)
+    homes_of-mapped x end = refl
+    homes_of-mapped x (more p ps) = append-mapped mapped_homed _ _ (homes_at-mapped x p) (homes_of-mapped x ps)
 
-  all_homes-mapped : (o : Options) (t : Tree) → all_homes o (mapped f t) ≡ map (mapped_pair f) (all_homes o t)
-  all_homes-mapped o t = ap (λ n. homes o (Some n) false (mapped f t)) (number_of-mapped f t) ∙ homes-mapped o (Some (number_of t)) false t
+  all_homes-mapped : (t : Tree) → all_homes (mapped f t) ≡ map mapped_homed (all_homes t)
+  all_homes-mapped t =
+      ap (λ n. homes (record { of_function = n; is_own_name = false; in_constructor = false }) (mapped f t)) (number_of-mapped f t)
+      ∙ homes-mapped (record { of_function = number_of t; is_own_name = false; in_constructor = false }) t
+
+  block_numbers-mapped : (ts : List Tree) → block_numbers (map (mapped f) ts) ≡ map f (block_numbers ts)
+  block_numbers-mapped [] = refl
+  block_numbers-mapped (Node kind m span semantic_id ps ∷ ts) = append-mapped f _ _ (cond-mapped (map f) (is_static_block kind) (m ∷ []) [] refl refl) (block_numbers-mapped ts)
+
+  lowered_blocks-mapped : (o : Options) (p : Tree) → lowered_blocks o (mapped f p) ≡ map f (lowered_blocks o p)
+  lowered_blocks-mapped o p = cond-mapped (map f) (lowers_blocks o) (block_numbers (preorder p)) [] (ap block_numbers (preorder-mapped f p) ∙ block_numbers-mapped (preorder p)) refl
 
 module _ {first : ℕ} {f : ℕ → ℕ} (r : Renames first f) where
   -- ---- keys
@@ -307,13 +333,24 @@ module _ {first : ℕ} {f : ℕ → ℕ} (r : Renames first f) where
 
   -- ---- homes
 
-  pair_stands-mapped : (p : ℕ × ℕ) (qs : List (ℕ × ℕ)) → pair_stands (mapped_pair f p) (map (mapped_pair f) qs) ≡ pair_stands p qs
-  pair_stands-mapped p [] = refl
-  pair_stands-mapped p (q ∷ qs) = ap₂ (λ a b. a || b) (ap₂ (λ a b. a && b) (r.apart p.0 q.0) (r.apart p.1 q.1)) (pair_stands-mapped p qs)
+  home_fits-mapped : (blocks : List ℕ) (x y : Homed) → home_fits first (map f blocks) (mapped_homed f x) (mapped_homed f y) ≡ home_fits first blocks x y
+  home_fits-mapped blocks x y = rw (r.apart x.home y.home, has_number-mapped r x.home blocks, r.new y.home) refl
 
-  all_pairs_stand-mapped : (ps qs : List (ℕ × ℕ)) → all_pairs_stand (map (mapped_pair f) ps) (map (mapped_pair f) qs) ≡ all_pairs_stand ps qs
-  all_pairs_stand-mapped [] qs = refl
-  all_pairs_stand-mapped (p ∷ ps) qs = ap₂ (λ a b. a && b) (pair_stands-mapped p qs) (all_pairs_stand-mapped ps qs)
+  stands_at_home-mapped : (blocks : List ℕ) (x : Homed) (ys : List Homed) → stands_at_home first (map f blocks) (mapped_homed f x) (map (mapped_homed f) ys) ≡ stands_at_home first blocks x ys
+  stands_at_home-mapped blocks x [] = refl
+  stands_at_home-mapped blocks x (y ∷ ys) =
+      ap₂ (λ a b. a || b) (ap₂ (λ a b. a && (b && name_fits first blocks x y)) (r.apart x.number y.number) (home_fits-mapped blocks x y)) (stands_at_home-mapped blocks x ys)
 
-  pub homes_kept-mapped : (o : Options) (p q : Tree) → homes_kept o (mapped f p) (mapped f q) ≡ homes_kept o p q
-  homes_kept-mapped o p q = ap₂ all_pairs_stand (all_homes-mapped f o p) (all_homes-mapped f o q) ∙ all_pairs_stand-mapped (all_homes o p) (all_homes o q)
+  stands_nowhere-mapped : (blocks : List ℕ) (x : Homed) (ys : List Homed) → stands_nowhere first (map f blocks) (mapped_homed f x) (map (mapped_homed f) ys) ≡ stands_nowhere first blocks x ys
+  stands_nowhere-mapped blocks x [] = refl
+  stands_nowhere-mapped blocks x (y ∷ ys) = ap₂ (λ a b. not a && b) (r.apart x.number y.number) (stands_nowhere-mapped blocks x ys)
+
+  all_at_home-mapped : (blocks : List ℕ) (xs ys : List Homed) → all_at_home first (map f blocks) (map (mapped_homed f) xs) (map (mapped_homed f) ys) ≡ all_at_home first blocks xs ys
+  all_at_home-mapped blocks [] ys = refl
+  all_at_home-mapped blocks (x ∷ xs) ys =
+      ap₂ (λ a b. a && b) (ap₂ (λ a b. a || (x.is_own_name && b)) (stands_at_home-mapped blocks x ys) (stands_nowhere-mapped blocks x ys)) (all_at_home-mapped blocks xs ys)
+
+  pub homes_kept-mapped : (o : Options) (p q : Tree) → homes_kept first o (mapped f p) (mapped f q) ≡ homes_kept first o p q
+  homes_kept-mapped o p q =
+      rw (lowered_blocks-mapped f o p, all_homes-mapped f p, all_homes-mapped f q)
+      (all_at_home-mapped (lowered_blocks o p) (all_homes p) (all_homes q))

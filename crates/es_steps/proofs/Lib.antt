@@ -18,6 +18,7 @@ pub mod OpeningMapped
 pub mod EntriesMapped
 pub mod ModulesMapped
 pub mod RepeatedMapped
+pub mod SharedMapped
 pub mod Still
 pub mod MeaningMapped
 pub mod Renaming
@@ -25,6 +26,7 @@ pub mod Renumbering
 pub mod PrintableMapped
 pub mod KeptNodesMapped
 pub mod DefinitionsMapped
+pub mod HelperCallsMapped
 pub mod LoweredMapped
 pub mod TemporariesMapped
 pub mod TimelyMapped

@@ -2,7 +2,6 @@
 use Rattle.std.specs.Prelude.{◌≡◌, ℕ, List, [], ◌∷◌, map, Bool, not, ◌&&◌, ◌||◌, bytes_eq, nat_eq, codes, Option, Some, None}
 use Rattle.std.proofs.Common.{refl, ap, ap₂, ◌∙◌}
 use Rattle.es_base.specs.Conforms.{is_among}
-use Rattle.es_base.specs.Numbered.{is_new}
 use Rattle.es_base.specs.Preorder.{preorder, number_of}
 use Rattle.es_base.specs.Tree.{Tree, Part, Parts, Node, end, more, child, list, string}
 use Rattle.es_base.specs.declared.kind.Kind.{Kind}
@@ -10,19 +9,20 @@ use Rattle.es_base.specs.declared.ledger.GeneratedKind.{GeneratedKind}
 use Rattle.es_base.specs.declared.ledger.LedgerEntry.{LedgerEntry}
 use Rattle.es_steps.specs.Context.{generated_as}
 use Rattle.es_steps.specs.Definitions.{spelling, field_part, names_class, class_identifiers, all_different, is_among_first}
-use Rattle.es_steps.specs.KeptNodes.{statement_list, is_function_declaration}
-use Rattle.es_steps.specs.Lowered.{kind_of, none_lowered, nothing_left, declaring_number, declaring_numbers, is_bound_to, all_mean, is_one_new, private_key, private_keys, keys_of_body, keys_of_class, keys_in, is_one, declared_by_kind, same_space, is_named_again, names_declared, is_new_const, is_there, has_branded, belongs, class_name_at, declares_class, own_name_number, own_name_numbers, is_generated, is_accounted, all_accounted, declarations_accounted, spelled_as, is_helper_callee, is_new_of, is_key_call, is_function_part, class_number_in, assignment_number, paired, pairs_behind, all_behind, has_pair, is_class_or_name, is_class_value, is_initial, is_class_kind, is_method_kind, initialization_at, initializations, comes_before, class_of_member, class_before, is_declared_function, all_before, needs_none, is_one_initialization, initializations_stand, any_before, keys_before, keys_stand}
+use Rattle.es_steps.specs.KeptNodes.{statement_list, is_underscored}
+use Rattle.es_steps.specs.Lowered.{none_lowered, nothing_left, declaring_number, declaring_numbers, is_bound_to, all_mean, is_one_new, private_key, private_keys, keys_of_body, keys_of_class, keys_in, is_one, declared_by_kind, same_space, is_named_again, same_subject, has_another_name, is_temp, is_at_most_one, names_declared, is_new_const, is_there, has_branded, belongs, class_name_at, declares_class, own_name_number, own_name_numbers, is_generated, is_accounted, all_accounted, declarations_accounted, spelled_as, is_new_of, is_key_call, is_function_part, class_number_in, assignment_number, paired, pairs_behind, all_behind, has_pair, is_class_or_name, is_class_value, is_initial, is_class_kind, is_method_kind, initialization_at, initializations, comes_before, class_of_member, class_before, is_declared_function, all_before, needs_none, is_one_initialization, initialization_stands, initializations_stand, any_before, keys_before, keys_stand}
 use Rattle.es_steps.specs.Options.{lowers_fields}
 use Rattle.es_steps.specs.Parts.{at, items, string_of, is_present}
 use Rattle.es_steps.specs.GeneratedForms.{if_member, is_instance_field, is_static_field, is_function_member}
 use Rattle.es_steps.specs.PrivateNames.{PrivateMember, member_at, is_a_field}
-use Rattle.es_steps.specs.References.{Reference, resolve, has_number}
+use Rattle.es_steps.specs.References.{Reference, resolve}
 use Rattle.es_steps.specs.Scopes.{is_binding_identifier, class_in}
 use Rattle.es_steps.specs.Values.{String, Referent, Bound, Free}
 use Rattle.es_steps.specs.declared.options.Options.{Options}
 use Rattle.es_steps.proofs.ContextMapped.{generated_as-mapped}
 use Rattle.es_steps.proofs.DefinitionsMapped.{mapped_temporary, spelling-mapped, field_part-mapped, class_identifiers-mapped, names_class-mapped}
 use Rattle.es_steps.proofs.FormsMapped.{if_member-mapped}
+use Rattle.es_steps.proofs.HelperCallsMapped.{is_helper_callee-mapped}
 use Rattle.es_steps.proofs.KeptNodesMapped.{statement_list-mapped, is_function_declaration-mapped}
 use Rattle.es_steps.proofs.Mapped.{Renames, mapped, mapped_part, mapped_parts, mapped_option, mapped_generated, mapped_ledger, mapped_ledger_entry, mapped_privates, mapped_private, mapped_pair, mapped_referent, mapped_reference}
 use Rattle.es_steps.proofs.PartsMapped.{cond-mapped, append-mapped, at-mapped, items_at-mapped, string_at-mapped, is_present-mapped, is_present_at-mapped, number_of-mapped, preorder-mapped}
@@ -184,9 +184,21 @@ module _ {first : ℕ} {f : ℕ → ℕ} (r : Renames first f) where
   is_named_again-mapped e [] = refl
   is_named_again-mapped e (x ∷ xs) = ap₂ (λ a b. (a && bytes_eq e.name x.name) || b) (same_space-mapped e.kind x.kind) (is_named_again-mapped e xs)
 
+  same_subject-mapped : (g h : GeneratedKind) → same_subject (mapped_generated f g) (mapped_generated f h) ≡ same_subject g h
+  same_subject-mapped (GeneratedKind.WeakMap d) (GeneratedKind.WeakMap k) = r.apart d.0 k.0
+  same_subject-mapped (GeneratedKind.StaticField d) (GeneratedKind.StaticField k) = r.apart d.0 k.0
+  same_subject-mapped (GeneratedKind.Brand n) (GeneratedKind.Brand k) = r.apart n.0 k.0
+  same_subject-mapped (GeneratedKind.Method d) (GeneratedKind.Method k) = r.apart d.0 k.0
+  same_subject-mapped (GeneratedKind.LooseKey d) (GeneratedKind.LooseKey k) = r.apart d.0 k.0
+  same_subject-mapped g h = refl
+
+  has_another_name-mapped : (g : GeneratedKind) (es : List LedgerEntry) → has_another_name (mapped_generated f g) (mapped_ledger f es) ≡ has_another_name g es
+  has_another_name-mapped g [] = refl
+  has_another_name-mapped g (x ∷ xs) = ap₂ (λ a b. a || b) (same_subject-mapped g x.kind) (has_another_name-mapped g xs)
+
   pub names_declared-mapped : (ledger : List LedgerEntry) (q : Tree) → names_declared first (mapped_ledger f ledger) (mapped f q) ≡ names_declared first ledger q
   names_declared-mapped [] q = refl
-  names_declared-mapped (e ∷ es) q = ap₂ (λ a b. not a && b) (is_named_again-mapped e es) (ap₂ (λ a b. a && b) (declared_by_kind-mapped q e.name e.kind) (names_declared-mapped es q))
+  names_declared-mapped (e ∷ es) q = ap₂ (λ a b. (is_underscored e.name && not a) && b) (ap₂ (λ a b. a || b) (is_named_again-mapped e es) (has_another_name-mapped e.kind es)) (ap₂ (λ a b. a && b) (declared_by_kind-mapped q e.name e.kind) (names_declared-mapped es q))
 
   -- ---- new declarations
 
@@ -223,12 +235,8 @@ module _ {first : ℕ} {f : ℕ → ℕ} (r : Renames first f) where
 
   -- ---- initializations
 
-  is_helper_callee-mapped : (h : String) (p : Part) → is_helper_callee first h (mapped_part f p) ≡ is_helper_callee first h p
-  is_helper_callee-mapped h (child (Node Kind.MemberExpression m span semantic_id (more (child (Node Kind.IdentifierReference b bspan b_semantic_id (more (string s) end))) (more (child (Node Kind.IdentifierName k kspan k_semantic_id (more (string t) end))) rest)))) = rw (r.new b) refl
-  is_helper_callee-mapped h p = refl
-
   is_key_call-mapped : (p : Part) → is_key_call first (mapped_part f p) ≡ is_key_call first p
-  is_key_call-mapped (child (Node Kind.CallExpression m span semantic_id (more g (more (list (more s end)) rest)))) = is_helper_callee-mapped (codes "classPrivateFieldLooseKey") g
+  is_key_call-mapped (child (Node Kind.CallExpression m span semantic_id (more g (more (list (more s end)) rest)))) = is_helper_callee-mapped r (codes "classPrivateFieldLooseKey") g
   is_key_call-mapped p = refl
 
   has_pair-mapped : (m n : ℕ) (ps : List (ℕ × ℕ)) → has_pair (f m) (f n) (map (mapped_pair f) ps) ≡ has_pair m n ps
@@ -333,12 +341,27 @@ module _ {first : ℕ} {f : ℕ → ℕ} (r : Renames first f) where
       (ap₂ (all_before (f i.0)) (class_before-mapped g members) (preorder-mapped f q) ∙ all_before-mapped i.0 (class_before g members) (preorder q))
   is_one_initialization-mapped g members q (i ∷ j ∷ is) = refl
 
+  is_temp-mapped : (g : GeneratedKind) → is_temp (mapped_generated f g) ≡ is_temp g
+  is_temp-mapped GeneratedKind.Temp = refl
+  is_temp-mapped g = refl
+
+  is_at_most_one-mapped : (is : List (ℕ × Bool)) → is_at_most_one (map (mapped_initialization f) is) ≡ is_at_most_one is
+  is_at_most_one-mapped [] = refl
+  is_at_most_one-mapped (i ∷ []) = refl
+  is_at_most_one-mapped (i ∷ j ∷ is) = refl
+
+  initialization_stands-mapped : (g : GeneratedKind) (members : List PrivateMember) (q : Tree) (is : List (ℕ × Bool)) → initialization_stands (mapped_generated f g) (mapped_privates f members) (mapped f q) (map (mapped_initialization f) is) ≡ initialization_stands g members q is
+  initialization_stands-mapped g members q is =
+      ap₂ (λ a b. a || b)
+      (ap₂ (λ a b. a && b) (needs_none-mapped f g) (ap₂ (λ a b. not a || b) (is_temp-mapped g) (is_at_most_one-mapped is)))
+      (ap₂ (λ a b. a && b) (belongs-mapped members g) (is_one_initialization-mapped g members q is))
+
   pub initializations_stand-mapped : (ledger : List LedgerEntry) (members : List PrivateMember) (q : Tree) (es : List LedgerEntry) → initializations_stand first (mapped_ledger f ledger) (mapped_privates f members) (mapped f q) (mapped_ledger f es) ≡ initializations_stand first ledger members q es
   initializations_stand-mapped ledger members q [] = refl
   initializations_stand-mapped ledger members q (e ∷ es) =
       let own : List (ℕ × Bool) = initializations first ledger q e.name e.kind (preorder q) in
       ap₂ (λ a b. a && b)
-      (ap₂ (λ a b. a || b) (needs_none-mapped f e.kind) (ap₂ (λ a b. a && b) (belongs-mapped members e.kind) (ap (is_one_initialization (mapped_generated f e.kind) (mapped_privates f members) (mapped f q)) (initializations_in-mapped ledger q e.name e.kind) ∙ is_one_initialization-mapped e.kind members q own)))
+      (ap (initialization_stands (mapped_generated f e.kind) (mapped_privates f members) (mapped f q)) (initializations_in-mapped ledger q e.name e.kind) ∙ initialization_stands-mapped e.kind members q own)
       (initializations_stand-mapped ledger members q es)
 
   any_before-mapped : (is : List (ℕ × Bool)) (n : ℕ) (ts : List Tree) → any_before (map (mapped_initialization f) is) (f n) (map (mapped f) ts) ≡ any_before is n ts

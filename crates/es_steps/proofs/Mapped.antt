@@ -218,6 +218,7 @@ module _ (f : ℕ → ℕ) where
     role = mapped_role c.role;
     let_class = mapped_option mapped_pair c.let_class;
     is_body = c.is_body;
+    in_block = c.in_block;
   }
 
   abbrev pub mapped_opened : Opened → Opened
@@ -368,8 +369,8 @@ module _ (f : ℕ → ℕ) where
   mapped_numbered_entry p = (f p.0, mapped_entry p.1)
 
   abbrev pub mapped_member_entry : MemberEntry → MemberEntry
-  mapped_member_entry (IsField is_static) = IsField is_static
-  mapped_member_entry (FunctionIs is_static kind g) = FunctionIs is_static kind (f g)
+  mapped_member_entry (IsField n is_static) = IsField (f n) is_static
+  mapped_member_entry (FunctionIs n is_static kind g) = FunctionIs (f n) is_static kind (f g)
 
   abbrev pub mapped_numbered_member : ℕ × MemberEntry → ℕ × MemberEntry
   mapped_numbered_member p = (f p.0, mapped_member_entry p.1)
@@ -411,6 +412,7 @@ module _ (f : ℕ → ℕ) where
     functions = map mapped_pair m.functions;
     bindings = map mapped_binding m.bindings;
     globals = map mapped_name m.globals;
+    shared = map mapped_pair m.shared;
     places = map mapped_pair m.places;
     links = map mapped_link m.links;
     exports = map mapped_named_export m.exports;

@@ -3,7 +3,7 @@ use Rattle.std.specs.Prelude.{◌≡◌, ℕ, zero, suc, List, [], ◌∷◌, ma
 use Rattle.std.proofs.Common.{refl, sym, ap, ap₂, ◌∙◌}
 use Rattle.es_base.specs.Numbered.{is_new}
 use Rattle.es_base.specs.Preorder.{preorder}
-use Rattle.es_base.specs.Tree.{Tree, Part, Parts, Node, end, more, child, list, string}
+use Rattle.es_base.specs.Tree.{Tree, Part, Parts, Node, end, more, child, absent, list, string}
 use Rattle.es_base.specs.declared.kind.Kind.{Kind}
 use Rattle.es_base.specs.declared.ledger.GeneratedKind.{GeneratedKind}
 use Rattle.es_base.specs.declared.ledger.LedgerEntry.{LedgerEntry}
@@ -11,25 +11,27 @@ use Rattle.es_steps.specs.Code.{Code, Opened, private_method, give_function, fun
 use Rattle.es_steps.specs.Context.{Context, generated_as}
 use Rattle.es_steps.specs.Entries.{Entry, Entries, Listed, listed, after_run, entries}
 use Rattle.es_steps.specs.Evaluation.{Environment, Evaluation, Run, ev}
-use Rattle.es_steps.specs.Meaning.{Meaning, Terms, DeclarationKind, ClassDeclared, MemberEntry, IsField, FunctionIs, declarator_kind, declares_at, declared_as, declaring, declaring_parts, declaring_part, declaring_items, old_names, globals, second_numbers, old_bindings, names_class, unless_generated, declared_function, declared_functions, function_of, private_function_by, private_functions, function_at, member_entry, with_member, member_entries, inserted, by_number, with_entry, whole, with_export, all_exports, source_type_of, body_of, in_body, start, with_all, means_by, means_of, means}
+use Rattle.es_steps.specs.Meaning.{Meaning, Terms, DeclarationKind, ClassDeclared, MemberEntry, FunctionIs, declarator_kind, declares_at, declared_as, declaring, declaring_parts, declaring_part, declaring_items, old_names, globals, second_numbers, old_bindings, names_class, unless_generated, declared_function, declared_functions, function_of, private_function_by, private_functions, function_at, member_entry, with_member, member_entries, inserted, by_number, with_entry, whole, with_export, all_exports, source_type_of, body_of, in_body, start, with_all, means_by, means_of, means}
 use Rattle.es_steps.specs.Modules.{Export, Exported, links_in, exports_in}
 use Rattle.es_steps.specs.Opening.{Definition, definitions, opening}
 use Rattle.es_steps.specs.Parts.{at, items, string_of}
 use Rattle.es_steps.specs.PrivateNames.{PrivateMember, PrivateKind, a_field}
 use Rattle.es_steps.specs.Reading.{read}
 use Rattle.es_steps.specs.Repeated.{all_places}
+use Rattle.es_steps.specs.Shared.{shared}
 use Rattle.es_steps.specs.Scopes.{Declaration, is_binding_identifier, class_in, body_names}
 use Rattle.es_steps.specs.Values.{String}
 use Rattle.es_steps.proofs.ContextMapped.{generated_as-mapped, inside-mapped, inside-first, start-mapped}
 use Rattle.es_steps.proofs.EntriesMapped.{entries-mapped, listed-mapped, after_run-mapped}
 use Rattle.es_steps.proofs.EvaluationMapped.{Follows, ev-follows}
-use Rattle.es_steps.proofs.Mapped.{Renames, mapped, mapped_part, mapped_parts, mapped_option, mapped_generated, mapped_ledger, mapped_privates, mapped_context, mapped_code, mapped_codes, mapped_opened, mapped_definition, mapped_environment, mapped_runs, mapped_listed, mapped_entry, mapped_entries, mapped_numbered_entry, mapped_member_entry, mapped_numbered_member, mapped_pair, mapped_binding, mapped_link, mapped_exported, mapped_export, mapped_named_export, mapped_declaration, mapped_declarations, mapped_meaning, mapped_terms}
+use Rattle.es_steps.proofs.Mapped.{Renames, mapped, mapped_part, mapped_parts, mapped_option, mapped_generated, mapped_ledger, mapped_privates, mapped_context, mapped_code, mapped_opened, mapped_definition, mapped_environment, mapped_listed, mapped_entry, mapped_entries, mapped_numbered_entry, mapped_member_entry, mapped_numbered_member, mapped_pair, mapped_binding, mapped_exported, mapped_export, mapped_named_export, mapped_declaration, mapped_declarations, mapped_meaning, mapped_terms}
 use Rattle.es_steps.proofs.ModulesMapped.{links_in-mapped, exports_in-mapped}
 use Rattle.es_steps.proofs.OpeningMapped.{gather-mapped, definitions-mapped, opening-follows}
 use Rattle.es_steps.proofs.PartsMapped.{cond-mapped, append-mapped, at-mapped, items_at-mapped, string_at-mapped, preorder-mapped}
 use Rattle.es_steps.proofs.ReadingMapped.{read-mapped}
 use Rattle.es_steps.proofs.ScopesMapped.{body_names-mapped, class_in-mapped}
 use Rattle.es_steps.proofs.RepeatedMapped.{all_places-mapped}
+use Rattle.es_steps.proofs.SharedMapped.{shared-mapped}
 
 -- ---- by number
 
@@ -111,6 +113,7 @@ module _ (f : ℕ → ℕ) where
 
   declared_function-mapped : (ledger : List LedgerEntry) (t : Tree) → declared_function (mapped_ledger f ledger) (mapped f t) ≡ map (mapped_pair f) (declared_function ledger t)
   declared_function-mapped ledger (Node Kind.FunctionDeclaration g span semantic_id (more (child (Node Kind.BindingIdentifier b s i (more (string x) end))) ps)) = ap (λ k. unless_generated k (f b, f g)) (generated_as-mapped f x ledger) ∙ unless_generated-mapped (generated_as x ledger) (b, g)
+  declared_function-mapped ledger (Node Kind.ExportDefaultDeclaration m span semantic_id (more (child (Node Kind.FunctionDeclaration g gspan g_semantic_id (more absent ps))) rest)) = refl
   declared_function-mapped ledger t = refl
 
   declared_functions-mapped : (ledger : List LedgerEntry) (ts : List Tree) → declared_functions (mapped_ledger f ledger) (map (mapped f) ts) ≡ map (mapped_pair f) (declared_functions ledger ts)
@@ -126,19 +129,19 @@ module _ (f : ℕ → ℕ) where
   second_numbers-mapped (p ∷ ps) = ap (λ ns. f p.1 ∷ ns) (second_numbers-mapped ps)
 
 module _ {first : ℕ} {f : ℕ → ℕ} (r : Renames first f) where
-  function_at-mapped : (is_static : Bool) (kind : PrivateKind) (d : ℕ) (ps : List (ℕ × ℕ)) → function_at is_static kind (f d) (map (mapped_pair f) ps) ≡ mapped_option (mapped_member_entry f) (function_at is_static kind d ps)
-  function_at-mapped is_static kind d [] = refl
-  function_at-mapped is_static kind d (p ∷ ps) = rw (r.apart d p.0) (cond-mapped (mapped_option (mapped_member_entry f)) (nat_eq d p.0) (Some (FunctionIs is_static kind p.1)) (function_at is_static kind d ps) refl (function_at-mapped is_static kind d ps))
+  function_at-mapped : (n : ℕ) (is_static : Bool) (kind : PrivateKind) (d : ℕ) (ps : List (ℕ × ℕ)) → function_at (f n) is_static kind (f d) (map (mapped_pair f) ps) ≡ mapped_option (mapped_member_entry f) (function_at n is_static kind d ps)
+  function_at-mapped n is_static kind d [] = refl
+  function_at-mapped n is_static kind d (p ∷ ps) = rw (r.apart d p.0) (cond-mapped (mapped_option (mapped_member_entry f)) (nat_eq d p.0) (Some (FunctionIs n is_static kind p.1)) (function_at n is_static kind d ps) refl (function_at-mapped n is_static kind d ps))
 
-  member_entry-mapped : (is_static : Bool) (kind : PrivateKind) (d : ℕ) (functions : List (ℕ × ℕ)) → member_entry is_static kind (f d) (map (mapped_pair f) functions) ≡ mapped_option (mapped_member_entry f) (member_entry is_static kind d functions)
-  member_entry-mapped is_static a_field d functions = refl
-  member_entry-mapped is_static kind d functions = function_at-mapped is_static kind d functions
+  member_entry-mapped : (n : ℕ) (is_static : Bool) (kind : PrivateKind) (d : ℕ) (functions : List (ℕ × ℕ)) → member_entry (f n) is_static kind (f d) (map (mapped_pair f) functions) ≡ mapped_option (mapped_member_entry f) (member_entry n is_static kind d functions)
+  member_entry-mapped n is_static a_field d functions = refl
+  member_entry-mapped n is_static kind d functions = function_at-mapped n is_static kind d functions
 
   member_entries-mapped : (functions : List (ℕ × ℕ)) (xs : List PrivateMember) → member_entries (map (mapped_pair f) functions) (mapped_privates f xs) ≡ mapped_option (map (mapped_numbered_member f)) (member_entries functions xs)
   member_entries-mapped functions [] = refl
   member_entries-mapped functions (x ∷ xs) =
-      ap₂ (with_member (f x.number)) (member_entry-mapped x.is_static x.kind x.number functions) (member_entries-mapped functions xs)
-      ∙ with_member-mapped f x.number (member_entry x.is_static x.kind x.number functions) (member_entries functions xs)
+      ap₂ (with_member (f x.number)) (member_entry-mapped x.class x.is_static x.kind x.number functions) (member_entries-mapped functions xs)
+      ∙ with_member-mapped f x.number (member_entry x.class x.is_static x.kind x.number functions) (member_entries functions xs)
 
   declares_at-mapped : (kind : Kind) (m : ℕ) (ps : Parts) (d : DeclarationKind) (i : ℕ) → declares_at first kind (f m) (mapped_parts f ps) d i ≡ declares_at first kind m ps d i
   declares_at-mapped Kind.VariableDeclaration m ps d i = ap DeclarationKind.Variable (string_at-mapped f 0 ps)
@@ -219,7 +222,7 @@ module _ {f : ℕ → ℕ} (o : Terms) (r : Renames o.first_new f) (t : Tree) wh
   places-mapped d = ap (λ ns. all_places o.first_new (mapped_ledger f o.ledger) ns (mapped f t)) (second_numbers-mapped f d) ∙ all_places-mapped r o.ledger (second_numbers d) t
 
   abbrev found : List (ℕ × ℕ) → Listed → List (ℕ × Entry) → List (ℕ × MemberEntry) → List (String × Exported) → Meaning
-  found d l es ms xs = record { source_type = source_type_of t; program = l; entries = by_number es; members = by_number ms; functions = by_number (declared_functions o.ledger (preorder t)); bindings = by_number (old_bindings o.first_new (declaring o.first_new ClassDeclared t)); globals = by_number (globals o.first_new t); places = by_number (private_places d); links = links_in (body_of t); exports = xs }
+  found d l es ms xs = record { source_type = source_type_of t; program = l; entries = by_number es; members = by_number ms; functions = by_number (declared_functions o.ledger (preorder t)); bindings = by_number (old_bindings o.first_new (declaring o.first_new ClassDeclared t)); globals = by_number (globals o.first_new t); shared = by_number (shared false t); places = by_number (private_places d); links = links_in (body_of t); exports = xs }
 
   found-same : (d : List (ℕ × ℕ)) (l : Listed) (es : List (ℕ × Entry)) (ms : List (ℕ × MemberEntry)) (xs : List (String × Exported)) → mapped_meaning f (found d l es ms xs) ≡ found d l es ms xs → with_all (mapped_terms f o) (mapped f t) (map (mapped_pair f) d) (Some (mapped_listed f l)) (Some (map (mapped_numbered_entry f) es)) (Some (map (mapped_numbered_member f) ms)) (Some (map (mapped_named_export f) xs)) ≡ Some (found d l es ms xs)
   found-same d l es ms xs still =
@@ -228,9 +231,10 @@ module _ {f : ℕ → ℕ} (o : Terms) (r : Renames o.first_new f) (t : Tree) wh
       let same_members : map (mapped_numbered_member f) ms ≡ ms = by_number-still (mapped_numbered_member f) ms (ap (λ (m : Meaning). m.members) still) in
       let same_functions : declared_functions (mapped_ledger f o.ledger) (preorder (mapped f t)) ≡ declared_functions o.ledger (preorder t) = functions-mapped ∙ by_number-still (mapped_pair f) (declared_functions o.ledger (preorder t)) (ap (λ (m : Meaning). m.functions) still) in
       let same_places : all_places o.first_new (mapped_ledger f o.ledger) (second_numbers (map (mapped_pair f) d)) (mapped f t) ≡ private_places d = places-mapped d ∙ by_number-still (mapped_pair f) (private_places d) (ap (λ (m : Meaning). m.places) still) in
+      let same_shared : shared false (mapped f t) ≡ shared false t = shared-mapped f false t ∙ by_number-still (mapped_pair f) (shared false t) (ap (λ (m : Meaning). m.shared) still) in
       let same_links : links_in (body_of (mapped f t)) ≡ links_in (body_of t) = ap links_in (body_of-mapped f t) ∙ links_in-mapped r (body_of t) ∙ ap (λ (m : Meaning). m.links) still in
       let same_exports : map (mapped_named_export f) xs ≡ xs = ap (λ (m : Meaning). m.exports) still in
-      rw (program, same_entries, same_members, same_functions, same_places, same_links, same_exports, bindings-same, globals-mapped r t, source_type_of-mapped f t) refl
+      rw (program, same_entries, same_members, same_functions, same_shared, same_places, same_links, same_exports, bindings-same, globals-mapped r t, source_type_of-mapped f t) refl
 
   with_all-same : (d : List (ℕ × ℕ)) (l : Option Listed) (es : Option (List (ℕ × Entry))) (ms : Option (List (ℕ × MemberEntry))) (xs : Option (List (String × Exported))) (m : Option Meaning) → with_all o t d l es ms xs ≡ m → mapped_option (mapped_meaning f) m ≡ m → with_all (mapped_terms f o) (mapped f t) (map (mapped_pair f) d) (mapped_option (mapped_listed f) l) (mapped_option (map (mapped_numbered_entry f)) es) (mapped_option (map (mapped_numbered_member f)) ms) (mapped_option (map (mapped_named_export f)) xs) ≡ m
   with_all-same d (Some l) (Some es) (Some ms) (Some xs) m e still = found-same d l es ms xs (some-same _ _ (ap (mapped_option (mapped_meaning f)) e ∙ still ∙ sym e)) ∙ e

@@ -1,15 +1,14 @@
 -- Imports and exports follow a change of numbers.
 use Rattle.std.specs.Prelude.{◌≡◌, ℕ, List, [], ◌∷◌, ◌++◌, map, Bool, true, false, cond, Option, Some, None}
 use Rattle.std.proofs.Common.{refl, ap, ◌∙◌}
-use Rattle.es_base.specs.Numbered.{is_new}
 use Rattle.es_base.specs.Tree.{Part, Parts, Node, end, more, child, absent, literal}
 use Rattle.es_base.specs.declared.kind.Kind.{Kind}
 use Rattle.es_base.specs.declared.ledger.GeneratedKind.{GeneratedKind}
 use Rattle.es_base.specs.declared.literal.LiteralValue.TheVariants as literal_value
 use Rattle.es_steps.specs.Context.{Context, NameKind, Fixed, Changing, MeansClass, Generated, StaticMethod, name_kind}
 use Rattle.es_steps.specs.Evaluation.{Environment, found, default_key}
-use Rattle.es_steps.specs.Modules.{Specifier, Imported, ImportedDefault, ImportedNamespace, ReexportedAll, ModuleLink, Export, Exported, module_name, importing, specifier_of, specifiers_of, nullable_name, link, export_link, link_of, links_in, exported_referent, exported_as, exported_value, declared_exports, specifier_export, specifier_exports, local_exports, default_export, is_named_declaration, default_exports, exports_of, exports_in}
-use Rattle.es_steps.specs.Parts.{at, items, string_of}
+use Rattle.es_steps.specs.Modules.{Specifier, Imported, ImportedDefault, ImportedNamespace, Exported, module_name, importing, specifier_of, specifiers_of, nullable_name, export_link, link_of, links_in, exported_referent, exported_as, exported_value, declared_exports, specifier_export, specifier_exports, local_exports, default_export, is_named_declaration, default_exports, exports_of, exports_in}
+use Rattle.es_steps.specs.Parts.{at, items}
 use Rattle.es_steps.specs.Scopes.{Declaration, lexical_part, var_part}
 use Rattle.es_steps.specs.Values.{String, Value, ClassOf, Referent, Bound, Free}
 use Rattle.es_steps.proofs.ContextMapped.{name_kind-mapped}

@@ -84,6 +84,6 @@ module _ (f : ℕ → ℕ) where
     preorder_of_part-mapped (list ps) = preorder_of-mapped ps
     preorder_of_part-mapped p = refl
 
-    preorder_of-mapped : (ps : Parts) → preorder_of (mapped_parts f ps) ≡ map (mapped f) (preorder_of ps)
+    pub preorder_of-mapped : (ps : Parts) → preorder_of (mapped_parts f ps) ≡ map (mapped f) (preorder_of ps)
     preorder_of-mapped end = refl
     preorder_of-mapped (more p ps) = append-mapped (mapped f) _ _ (preorder_of_part-mapped p) (preorder_of-mapped ps)

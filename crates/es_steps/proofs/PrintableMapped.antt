@@ -5,11 +5,13 @@ use Rattle.es_base.specs.Conforms.{is_among}
 use Rattle.es_base.specs.Tree.{Tree, Part, Parts, Node, end, more, child, absent, list, string, boolean, literal}
 use Rattle.es_base.specs.declared.kind.Kind.{Kind}
 use Rattle.es_base.specs.declared.literal.LiteralValue.TheVariants as literal_value
-use Rattle.es_steps.specs.Parts.{at, items, string_of, is_true, is_present}
-use Rattle.es_steps.specs.Printable.{is_bad_name, is_bad_label_name, is_bad_label, is_bad_literal, tails_fit, is_bad_template, is_directive_of, is_bad_directive, count, is_kind_of, is_default, is_function_expression, is_identifier_name, name_of_part, shorthand_name, has_id, is_suspending, is_bad_property, is_spelled, is_bad_method, is_bad_field, is_meta_property, only_named, are_behind_default, are_specifiers, is_declaration_body, is_lexical_body, ends_open, part_ends_open, is_bad_if, is_super_part, has_optional, part_has_optional, is_spine_kind, any_optional, behind_first, has_stray_optional, is_bad_form, is_bad_node, is_default_export, is_module, is_declaration_without_name, is_bad_in, has_bad, bad_at, bad_in, Jumps, no_jumps, is_label_among, is_stray, is_looping, part_is_looping, labelled, jumps_inside, has_stray, stray_at, stray_in, is_printable}
+use Rattle.es_steps.specs.KeptNodes.{statement_list}
+use Rattle.es_steps.specs.Parts.{at, items, block_items, is_present}
+use Rattle.es_steps.specs.Printable.{is_bad_name, is_bad_label_name, is_bad_label, is_bad_literal, tails_fit, is_bad_template, is_directive_of, is_bad_directive, is_directive, has_late_directive, is_use_strict, uses_strict, is_binding_name, are_names, is_strict_with_patterns, has_bad_prologue, count, is_kind_of, is_default, is_function_expression, is_identifier_name, name_of_part, shorthand_name, has_id, is_suspending, is_bad_property, is_spelled, is_bad_method, is_bad_field, is_meta_property, only_named, are_behind_default, are_specifiers, is_declaration_body, is_lexical_body, ends_open, part_ends_open, is_bad_if, is_super_part, has_optional, part_has_optional, is_spine_kind, any_optional, behind_first, has_stray_optional, is_bad_form, is_bad_node, is_default_export, is_module, is_declaration_without_name, is_bad_in, has_bad, bad_at, bad_in, Jumps, no_jumps, is_label_among, is_stray, is_looping, part_is_looping, jumps_inside, has_stray, stray_at, stray_in, is_printable}
 use Rattle.es_steps.specs.Values.{String}
+use Rattle.es_steps.proofs.KeptNodesMapped.{statement_list-mapped}
 use Rattle.es_steps.proofs.Mapped.{mapped, mapped_part, mapped_parts}
-use Rattle.es_steps.proofs.PartsMapped.{cond-mapped, at-mapped, items_at-mapped, string_at-mapped, is_true_at-mapped, is_present_at-mapped}
+use Rattle.es_steps.proofs.PartsMapped.{cond-mapped, at-mapped, items_at-mapped, block_items_at-mapped, string_at-mapped, is_true_at-mapped, is_present_at-mapped}
 
 module _ (f : ℕ → ℕ) where
   is_bad_name-mapped : (kind : Kind) (ps : Parts) → is_bad_name kind (mapped_parts f ps) ≡ is_bad_name kind ps
@@ -52,6 +54,42 @@ module _ (f : ℕ → ℕ) where
   is_bad_directive-mapped Kind.ExpressionStatement (more e (more (string s) end)) = ap not (is_directive_of-mapped s e)
   is_bad_directive-mapped kind ps = refl
 
+  is_directive-mapped : (p : Part) → is_directive (mapped_part f p) ≡ is_directive p
+  is_directive-mapped (child (Node Kind.ExpressionStatement m span semantic_id (more e (more (string s) end)))) = refl
+  is_directive-mapped p = refl
+
+  has_late_directive-mapped : (late : Bool) (ps : Parts) → has_late_directive late (mapped_parts f ps) ≡ has_late_directive late ps
+  has_late_directive-mapped late end = refl
+  has_late_directive-mapped late (more p ps) = rw (is_directive-mapped p, has_late_directive-mapped (late || not (is_directive p)) ps) refl
+
+  is_use_strict-mapped : (p : Part) → is_use_strict (mapped_part f p) ≡ is_use_strict p
+  is_use_strict-mapped (child (Node Kind.ExpressionStatement m span semantic_id (more e (more (string s) end)))) = refl
+  is_use_strict-mapped p = refl
+
+  uses_strict-mapped : (ps : Parts) → uses_strict (mapped_parts f ps) ≡ uses_strict ps
+  uses_strict-mapped end = refl
+  uses_strict-mapped (more p ps) = ap₂ (λ a b. a || b) (is_use_strict-mapped p) (uses_strict-mapped ps)
+
+  is_binding_name-mapped : (p : Part) → is_binding_name (mapped_part f p) ≡ is_binding_name p
+  is_binding_name-mapped (child (Node Kind.BindingIdentifier m span semantic_id ps)) = refl
+  is_binding_name-mapped p = refl
+
+  are_names-mapped : (ps : Parts) → are_names (mapped_parts f ps) ≡ are_names ps
+  are_names-mapped end = refl
+  are_names-mapped (more p ps) = ap₂ (λ a b. a && b) (is_binding_name-mapped p) (are_names-mapped ps)
+
+  strict_with_patterns-mapped : (i j : ℕ) (ps : Parts) → is_strict_with_patterns (at i (mapped_parts f ps)) (at j (mapped_parts f ps)) ≡ is_strict_with_patterns (at i ps) (at j ps)
+  strict_with_patterns-mapped i j ps = rw (items_at-mapped f i ps, block_items_at-mapped f j ps) (ap₂ (λ a b. not a && b) (are_names-mapped (items (at i ps))) (uses_strict-mapped (block_items (at j ps))))
+
+  late_in-mapped : (kind : Kind) (ps : Parts) → has_late_directive false (statement_list kind (mapped_parts f ps)) ≡ has_late_directive false (statement_list kind ps)
+  late_in-mapped kind ps = ap (has_late_directive false) (statement_list-mapped f kind ps) ∙ has_late_directive-mapped false (statement_list kind ps)
+
+  has_bad_prologue-mapped : (kind : Kind) (ps : Parts) → has_bad_prologue kind (mapped_parts f ps) ≡ has_bad_prologue kind ps
+  has_bad_prologue-mapped Kind.FunctionDeclaration ps = strict_with_patterns-mapped 1 2 ps
+  has_bad_prologue-mapped Kind.FunctionExpression ps = strict_with_patterns-mapped 1 2 ps
+  has_bad_prologue-mapped Kind.ArrowFunctionExpression ps = strict_with_patterns-mapped 0 1 ps
+  has_bad_prologue-mapped kind ps = late_in-mapped kind ps
+
   count-mapped : (ps : Parts) → count (mapped_parts f ps) ≡ count ps
   count-mapped end = refl
   count-mapped (more p ps) = ap suc (count-mapped ps)
@@ -80,7 +118,7 @@ module _ (f : ℕ → ℕ) where
   is_bad_property-mapped : (ps : Parts) → is_bad_property (mapped_parts f ps) ≡ is_bad_property ps
   is_bad_property-mapped ps = rw (string_at-mapped f 2 ps, is_true_at-mapped f 3 ps, is_true_at-mapped f 4 ps, is_true_at-mapped f 5 ps, at-mapped f 0 ps, at-mapped f 1 ps, name_of_part-mapped (at 0 ps), shorthand_name-mapped (at 1 ps), is_kind_of-mapped is_identifier_name (at 0 ps), is_kind_of-mapped is_function_expression (at 1 ps), has_id-mapped (at 1 ps), is_suspending-mapped (at 1 ps)) refl
 
-  is_spelled-mapped : (s : String) (p : Part) → is_spelled s (mapped_part f p) ≡ is_spelled s p
+  pub is_spelled-mapped : (s : String) (p : Part) → is_spelled s (mapped_part f p) ≡ is_spelled s p
   is_spelled-mapped s (child (Node Kind.IdentifierName m span semantic_id ps)) = rw (string_at-mapped f 0 ps) refl
   is_spelled-mapped s (child (Node Kind.Literal m span semantic_id (more (literal (literal_value.String t raw)) end))) = refl
   is_spelled-mapped s p = refl
@@ -210,7 +248,7 @@ module _ (f : ℕ → ℕ) where
   is_bad_form-mapped kind ps = refl
 
   is_bad_node-mapped : (kind : Kind) (ps : Parts) → is_bad_node kind (mapped_parts f ps) ≡ is_bad_node kind ps
-  is_bad_node-mapped kind ps = rw (is_bad_name-mapped kind ps, is_bad_label-mapped kind ps, is_bad_literal-mapped kind ps, is_bad_template-mapped kind ps, is_bad_directive-mapped kind ps, is_bad_form-mapped kind ps, has_stray_optional-mapped kind ps) refl
+  is_bad_node-mapped kind ps = rw (is_bad_name-mapped kind ps, is_bad_label-mapped kind ps, is_bad_literal-mapped kind ps, is_bad_template-mapped kind ps, is_bad_directive-mapped kind ps, has_bad_prologue-mapped kind ps, is_bad_form-mapped kind ps, has_stray_optional-mapped kind ps) refl
 
   is_module-mapped : (kind : Kind) (ps : Parts) → is_module kind (mapped_parts f ps) ≡ is_module kind ps
   is_module-mapped Kind.Program ps = rw (string_at-mapped f 0 ps) refl

@@ -34,7 +34,7 @@ module _ (f : ℕ → ℕ) where
     bound_items-mapped name end = refl
     bound_items-mapped name (more p ps) = append-mapped (mapped_declaration f) _ _ (bound_part-mapped name p) (bound_items-mapped name ps)
 
-  bound_at-mapped : (name : ClassName) (i : ℕ) (ps : Parts) → bound_part (mapped_class_name f name) (at i (mapped_parts f ps)) ≡ mapped_declarations f (bound_part name (at i ps))
+  pub bound_at-mapped : (name : ClassName) (i : ℕ) (ps : Parts) → bound_part (mapped_class_name f name) (at i (mapped_parts f ps)) ≡ mapped_declarations f (bound_part name (at i ps))
   bound_at-mapped name i ps = ap (bound_part (mapped_class_name f name)) (at-mapped f i ps) ∙ bound_part-mapped name (at i ps)
 
   -- ---- the names that a statement declares

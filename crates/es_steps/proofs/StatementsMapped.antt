@@ -4,19 +4,18 @@ use Rattle.std.proofs.Common.{refl, ap, ap₂, ◌∙◌}
 use Rattle.es_base.specs.Numbered.{is_new}
 use Rattle.es_base.specs.declared.kind.Kind.{Kind}
 use Rattle.es_base.specs.declared.ledger.GeneratedKind.{GeneratedKind}
-use Rattle.es_steps.specs.Code.{Code, Codes, Target, FunctionForm, FieldForm, nothing, no_rule, value, spelled, private_name, binding, rest, assign, operation, pattern, takes, steps, gives_to, export_default, function, new_function, new_return, class_code, field, private_field, method, private_method, constructor, generated_element, give_function, give_class, to_name, to_pattern, to_default, no_target, done, and, one, joined}
-use Rattle.es_steps.specs.Context.{Context, NameKind, Generated, MeansClass, new_here, is_constructor, is_generated_private}
+use Rattle.es_steps.specs.Code.{Code, Codes, Target, FunctionForm, no_rule, value, spelled, private_name, binding, rest, assign, operation, pattern, takes, steps, gives_to, new_return, field, private_field, method, private_method, generated_element, no_target, done, and, one, joined}
+use Rattle.es_steps.specs.Context.{Context, Fixed, Changing, Generated, StaticMethod, MeansClass, is_constructor, is_generated_private}
 use Rattle.es_steps.specs.Events.{Detail, Operand, Empty, Index, Rest, OfKind, Take}
 use Rattle.es_steps.specs.Expressions.{the_code, key_code, key_details, target_of}
 use Rattle.es_steps.specs.Members.{Member, Members, code, absent, list, string, more, end, at, from, before, operands, details, codes_in, codes_of, word_of, flag_of}
-use Rattle.es_steps.specs.Options.{sets_fields, leaves_out_fields}
 use Rattle.es_steps.specs.PrivateNames.{PrivateMember, member_at}
-use Rattle.es_steps.specs.Statements.{held_from, case_code, given_codes, catch_code, is_initialized, initialized_first, head_initializers, declared_target, given_targets, head_targets, for_each_code, is_directive, expression_code, declarator_of, declarator_code, return_code, suspension_code, default_export_code, default_code, rest_code, pattern_property_code, target_number, taken, taken_element, elements_from, members_of_list, array_pattern_code, taken_properties, object_pattern_code, form_of, function_or_new, own_name_of, function_code, function_expression_code, declared_function, function_declaration_code, arrow_code, declared_by, declared_by_let, elements_of, class_of, value_or_undefined, is_name_string, is_name_or_length, is_absent, field_form, private_element, field_of, field_code, is_constructor_key, method_or_constructor, is_declared_as, method_of, method_code}
-use Rattle.es_steps.specs.Values.{String, StringOf, ConstantOf, Undefined}
+use Rattle.es_steps.specs.Statements.{held_from, case_code, given_codes, catch_code, is_initialized, initialized_first, head_initializers, declared_target, given_targets, head_targets, for_each_code, is_directive, expression_code, declarator_of, declarator_code, return_code, suspension_code, default_export_code, default_code, rest_code, pattern_property_code, target_number, taken, taken_element, elements_from, members_of_list, array_pattern_code, taken_properties, object_pattern_code, form_of, function_or_new, own_name_of, function_code, function_expression_code, hoisted_function, declared_function, function_declaration_code, arrow_code, declared_by, declared_by_let, elements_of, class_of, value_or_undefined, is_name_or_length, is_absent, field_form, private_element, field_of, field_code, is_constructor_key, method_or_constructor, is_declared_as, method_of, method_code}
+use Rattle.es_steps.specs.Values.{String, StringOf, ConstantOf}
 use Rattle.es_steps.proofs.ContextMapped.{is_generated_private-mapped}
 use Rattle.es_steps.proofs.ExpressionsMapped.{the_code_at-mapped, key_code-mapped, key_details-mapped, target_of-mapped, target_at-mapped}
 use Rattle.es_steps.proofs.FormsMapped.{code-cond, cond-code, here, given-mapped}
-use Rattle.es_steps.proofs.Mapped.{Renames, mapped_option, mapped_generated, mapped_name_kind, mapped_private, mapped_pair, mapped_context, mapped_code, mapped_codes, mapped_target, mapped_member, mapped_members}
+use Rattle.es_steps.proofs.Mapped.{Renames, mapped_option, mapped_generated, mapped_private, mapped_pair, mapped_context, mapped_code, mapped_codes, mapped_target, mapped_member, mapped_members}
 use Rattle.es_steps.proofs.PrivatesMapped.{member_at-mapped}
 use Rattle.es_steps.proofs.MembersMapped.{at-mapped, from-mapped, before-mapped, joined-mapped, operands-mapped, details-mapped, codes_in-mapped, word_at-mapped, flag_at-mapped, codes_at-mapped}
 use Rattle.es_steps.proofs.PartsMapped.{cond-mapped}
@@ -126,14 +125,22 @@ module _ (f : ℕ → ℕ) where
   function_or_new-mapped true g form own ps body = refl
   function_or_new-mapped false g form own ps body = refl
 
-  declared_function-mapped : (g : ℕ) (p : Member) (e : Code) → declared_function (f g) (mapped_member f p) (mapped_code f e) ≡ mapped_code f (declared_function g p e)
-  declared_function-mapped g (code (binding b s (Generated (GeneratedKind.Method d)))) e = refl
-  declared_function-mapped g (code (binding b s (Generated k))) e = of_kind k
+  hoisted_function-mapped : (here : Bool) (g : ℕ) (s : String) (e : Code) → hoisted_function here (f g) s (mapped_code f e) ≡ mapped_code f (hoisted_function here g s e)
+  hoisted_function-mapped true g s e = refl
+  hoisted_function-mapped false g s e = refl
+
+  declared_function-mapped : (here : Bool) (g : ℕ) (p : Member) (e : Code) → declared_function here (f g) (mapped_member f p) (mapped_code f e) ≡ mapped_code f (declared_function here g p e)
+  declared_function-mapped here g (code (binding b s (Generated (GeneratedKind.Method d)))) e = refl
+  declared_function-mapped here g (code (binding b s (Generated k))) e = of_kind k
     where
-      of_kind : (k : GeneratedKind) → declared_function (f g) (code (binding (f b) s (Generated (mapped_generated f k)))) (mapped_code f e) ≡ mapped_code f (declared_function g (code (binding b s (Generated k))) e)
+      of_kind : (k : GeneratedKind) → declared_function here (f g) (code (binding (f b) s (Generated (mapped_generated f k)))) (mapped_code f e) ≡ mapped_code f (declared_function here g (code (binding b s (Generated k))) e)
       of_kind (GeneratedKind.Method d) = refl
       of_kind k = refl
-  declared_function-mapped g p e = refl
+  declared_function-mapped here g (code (binding b s (Fixed n))) e = hoisted_function-mapped here g s e
+  declared_function-mapped here g (code (binding b s (Changing to))) e = hoisted_function-mapped here g s e
+  declared_function-mapped here g (code (binding b s (MeansClass n k))) e = hoisted_function-mapped here g s e
+  declared_function-mapped here g (code (binding b s (StaticMethod d n))) e = hoisted_function-mapped here g s e
+  declared_function-mapped here g p e = refl
 
   -- ---- classes
 
@@ -237,7 +244,11 @@ module _ {first : ℕ} {f : ℕ → ℕ} (r : Renames first f) (c : Context) (e 
   function_expression_code-mapped g ps = rw (at-mapped f 0 ps, own_name_of-mapped (at 0 ps)) (function_code-mapped g (own_name_of c (at 0 ps)) ps)
 
   pub function_declaration_code-mapped : (g : ℕ) (ps : Members) → function_declaration_code there (f g) (mapped_members f ps) ≡ mapped_code f (function_declaration_code c g ps)
-  function_declaration_code-mapped g ps = ap₂ (declared_function (f g)) (at-mapped f 0 ps) (function_code-mapped g None ps) ∙ declared_function-mapped f g (at 0 ps) (function_code c g None ps)
+  function_declaration_code-mapped g ps =
+      let here : Bool = c.in_block && not (flag_of (at 3 ps) || flag_of (at 4 ps)) in
+      ap₂ (λ a b. declared_function (c.in_block && not (a || b)) (f g) (at 0 (mapped_members f ps)) (function_code there (f g) None (mapped_members f ps))) (flag_at-mapped f 3 ps) (flag_at-mapped f 4 ps)
+      ∙ ap₂ (declared_function here (f g)) (at-mapped f 0 ps) (function_code-mapped g None ps)
+      ∙ declared_function-mapped f here g (at 0 ps) (function_code c g None ps)
 
   pub arrow_code-mapped : (g : ℕ) (ps : Members) → arrow_code there (f g) (mapped_members f ps) ≡ mapped_code f (arrow_code c g ps)
   arrow_code-mapped g ps =

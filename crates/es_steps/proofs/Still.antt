@@ -187,8 +187,8 @@ module _ (f : ℕ → ℕ) (test : ℕ → Bool) (still : (n : ℕ) → test n �
   numbered_entry-still p all = rw (number-still p.0 (entry_numbers p.1) all, entry-still p.1 (rest p.0 (entry_numbers p.1) all)) refl
 
   member-still : (e : MemberEntry) → Pass (member_numbers e) → mapped_member_entry f e ≡ e
-  member-still (IsField is_static) all = refl
-  member-still (FunctionIs is_static kind g) all = ap (FunctionIs is_static kind) (number-still g [] all)
+  member-still (IsField n is_static) all = ap (λ (k : ℕ). IsField k is_static) (number-still n [] all)
+  member-still (FunctionIs n is_static kind g) all = ap₂ (λ (k h : ℕ). FunctionIs k is_static kind h) (number-still n (g ∷ []) all) (number-still g [] (rest n (g ∷ []) all))
 
   numbered_member-still : (p : ℕ × MemberEntry) → Pass (numbered_member_numbers p) → mapped_numbered_member f p ≡ p
   numbered_member-still p all = rw (number-still p.0 (member_numbers p.1) all, member-still p.1 (rest p.0 (member_numbers p.1) all)) refl
@@ -232,11 +232,12 @@ module _ (f : ℕ → ℕ) (test : ℕ → Bool) (still : (n : ℕ) → test n �
       let links : List ℕ = all_numbers link_numbers m.links in
       let exports : List ℕ = all_numbers named_export_numbers m.exports in
       let globals : List ℕ = all_numbers name_numbers m.globals in
+      let shared : List ℕ = all_numbers pair_numbers m.shared in
       let places : List ℕ = all_numbers pair_numbers m.places in
-      let behind = in_three test (listed_numbers m.program ++ entries ++ members ++ functions ++ bindings ++ globals ++ places) links exports all in
-      let middle = in_four test (listed_numbers m.program ++ entries ++ members ++ functions) bindings globals places behind.0 in
+      let behind = in_four test (listed_numbers m.program ++ entries ++ members ++ functions ++ bindings ++ globals ++ shared) places links exports all in
+      let middle = in_four test (listed_numbers m.program ++ entries ++ members ++ functions) bindings globals shared behind.0 in
       let front = in_four test (listed_numbers m.program) entries members functions middle.0 in
-      rw (listed-still m.program front.0, all-still numbered_entry_numbers (mapped_numbered_entry f) numbered_entry-still m.entries front.1.0, all-still numbered_member_numbers (mapped_numbered_member f) numbered_member-still m.members front.1.1.0, all-still pair_numbers (mapped_pair f) pair-still m.functions front.1.1.1, all-still binding_numbers (mapped_binding f) binding-still m.bindings middle.1.0, all-still name_numbers (mapped_name f) name-still m.globals middle.1.1.0, all-still pair_numbers (mapped_pair f) pair-still m.places middle.1.1.1, all-still link_numbers (mapped_link f) link-still m.links behind.1.0, all-still named_export_numbers (mapped_named_export f) named_export-still m.exports behind.1.1) refl
+      rw (listed-still m.program front.0, all-still numbered_entry_numbers (mapped_numbered_entry f) numbered_entry-still m.entries front.1.0, all-still numbered_member_numbers (mapped_numbered_member f) numbered_member-still m.members front.1.1.0, all-still pair_numbers (mapped_pair f) pair-still m.functions front.1.1.1, all-still binding_numbers (mapped_binding f) binding-still m.bindings middle.1.0, all-still name_numbers (mapped_name f) name-still m.globals middle.1.1.0, all-still pair_numbers (mapped_pair f) pair-still m.shared middle.1.1.1, all-still pair_numbers (mapped_pair f) pair-still m.places behind.1.0, all-still link_numbers (mapped_link f) link-still m.links behind.1.1.0, all-still named_export_numbers (mapped_named_export f) named_export-still m.exports behind.1.1.1) refl
 
   id-still : (n : NodeId) (ns : List ℕ) → Pass (n.0 ∷ ns) → record { 0 = f n.0 } ≡ n
   id-still n ns all = ap (λ (k : ℕ). record { 0 = k }) (number-still n.0 ns all)

@@ -1,5 +1,5 @@
 -- That a temporary holds one value does not depend on numbers.
-use Rattle.std.specs.Prelude.{◌≡◌, ℕ, suc, List, [], ◌∷◌, ◌++◌, map, Bool, true, false, cond, not, ◌&&◌, ◌||◌, nat_eq, bytes_eq, Option, Some, None}
+use Rattle.std.specs.Prelude.{◌≡◌, ℕ, suc, List, [], ◌∷◌, map, Bool, false, not, ◌&&◌, ◌||◌, nat_eq, bytes_eq, Option, Some, None}
 use Rattle.std.proofs.Common.{refl, ap, ap₂, ◌∙◌}
 use Rattle.es_base.specs.Numbered.{is_new}
 use Rattle.es_base.specs.Preorder.{number_of}
@@ -8,9 +8,9 @@ use Rattle.es_base.specs.Tree.{Tree, Part, Parts, Node, end, more, child, list}
 use Rattle.es_base.specs.declared.kind.Kind.{Kind}
 use Rattle.es_base.specs.declared.ledger.GeneratedKind.{GeneratedKind}
 use Rattle.es_base.specs.declared.ledger.LedgerEntry.{LedgerEntry}
-use Rattle.es_steps.specs.Parts.{at, string_of, is_present}
+use Rattle.es_steps.specs.Parts.{at}
 use Rattle.es_steps.specs.References.{is_target}
-use Rattle.es_steps.specs.Repeated.{Surroundings, around_program}
+use Rattle.es_steps.specs.Repeated.{around_program}
 use Rattle.es_steps.specs.Scopes.{binds, is_body_part}
 use Rattle.es_steps.specs.Temporaries.{Touch, Spot, touch_of, is_bare, declaration_in, is_block, is_of_class, home_in, spot_in, touches, touches_in, touches_at, touches_of, all_touches, chosen, all_touched, is_none, declarations_of, gifts_of, reads_of, is_steady, is_at_call, is_near, is_steady_name, all_steady, temporaries_steady}
 use Rattle.es_steps.specs.Values.{String}

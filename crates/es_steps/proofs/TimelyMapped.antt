@@ -1,22 +1,24 @@
 -- That generated names stand in time does not depend on numbers.
 use Rattle.std.specs.Prelude.{◌≡◌, ℕ, suc, List, [], ◌∷◌, ◌++◌, map, Bool, true, false, cond, not, ◌&&◌, ◌||◌, nat_eq, bytes_eq, Option, Some, None}
 use Rattle.std.proofs.Common.{refl, ap, ap₂, ◌∙◌}
-use Rattle.es_base.specs.Numbered.{is_new}
 use Rattle.es_base.specs.Tree.{Tree, Part, Parts, Node, end, more, child, list}
 use Rattle.es_base.specs.declared.kind.Kind.{Kind}
 use Rattle.es_base.specs.declared.ledger.GeneratedKind.{GeneratedKind}
 use Rattle.es_base.specs.declared.ledger.LedgerEntry.{LedgerEntry}
 use Rattle.es_steps.specs.Context.{generated_as}
 use Rattle.es_steps.specs.Definitions.{spelling}
+use Rattle.es_steps.specs.Expressions.{is_logical}
+use Rattle.es_steps.specs.HelperCalls.{is_class_body}
 use Rattle.es_steps.specs.KeptNodes.{pair_stands, all_pairs_stand}
-use Rattle.es_steps.specs.Parts.{at, string_of}
-use Rattle.es_steps.specs.References.{has_number}
-use Rattle.es_steps.specs.Timely.{MarkForm, declares, initializes, hoists, uses, Around, Mark, is_held, is_held_arrow, is_callee_of_call, is_instance_value, runs_later, around_in, mark_by, mark, declared_mark, initialized_mark, marks_before, marks_behind, is_given, is_let_declaration, marks, marks_in, marks_at, marks_of, is_later, gives_by, gives_in_time, any_gives, is_dead_by, is_dead, is_followed, is_use, comes_first, asks, in_time, names_timely}
+use Rattle.es_steps.specs.Parts.{at, items, string_of}
+use Rattle.es_steps.specs.PrivateNames.{PrivateMember, member_at, is_class, is_element}
+use Rattle.es_steps.specs.Timely.{MarkForm, declares, initializes, hoists, uses, Around, Mark, is_held, is_held_arrow, is_instance_value, runs_later, around_in, mark_by, mark, declared_mark, initialized_mark, marks_before, marks_behind, is_given, is_let_declaration, runs_with_class, any_runs, body_runs, is_of_class, is_needed_by, needed_names, uses_of, is_called_arrow, marks, marks_in, marks_at, marks_of, key_marks, value_marks, is_later, gives_by, gives_in_time, any_gives, is_dead_by, is_dead, is_skipped_by, is_skipped, is_followed, is_use, comes_first, is_early_by, is_early, asks, in_time, names_timely}
 use Rattle.es_steps.specs.Values.{String}
 use Rattle.es_steps.proofs.ContextMapped.{generated_as-mapped}
 use Rattle.es_steps.proofs.DefinitionsMapped.{spelling-mapped}
-use Rattle.es_steps.proofs.Mapped.{Renames, mapped, mapped_part, mapped_parts, mapped_option, mapped_generated, mapped_ledger}
-use Rattle.es_steps.proofs.PartsMapped.{cond-mapped, append-mapped, at-mapped, string_at-mapped, is_true_at-mapped}
+use Rattle.es_steps.proofs.Mapped.{Renames, mapped, mapped_part, mapped_parts, mapped_option, mapped_generated, mapped_ledger, mapped_privates, mapped_private}
+use Rattle.es_steps.proofs.PartsMapped.{cond-mapped, append-mapped, at-mapped, items_at-mapped, string_at-mapped, is_true_at-mapped}
+use Rattle.es_steps.proofs.PrivatesMapped.{member_at-mapped}
 use Rattle.es_steps.proofs.ReferencesMapped.{has_number-mapped}
 
 module _ (f : ℕ → ℕ) where
@@ -24,7 +26,7 @@ module _ (f : ℕ → ℕ) where
   mapped_held p = (f p.0, p.1)
 
   abbrev pub mapped_around : Around → Around
-  mapped_around x = record { held = map mapped_held x.held; later = map f x.later; is_called = x.is_called }
+  mapped_around x = record { held = map mapped_held x.held; later = map f x.later; is_called = x.is_called; running = map f x.running }
 
   abbrev pub mapped_mark : Mark → Mark
   mapped_mark m = record { name = m.name; form = m.form; around = mapped_around m.around }
@@ -36,13 +38,13 @@ module _ (f : ℕ → ℕ) where
   spelling_at-mapped : (i : ℕ) (ps : Parts) → spelling (at i (mapped_parts f ps)) ≡ spelling (at i ps)
   spelling_at-mapped i ps = ap spelling (at-mapped f i ps) ∙ spelling-mapped f (at i ps)
 
-  is_let_declaration-mapped : (first : ℕ) (l k : List LedgerEntry) (kind : Kind) (ps : Parts) → is_let_declaration first l kind (mapped_parts f ps) ≡ is_let_declaration first k kind ps
-  is_let_declaration-mapped first l k Kind.VariableDeclaration ps = rw (string_at-mapped f 0 ps) refl
-  is_let_declaration-mapped first l k kind ps = refl
+  is_let_declaration-mapped : (first : ℕ) (l k : List LedgerEntry) (xs ys : List PrivateMember) (kind : Kind) (ps : Parts) → is_let_declaration first l xs kind (mapped_parts f ps) ≡ is_let_declaration first k ys kind ps
+  is_let_declaration-mapped first l k xs ys Kind.VariableDeclaration ps = rw (string_at-mapped f 0 ps) refl
+  is_let_declaration-mapped first l k xs ys kind ps = refl
 
-  is_given-mapped : (first : ℕ) (l k : List LedgerEntry) (kind : Kind) (ps : Parts) (i : ℕ) → is_given first l kind (mapped_parts f ps) i ≡ is_given first k kind ps i
-  is_given-mapped first l k Kind.AssignmentExpression ps i = rw (string_at-mapped f 0 ps, spelling_at-mapped 1 ps) refl
-  is_given-mapped first l k kind ps i = refl
+  is_given-mapped : (first : ℕ) (l k : List LedgerEntry) (xs ys : List PrivateMember) (kind : Kind) (ps : Parts) (i : ℕ) → is_given first l xs kind (mapped_parts f ps) i ≡ is_given first k ys kind ps i
+  is_given-mapped first l k xs ys Kind.AssignmentExpression ps i = rw (string_at-mapped f 0 ps, spelling_at-mapped 1 ps) refl
+  is_given-mapped first l k xs ys kind ps i = refl
 
   comes_first-mapped : (g : Option GeneratedKind) → comes_first (mapped_option (mapped_generated f) g) ≡ comes_first g
   comes_first-mapped None = refl
@@ -64,73 +66,164 @@ module _ {first : ℕ} {f : ℕ → ℕ} (r : Renames first f) where
   is_held_arrow-mapped : (x : Around) (kind : Kind) (m : ℕ) → is_held_arrow first (mapped_around f x) kind (f m) ≡ is_held_arrow first x kind m
   is_held_arrow-mapped x kind m = rw (r.new m) refl
 
-  held_in-mapped : (x : Around) (kind : Kind) (m : ℕ) (ps : Parts) (i : ℕ) → cond (is_held kind i || (is_held_arrow first (mapped_around f x) kind (f m) || is_instance_value kind (mapped_parts f ps) i)) ((f m, i) ∷ map (mapped_held f) x.held) (map (mapped_held f) x.held) ≡ map (mapped_held f) (cond (is_held kind i || (is_held_arrow first x kind m || is_instance_value kind ps i)) ((m, i) ∷ x.held) x.held)
+  is_held-mapped : (kind : Kind) (ps : Parts) (i : ℕ) → is_held kind (mapped_parts f ps) i ≡ is_held kind ps i
+  is_held-mapped Kind.AssignmentExpression ps i = ap (λ s. nat_eq i 2 && is_logical s) (string_at-mapped f 0 ps)
+  is_held-mapped kind ps i = refl
+
+  held_in-mapped : (x : Around) (kind : Kind) (m : ℕ) (ps : Parts) (i : ℕ) → cond (is_held kind (mapped_parts f ps) i || (is_held_arrow first (mapped_around f x) kind (f m) || is_instance_value kind (mapped_parts f ps) i)) ((f m, i) ∷ map (mapped_held f) x.held) (map (mapped_held f) x.held) ≡ map (mapped_held f) (cond (is_held kind ps i || (is_held_arrow first x kind m || is_instance_value kind ps i)) ((m, i) ∷ x.held) x.held)
   held_in-mapped x kind m ps i =
-      rw (is_held_arrow-mapped x kind m, is_instance_value-mapped f kind ps i)
-      (cond-mapped (map (mapped_held f)) (is_held kind i || (is_held_arrow first x kind m || is_instance_value kind ps i)) ((m, i) ∷ x.held) x.held refl refl)
+      rw (is_held-mapped kind ps i, is_held_arrow-mapped x kind m, is_instance_value-mapped f kind ps i)
+      (cond-mapped (map (mapped_held f)) (is_held kind ps i || (is_held_arrow first x kind m || is_instance_value kind ps i)) ((m, i) ∷ x.held) x.held refl refl)
 
   later_in-mapped : (x : Around) (kind : Kind) (m : ℕ) (ps : Parts) (i : ℕ) → cond (runs_later first kind (f m) (mapped_parts f ps) i) (f m ∷ map f x.later) (map f x.later) ≡ map f (cond (runs_later first kind m ps i) (m ∷ x.later) x.later)
   later_in-mapped x kind m ps i = rw (runs_later-mapped kind m ps i) (cond-mapped (map f) (runs_later first kind m ps i) (m ∷ x.later) x.later refl refl)
 
-  around_in-mapped : (x : Around) (kind : Kind) (m : ℕ) (ps : Parts) (i : ℕ) → around_in first (mapped_around f x) kind (f m) (mapped_parts f ps) i ≡ mapped_around f (around_in first x kind m ps i)
-  around_in-mapped x kind m ps i = rw (held_in-mapped x kind m ps i, later_in-mapped x kind m ps i) refl
+  runs_with_class-mapped : (p : Part) → runs_with_class (mapped_part f p) ≡ runs_with_class p
+  runs_with_class-mapped (child (Node Kind.StaticBlock m span semantic_id ps)) = refl
+  runs_with_class-mapped (child (Node Kind.PropertyDefinition m span semantic_id ps)) = is_true_at-mapped f 3 ps
+  runs_with_class-mapped p = refl
 
-  module _ (ledger : List LedgerEntry) where
+  any_runs-mapped : (ps : Parts) → any_runs (mapped_parts f ps) ≡ any_runs ps
+  any_runs-mapped end = refl
+  any_runs-mapped (more p ps) = ap₂ (λ a b. a || b) (runs_with_class-mapped p) (any_runs-mapped ps)
+
+  body_runs-mapped : (p : Part) → body_runs (mapped_part f p) ≡ body_runs p
+  body_runs-mapped (child (Node Kind.ClassBody m span semantic_id ps)) = ap any_runs (items_at-mapped f 0 ps) ∙ any_runs-mapped (items (at 0 ps))
+  body_runs-mapped p = refl
+
+  running_in-mapped : (x : Around) (kind : Kind) (m : ℕ) (ps : Parts) → cond (is_class kind && body_runs (at 2 (mapped_parts f ps))) (f m ∷ map f x.running) (map f x.running) ≡ map f (cond (is_class kind && body_runs (at 2 ps)) (m ∷ x.running) x.running)
+  running_in-mapped x kind m ps =
+      ap (λ b. cond (is_class kind && b) (f m ∷ map f x.running) (map f x.running)) (ap body_runs (at-mapped f 2 ps) ∙ body_runs-mapped (at 2 ps))
+      ∙ cond-mapped (map f) (is_class kind && body_runs (at 2 ps)) (m ∷ x.running) x.running refl refl
+
+  around_in-mapped : (x : Around) (kind : Kind) (m : ℕ) (ps : Parts) (i : ℕ) → around_in first (mapped_around f x) kind (f m) (mapped_parts f ps) i ≡ mapped_around f (around_in first x kind m ps i)
+  around_in-mapped x kind m ps i = rw (held_in-mapped x kind m ps i, later_in-mapped x kind m ps i, running_in-mapped x kind m ps) refl
+
+  -- ---- what a class needs
+
+  is_of_class-mapped : (n : ℕ) (x : Option PrivateMember) → is_of_class (f n) (mapped_option (mapped_private f) x) ≡ is_of_class n x
+  is_of_class-mapped n None = refl
+  is_of_class-mapped n (Some x) = r.apart n x.class
+
+  needed_member-mapped : (n d : ℕ) (members : List PrivateMember) → is_of_class (f n) (member_at (f d) (mapped_privates f members)) ≡ is_of_class n (member_at d members)
+  needed_member-mapped n d members = ap (is_of_class (f n)) (member_at-mapped r d members) ∙ is_of_class-mapped n (member_at d members)
+
+  is_needed_by-mapped : (n : ℕ) (members : List PrivateMember) (g : GeneratedKind) → is_needed_by (f n) (mapped_privates f members) (mapped_generated f g) ≡ is_needed_by n members g
+  is_needed_by-mapped n members (GeneratedKind.WeakMap d) = needed_member-mapped n d.0 members
+  is_needed_by-mapped n members (GeneratedKind.Method d) = needed_member-mapped n d.0 members
+  is_needed_by-mapped n members (GeneratedKind.LooseKey d) = needed_member-mapped n d.0 members
+  is_needed_by-mapped n members (GeneratedKind.Brand k) = r.apart n k.0
+  is_needed_by-mapped n members g = refl
+
+  needed_names-mapped : (n : ℕ) (members : List PrivateMember) (es : List LedgerEntry) → needed_names (f n) (mapped_privates f members) (mapped_ledger f es) ≡ needed_names n members es
+  needed_names-mapped n members [] = refl
+  needed_names-mapped n members (e ∷ es) = ap₂ (λ a b. cond a (e.name ∷ []) [] ++ b) (is_needed_by-mapped n members e.kind) (needed_names-mapped n members es)
+
+  uses_of-mapped : (x : Around) (ss : List String) → uses_of (mapped_around f x) ss ≡ map (mapped_mark f) (uses_of x ss)
+  uses_of-mapped x [] = refl
+  uses_of-mapped x (s ∷ ss) = ap (λ ms. mapped_mark f (record { name = s; form = uses; around = x }) ∷ ms) (uses_of-mapped x ss)
+
+  is_called_arrow-mapped : (kind : Kind) (ps : Parts) → is_called_arrow kind (mapped_parts f ps) ≡ is_called_arrow kind ps
+  is_called_arrow-mapped Kind.CallExpression (more (child (Node Kind.ArrowFunctionExpression m span semantic_id ps)) rest) = refl
+  is_called_arrow-mapped kind ps = refl
+
+  -- ---- marks
+
+  module _ (ledger : List LedgerEntry) (members : List PrivateMember) where
     abbrev there : List LedgerEntry
     there = mapped_ledger f ledger
 
-    mark_by-mapped : (g : Option GeneratedKind) (m : Mark) → mark_by first there (mapped_option (mapped_generated f) g) (mapped_mark f m) ≡ map (mapped_mark f) (mark_by first ledger g m)
+    abbrev others : List PrivateMember
+    others = mapped_privates f members
+
+    abbrev moved : List Mark → List Mark
+    moved ms = map (mapped_mark f) ms
+
+    mark_by-mapped : (g : Option GeneratedKind) (m : Mark) → mark_by first there others (mapped_option (mapped_generated f) g) (mapped_mark f m) ≡ moved (mark_by first ledger members g m)
     mark_by-mapped None m = refl
     mark_by-mapped (Some g) m = refl
 
-    mark-mapped : (x : Around) (form : MarkForm) (s : String) → mark first there (mapped_around f x) form s ≡ map (mapped_mark f) (mark first ledger x form s)
+    mark-mapped : (x : Around) (form : MarkForm) (s : String) → mark first there others (mapped_around f x) form s ≡ moved (mark first ledger members x form s)
     mark-mapped x form s = rw (generated_as-mapped f s ledger) (mark_by-mapped (generated_as s ledger) (record { name = s; form = form; around = x }))
 
-    declared_mark-mapped : (x : Around) (b : Bool) (id : Part) → declared_mark first there (mapped_around f x) b (mapped_part f id) ≡ map (mapped_mark f) (declared_mark first ledger x b id)
+    declared_mark-mapped : (x : Around) (b : Bool) (id : Part) → declared_mark first there others (mapped_around f x) b (mapped_part f id) ≡ moved (declared_mark first ledger members x b id)
     declared_mark-mapped x true id = rw (spelling-mapped f id) (mark-mapped x declares (spelling id))
     declared_mark-mapped x false id = refl
 
-    initialized_mark-mapped : (x : Around) (id p : Part) → initialized_mark first there (mapped_around f x) (mapped_part f id) (mapped_part f p) ≡ map (mapped_mark f) (initialized_mark first ledger x id p)
+    initialized_mark-mapped : (x : Around) (id p : Part) → initialized_mark first there others (mapped_around f x) (mapped_part f id) (mapped_part f p) ≡ moved (initialized_mark first ledger members x id p)
     initialized_mark-mapped x id (child t) = rw (spelling-mapped f id) (mark-mapped x initializes (spelling id))
     initialized_mark-mapped x id p = refl
 
-    marks_before-mapped : (x : Around) (kind : Kind) (ps : Parts) → marks_before first there (mapped_around f x) kind (mapped_parts f ps) ≡ map (mapped_mark f) (marks_before first ledger x kind ps)
-    marks_before-mapped x Kind.IdentifierReference ps = rw (string_at-mapped f 0 ps) (mark-mapped x uses (string_of (at 0 ps)))
-    marks_before-mapped x Kind.ClassDeclaration ps = rw (spelling_at-mapped f 0 ps) (mark-mapped x initializes (spelling (at 0 ps)))
-    marks_before-mapped x Kind.ClassExpression ps = rw (spelling_at-mapped f 0 ps) (mark-mapped x initializes (spelling (at 0 ps)))
-    marks_before-mapped x Kind.FunctionDeclaration ps = rw (spelling_at-mapped f 0 ps) (mark-mapped x hoists (spelling (at 0 ps)))
-    marks_before-mapped x kind ps = refl
+    class_marks-mapped : (x : Around) (m : ℕ) (ps : Parts) → uses_of (mapped_around f x) (needed_names (f m) others there) ++ mark first there others (mapped_around f x) initializes (spelling (at 0 (mapped_parts f ps))) ≡ moved (uses_of x (needed_names m members ledger) ++ mark first ledger members x initializes (spelling (at 0 ps)))
+    class_marks-mapped x m ps =
+        append-mapped (mapped_mark f) _ _ (ap (uses_of (mapped_around f x)) (needed_names-mapped m members ledger) ∙ uses_of-mapped x (needed_names m members ledger))
+        (ap (mark first there others (mapped_around f x) initializes) (spelling_at-mapped f 0 ps) ∙ mark-mapped x initializes (spelling (at 0 ps)))
 
-    marks_behind-mapped : (x : Around) (b : Bool) (kind : Kind) (ps : Parts) → marks_behind first there (mapped_around f x) b kind (mapped_parts f ps) ≡ map (mapped_mark f) (marks_behind first ledger x b kind ps)
+    marks_before-mapped : (x : Around) (kind : Kind) (m : ℕ) (ps : Parts) → marks_before first there others (mapped_around f x) kind (f m) (mapped_parts f ps) ≡ moved (marks_before first ledger members x kind m ps)
+    marks_before-mapped x Kind.IdentifierReference m ps = rw (string_at-mapped f 0 ps) (mark-mapped x uses (string_of (at 0 ps)))
+    marks_before-mapped x Kind.ClassDeclaration m ps = class_marks-mapped x m ps
+    marks_before-mapped x Kind.ClassExpression m ps = class_marks-mapped x m ps
+    marks_before-mapped x Kind.FunctionDeclaration m ps = rw (spelling_at-mapped f 0 ps) (mark-mapped x hoists (spelling (at 0 ps)))
+    marks_before-mapped x kind m ps = refl
+
+    marks_behind-mapped : (x : Around) (b : Bool) (kind : Kind) (ps : Parts) → marks_behind first there others (mapped_around f x) b kind (mapped_parts f ps) ≡ moved (marks_behind first ledger members x b kind ps)
     marks_behind-mapped x b Kind.AssignmentExpression ps = rw (spelling_at-mapped f 1 ps) (mark-mapped x initializes (spelling (at 1 ps)))
     marks_behind-mapped x b Kind.VariableDeclarator ps =
-        append-mapped (mapped_mark f) _ _ (ap (declared_mark first there (mapped_around f x) b) (at-mapped f 0 ps) ∙ declared_mark-mapped x b (at 0 ps))
-        (ap₂ (initialized_mark first there (mapped_around f x)) (at-mapped f 0 ps) (at-mapped f 1 ps) ∙ initialized_mark-mapped x (at 0 ps) (at 1 ps))
+        append-mapped (mapped_mark f) _ _ (ap (declared_mark first there others (mapped_around f x) b) (at-mapped f 0 ps) ∙ declared_mark-mapped x b (at 0 ps))
+        (ap₂ (initialized_mark first there others (mapped_around f x)) (at-mapped f 0 ps) (at-mapped f 1 ps) ∙ initialized_mark-mapped x (at 0 ps) (at 1 ps))
     marks_behind-mapped x b kind ps = refl
 
+    -- two lists in either order
+    either-mapped : (last : Bool) (own rest : List Mark) {there_own there_rest : List Mark} → there_own ≡ moved own → there_rest ≡ moved rest → cond last (there_rest ++ there_own) (there_own ++ there_rest) ≡ moved (cond last (rest ++ own) (own ++ rest))
+    either-mapped true own rest a b = append-mapped (mapped_mark f) rest own b a
+    either-mapped false own rest a b = append-mapped (mapped_mark f) own rest a b
+
     mutual
-      marks-mapped : (x : Around) (b : Bool) (t : Tree) → marks first there (mapped_around f x) b (mapped f t) ≡ map (mapped_mark f) (marks first ledger x b t)
+      marks-mapped : (x : Around) (b : Bool) (t : Tree) → marks first there others (mapped_around f x) b (mapped f t) ≡ moved (marks first ledger members x b t)
       marks-mapped x b (Node kind m span semantic_id ps) =
           append-mapped (mapped_mark f) _ _
-          (append-mapped (mapped_mark f) _ _ (marks_before-mapped x kind ps)
-          (marks_in-mapped _ (around_in first x kind m ps) (around_in-mapped x kind m ps) _ (is_given first ledger kind ps) (is_given-mapped f first there ledger kind ps) _ (is_let_declaration first ledger kind ps) (is_let_declaration-mapped f first there ledger kind ps) ps))
+          (append-mapped (mapped_mark f) _ _ (marks_before-mapped x kind m ps)
+          (ap (λ last. marks_in first there others last (is_class_body kind) (around_in first (mapped_around f x) kind (f m) (mapped_parts f ps)) (is_given first there others kind (mapped_parts f ps)) (is_let_declaration first there others kind (mapped_parts f ps)) (mapped_parts f ps)) (is_called_arrow-mapped kind ps)
+          ∙ marks_in-mapped (is_called_arrow kind ps) (is_class_body kind) _ (around_in first x kind m ps) (around_in-mapped x kind m ps) _ (is_given first ledger members kind ps) (is_given-mapped f first there ledger others members kind ps) _ (is_let_declaration first ledger members kind ps) (is_let_declaration-mapped f first there ledger others members kind ps) ps))
           (marks_behind-mapped x b kind ps)
 
-      marks_in-mapped : (y x : ℕ → Around) → ((i : ℕ) → y i ≡ mapped_around f (x i)) → (g h : ℕ → Bool) → ((i : ℕ) → g i ≡ h i) → (b c : Bool) → b ≡ c → (ps : Parts) → marks_in first there y g b (mapped_parts f ps) ≡ map (mapped_mark f) (marks_in first ledger x h c ps)
-      marks_in-mapped y x same g h given b c e end = refl
-      marks_in-mapped y x same g h given b c e (more p ps) =
-          append-mapped (mapped_mark f) _ _
-          (ap₂ (λ k v. cond k [] v) (given 0) (ap₂ (λ z d. marks_at first there z d (mapped_part f p)) (same 0) e ∙ marks_at-mapped (x 0) c p) ∙ cond-mapped (map (mapped_mark f)) (h 0) [] (marks_at first ledger (x 0) c p) refl refl)
-          (marks_in-mapped (λ i. y (suc i)) (λ i. x (suc i)) (λ i. same (suc i)) (λ i. g (suc i)) (λ i. h (suc i)) (λ i. given (suc i)) b c e ps)
+      marks_in-mapped : (last is_body : Bool) (y x : ℕ → Around) → ((i : ℕ) → y i ≡ mapped_around f (x i)) → (g h : ℕ → Bool) → ((i : ℕ) → g i ≡ h i) → (b c : Bool) → b ≡ c → (ps : Parts) → marks_in first there others last is_body y g b (mapped_parts f ps) ≡ moved (marks_in first ledger members last is_body x h c ps)
+      marks_in-mapped last is_body y x same g h given b c e end = refl
+      marks_in-mapped last is_body y x same g h given b c e (more p ps) =
+          either-mapped last (cond (h 0) [] (marks_at first ledger members is_body (x 0) c p)) (marks_in first ledger members false is_body (λ i. x (suc i)) (λ i. h (suc i)) c ps)
+          (ap₂ (λ k v. cond k [] v) (given 0) (ap₂ (λ z d. marks_at first there others is_body z d (mapped_part f p)) (same 0) e ∙ marks_at-mapped is_body (x 0) c p) ∙ cond-mapped moved (h 0) [] (marks_at first ledger members is_body (x 0) c p) refl refl)
+          (marks_in-mapped false is_body (λ i. y (suc i)) (λ i. x (suc i)) (λ i. same (suc i)) (λ i. g (suc i)) (λ i. h (suc i)) (λ i. given (suc i)) b c e ps)
 
-      marks_at-mapped : (x : Around) (b : Bool) (p : Part) → marks_at first there (mapped_around f x) b (mapped_part f p) ≡ map (mapped_mark f) (marks_at first ledger x b p)
-      marks_at-mapped x b (child t) = marks-mapped x b t
-      marks_at-mapped x b (list ps) = marks_of-mapped x b ps
-      marks_at-mapped x b p = refl
+      marks_at-mapped : (is_body : Bool) (x : Around) (b : Bool) (p : Part) → marks_at first there others is_body (mapped_around f x) b (mapped_part f p) ≡ moved (marks_at first ledger members is_body x b p)
+      marks_at-mapped is_body x b (child t) = marks-mapped x b t
+      marks_at-mapped false x b (list ps) = marks_of-mapped x b ps
+      marks_at-mapped true x b (list ps) = append-mapped (mapped_mark f) _ _ (key_marks-mapped x ps) (value_marks-mapped x ps)
+      marks_at-mapped true x b p = refl
+      marks_at-mapped false x b p = refl
 
-      marks_of-mapped : (x : Around) (b : Bool) (ps : Parts) → marks_of first there (mapped_around f x) b (mapped_parts f ps) ≡ map (mapped_mark f) (marks_of first ledger x b ps)
+      marks_of-mapped : (x : Around) (b : Bool) (ps : Parts) → marks_of first there others (mapped_around f x) b (mapped_parts f ps) ≡ moved (marks_of first ledger members x b ps)
       marks_of-mapped x b end = refl
-      marks_of-mapped x b (more p ps) = append-mapped (mapped_mark f) _ _ (marks_at-mapped x b p) (marks_of-mapped x b ps)
+      marks_of-mapped x b (more p ps) = append-mapped (mapped_mark f) _ _ (marks_at-mapped false x b p) (marks_of-mapped x b ps)
+
+      key_marks-mapped : (x : Around) (ps : Parts) → key_marks first there others (mapped_around f x) (mapped_parts f ps) ≡ moved (key_marks first ledger members x ps)
+      key_marks-mapped x end = refl
+      key_marks-mapped x (more (child (Node kind m span semantic_id (more k ps))) es) =
+          append-mapped (mapped_mark f) _ _
+          (cond-mapped moved (is_element kind) (marks_at first ledger members false (around_in first x kind m (more k ps) 0) false k) []
+          (ap (λ y. marks_at first there others false y false (mapped_part f k)) (around_in-mapped x kind m (more k ps) 0) ∙ marks_at-mapped false (around_in first x kind m (more k ps) 0) false k) refl)
+          (key_marks-mapped x es)
+      key_marks-mapped x (more p es) = key_marks-mapped x es
+
+      value_marks-mapped : (x : Around) (ps : Parts) → value_marks first there others (mapped_around f x) (mapped_parts f ps) ≡ moved (value_marks first ledger members x ps)
+      value_marks-mapped x end = refl
+      value_marks-mapped x (more (child (Node kind m span semantic_id (more k ps))) es) =
+          append-mapped (mapped_mark f) _ _
+          (append-mapped (mapped_mark f) _ _
+          (cond-mapped moved (is_element kind) [] (marks_at first ledger members false (around_in first x kind m (more k ps) 0) false k) refl
+          (ap (λ y. marks_at first there others false y false (mapped_part f k)) (around_in-mapped x kind m (more k ps) 0) ∙ marks_at-mapped false (around_in first x kind m (more k ps) 0) false k))
+          (marks_in-mapped false false _ (λ i. around_in first x kind m (more k ps) (suc i)) (λ i. around_in-mapped x kind m (more k ps) (suc i)) _ (λ i. false) (λ i. refl) false false refl ps))
+          (value_marks-mapped x es)
+      value_marks-mapped x (more p es) = value_marks-mapped x es
 
   -- ---- each stands in time
 
@@ -157,6 +250,18 @@ module _ {first : ℕ} {f : ℕ → ℕ} (r : Renames first f) where
   is_dead-mapped m [] = refl
   is_dead-mapped m (d ∷ ds) = ap₂ (λ a b. (bytes_eq m.name d.name && is_dead_by d.form a) || b) (is_later-mapped m.around.later d.around.later) (is_dead-mapped m ds)
 
+  is_skipped-mapped : (m : Mark) (ds : List Mark) → is_skipped (mapped_mark f m) (map (mapped_mark f) ds) ≡ is_skipped m ds
+  is_skipped-mapped m [] = refl
+  is_skipped-mapped m (d ∷ ds) = ap₂ (λ a b. (bytes_eq m.name d.name && is_skipped_by d.form a) || b) (all_pairs_stand-mapped d.around.held m.around.held) (is_skipped-mapped m ds)
+
+  is_early_by-mapped : (ledger : List LedgerEntry) (running : List ℕ) (g : Option GeneratedKind) → is_early_by (mapped_ledger f ledger) (map f running) (mapped_option (mapped_generated f) g) ≡ is_early_by ledger running g
+  is_early_by-mapped ledger running (Some (GeneratedKind.ClassTemp n)) = has_number-mapped r n.0 running
+  is_early_by-mapped ledger running (Some g) = refl
+  is_early_by-mapped ledger running None = refl
+
+  is_early-mapped : (ledger : List LedgerEntry) (m : Mark) → is_early (mapped_ledger f ledger) (mapped_mark f m) ≡ is_early ledger m
+  is_early-mapped ledger m = ap (λ b. is_use m.form && b) (ap (is_early_by (mapped_ledger f ledger) (map f m.around.running)) (generated_as-mapped f m.name ledger) ∙ is_early_by-mapped ledger m.around.running (generated_as m.name ledger))
+
   asks-mapped : (ledger : List LedgerEntry) (m : Mark) → asks (mapped_ledger f ledger) (mapped_mark f m) ≡ asks ledger m
   asks-mapped ledger m = ap (λ b. is_use m.form && b) (ap is_followed (generated_as-mapped f m.name ledger) ∙ is_followed-mapped f (generated_as m.name ledger))
 
@@ -166,10 +271,10 @@ module _ {first : ℕ} {f : ℕ → ℕ} (r : Renames first f) where
   in_time-mapped : (ledger : List LedgerEntry) (front ms : List Mark) → in_time (mapped_ledger f ledger) (map (mapped_mark f) front) (map (mapped_mark f) ms) ≡ in_time ledger front ms
   in_time-mapped ledger front [] = refl
   in_time-mapped ledger front (m ∷ ms) =
-      ap₂ (λ a b. not a && b) (is_dead-mapped m ms)
+      ap₂ (λ a b. not a && b) (ap₂ (λ a b. a || b) (is_early-mapped ledger m) (ap₂ (λ a b. a || b) (is_dead-mapped m ms) (is_skipped-mapped m front)))
       (ap₂ (λ a b. a && b) (ap₂ (λ a b. not a || b) (asks-mapped ledger m) (ap₂ (λ a b. a || b) (any_gives-mapped true m front) (ap₂ (λ a b. not a && b) (comes_first_at-mapped ledger m) (any_gives-mapped false m ms)))) (in_time-mapped ledger (m ∷ front) ms))
 
-  pub names_timely-mapped : (ledger : List LedgerEntry) (q : Tree) → names_timely first (mapped_ledger f ledger) (mapped f q) ≡ names_timely first ledger q
-  names_timely-mapped ledger q =
-      ap (in_time (mapped_ledger f ledger) []) (marks-mapped ledger (record { held = []; later = []; is_called = false }) false q)
-      ∙ in_time-mapped ledger [] (marks first ledger (record { held = []; later = []; is_called = false }) false q)
+  pub names_timely-mapped : (ledger : List LedgerEntry) (members : List PrivateMember) (q : Tree) → names_timely first (mapped_ledger f ledger) (mapped_privates f members) (mapped f q) ≡ names_timely first ledger members q
+  names_timely-mapped ledger members q =
+      ap (in_time (mapped_ledger f ledger) []) (marks-mapped ledger members (record { held = []; later = []; is_called = false; running = [] }) false q)
+      ∙ in_time-mapped ledger [] (marks first ledger members (record { held = []; later = []; is_called = false; running = [] }) false q)

@@ -1,7 +1,7 @@
 -- What is known at a place of a tree: which names are seen there, what `this` is, which class stands around.
 -- (ECMA-262, 9.1, 9.2 and 9.4: environments, private environments, execution contexts. What new nodes and generated
 -- names are is our own.)
-use Rattle.std.specs.Prelude.{ℕ, List, [], ◌∷◌, ◌++◌, Bool, true, false, cond, ◌||◌, ◌&&◌, codes, bytes_eq, nat_eq, Option, Some, None}
+use Rattle.std.specs.Prelude.{ℕ, List, [], ◌∷◌, ◌++◌, Bool, true, false, cond, not, ◌||◌, ◌&&◌, codes, bytes_eq, nat_eq, Option, Some, None}
 use Rattle.es_base.specs.Numbered.{is_new}
 use Rattle.es_base.specs.Tree.{Tree, Part, Parts, Node, end, more, child, list}
 use Rattle.es_base.specs.declared.kind.Kind.{Kind}
@@ -10,7 +10,7 @@ use Rattle.es_base.specs.declared.ledger.LedgerEntry.{LedgerEntry}
 use Rattle.es_steps.specs.Parts.{at, items, block_items, string_of, is_true, is_present}
 use Rattle.es_steps.specs.PrivateNames.{PrivateMember, seen_members}
 use Rattle.es_steps.specs.References.{declared, has_number}
-use Rattle.es_steps.specs.Scopes.{ClassName, no_class, declares, own_name, let_names, Declaration, names_at, is_body_part, class_in}
+use Rattle.es_steps.specs.Scopes.{ClassName, no_class, declares, own_name, let_names, Declaration, bound_part, names_at, is_body_part, class_in}
 use Rattle.es_steps.specs.Values.{String, Value, Undefined, ClassOf, ThisOf, ArgumentsOf, NewTargetOf, Referent, Bound, Free, Home, OfClass, OfPrototype, OfObject}
 use Rattle.es_steps.specs.declared.options.Options.{Options}
 
@@ -67,6 +67,8 @@ pub record Context : Type 0 where
   pub let_class : Option (ℕ × ℕ)
   -- whether a block here is the body of a function
   pub is_body : Bool
+  -- whether a function that is declared here stands in a block, a case or a branch of an `if` (B.3.2)
+  pub in_block : Bool
 
 abbrev pub new_here : Context → ℕ → Bool
 new_here c m = is_new c.first_new m
@@ -197,9 +199,10 @@ in_function (constructor_of n) f ps c = record c { this = ThisOf n; new_target =
 in_function (method_on home) f ps c = record c { this = ThisOf f; new_target = NewTargetOf f; arguments = ArgumentsOf f; home = Some home; constructs = None; in_new_function = new_here c f; rest_name = rest_among (items (at 1 ps)) }
 in_function (super_function_of n) f ps c = record c { this = ThisOf n; new_target = Undefined; arguments = ArgumentsOf f; home = None; constructs = None; in_new_function = new_here c f; rest_name = rest_among (items (at 1 ps)) }
 
--- in the value of a field or in a static block, where `new.target` is undefined
+-- in the value of a field or in a static block, where `new.target` is undefined, and no `await` or `yield` of the code around
+-- can stand (15.7.1): as in a new function
 abbrev pub in_element : Bool → Context → Context
-in_element is_static c = record c { this = cond is_static (ClassOf c.class) (ThisOf c.class); new_target = Undefined; arguments = ArgumentsOf c.class; home = Some (cond is_static (OfClass c.class) (OfPrototype c.class)); constructs = None; in_new_function = false }
+in_element is_static c = record c { this = cond is_static (ClassOf c.class) (ThisOf c.class); new_target = Undefined; arguments = ArgumentsOf c.class; home = Some (cond is_static (OfClass c.class) (OfPrototype c.class)); constructs = None; in_new_function = true }
 
 abbrev pub is_constructor : String → Bool
 is_constructor s = bytes_eq s (codes "constructor")
@@ -243,6 +246,17 @@ role_in assignment_frame ps i c = cond (nat_eq i 2) (role_of_generated (generate
 role_in declarator_frame ps i c = cond (nat_eq i 1) (role_of_generated (generated_as (name_in (at 0 ps)) c.ledger)) a_function
 role_in frame ps i c = a_function
 
+-- inside a class declaration its name means the class, also where it is written (15.7.14)
+abbrev pub inner_name : Kind → ℕ → Parts → ℕ → List Declaration
+inner_name Kind.ClassDeclaration m ps i = cond (nat_eq i 0) [] (bound_part (own_name m) (at 0 ps))
+inner_name kind m ps i = []
+
+abbrev pub is_block_part : Bool → Kind → ℕ → Bool
+is_block_part is_body Kind.BlockStatement i = not is_body
+is_block_part is_body Kind.SwitchCase i = true
+is_block_part is_body Kind.IfStatement i = true
+is_block_part is_body kind i = false
+
 -- the context of the i-th part of a node
 abbrev pub inside : Context → Kind → ℕ → Parts → ℕ → Context
-inside c kind m ps i = record (framed (frame_of kind) m ps i c) { names = names_at c.is_body kind m ps i ++ c.names; privates = seen_members kind m ps i ++ c.privates; role = role_in (frame_of kind) ps i c; is_body = is_body_part kind i }
+inside c kind m ps i = record (framed (frame_of kind) m ps i c) { names = inner_name kind m ps i ++ names_at c.is_body kind m ps i ++ c.names; privates = seen_members kind m ps i ++ c.privates; role = role_in (frame_of kind) ps i c; is_body = is_body_part kind i; in_block = is_block_part c.is_body kind i }

@@ -3,11 +3,11 @@
 use Rattle.std.specs.Prelude.{ℕ, suc, List, [], ◌∷◌, Bool, true, false, cond, ◌&&◌, bytes_eq, Option, Some, None}
 use Rattle.es_base.specs.declared.kind.Kind.{Kind}
 use Rattle.es_base.specs.declared.ledger.GeneratedKind.{GeneratedKind}
-use Rattle.es_steps.specs.Code.{Code, Codes, Target, Callee, FieldForm, defines, sets, leaves_out, TemplateString, Opened, InitializersOf, BodyOf, CalledBodyOf, nothing, no_rule, value, spelled, private_name, binding, rest, name, super, member, private_member, super_member, private_in, assign, compound, logical, logical_assign, update, call, tag, construct, super_call, super_call_with_all, sequence, template_string, template, operation, piece, chain, short, tested, pattern, takes, steps, gives_to, export_default, function, new_function, new_return, class_code, field, private_field, method, private_method, constructor, static_block, generated_element, from_call, from_member, key_of, helper, helper_call, throw, define, private_initialize, add_brand, bound, setter, private_value, call_arrow, call_closure, initializers, give_function, give_class, to_name, to_member, to_private, to_super, to_setter, to_pattern, to_default, no_target, plain, on_member, on_private, on_super, with_receiver, checked, on_chain, behind_test, done, and}
+use Rattle.es_steps.specs.Code.{Code, Codes, Target, Callee, FieldForm, defines, sets, leaves_out, TemplateString, Opened, InitializersOf, BodyOf, nothing, no_rule, value, spelled, private_name, binding, rest, name, super, member, private_member, super_member, private_in, assign, compound, logical, logical_assign, update, call, tag, construct, super_call, super_call_with_all, sequence, template_string, template, operation, piece, chain, short, tested, pattern, takes, steps, gives_to, export_default, function, new_function, new_return, class_code, field, private_field, method, private_method, constructor, static_block, generated_element, from_call, from_member, key_of, helper, helper_call, throw, define, private_initialize, add_brand, bound, setter, private_value, call_arrow, call_closure, initializers, give_function, give_class, to_name, to_member, to_private, to_super, to_setter, to_pattern, to_default, no_target, plain, on_member, on_private, on_super, with_receiver, checked, on_chain, behind_test, done, and}
 use Rattle.es_steps.specs.Context.{NameKind, Fixed, Changing, MeansClass, Generated, StaticMethod}
-use Rattle.es_steps.specs.Events.{Detail, Operation, OfKind, Take, Operand, Empty, Spelled, Flag, Place, RightOf, Default, Part, Event, ReadName, SetName, Get, Set, Define, Call, Construct, Operate, Update, PrivateGet, PrivateSet, PrivateInitialize, PrivateIn, AddBrand, SuperGet, SuperSet, SuperCall, SuperCallWithAll, InitializeClass, Throw, Short, Held, Events, none, then, throws, behind, value_behind}
+use Rattle.es_steps.specs.Events.{Detail, Operation, OfKind, Take, Operand, Empty, Spelled, Flag, Index, Place, RightOf, Default, Part, Event, ReadName, SetName, Get, Set, Define, Call, Construct, Operate, Update, PrivateGet, PrivateSet, PrivateInitialize, PrivateIn, AddBrand, SuperGet, SuperSet, SuperCall, SuperCallWithAll, InitializeClass, Throw, Short, Held, Events, none, then, throws, behind, value_behind}
 use Rattle.es_steps.specs.SameValues.{same_value}
-use Rattle.es_steps.specs.Values.{String, Constant, StringOf, RawTemplate, TagString, Value, ConstantOf, Undefined, BindingOf, FunctionOf, ClassOf, ThisOf, ResultOf, FormerOf, KeyOf, Bound, Home, as_key, is_class_value}
+use Rattle.es_steps.specs.Values.{String, Constant, StringOf, RegExpOf, RawTemplate, TagString, Value, ConstantOf, Undefined, BindingOf, FunctionOf, ClassOf, ThisOf, ResultOf, FormerOf, KeyOf, Bound, Home, as_key, is_class_value}
 
 -- the values of temporaries, the last given first
 abbrev pub Environment : Type 0
@@ -125,14 +125,20 @@ read_name m s (StaticMethod d n) = event (PrivateGet m d (ClassOf n)) (ResultOf 
 abbrev pub stands_for : String → Value → Evaluation
 stands_for s v env = Some (record { events = none; value = v; after = (s, v) ∷ env })
 
--- what a binding holds is no value of a temporary, which may be read where the binding holds another one
+-- what a binding holds is no value of a temporary, which may be read where the binding holds another one; nor is a regular
+-- expression, which is another object each time (13.2.7)
 abbrev pub is_binding_value : Value → Bool
 is_binding_value (BindingOf b) = true
+is_binding_value (ConstantOf (RegExpOf p f)) = true
 is_binding_value (KeyOf v) = is_binding_value v
 is_binding_value v = false
 
 abbrev pub kept_as : String → Value → Evaluation
 kept_as s v = cond (is_binding_value v) no_meaning (stands_for s v)
+
+-- a generated element of a class is evaluated whatever its value is, and holds one that a temporary may hold
+abbrev pub element_holds : String → Value → Evaluation
+element_holds s v = cond (is_binding_value v) (gives v) (stands_for s v)
 
 -- nor is its key, of which a temporary of number m only tells that it is one: it stands for a value that nothing of the
 -- source has, and may still name a function or a class, which asks for no value
@@ -147,7 +153,8 @@ write_generated m g s v = no_meaning
 abbrev pub write_name : ℕ → String → NameKind → Value → Evaluation
 write_name m s (Fixed b) v = event (SetName (Bound b) v) v
 write_name m s (Changing r) v = event (SetName r v) v
-write_name m s (MeansClass n b) v = event (SetName (Bound b) v) v
+-- the own name of a class is constant (15.7.14)
+write_name m s (MeansClass n b) v = event Throw Undefined
 write_name m s (Generated g) v = write_generated m g s v
 write_name m s (StaticMethod d n) v = no_meaning
 
@@ -319,7 +326,7 @@ module _ (opens : Opened → Evaluation) where
     ev (super_call_with_all n) = settle (bind (event (SuperCallWithAll n) (ThisOf n)) (λ v. bind (opens (InitializersOf n)) (λ w. gives (ThisOf n))))
     ev (sequence es) = settle (ev_all es (λ vs. gives (last_of Undefined vs)))
     ev (template_string t) = no_meaning
-    ev (template m ts es) = settle (ev_all es (λ vs. ev_template m ts vs))
+    ev (template m ts es) = settle (ev_converted m 0 es (λ vs. ev_template m ts vs))
     ev (operation m op es parts) = settle (ev_all es (λ vs. ev_held m 0 parts (event (Operate m op vs) (ResultOf m))))
     ev (piece ds es) = no_meaning
     ev (chain m e) = held m (Part 0) None (ev e)
@@ -398,6 +405,11 @@ module _ (opens : Opened → Evaluation) where
     ev_all done f = f []
     ev_all (and e es) f = bind (ev e) (λ v. ev_all es (λ vs. f (v ∷ vs)))
 
+    -- the expressions of template m from the i-th on, each made a string before the next one is evaluated (13.2.8.5)
+    pub ev_converted : ℕ → ℕ → Codes → (List Value → Evaluation) → Evaluation
+    ev_converted m i done f = f []
+    ev_converted m i (and e es) f = bind (ev e) (λ v. bind (event (Operate m (Take (Index i ∷ [])) (v ∷ [])) v) (λ w. ev_converted m (suc i) es (λ vs. f (v ∷ vs))))
+
     -- parts from the i-th on, each with a list of its own
     pub ev_held : ℕ → ℕ → Codes → Evaluation → Evaluation
     ev_held m i done a = a
@@ -427,7 +439,7 @@ module _ (opens : Opened → Evaluation) where
     ev_static n a (field true form k e) = bind (ev e) (λ v. initialized form (ClassOf n) a v)
     ev_static n a (private_field true d e) = bind (ev e) (λ v. event (PrivateInitialize d (ClassOf n) v) Undefined)
     ev_static n a (static_block es) = ev_all es (λ vs. gives Undefined)
-    ev_static n a (generated_element s e) = bind (ev e) (λ v. kept_as (private_key s) v)
+    ev_static n a (generated_element s e) = bind (ev e) (λ v. element_holds (private_key s) v)
     ev_static n a e = gives Undefined
 
     -- instance fields in order, each its value and then its definition

@@ -10,7 +10,7 @@ use Rattle.es_steps.specs.Events.{Detail, Operand, Spelled, Flag, Key, Prototype
 use Rattle.es_steps.specs.GeneratedForms.{helper_member, generated_member, generated_call, generated_binary, generated_assignment, is_undefined_test, again_of, tested_object, class_named, is_method_kind}
 use Rattle.es_steps.specs.Members.{Member, Members, code, string, literal, at, operands, details, codes_of, word_of, flag_of}
 use Rattle.es_steps.specs.PrivateNames.{PrivateMember, PrivateReference, private_reference, test_of, member_at}
-use Rattle.es_steps.specs.Values.{String, Constant, StringOf, NumberOf, BigIntOf, RegExpOf, BooleanOf, Null, Value, ConstantOf, Undefined, ResultOf, ThisOf, ClassOf, Free, Home}
+use Rattle.es_steps.specs.Values.{String, Constant, StringOf, NumberOf, BigIntOf, RegExpOf, BooleanOf, Null, Value, ConstantOf, Undefined, ResultOf, ThisOf, ClassOf, ArgumentsOf, Bound, Free, Home}
 
 -- the rule of all kinds that have none of their own: the operands in order, then the operation
 abbrev pub operation_of : Kind → ℕ → Members → Code
@@ -37,14 +37,20 @@ literal_code p = no_rule
 abbrev pub is_arguments : String → Bool
 is_arguments s = bytes_eq s (codes "arguments")
 
--- a free `arguments` is that of the function around, unless it is written anywhere; the function of a static private
--- method stands for that of its class
+-- the function of a static private method stands for that of its class
 abbrev pub static_method : Option PrivateMember → NameKind → NameKind
 static_method None kind = kind
 static_method (Some x) kind = cond (x.is_static && is_method_kind x.kind) (StaticMethod x.number x.class) kind
 
+-- a free `arguments` is that of the function around, if there is one: a value, or, where one is written anywhere, a binding
+-- that varies, known by the number of the function (10.2.11)
+abbrev pub arguments_of : Bool → ℕ → String → Value → Code
+arguments_of true m s (ArgumentsOf k) = name m s (Changing (Bound k))
+arguments_of false m s (ArgumentsOf k) = value (ArgumentsOf k)
+arguments_of writes m s v = name m s (Changing (Free s))
+
 abbrev pub name_or_arguments : Context → ℕ → String → NameKind → Code
-name_or_arguments c m s (Changing (Free spelling)) = cond (is_arguments s && not c.writes_arguments) (value c.arguments) (name m s (Changing (Free spelling)))
+name_or_arguments c m s (Changing (Free spelling)) = cond (is_arguments s) (arguments_of c.writes_arguments m s c.arguments) (name m s (Changing (Free spelling)))
 name_or_arguments c m s (Generated (GeneratedKind.Method d)) = name m s (static_method (member_at d.0 c.members) (Generated (GeneratedKind.Method d)))
 name_or_arguments c m s kind = name m s kind
 
@@ -188,10 +194,31 @@ delete_code m (value (ThisOf k)) whole = value (ConstantOf (BooleanOf true))
 delete_code m (value (ClassOf n)) whole = value (ConstantOf (BooleanOf true))
 delete_code m e whole = whole
 
+-- `typeof x` of a free name raises no error, and `delete x` of a name deletes none: what they do says that their operand is a
+-- name (13.5.1.2, 13.5.3.1)
+abbrev pub is_free_name : Code → Bool
+is_free_name (name m s (Changing (Free spelling))) = true
+is_free_name e = false
+
+abbrev pub is_any_name : Code → Bool
+is_any_name (name m s kind) = true
+is_any_name (value (ArgumentsOf k)) = true
+is_any_name e = false
+
+abbrev pub asks_for_name : String → Code → Bool
+asks_for_name operator e = (bytes_eq operator (codes "typeof") && is_free_name e) || (bytes_eq operator (codes "delete") && is_any_name e)
+
+abbrev pub named_details : Bool → List Detail
+named_details true = Flag true ∷ []
+named_details false = []
+
+abbrev pub unary_operation : ℕ → Members → Code → Code
+unary_operation m ps e = operation m (OfKind Kind.UnaryExpression (named_details (asks_for_name (word_of (at 0 ps)) e) ++ details ps)) (operands ps) done
+
 abbrev pub unary_code : ℕ → Members → Code
 unary_code m ps =
-    let whole : Code = operation_of Kind.UnaryExpression m ps in
     let e : Code = the_code (at 1 ps) in
+    let whole : Code = unary_operation m ps e in
     cond (bytes_eq (word_of (at 0 ps)) (codes "void")) (void_code e whole) (cond (bytes_eq (word_of (at 0 ps)) (codes "delete")) (delete_code m e whole) whole)
 
 abbrev pub binary_code : Context → ℕ → Members → Code
@@ -199,7 +226,7 @@ binary_code c m ps = generated_binary c m (word_of (at 0 ps)) (the_code (at 1 ps
 
 -- a test that a generated key is not `"name"`, and what is done then, have no event
 abbrev pub quiet_logical : Context → ℕ → String → Code → Code → Code → Code
-quiet_logical c m operator (value (ResultOf k)) (value v) whole = cond (new_here c m && (new_here c k && bytes_eq operator (codes "&&"))) (value (ResultOf m)) whole
+quiet_logical c m operator (value (ResultOf k)) (from_call (value v)) whole = cond (new_here c m && (new_here c k && bytes_eq operator (codes "&&"))) (value (ResultOf m)) whole
 quiet_logical c m operator l r whole = whole
 
 abbrev pub logical_code : Context → ℕ → Members → Code

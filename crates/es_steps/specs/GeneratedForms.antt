@@ -287,7 +287,7 @@ is_same_key (private_value s) (private_value t) = bytes_eq s t
 is_same_key k l = false
 
 abbrev pub kept_name : Code → Option (Code × Code) → Code → Code
-kept_name key (Some p) whole = cond (is_same_key key p.0) (from_member (from_call p.1)) whole
+kept_name key (Some p) whole = cond (is_same_key key p.0) (from_member (from_call (sequence (and p.0 (and p.1 done))))) whole
 kept_name key None whole = whole
 
 abbrev pub generated_member : Context → ℕ → Code → Code → Code → Code

@@ -1,12 +1,15 @@
 -- Which nodes of the source stand in a lowered program. (Our own.)
-use Rattle.std.specs.Prelude.{ℕ, suc, List, [], ◌∷◌, ◌++◌, Bool, true, false, cond, not, ◌&&◌, ◌||◌, nat_eq, Option, Some, None}
+use Rattle.std.specs.Prelude.{ℕ, suc, List, [], ◌∷◌, ◌++◌, Bool, true, false, cond, not, ◌&&◌, ◌||◌, nat_eq, bytes_eq, Option, Some, None}
+use Rattle.es_base.specs.Numbered.{is_new}
 use Rattle.es_base.specs.Preorder.{preorder, number_of}
 use Rattle.es_base.specs.Table.{is_statement}
 use Rattle.es_base.specs.Tree.{Tree, Part, Parts, Node, end, more, child, list}
 use Rattle.es_base.specs.declared.kind.Kind.{Kind}
+use Rattle.es_steps.specs.Context.{is_constructor}
 use Rattle.es_steps.specs.LoweredClasses.{is_lowered_class, has_lowered_class}
 use Rattle.es_steps.specs.Options.{lowers_blocks}
-use Rattle.es_steps.specs.Parts.{at, items}
+use Rattle.es_steps.specs.Parts.{at, items, string_of}
+use Rattle.es_steps.specs.References.{has_number}
 use Rattle.es_steps.specs.SameTrees.{same_tree}
 use Rattle.es_steps.specs.Scopes.{class_in}
 use Rattle.es_steps.specs.declared.options.Options.{Options}
@@ -173,52 +176,7 @@ all_within (l ∷ ls) qs = is_within l.1 (list_of l.0 qs) && all_within ls qs
 abbrev pub lists_kept : Options → Tree → Tree → Bool
 lists_kept o p q = all_within (free_lists o p) (preorder q)
 
--- ---- declaring identifiers and lists of statements stay in their function, also where a new one would be transparent to
--- the meaning: a `var`, and a function in a block of sloppy code (ECMA-262, B.3.2), are seen in all of it
-
--- the function around the i-th part of a node, or its static block; none in a static block that is lowered
-abbrev pub home_in : Options → Option ℕ → Kind → ℕ → ℕ → Option ℕ
-home_in o home Kind.FunctionDeclaration m i = cond (nat_eq i 0) home (Some m)
-home_in o home Kind.FunctionExpression m i = Some m
-home_in o home Kind.ArrowFunctionExpression m i = Some m
-home_in o home Kind.StaticBlock m i = cond (lowers_blocks o) None (Some m)
-home_in o home kind m i = home
-
--- but for the own name of a class expression, which the class may take with it
-abbrev pub is_own_name : Kind → ℕ → Bool
-is_own_name Kind.ClassExpression i = nat_eq i 0
-is_own_name kind i = false
-
-abbrev pub has_home : Bool → Kind → Bool
-has_home is_own Kind.BindingIdentifier = not is_own
-has_home is_own Kind.BlockStatement = true
-has_home is_own Kind.SwitchCase = true
-has_home is_own kind = false
-
-abbrev pub home_of : Bool → ℕ → Option ℕ → List (ℕ × ℕ)
-home_of true m (Some home) = (m, home) ∷ []
-home_of here m home = []
-
-module _ (o : Options) where
-  abbrev mutual
-    pub homes : Option ℕ → Bool → Tree → List (ℕ × ℕ)
-    homes home is_own (Node kind m span semantic_id ps) = home_of (has_home is_own kind) m home ++ homes_in (home_in o home kind m) (is_own_name kind) ps
-
-    pub homes_in : (ℕ → Option ℕ) → (ℕ → Bool) → Parts → List (ℕ × ℕ)
-    homes_in home is_own end = []
-    homes_in home is_own (more p ps) = homes_at (home 0) (is_own 0) p ++ homes_in (λ i. home (suc i)) (λ i. is_own (suc i)) ps
-
-    pub homes_at : Option ℕ → Bool → Part → List (ℕ × ℕ)
-    homes_at home is_own (child t) = homes home is_own t
-    homes_at home is_own (list ps) = homes_of home ps
-    homes_at home is_own p = []
-
-    pub homes_of : Option ℕ → Parts → List (ℕ × ℕ)
-    homes_of home end = []
-    homes_of home (more p ps) = homes_at home false p ++ homes_of home ps
-
-  abbrev pub all_homes : Tree → List (ℕ × ℕ)
-  all_homes t = homes (Some (number_of t)) false t
+-- ---- pairs of numbers
 
 abbrev pub pair_stands : ℕ × ℕ → List (ℕ × ℕ) → Bool
 pair_stands p [] = false
@@ -228,5 +186,108 @@ abbrev pub all_pairs_stand : List (ℕ × ℕ) → List (ℕ × ℕ) → Bool
 all_pairs_stand [] qs = true
 all_pairs_stand (p ∷ ps) qs = pair_stands p qs && all_pairs_stand ps qs
 
-abbrev pub homes_kept : Options → Tree → Tree → Bool
-homes_kept o p q = all_pairs_stand (all_homes o p) (all_homes o q)
+-- ---- declaring identifiers and lists of statements stay in their function, also where a new one would be transparent to
+-- the meaning: a `var`, and a function in a block of sloppy code (ECMA-262, B.3.2), are seen in all of it. What stands in a
+-- static block that is lowered gets a new function. And declaring identifiers keep their spelling; in a constructor, where
+-- names may clash with those of fields, they may also get one that begins with `_`.
+
+abbrev pub is_underscored : List ℕ → Bool
+is_underscored [] = false
+is_underscored (c ∷ cs) = nat_eq c 95
+
+-- a declaring identifier or a list of statements: the function or static block around it, its spelling, whether it is the own
+-- name of a class expression, which the class may take with it, and whether it stands in a constructor
+pub record Homed : Type 0 where
+  pub number : ℕ
+  pub home : ℕ
+  pub spelling : List ℕ
+  pub is_own_name : Bool
+  pub in_constructor : Bool
+
+-- what is around a part
+pub record HomeHere : Type 0 where
+  pub of_function : ℕ
+  pub is_own_name : Bool
+  pub in_constructor : Bool
+
+-- the function around the i-th part of a node, or its static block
+abbrev pub function_around : ℕ → Kind → ℕ → ℕ → ℕ
+function_around home Kind.FunctionDeclaration m i = cond (nat_eq i 0) home m
+function_around home Kind.FunctionExpression m i = m
+function_around home Kind.ArrowFunctionExpression m i = m
+function_around home Kind.StaticBlock m i = m
+function_around home kind m i = home
+
+abbrev pub is_own_name_part : Kind → ℕ → Bool
+is_own_name_part Kind.ClassExpression i = nat_eq i 0
+is_own_name_part kind i = false
+
+abbrev pub is_constructor_part : Kind → Parts → ℕ → Bool
+is_constructor_part Kind.MethodDefinition ps i = nat_eq i 1 && is_constructor (string_of (at 2 ps))
+is_constructor_part kind ps i = false
+
+abbrev pub home_in : HomeHere → Kind → ℕ → Parts → ℕ → HomeHere
+home_in x kind m ps i = record { of_function = function_around x.of_function kind m i; is_own_name = is_own_name_part kind i; in_constructor = x.in_constructor || is_constructor_part kind ps i }
+
+abbrev pub has_home : Kind → Bool
+has_home Kind.BindingIdentifier = true
+has_home Kind.BlockStatement = true
+has_home Kind.SwitchCase = true
+has_home kind = false
+
+abbrev pub name_of : Kind → Parts → List ℕ
+name_of Kind.BindingIdentifier ps = string_of (at 0 ps)
+name_of kind ps = []
+
+abbrev pub homed : HomeHere → Kind → ℕ → Parts → List Homed
+homed x kind m ps = cond (has_home kind) (record { number = m; home = x.of_function; spelling = name_of kind ps; is_own_name = x.is_own_name; in_constructor = x.in_constructor } ∷ []) []
+
+abbrev mutual
+  pub homes : HomeHere → Tree → List Homed
+  homes x (Node kind m span semantic_id ps) = homed x kind m ps ++ homes_in (home_in x kind m ps) ps
+
+  pub homes_in : (ℕ → HomeHere) → Parts → List Homed
+  homes_in x end = []
+  homes_in x (more p ps) = homes_at (x 0) p ++ homes_in (λ i. x (suc i)) ps
+
+  pub homes_at : HomeHere → Part → List Homed
+  homes_at x (child t) = homes x t
+  homes_at x (list ps) = homes_of x ps
+  homes_at x p = []
+
+  pub homes_of : HomeHere → Parts → List Homed
+  homes_of x end = []
+  homes_of x (more p ps) = homes_at x p ++ homes_of x ps
+
+abbrev pub all_homes : Tree → List Homed
+all_homes t = homes (record { of_function = number_of t; is_own_name = false; in_constructor = false }) t
+
+-- the static blocks that are lowered
+abbrev pub block_numbers : List Tree → List ℕ
+block_numbers [] = []
+block_numbers (Node kind m span semantic_id ps ∷ ts) = cond (is_static_block kind) (m ∷ []) [] ++ block_numbers ts
+
+abbrev pub lowered_blocks : Options → Tree → List ℕ
+lowered_blocks o p = cond (lowers_blocks o) (block_numbers (preorder p)) []
+
+module _ (first : ℕ) (blocks : List ℕ) where
+  abbrev pub home_fits : Homed → Homed → Bool
+  home_fits x y = x.is_own_name || (nat_eq x.home y.home || (has_number x.home blocks && is_new first y.home))
+
+  abbrev pub name_fits : Homed → Homed → Bool
+  name_fits x y = bytes_eq x.spelling y.spelling || (x.in_constructor && is_underscored y.spelling)
+
+  abbrev pub stands_at_home : Homed → List Homed → Bool
+  stands_at_home x [] = false
+  stands_at_home x (y ∷ ys) = (nat_eq x.number y.number && (home_fits x y && name_fits x y)) || stands_at_home x ys
+
+  abbrev pub stands_nowhere : Homed → List Homed → Bool
+  stands_nowhere x [] = true
+  stands_nowhere x (y ∷ ys) = not (nat_eq x.number y.number) && stands_nowhere x ys
+
+  abbrev pub all_at_home : List Homed → List Homed → Bool
+  all_at_home [] ys = true
+  all_at_home (x ∷ xs) ys = (stands_at_home x ys || (x.is_own_name && stands_nowhere x ys)) && all_at_home xs ys
+
+abbrev pub homes_kept : ℕ → Options → Tree → Tree → Bool
+homes_kept first o p q = all_at_home first (lowered_blocks o p) (all_homes p) (all_homes q)

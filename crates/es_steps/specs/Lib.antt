@@ -8,6 +8,7 @@ pub mod Expressions
 pub mod FirstForm
 pub mod Generated
 pub mod GeneratedForms
+pub mod HelperCalls
 pub mod Helpers
 pub mod KeptNodes
 pub mod Law
@@ -30,6 +31,7 @@ pub mod SameTrees
 pub mod SameValues
 pub mod Scopes
 pub mod Shapes
+pub mod Shared
 pub mod Statements
 pub mod Standing
 pub mod Temporaries

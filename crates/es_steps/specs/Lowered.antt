@@ -12,7 +12,8 @@ use Rattle.es_base.specs.declared.ledger.LedgerEntry.{LedgerEntry}
 use Rattle.es_steps.specs.Context.{generated_as}
 use Rattle.es_steps.specs.Definitions.{spelling, field_part, names_class, class_identifiers, definitions_stand, all_temporaries, all_different, elements_kept}
 use Rattle.es_steps.specs.GeneratedForms.{if_member, is_instance_field, is_static_field, is_function_member}
-use Rattle.es_steps.specs.KeptNodes.{statement_list, is_function_declaration, nodes_kept, statements_kept, lists_kept, homes_kept}
+use Rattle.es_steps.specs.HelperCalls.{is_helper_callee, computed_keys, helper_calls_fit}
+use Rattle.es_steps.specs.KeptNodes.{statement_list, is_function_declaration, is_underscored, nodes_kept, statements_kept, lists_kept, homes_kept}
 use Rattle.es_steps.specs.LoweredClasses.{has_lowered_class}
 use Rattle.es_steps.specs.Options.{lowers_fields, lowers_blocks}
 use Rattle.es_steps.specs.Parts.{at, items, string_of, is_present}
@@ -48,7 +49,7 @@ none_lowered o (t ∷ ts) = not (is_lowered_kind o (kind_of t)) && none_lowered 
 abbrev pub nothing_left : Options → Tree → Bool
 nothing_left o q = none_lowered o (preorder q)
 
--- ---- each generated name has one declaration, which is new, and all its references mean it
+-- ---- each generated name begins with `_`, and has one declaration, which is new, and all its references mean it
 
 -- the declaring identifiers of this spelling
 abbrev pub declaring_number : String → Tree → List ℕ
@@ -111,9 +112,22 @@ abbrev pub is_named_again : LedgerEntry → List LedgerEntry → Bool
 is_named_again e [] = false
 is_named_again e (x ∷ xs) = (same_space e.kind x.kind && bytes_eq e.name x.name) || is_named_again e xs
 
+-- one name for a member, and one for the brand of a class
+abbrev pub same_subject : GeneratedKind → GeneratedKind → Bool
+same_subject (GeneratedKind.WeakMap d) (GeneratedKind.WeakMap k) = nat_eq d.0 k.0
+same_subject (GeneratedKind.StaticField d) (GeneratedKind.StaticField k) = nat_eq d.0 k.0
+same_subject (GeneratedKind.Brand n) (GeneratedKind.Brand k) = nat_eq n.0 k.0
+same_subject (GeneratedKind.Method d) (GeneratedKind.Method k) = nat_eq d.0 k.0
+same_subject (GeneratedKind.LooseKey d) (GeneratedKind.LooseKey k) = nat_eq d.0 k.0
+same_subject g h = false
+
+abbrev pub has_another_name : GeneratedKind → List LedgerEntry → Bool
+has_another_name g [] = false
+has_another_name g (x ∷ xs) = same_subject g x.kind || has_another_name g xs
+
 abbrev pub names_declared : ℕ → List LedgerEntry → Tree → Bool
 names_declared first [] q = true
-names_declared first (e ∷ es) q = not (is_named_again e es) && (declared_by_kind first q e.name e.kind && names_declared first es q)
+names_declared first (e ∷ es) q = (is_underscored e.name && not (is_named_again e es || has_another_name e.kind es)) && (declared_by_kind first q e.name e.kind && names_declared first es q)
 
 -- ---- each new declaration is accounted for
 
@@ -160,10 +174,6 @@ declarations_accounted first ledger p q = all_accounted first ledger (own_name_n
 -- what gives a name a value: an assignment, a declarator with an initializer, a declaration of a function or a class
 abbrev pub spelled_as : String → Part → Bool
 spelled_as s p = bytes_eq s (spelling p)
-
-abbrev pub is_helper_callee : ℕ → String → Part → Bool
-is_helper_callee first h (child (Node Kind.MemberExpression m span semantic_id (more (child (Node Kind.IdentifierReference b bspan b_semantic_id (more (string s) end))) (more (child (Node Kind.IdentifierName k kspan k_semantic_id (more (string t) end))) rest)))) = is_new first b && (bytes_eq s (codes "babelHelpers") && bytes_eq h t)
-is_helper_callee first h p = false
 
 abbrev pub is_new_of : String → Part → Bool
 is_new_of s (child (Node Kind.NewExpression m span semantic_id (more (child (Node Kind.IdentifierReference b bspan b_semantic_id (more (string t) end))) (more (list end) end)))) = bytes_eq s t
@@ -302,9 +312,22 @@ abbrev pub is_one_initialization : GeneratedKind → List PrivateMember → Tree
 is_one_initialization g members q (i ∷ []) = i.1 && (is_declared_function i.0 (preorder q) || all_before i.0 (class_before g members) (preorder q))
 is_one_initialization g members q is = false
 
+-- a temporary is given a value by one assignment alone
+abbrev pub is_temp : GeneratedKind → Bool
+is_temp GeneratedKind.Temp = true
+is_temp g = false
+
+abbrev pub is_at_most_one : List (ℕ × Bool) → Bool
+is_at_most_one [] = true
+is_at_most_one (i ∷ []) = true
+is_at_most_one is = false
+
+abbrev pub initialization_stands : GeneratedKind → List PrivateMember → Tree → List (ℕ × Bool) → Bool
+initialization_stands g members q is = (needs_none g && (not (is_temp g) || is_at_most_one is)) || (belongs members g && is_one_initialization g members q is)
+
 abbrev pub initializations_stand : ℕ → List LedgerEntry → List PrivateMember → Tree → List LedgerEntry → Bool
 initializations_stand first ledger members q [] = true
-initializations_stand first ledger members q (e ∷ es) = (needs_none e.kind || (belongs members e.kind && is_one_initialization e.kind members q (initializations first ledger q e.name e.kind (preorder q)))) && initializations_stand first ledger members q es
+initializations_stand first ledger members q (e ∷ es) = initialization_stands e.kind members q (initializations first ledger q e.name e.kind (preorder q)) && initializations_stand first ledger members q es
 
 -- the temporaries of keys are given before their class
 abbrev pub any_before : List (ℕ × Bool) → ℕ → List Tree → Bool
@@ -326,15 +349,16 @@ pub record MeetsClauses (first : ℕ) (o : Options) (ledger : List LedgerEntry) 
   pub declared : names_declared first ledger q ≡ true
   pub accounted : declarations_accounted first ledger p q ≡ true
   pub initialized : initializations_stand first ledger (private_members p) q ledger ≡ true
-  pub timely : names_timely first ledger q ≡ true
+  pub timely : names_timely first ledger (private_members p) q ≡ true
   pub temporaries : temporaries_steady first ledger q ≡ true
   pub keys : keys_stand first o ledger (private_members p) q (all_temporaries first o ledger (private_members p) q (preorder q)) ≡ true
   pub nodes : nodes_kept p q ≡ true
   pub statements : statements_kept o p q ≡ true
   pub lists : lists_kept o p q ≡ true
-  pub homes : homes_kept o p q ≡ true
+  pub homes : homes_kept first o p q ≡ true
   pub definitions : definitions_stand first o ledger (private_members p) p q ≡ true
   pub elements : elements_kept o (preorder p) (preorder q) ≡ true
+  pub calls : helper_calls_fit first ledger (computed_keys (preorder p)) q ≡ true
   pub printable : (not (is_printable p) || is_printable q) ≡ true
 
 -- what a lowered program owes

@@ -3,7 +3,7 @@
 use Rattle.std.specs.Prelude.{ℕ, zero, suc, List, [], ◌∷◌, ◌++◌, Bool, true, false, cond, nat_le, nat_eq, bytes_eq, codes, Option, Some, None}
 use Rattle.es_base.specs.Numbered.{is_new}
 use Rattle.es_base.specs.Preorder.{preorder, number_of, nodes}
-use Rattle.es_base.specs.Tree.{Tree, Part, Parts, Node, end, more, child, list, string}
+use Rattle.es_base.specs.Tree.{Tree, Part, Parts, Node, end, more, child, absent, list, string}
 use Rattle.es_base.specs.declared.kind.Kind.{Kind}
 use Rattle.es_base.specs.declared.ledger.GeneratedKind.{GeneratedKind}
 use Rattle.es_base.specs.declared.ledger.LedgerEntry.{LedgerEntry}
@@ -18,8 +18,9 @@ use Rattle.es_steps.specs.PrivateNames.{PrivateMember, PrivateKind, a_field, pri
 use Rattle.es_steps.specs.Reading.{read}
 use Rattle.es_steps.specs.References.{resolve, varying, writes_free}
 use Rattle.es_steps.specs.Repeated.{all_places}
+use Rattle.es_steps.specs.Shared.{shared}
 use Rattle.es_steps.specs.Scopes.{Declaration, is_binding_identifier, class_in, body_names}
-use Rattle.es_steps.specs.Values.{String, ThisOf, ArgumentsOf, NewTargetOf}
+use Rattle.es_steps.specs.Values.{String, Undefined, ThisOf, NewTargetOf}
 use Rattle.es_steps.specs.declared.options.Options.{Options}
 
 -- ---- what declaring identifiers declare
@@ -94,6 +95,7 @@ unless_generated None p = p ∷ []
 
 abbrev pub declared_function : List LedgerEntry → Tree → List (ℕ × ℕ)
 declared_function ledger (Node Kind.FunctionDeclaration f span semantic_id (more (child (Node Kind.BindingIdentifier b s i (more (string x) end))) ps)) = unless_generated (generated_as x ledger) (b, f)
+declared_function ledger (Node Kind.ExportDefaultDeclaration m span semantic_id (more (child (Node Kind.FunctionDeclaration f fspan f_semantic_id (more absent ps))) rest)) = (m, f) ∷ []
 declared_function ledger t = []
 
 abbrev pub declared_functions : List LedgerEntry → List Tree → List (ℕ × ℕ)
@@ -103,8 +105,8 @@ declared_functions ledger (t ∷ ts) = declared_function ledger t ++ declared_fu
 -- ---- private members: a field, or the function of a method, getter or setter
 
 pub data MemberEntry : Type 0 where
-  IsField : (is_static : Bool) → MemberEntry
-  FunctionIs : (is_static : Bool) (kind : PrivateKind) (f : ℕ) → MemberEntry
+  IsField : (n : ℕ) (is_static : Bool) → MemberEntry
+  FunctionIs : (n : ℕ) (is_static : Bool) (kind : PrivateKind) (f : ℕ) → MemberEntry
 
 abbrev pub function_of : ℕ → Code → List (ℕ × ℕ)
 function_of d (function f form own_name ps body) = (d, f) ∷ []
@@ -118,13 +120,13 @@ private_function_by c = []
 abbrev pub private_functions : Code → List (ℕ × ℕ)
 private_functions c = gather private_function_by c
 
-abbrev pub function_at : Bool → PrivateKind → ℕ → List (ℕ × ℕ) → Option MemberEntry
-function_at is_static kind d [] = None
-function_at is_static kind d (p ∷ ps) = cond (nat_eq d p.0) (Some (FunctionIs is_static kind p.1)) (function_at is_static kind d ps)
+abbrev pub function_at : ℕ → Bool → PrivateKind → ℕ → List (ℕ × ℕ) → Option MemberEntry
+function_at n is_static kind d [] = None
+function_at n is_static kind d (p ∷ ps) = cond (nat_eq d p.0) (Some (FunctionIs n is_static kind p.1)) (function_at n is_static kind d ps)
 
-abbrev pub member_entry : Bool → PrivateKind → ℕ → List (ℕ × ℕ) → Option MemberEntry
-member_entry is_static a_field d functions = Some (IsField is_static)
-member_entry is_static kind d functions = function_at is_static kind d functions
+abbrev pub member_entry : ℕ → Bool → PrivateKind → ℕ → List (ℕ × ℕ) → Option MemberEntry
+member_entry n is_static a_field d functions = Some (IsField n is_static)
+member_entry n is_static kind d functions = function_at n is_static kind d functions
 
 abbrev pub with_member : ℕ → Option MemberEntry → Option (List (ℕ × MemberEntry)) → Option (List (ℕ × MemberEntry))
 with_member d (Some e) (Some es) = Some ((d, e) ∷ es)
@@ -132,7 +134,7 @@ with_member d e es = None
 
 abbrev pub member_entries : List (ℕ × ℕ) → List PrivateMember → Option (List (ℕ × MemberEntry))
 member_entries functions [] = Some []
-member_entries functions (x ∷ xs) = with_member x.number (member_entry x.is_static x.kind x.number functions) (member_entries functions xs)
+member_entries functions (x ∷ xs) = with_member x.number (member_entry x.class x.is_static x.kind x.number functions) (member_entries functions xs)
 
 -- ---- the names that a script gives to other scripts: those of its own scope (ECMA-262, 16.1.7)
 
@@ -181,6 +183,8 @@ pub record Meaning : Type 0 where
   pub functions : List (ℕ × ℕ)
   pub bindings : List (ℕ × DeclarationKind)
   pub globals : List (ℕ × String)
+  -- declaring identifiers of one binding
+  pub shared : List (ℕ × ℕ)
   -- where functions, classes and declaring identifiers stand
   pub places : List (ℕ × ℕ)
   pub links : List ModuleLink
@@ -207,7 +211,7 @@ start o t = record {
   privates = [];
   this = ThisOf (number_of t);
   new_target = NewTargetOf (number_of t);
-  arguments = ArgumentsOf (number_of t);
+  arguments = Undefined;
   home = None;
   constructs = None;
   initializing = None;
@@ -219,6 +223,7 @@ start o t = record {
   role = a_function;
   let_class = None;
   is_body = false;
+  in_block = false;
 }
 
 abbrev pub source_type_of : Tree → String
@@ -245,6 +250,7 @@ with_all o t d (Some l) (Some es) (Some ms) (Some xs) = Some (record {
   functions = by_number (declared_functions o.ledger (preorder t));
   bindings = by_number (old_bindings o.first_new (declaring o.first_new ClassDeclared t));
   globals = by_number (globals o.first_new t);
+  shared = by_number (shared false t);
   places = by_number (all_places o.first_new o.ledger (second_numbers d) t);
   links = links_in (body_of t);
   exports = xs;

@@ -7,7 +7,8 @@ use Rattle.es_base.specs.declared.kind.Kind.{Kind}
 use Rattle.es_base.specs.declared.literal.LiteralValue.{LiteralValue}
 use Rattle.es_base.specs.declared.literal.LiteralValue.TheVariants as literal_value
 use Rattle.es_steps.specs.Context.{is_constructor, is_function}
-use Rattle.es_steps.specs.Parts.{at, items, string_of, is_true, is_present}
+use Rattle.es_steps.specs.KeptNodes.{statement_list}
+use Rattle.es_steps.specs.Parts.{at, items, block_items, string_of, is_true, is_present}
 use Rattle.es_steps.specs.Repeated.{is_loop, is_arrow}
 use Rattle.es_steps.specs.Values.{String}
 
@@ -52,7 +53,7 @@ is_name (c ∷ cs) = begins_name c && all_in_name cs
 
 abbrev pub reserved_words : List String
 reserved_words =
-    codes "await" ∷ codes "break" ∷ codes "case" ∷ codes "catch" ∷ codes "class" ∷ codes "const" ∷ codes "continue" ∷ codes "debugger" ∷ codes "default" ∷ codes "delete" ∷ codes "do" ∷ codes "else" ∷ codes "enum" ∷ codes "export" ∷ codes "extends" ∷ codes "false" ∷ codes "finally" ∷ codes "for" ∷ codes "function" ∷ codes "if" ∷ codes "import" ∷ codes "in" ∷ codes "instanceof" ∷ codes "new" ∷ codes "null" ∷ codes "return" ∷ codes "super" ∷ codes "switch" ∷ codes "this" ∷ codes "throw" ∷ codes "true" ∷ codes "try" ∷ codes "typeof" ∷ codes "var" ∷ codes "void" ∷ codes "while" ∷ codes "with" ∷ codes "yield" ∷ codes "let" ∷ []
+    codes "break" ∷ codes "case" ∷ codes "catch" ∷ codes "class" ∷ codes "const" ∷ codes "continue" ∷ codes "debugger" ∷ codes "default" ∷ codes "delete" ∷ codes "do" ∷ codes "else" ∷ codes "enum" ∷ codes "export" ∷ codes "extends" ∷ codes "false" ∷ codes "finally" ∷ codes "for" ∷ codes "function" ∷ codes "if" ∷ codes "import" ∷ codes "in" ∷ codes "instanceof" ∷ codes "new" ∷ codes "null" ∷ codes "return" ∷ codes "super" ∷ codes "switch" ∷ codes "this" ∷ codes "throw" ∷ codes "true" ∷ codes "try" ∷ codes "typeof" ∷ codes "var" ∷ codes "void" ∷ codes "while" ∷ codes "with" ∷ []
 
 -- a name that is a reference, a binding, a label, or that of a function or class
 abbrev pub is_bad_name : Kind → Parts → Bool
@@ -197,6 +198,41 @@ is_directive_of s p = false
 abbrev pub is_bad_directive : Kind → Parts → Bool
 is_bad_directive Kind.ExpressionStatement (more e (more (string s) end)) = not (is_directive_of s e)
 is_bad_directive kind ps = false
+
+-- a directive behind what is none, and `"use strict"` in a function with parameters that are not all identifiers (11.2.1,
+-- 15.2.1)
+abbrev pub is_directive : Part → Bool
+is_directive (child (Node Kind.ExpressionStatement m span semantic_id (more e (more (string s) end)))) = true
+is_directive p = false
+
+abbrev pub has_late_directive : Bool → Parts → Bool
+has_late_directive late end = false
+has_late_directive late (more p ps) = (late && is_directive p) || has_late_directive (late || not (is_directive p)) ps
+
+abbrev pub is_use_strict : Part → Bool
+is_use_strict (child (Node Kind.ExpressionStatement m span semantic_id (more e (more (string s) end)))) = bytes_eq s (codes "use strict")
+is_use_strict p = false
+
+abbrev pub uses_strict : Parts → Bool
+uses_strict end = false
+uses_strict (more p ps) = is_use_strict p || uses_strict ps
+
+abbrev pub is_binding_name : Part → Bool
+is_binding_name (child (Node Kind.BindingIdentifier m span semantic_id ps)) = true
+is_binding_name p = false
+
+abbrev pub are_names : Parts → Bool
+are_names end = true
+are_names (more p ps) = is_binding_name p && are_names ps
+
+abbrev pub is_strict_with_patterns : Part → Part → Bool
+is_strict_with_patterns parameters body = not (are_names (items parameters)) && uses_strict (block_items body)
+
+abbrev pub has_bad_prologue : Kind → Parts → Bool
+has_bad_prologue Kind.FunctionDeclaration ps = is_strict_with_patterns (at 1 ps) (at 2 ps)
+has_bad_prologue Kind.FunctionExpression ps = is_strict_with_patterns (at 1 ps) (at 2 ps)
+has_bad_prologue Kind.ArrowFunctionExpression ps = is_strict_with_patterns (at 0 ps) (at 1 ps)
+has_bad_prologue kind ps = has_late_directive false (statement_list kind ps)
 
 -- ---- forms
 
@@ -397,7 +433,7 @@ is_module_item Kind.ExportAllDeclaration = true
 is_module_item kind = false
 
 abbrev pub is_bad_node : Kind → Parts → Bool
-is_bad_node kind ps = (is_bad_name kind ps || is_bad_label kind ps) || ((is_bad_literal kind ps || is_bad_template kind ps) || (is_bad_directive kind ps || (is_bad_form kind ps || has_stray_optional kind ps)))
+is_bad_node kind ps = (is_bad_name kind ps || is_bad_label kind ps) || ((is_bad_literal kind ps || is_bad_template kind ps) || ((is_bad_directive kind ps || has_bad_prologue kind ps) || (is_bad_form kind ps || has_stray_optional kind ps)))
 
 -- a tree under a node that allows a declaration without a name or not, and imports and exports or not
 abbrev pub is_default_export : Kind → Bool

@@ -12,12 +12,15 @@ use Rattle.es_steps.specs.Context.{generated_as, is_constructor, is_function, na
 use Rattle.es_steps.specs.Parts.{at, items, string_of, is_true, has_pattern}
 use Rattle.es_steps.specs.PrivateNames.{is_class}
 use Rattle.es_steps.specs.References.{has_number}
-use Rattle.es_steps.specs.Scopes.{is_binding_identifier}
+use Rattle.es_steps.specs.Scopes.{is_binding_identifier, is_var}
 
--- around a part: the nearest function or loop, the class whose construction it is, or the parameters; the nearest class
--- whose body is around; and the class whose construction a function here belongs to
+-- around a part: the nearest function or loop, the class whose construction it is, or the parameters; the place of what a `var`
+-- here is hoisted to, a function or static block, and whether a `var` declares here; the nearest class whose body is around;
+-- and the class whose construction a function here belongs to
 pub record Surroundings : Type 0 where
   pub place : ℕ
+  pub hoisted : ℕ
+  pub in_var : Bool
   pub class : ℕ
   pub constructs : Option ℕ
 
@@ -68,25 +71,53 @@ first_number ps place = place
 abbrev pub parameters_place : Bool → Parts → ℕ → ℕ
 parameters_place here ps place = cond (here && has_pattern ps) (first_number ps place) place
 
+-- what the head of a loop evaluates once: a declaration that a `for` begins with, known by its number, since what it declares is
+-- copied from round to round (14.7.4.4); or what stands in the place around
+abbrev pub once_place : Part → ℕ → ℕ
+once_place (child (Node Kind.VariableDeclaration m span semantic_id ps)) place = m
+once_place p place = place
+
+abbrev pub loop_place : Kind → ℕ → Parts → ℕ → ℕ → ℕ
+loop_place Kind.ForStatement m ps i place = cond (nat_eq i 0) (once_place (at 0 ps) place) m
+loop_place Kind.ForInStatement m ps i place = cond (nat_eq i 1) place m
+loop_place Kind.ForOfStatement m ps i place = cond (nat_eq i 1) place m
+loop_place kind m ps i place = m
+
 -- where the i-th part of a node stands
 abbrev pub place_in : ℕ → Surroundings → Kind → ℕ → Parts → ℕ → ℕ
 place_in first s Kind.PropertyDefinition m ps i = cond (nat_eq i 1 && not (is_true (at 3 ps))) s.class s.place
-place_in first s kind m ps i = cond (is_function kind || is_arrow kind) (parameters_place (is_parameters_part kind i) (items (at i ps)) (function_place (is_new first m) s.constructs m s.place)) (cond (is_loop kind) m s.place)
+place_in first s kind m ps i = cond (is_function kind || is_arrow kind) (parameters_place (is_parameters_part kind i) (items (at i ps)) (function_place (is_new first m) s.constructs m s.place)) (cond (is_loop kind) (loop_place kind m ps i s.place) s.place)
+
+-- where a `var` in the i-th part is hoisted to
+abbrev pub takes_vars : Kind → Bool
+takes_vars Kind.StaticBlock = true
+takes_vars kind = is_function kind || is_arrow kind
+
+abbrev pub hoisted_in : ℕ → Surroundings → Kind → ℕ → Parts → ℕ → ℕ
+hoisted_in first s kind m ps i = cond (takes_vars kind) (place_in first s kind m ps i) s.hoisted
+
+abbrev pub in_var_at : Bool → Kind → Parts → Bool
+in_var_at in_var Kind.VariableDeclaration ps = is_var ps
+in_var_at in_var kind ps = in_var && not (is_function kind || (is_arrow kind || is_class kind))
 
 abbrev pub surroundings_in : ℕ → List LedgerEntry → Surroundings → Kind → ℕ → Parts → ℕ → Surroundings
-surroundings_in first ledger s kind m ps i = record { place = place_in first s kind m ps i; class = cond (is_class kind && nat_eq i 2) m s.class; constructs = constructs_at ledger s.class kind ps i }
+surroundings_in first ledger s kind m ps i = record { place = place_in first s kind m ps i; hoisted = hoisted_in first s kind m ps i; in_var = in_var_at s.in_var kind ps; class = cond (is_class kind && nat_eq i 2) m s.class; constructs = constructs_at ledger s.class kind ps i }
 
 abbrev pub is_placed : Kind → Bool
 is_placed kind = is_function kind || (is_arrow kind || (is_class kind || is_binding_identifier kind))
 
+-- the identifier of a `var` stands where the `var` is hoisted to
+abbrev pub own_place : Surroundings → Kind → ℕ
+own_place s kind = cond (is_binding_identifier kind && s.in_var) s.hoisted s.place
+
 -- around a program
 abbrev pub around_program : Tree → Surroundings
-around_program t = record { place = number_of t; class = number_of t; constructs = None }
+around_program t = record { place = number_of t; hoisted = number_of t; in_var = false; class = number_of t; constructs = None }
 
 -- old functions, classes and declaring identifiers, but the functions of private methods, each with its place
 module _ (first : ℕ) (ledger : List LedgerEntry) (private_functions : List ℕ) where
   abbrev pub place_of : Surroundings → Kind → ℕ → List (ℕ × ℕ)
-  place_of s kind m = cond (is_placed kind && not (is_new first m || has_number m private_functions)) ((m, s.place) ∷ []) []
+  place_of s kind m = cond (is_placed kind && not (is_new first m || has_number m private_functions)) ((m, own_place s kind) ∷ []) []
 
   abbrev mutual
     pub places : Surroundings → Tree → List (ℕ × ℕ)

@@ -103,8 +103,8 @@ abbrev pub numbered_entry_numbers : ℕ × Entry → List ℕ
 numbered_entry_numbers p = p.0 ∷ entry_numbers p.1
 
 abbrev pub member_numbers : MemberEntry → List ℕ
-member_numbers (IsField is_static) = []
-member_numbers (FunctionIs is_static kind f) = f ∷ []
+member_numbers (IsField n is_static) = n ∷ []
+member_numbers (FunctionIs n is_static kind f) = n ∷ f ∷ []
 
 abbrev pub numbered_member_numbers : ℕ × MemberEntry → List ℕ
 numbered_member_numbers p = p.0 ∷ member_numbers p.1
@@ -141,7 +141,7 @@ named_export_numbers x = exported_numbers x.1
 abbrev pub meaning_numbers : Meaning → List ℕ
 meaning_numbers m =
     listed_numbers m.program ++ all_numbers numbered_entry_numbers m.entries ++ all_numbers numbered_member_numbers m.members ++ all_numbers pair_numbers m.functions
-    ++ all_numbers binding_numbers m.bindings ++ all_numbers name_numbers m.globals ++ all_numbers pair_numbers m.places ++ all_numbers link_numbers m.links ++ all_numbers named_export_numbers m.exports
+    ++ all_numbers binding_numbers m.bindings ++ all_numbers name_numbers m.globals ++ all_numbers pair_numbers m.shared ++ all_numbers pair_numbers m.places ++ all_numbers link_numbers m.links ++ all_numbers named_export_numbers m.exports
 
 -- ---- what a tree is read under
 

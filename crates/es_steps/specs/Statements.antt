@@ -3,7 +3,7 @@ use Rattle.std.specs.Prelude.{ℕ, suc, List, [], ◌∷◌, Bool, true, false, 
 use Rattle.es_base.specs.declared.kind.Kind.{Kind}
 use Rattle.es_base.specs.declared.ledger.GeneratedKind.{GeneratedKind}
 use Rattle.es_steps.specs.Code.{Code, Codes, Target, FunctionForm, FieldForm, defines, sets, leaves_out, nothing, no_rule, value, spelled, private_name, binding, rest, assign, operation, pattern, takes, steps, gives_to, export_default, function, new_function, new_return, class_code, field, private_field, method, private_method, constructor, generated_element, give_function, give_class, to_name, to_member, to_private, to_super, to_setter, to_pattern, to_default, no_target, done, and, one, joined}
-use Rattle.es_steps.specs.Context.{Context, Generated, MeansClass, new_here, is_constructor, is_generated_private}
+use Rattle.es_steps.specs.Context.{Context, Generated, MeansClass, Changing, new_here, is_constructor, is_generated_private}
 use Rattle.es_steps.specs.Events.{Detail, Operand, Empty, Index, Rest, OfKind, Take}
 use Rattle.es_steps.specs.Expressions.{the_code, key_code, key_details, target_of}
 use Rattle.es_steps.specs.GeneratedForms.{given}
@@ -11,7 +11,7 @@ use Rattle.es_steps.specs.Members.{Member, Members, code, absent, list, string, 
 use Rattle.es_steps.specs.Options.{sets_fields, leaves_out_fields}
 use Rattle.es_steps.specs.PrivateNames.{PrivateMember, PrivateKind, a_method, a_getter, a_setter, method_kind, member_at}
 use Rattle.es_steps.specs.SameValues.{same_boolean}
-use Rattle.es_steps.specs.Values.{String, StringOf, ConstantOf, Undefined}
+use Rattle.es_steps.specs.Values.{String, StringOf, ConstantOf, FunctionOf, Free, Undefined}
 use Rattle.es_steps.specs.declared.options.Options.{Options}
 
 -- ---- statements
@@ -173,13 +173,18 @@ abbrev pub function_expression_code : Context → ℕ → Members → Code
 function_expression_code c f ps = function_code c f (own_name_of c (at 0 ps)) ps
 
 -- the declaration of a generated name assigns its function
-abbrev pub declared_function : ℕ → Member → Code → Code
-declared_function f (code (binding b s (Generated (GeneratedKind.Method d)))) e = give_function f s (GeneratedKind.Method d) e
-declared_function f (code (binding b s (Generated g))) e = no_rule
-declared_function f p e = e
+abbrev pub hoisted_function : Bool → ℕ → String → Code → Code
+hoisted_function true f s e = steps (and e (and (assign (to_name f s (Changing (Free s))) (value (FunctionOf f))) done))
+hoisted_function false f s e = e
+
+abbrev pub declared_function : Bool → ℕ → Member → Code → Code
+declared_function here f (code (binding b s (Generated (GeneratedKind.Method d)))) e = give_function f s (GeneratedKind.Method d) e
+declared_function here f (code (binding b s (Generated g))) e = no_rule
+declared_function here f (code (binding b s kind)) e = hoisted_function here f s e
+declared_function here f p e = e
 
 abbrev pub function_declaration_code : Context → ℕ → Members → Code
-function_declaration_code c f ps = declared_function f (at 0 ps) (function_code c f None ps)
+function_declaration_code c f ps = declared_function (c.in_block && not (flag_of (at 3 ps) || flag_of (at 4 ps))) f (at 0 ps) (function_code c f None ps)
 
 abbrev pub arrow_code : Context → ℕ → Members → Code
 arrow_code c f ps = function_or_new (new_here c f) f (form_of true (flag_of (at 2 ps)) false) None (codes_of (at 0 ps)) (the_code (at 1 ps))

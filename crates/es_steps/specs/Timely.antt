@@ -2,15 +2,17 @@
 -- left to the environment of specs/Evaluation.antt.)
 use Rattle.std.specs.Prelude.{ℕ, suc, List, [], ◌∷◌, ◌++◌, Bool, true, false, cond, not, ◌&&◌, ◌||◌, nat_eq, nat_le, bytes_eq, codes, Option, Some, None}
 use Rattle.es_base.specs.Numbered.{is_new}
-use Rattle.es_base.specs.Tree.{Tree, Part, Parts, Node, end, more, child, list, string}
+use Rattle.es_base.specs.Tree.{Tree, Part, Parts, Node, end, more, child, list}
 use Rattle.es_base.specs.declared.kind.Kind.{Kind}
 use Rattle.es_base.specs.declared.ledger.GeneratedKind.{GeneratedKind}
 use Rattle.es_base.specs.declared.ledger.LedgerEntry.{LedgerEntry}
 use Rattle.es_steps.specs.Context.{generated_as, is_function}
 use Rattle.es_steps.specs.Definitions.{spelling}
+use Rattle.es_steps.specs.Expressions.{is_logical}
+use Rattle.es_steps.specs.HelperCalls.{is_class_body}
 use Rattle.es_steps.specs.KeptNodes.{all_pairs_stand}
-use Rattle.es_steps.specs.Parts.{at, string_of, is_true, is_present}
-use Rattle.es_steps.specs.PrivateNames.{is_class}
+use Rattle.es_steps.specs.Parts.{at, items, string_of, is_true}
+use Rattle.es_steps.specs.PrivateNames.{PrivateMember, member_at, is_class, is_element}
 use Rattle.es_steps.specs.References.{has_number}
 use Rattle.es_steps.specs.Repeated.{is_loop, is_arrow}
 use Rattle.es_steps.specs.Scopes.{is_let}
@@ -30,6 +32,8 @@ pub record Around : Type 0 where
   pub held : List (ℕ × ℕ)
   pub later : List ℕ
   pub is_called : Bool
+  -- classes whose body is around, and has elements that run with the class
+  pub running : List ℕ
 
 pub record Mark : Type 0 where
   pub name : String
@@ -39,21 +43,40 @@ pub record Mark : Type 0 where
 -- ---- the marks of a program in the order of evaluation: an initialization stands behind its value
 
 -- the parts of a node that may run or not, or again
-abbrev pub is_held : Kind → ℕ → Bool
-is_held Kind.LogicalExpression i = nat_eq i 2
-is_held Kind.ConditionalExpression i = nat_le 1 i
-is_held Kind.IfStatement i = nat_le 1 i
-is_held Kind.SwitchStatement i = nat_eq i 1
-is_held Kind.SwitchCase i = true
-is_held Kind.TryStatement i = true
-is_held Kind.LabeledStatement i = true
-is_held Kind.ForStatement i = nat_le 1 i
-is_held Kind.ForInStatement i = not (nat_eq i 1)
-is_held Kind.ForOfStatement i = not (nat_eq i 1)
-is_held Kind.AssignmentPattern i = nat_eq i 1
-is_held Kind.AssignmentTargetWithDefault i = nat_eq i 1
-is_held Kind.ChainExpression i = true
-is_held kind i = is_loop kind || is_function kind
+abbrev pub is_held : Kind → Parts → ℕ → Bool
+is_held Kind.LogicalExpression ps i = nat_eq i 2
+is_held Kind.AssignmentExpression ps i = nat_eq i 2 && is_logical (string_of (at 0 ps))
+is_held Kind.ConditionalExpression ps i = nat_le 1 i
+is_held Kind.IfStatement ps i = nat_le 1 i
+is_held Kind.SwitchStatement ps i = nat_eq i 1
+is_held Kind.SwitchCase ps i = true
+is_held Kind.TryStatement ps i = true
+is_held Kind.LabeledStatement ps i = true
+is_held Kind.ForStatement ps i = nat_le 1 i
+is_held Kind.ForInStatement ps i = not (nat_eq i 1)
+is_held Kind.ForOfStatement ps i = not (nat_eq i 1)
+is_held Kind.AssignmentPattern ps i = nat_eq i 1
+is_held Kind.AssignmentTargetWithDefault ps i = nat_eq i 1
+is_held Kind.ChainExpression ps i = true
+is_held Kind.ObjectPattern ps i = true
+is_held Kind.ArrayPattern ps i = true
+is_held Kind.ObjectAssignmentTarget ps i = true
+is_held Kind.ArrayAssignmentTarget ps i = true
+is_held kind ps i = is_loop kind || is_function kind
+
+-- whether a class has a static block or a static field
+abbrev pub runs_with_class : Part → Bool
+runs_with_class (child (Node Kind.StaticBlock m span semantic_id ps)) = true
+runs_with_class (child (Node Kind.PropertyDefinition m span semantic_id ps)) = is_true (at 3 ps)
+runs_with_class p = false
+
+abbrev pub any_runs : Parts → Bool
+any_runs end = false
+any_runs (more p ps) = runs_with_class p || any_runs ps
+
+abbrev pub body_runs : Part → Bool
+body_runs (child (Node Kind.ClassBody m span semantic_id ps)) = any_runs (items (at 0 ps))
+body_runs p = false
 
 -- an arrow, unless it is new and called where it stands
 abbrev pub is_held_arrow : ℕ → Around → Kind → ℕ → Bool
@@ -72,13 +95,38 @@ abbrev pub runs_later : ℕ → Kind → ℕ → Parts → ℕ → Bool
 runs_later first kind m ps i = is_function kind || ((is_arrow kind && not (is_new first m)) || is_instance_value kind ps i)
 
 abbrev pub around_in : ℕ → Around → Kind → ℕ → Parts → ℕ → Around
-around_in first x kind m ps i = record { is_called = is_callee_of_call kind i; held = cond (is_held kind i || (is_held_arrow first x kind m || is_instance_value kind ps i)) ((m, i) ∷ x.held) x.held; later = cond (runs_later first kind m ps i) (m ∷ x.later) x.later }
+around_in first x kind m ps i = record { running = cond (is_class kind && body_runs (at 2 ps)) (m ∷ x.running) x.running; is_called = is_callee_of_call kind i; held = cond (is_held kind ps i || (is_held_arrow first x kind m || is_instance_value kind ps i)) ((m, i) ∷ x.held) x.held; later = cond (runs_later first kind m ps i) (m ∷ x.later) x.later }
 
 abbrev pub is_spelled : String → Bool
 is_spelled [] = false
 is_spelled (c ∷ cs) = true
 
-module _ (first : ℕ) (ledger : List LedgerEntry) where
+-- the names that have to be given in front of class n
+abbrev pub is_of_class : ℕ → Option PrivateMember → Bool
+is_of_class n None = false
+is_of_class n (Some x) = nat_eq n x.class
+
+abbrev pub is_needed_by : ℕ → List PrivateMember → GeneratedKind → Bool
+is_needed_by n members (GeneratedKind.WeakMap d) = is_of_class n (member_at d.0 members)
+is_needed_by n members (GeneratedKind.Method d) = is_of_class n (member_at d.0 members)
+is_needed_by n members (GeneratedKind.LooseKey d) = is_of_class n (member_at d.0 members)
+is_needed_by n members (GeneratedKind.Brand k) = nat_eq n k.0
+is_needed_by n members g = false
+
+abbrev pub needed_names : ℕ → List PrivateMember → List LedgerEntry → List String
+needed_names n members [] = []
+needed_names n members (e ∷ es) = cond (is_needed_by n members e.kind) (e.name ∷ []) [] ++ needed_names n members es
+
+abbrev pub uses_of : Around → List String → List Mark
+uses_of x [] = []
+uses_of x (s ∷ ss) = record { name = s; form = uses; around = x } ∷ uses_of x ss
+
+-- an arrow that is called where it stands runs behind the arguments
+abbrev pub is_called_arrow : Kind → Parts → Bool
+is_called_arrow Kind.CallExpression (more (child (Node Kind.ArrowFunctionExpression m span semantic_id ps)) rest) = true
+is_called_arrow kind ps = false
+
+module _ (first : ℕ) (ledger : List LedgerEntry) (members : List PrivateMember) where
   abbrev pub mark_by : Option GeneratedKind → Mark → List Mark
   mark_by None m = []
   mark_by (Some g) m = m ∷ []
@@ -95,12 +143,12 @@ module _ (first : ℕ) (ledger : List LedgerEntry) where
   initialized_mark x id p = []
 
   -- in front of the marks of its parts, and behind them
-  abbrev pub marks_before : Around → Kind → Parts → List Mark
-  marks_before x Kind.IdentifierReference ps = mark x uses (string_of (at 0 ps))
-  marks_before x Kind.ClassDeclaration ps = mark x initializes (spelling (at 0 ps))
-  marks_before x Kind.ClassExpression ps = mark x initializes (spelling (at 0 ps))
-  marks_before x Kind.FunctionDeclaration ps = mark x hoists (spelling (at 0 ps))
-  marks_before x kind ps = []
+  abbrev pub marks_before : Around → Kind → ℕ → Parts → List Mark
+  marks_before x Kind.IdentifierReference m ps = mark x uses (string_of (at 0 ps))
+  marks_before x Kind.ClassDeclaration m ps = uses_of x (needed_names m members ledger) ++ mark x initializes (spelling (at 0 ps))
+  marks_before x Kind.ClassExpression m ps = uses_of x (needed_names m members ledger) ++ mark x initializes (spelling (at 0 ps))
+  marks_before x Kind.FunctionDeclaration m ps = mark x hoists (spelling (at 0 ps))
+  marks_before x kind m ps = []
 
   abbrev pub marks_behind : Around → Bool → Kind → Parts → List Mark
   marks_behind x in_let Kind.AssignmentExpression ps = mark x initializes (spelling (at 1 ps))
@@ -116,22 +164,37 @@ module _ (first : ℕ) (ledger : List LedgerEntry) where
   is_let_declaration Kind.VariableDeclaration ps = is_let ps
   is_let_declaration kind ps = false
 
+  -- an arrow that is called where it stands behind its arguments, and the keys of a class in front of its static elements
   abbrev mutual
     pub marks : Around → Bool → Tree → List Mark
-    marks x in_let (Node kind m span semantic_id ps) = marks_before x kind ps ++ marks_in (around_in first x kind m ps) (is_given kind ps) (is_let_declaration kind ps) ps ++ marks_behind x in_let kind ps
+    marks x in_let (Node kind m span semantic_id ps) = marks_before x kind m ps ++ marks_in (is_called_arrow kind ps) (is_class_body kind) (around_in first x kind m ps) (is_given kind ps) (is_let_declaration kind ps) ps ++ marks_behind x in_let kind ps
 
-    pub marks_in : (ℕ → Around) → (ℕ → Bool) → Bool → Parts → List Mark
-    marks_in x given in_let end = []
-    marks_in x given in_let (more p ps) = cond (given 0) [] (marks_at (x 0) in_let p) ++ marks_in (λ i. x (suc i)) (λ i. given (suc i)) in_let ps
+    pub marks_in : Bool → Bool → (ℕ → Around) → (ℕ → Bool) → Bool → Parts → List Mark
+    marks_in last is_body x given in_let end = []
+    marks_in last is_body x given in_let (more p ps) =
+        let own : List Mark = cond (given 0) [] (marks_at is_body (x 0) in_let p) in
+        let rest : List Mark = marks_in false is_body (λ i. x (suc i)) (λ i. given (suc i)) in_let ps in
+        cond last (rest ++ own) (own ++ rest)
 
-    pub marks_at : Around → Bool → Part → List Mark
-    marks_at x in_let (child t) = marks x in_let t
-    marks_at x in_let (list ps) = marks_of x in_let ps
-    marks_at x in_let p = []
+    pub marks_at : Bool → Around → Bool → Part → List Mark
+    marks_at is_body x in_let (child t) = marks x in_let t
+    marks_at false x in_let (list ps) = marks_of x in_let ps
+    marks_at true x in_let (list ps) = key_marks x ps ++ value_marks x ps
+    marks_at is_body x in_let p = []
 
     pub marks_of : Around → Bool → Parts → List Mark
     marks_of x in_let end = []
-    marks_of x in_let (more p ps) = marks_at x in_let p ++ marks_of x in_let ps
+    marks_of x in_let (more p ps) = marks_at false x in_let p ++ marks_of x in_let ps
+
+    pub key_marks : Around → Parts → List Mark
+    key_marks x end = []
+    key_marks x (more (child (Node kind m span semantic_id (more k ps))) es) = cond (is_element kind) (marks_at false (around_in first x kind m (more k ps) 0) false k) [] ++ key_marks x es
+    key_marks x (more p es) = key_marks x es
+
+    pub value_marks : Around → Parts → List Mark
+    value_marks x end = []
+    value_marks x (more (child (Node kind m span semantic_id (more k ps))) es) = cond (is_element kind) [] (marks_at false (around_in first x kind m (more k ps) 0) false k) ++ marks_in false false (λ i. around_in first x kind m (more k ps) (suc i)) (λ i. false) false ps ++ value_marks x es
+    value_marks x (more p es) = value_marks x es
 
 -- ---- each stands in time
 
@@ -163,6 +226,15 @@ abbrev pub is_dead : Mark → List Mark → Bool
 is_dead m [] = false
 is_dead m (d ∷ ds) = (bytes_eq m.name d.name && is_dead_by d.form (is_later m.around.later d.around.later)) || is_dead m ds
 
+-- a `let` in front that may not have run, as in another case
+abbrev pub is_skipped_by : MarkForm → Bool → Bool
+is_skipped_by declares around = not around
+is_skipped_by form around = false
+
+abbrev pub is_skipped : Mark → List Mark → Bool
+is_skipped m [] = false
+is_skipped m (d ∷ ds) = (bytes_eq m.name d.name && is_skipped_by d.form (all_pairs_stand d.around.held m.around.held)) || is_skipped m ds
+
 abbrev pub is_followed : Option GeneratedKind → Bool
 is_followed (Some GeneratedKind.Temp) = false
 is_followed (Some GeneratedKind.Param) = false
@@ -180,13 +252,21 @@ is_use uses = true
 is_use form = false
 
 module _ (ledger : List LedgerEntry) where
+  -- a name of a class in the body of it that runs with the class, where it is not given yet
+  abbrev pub is_early_by : List ℕ → Option GeneratedKind → Bool
+  is_early_by running (Some (GeneratedKind.ClassTemp n)) = has_number n.0 running
+  is_early_by running g = false
+
+  abbrev pub is_early : Mark → Bool
+  is_early m = is_use m.form && is_early_by m.around.running (generated_as m.name ledger)
+
   abbrev pub asks : Mark → Bool
   asks m = is_use m.form && is_followed (generated_as m.name ledger)
 
   -- the marks in front, the nearest first, and those from here on
   abbrev pub in_time : List Mark → List Mark → Bool
   in_time front [] = true
-  in_time front (m ∷ ms) = not (is_dead m ms) && ((not (asks m) || (any_gives true m front || (not (comes_first (generated_as m.name ledger)) && any_gives false m ms))) && in_time (m ∷ front) ms)
+  in_time front (m ∷ ms) = not (is_early m || (is_dead m ms || is_skipped m front)) && ((not (asks m) || (any_gives true m front || (not (comes_first (generated_as m.name ledger)) && any_gives false m ms))) && in_time (m ∷ front) ms)
 
-abbrev pub names_timely : ℕ → List LedgerEntry → Tree → Bool
-names_timely first ledger q = in_time ledger [] (marks first ledger (record { held = []; later = []; is_called = false }) false q)
+abbrev pub names_timely : ℕ → List LedgerEntry → List PrivateMember → Tree → Bool
+names_timely first ledger members q = in_time ledger [] (marks first ledger members (record { held = []; later = []; is_called = false; running = [] }) false q)

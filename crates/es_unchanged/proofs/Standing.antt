@@ -1,15 +1,17 @@
 -- What stands where: trees among the nodes of a program, one list within another, and that a tree is itself.
-use Rattle.std.specs.Prelude.{◌≡◌, ℕ, List, [], ◌∷◌, ◌++◌, Bool, true, false, cond, not, ◌&&◌, ◌||◌, nat_eq, Option, Some, None}
+use Rattle.std.specs.Prelude.{◌≡◌, ℕ, List, [], ◌∷◌, ◌++◌, Bool, true, false, cond, not, ◌&&◌, ◌||◌, nat_eq, bytes_eq, Option, Some, None}
 use Rattle.std.proofs.Common.{refl, ◌+◌, ◌≤◌, arith}
 use Rattle.std.proofs.lemmas.Bool.{and_from, and_parts, true≢false}
+use Rattle.es_base.specs.Numbered.{is_new}
 use Rattle.es_base.specs.Tree.{Tree, Part, Parts, Node, end, more, child, absent, list, string, no_string, boolean, literal}
 use Rattle.es_base.specs.declared.literal.LiteralValue.{LiteralValue}
 use Rattle.es_base.specs.declared.literal.LiteralValue.TheVariants as literal_value
 use Rattle.es_steps.proofs.FirstMeaning.{no_false}
 use Rattle.es_steps.proofs.Reflexive.{number-same, string-same}
 use Rattle.es_steps.specs.Definitions.{DefinedKey, BrandKey, PrivateKey, PublicKey, FieldDefinition, key_temporary, key_temporaries, all_temporaries}
-use Rattle.es_steps.specs.KeptNodes.{NodeSort, a_class, a_function, a_call, a_construction, another, sort_of, is_kept_sort, same_sort, stands_as, all_stand, stands_equal, all_equal, list_of, is_within, all_within, pair_stands, all_pairs_stand}
+use Rattle.es_steps.specs.KeptNodes.{NodeSort, a_class, a_function, a_call, a_construction, another, sort_of, is_kept_sort, same_sort, stands_as, all_stand, stands_equal, all_equal, list_of, is_within, all_within, Homed, is_underscored, home_fits, name_fits, stands_at_home, stands_nowhere, all_at_home}
 use Rattle.es_steps.specs.PrivateNames.{PrivateMember, is_class}
+use Rattle.es_steps.specs.References.{has_number}
 use Rattle.es_steps.specs.SameTrees.{same_tree, same_part, same_parts, same_literal, kind_number}
 use Rattle.es_steps.specs.SameValues.{same_boolean, same_nullable_string}
 use Rattle.es_steps.specs.Values.{String}
@@ -190,23 +192,44 @@ within-append [] ys us vs h i = within-behind us ys vs i
 within-append (x ∷ xs) [] us vs h i = no_false h
 within-append (x ∷ xs) (y ∷ ys) us vs h i = within_either-append (nat_eq x y) (λ k. within-append xs ys us vs k i) (λ k. within-append (x ∷ xs) ys us vs k i) h
 
--- pairs in lists
-pub pairs-more : (q : ℕ × ℕ) (ps qs : List (ℕ × ℕ)) → all_pairs_stand ps qs ≡ true → all_pairs_stand ps (q ∷ qs) ≡ true
-pairs-more q [] qs h = refl
-pairs-more q (p ∷ ps) qs h =
-    let parts = and_parts (pair_stands p qs) (all_pairs_stand ps qs) h in
-    both (or_right (nat_eq p.0 q.0 && nat_eq p.1 q.1) (pair_stands p qs) parts.0) (pairs-more q ps qs parts.1)
+-- identifiers and lists of statements at home: each of the first stands among the second
+module _ (first : ℕ) (blocks : List ℕ) where
+  abbrev pub all_found : List Homed → List Homed → Bool
+  all_found [] ys = true
+  all_found (x ∷ xs) ys = stands_at_home first blocks x ys && all_found xs ys
 
-pub pairs-behind : (xs ps qs : List (ℕ × ℕ)) → all_pairs_stand ps qs ≡ true → all_pairs_stand ps (xs ++ qs) ≡ true
-pairs-behind [] ps qs h = h
-pairs-behind (x ∷ xs) ps qs h = pairs-more x ps (xs ++ qs) (pairs-behind xs ps qs h)
+  pub found-more : (y : Homed) (xs ys : List Homed) → all_found xs ys ≡ true → all_found xs (y ∷ ys) ≡ true
+  found-more y [] ys h = refl
+  found-more y (x ∷ xs) ys h =
+      let parts = and_parts (stands_at_home first blocks x ys) (all_found xs ys) h in
+      both (or_right (nat_eq x.number y.number && (home_fits first blocks x y && name_fits first blocks x y)) (stands_at_home first blocks x ys) parts.0) (found-more y xs ys parts.1)
 
-pub pairs-both : (p : ℕ × ℕ) (ps qs : List (ℕ × ℕ)) → all_pairs_stand ps qs ≡ true → all_pairs_stand (p ∷ ps) (p ∷ qs) ≡ true
-pairs-both p ps qs h = both (or_left (nat_eq p.0 p.0 && nat_eq p.1 p.1) (pair_stands p qs) (both (number-same p.0) (number-same p.1))) (pairs-more p ps qs h)
+  pub found-behind : (zs xs ys : List Homed) → all_found xs ys ≡ true → all_found xs (zs ++ ys) ≡ true
+  found-behind [] xs ys h = h
+  found-behind (z ∷ zs) xs ys h = found-more z xs (zs ++ ys) (found-behind zs xs ys h)
 
-pub pairs-same : (ps : List (ℕ × ℕ)) → all_pairs_stand ps ps ≡ true
-pairs-same [] = refl
-pairs-same (p ∷ ps) = pairs-both p ps ps (pairs-same ps)
+  same-home : (x : Homed) → home_fits first blocks x x ≡ true
+  same-home x = or_right x.is_own_name (nat_eq x.home x.home || (has_number x.home blocks && is_new first x.home)) (or_left (nat_eq x.home x.home) (has_number x.home blocks && is_new first x.home) (number-same x.home))
+
+  same-name : (x : Homed) → name_fits first blocks x x ≡ true
+  same-name x = or_left (bytes_eq x.spelling x.spelling) (x.in_constructor && is_underscored x.spelling) (string-same x.spelling)
+
+  pub found-both : (x : Homed) (xs ys : List Homed) → all_found xs ys ≡ true → all_found (x ∷ xs) (x ∷ ys) ≡ true
+  found-both x xs ys h =
+      both (or_left (nat_eq x.number x.number && (home_fits first blocks x x && name_fits first blocks x x)) (stands_at_home first blocks x ys) (both (number-same x.number) (both (same-home x) (same-name x)))) (found-more x xs ys h)
+
+  found-same : (xs : List Homed) → all_found xs xs ≡ true
+  found-same [] = refl
+  found-same (x ∷ xs) = found-both x xs xs (found-same xs)
+
+  pub found-home : (xs ys : List Homed) → all_found xs ys ≡ true → all_at_home first blocks xs ys ≡ true
+  found-home [] ys h = refl
+  found-home (x ∷ xs) ys h =
+      let parts = and_parts (stands_at_home first blocks x ys) (all_found xs ys) h in
+      both (or_left (stands_at_home first blocks x ys) (x.is_own_name && stands_nowhere first blocks x ys) parts.0) (found-home xs ys parts.1)
+
+  pub home-same : (xs : List Homed) → all_at_home first blocks xs xs ≡ true
+  home-same xs = found-home xs xs (found-same xs)
 
 pub all_within-append : (ls ks : List (ℕ × List ℕ)) (qs : List Tree) → all_within ls qs ≡ true → all_within ks qs ≡ true → all_within (ls ++ ks) qs ≡ true
 all_within-append [] ks qs h i = i

@@ -1,8 +1,8 @@
 -- A numbered program that has nothing to lower owes nothing as it is.
 use Rattle.std.proofs.Common.{◌≡◌, refl, sym, ap, subst, ℕ, zero, suc, ◌+◌, ◌<◌, ◌≤◌, List, [], ◌∷◌, ◌++◌, map, Bool, true, false, cond, Option, arith}
-use Rattle.std.specs.Prelude.{filter, not, ◌||◌, ◌&&◌, nat_eq}
+use Rattle.std.specs.Prelude.{filter, not, ◌||◌, ◌&&◌, nat_eq, codes}
 use Rattle.std.specs.List.{IsDistinct, AllByRecursion}
-use Rattle.std.proofs.lemmas.Bool.{and_parts, lt-leb, true≢false}
+use Rattle.std.proofs.lemmas.Bool.{lt-leb, true≢false}
 use Rattle.std.proofs.Math.Bool.{and-false}
 use Rattle.es_base.proofs.NumberedLemmas.{IsNumbered-renumbered, EachOnce-old_zero}
 use Rattle.es_base.proofs.PreorderLemmas.{renumbered-zero}
@@ -13,7 +13,8 @@ use Rattle.es_base.specs.declared.kind.Kind.{Kind}
 use Rattle.es_steps.proofs.Reflexive.{number-same}
 use Rattle.es_steps.specs.Context.{is_constructor}
 use Rattle.es_steps.specs.Definitions.{FieldDefinition, chosen, element_numbers, body_numbers, elements_kept, call_definition, definition_at, definitions_in, definitions_at, definitions_of, function_definitions, super_definitions, constructor_definitions, all_definitions, instance_definitions, static_definitions, is_instance_method, any_of, defined_fields, class_fits, classes_fit, definitions_stand}
-use Rattle.es_steps.specs.KeptNodes.{statement_list, declared_classes, carried_classes, item_number, item_numbers, free_number, free_numbers, is_static_block, free_lists, free_lists_at, free_lists_in, list_of, is_within, all_within, is_free_statement, is_function_declaration, free_statements, free_at, free_in, all_homes, pair_stands, all_pairs_stand}
+use Rattle.es_steps.specs.HelperCalls.{is_helper_callee, computed_keys, StaticKey, Naming, naming_in, naming_of_element, is_class_body, field_key, method_keys, field_keys, call_fits, calls_fit, calls_in, calls_at, calls_of, calls_of_body}
+use Rattle.es_steps.specs.KeptNodes.{statement_list, declared_classes, carried_classes, item_number, item_numbers, free_number, free_numbers, is_static_block, free_lists, free_lists_at, free_lists_in, list_of, is_within, all_within, is_free_statement, is_function_declaration, free_statements, free_at, free_in, all_homes, lowered_blocks}
 use Rattle.es_steps.specs.Lowered.{IsLowered, nothing_left, own_name_numbers, is_new_const, all_accounted}
 use Rattle.es_steps.specs.LoweredClasses.{Element, elements_of, is_lowered_element, any_element, is_lowered_class, holds_lowered, has_lowered_class, constructor_function, constructor_in}
 use Rattle.es_steps.specs.Options.{lowers_fields, lowers_blocks}
@@ -21,8 +22,9 @@ use Rattle.es_steps.specs.Parts.{at, items, string_of}
 use Rattle.es_steps.specs.Printable.{is_printable}
 use Rattle.es_steps.specs.PrivateNames.{private_members, is_class}
 use Rattle.es_steps.specs.Scopes.{is_binding_identifier}
+use Rattle.es_steps.specs.Values.{String}
 use Rattle.es_steps.specs.declared.options.Options.{Options}
-use Rattle.es_unchanged.proofs.Standing.{both, none_of, In, here, later, in-left, in-right, Among, among-append, all-equal, all-stand, within-more, within-both, within-same, within-append, all_within-append, apart-sym, pairs-same, temporaries-none}
+use Rattle.es_unchanged.proofs.Standing.{both, none_of, In, here, later, in-left, in-right, Among, among-append, all-equal, all-stand, within-more, within-both, within-same, within-append, all_within-append, apart-sym, home-same, temporaries-none}
 use Rattle.es_unchanged.proofs.Unmarked.{names-timely}
 
 -- ---- no number is new
@@ -216,6 +218,49 @@ module _ (first : ℕ) where
     constructors_of-none o n end b = refl
     constructors_of-none o n (more p ps) b =
         constructors-behind o n (preorder_of_part p) (preorder_of ps) (constructors_at-none o n p (below-first first (preorder_of_part p) (preorder_of ps) b)) (constructors_of-none o n ps (below-second first (preorder_of_part p) (preorder_of ps) b))
+
+-- ---- and no helper is called by one
+
+module _ (first : ℕ) (keys : List ℕ) where
+  callee-none : (h : String) (f : Part) → Below first (preorder_of_part f) → is_helper_callee first h f ≡ false
+  callee-none h (child (Node Kind.MemberExpression m span semantic_id (more (child (Node Kind.IdentifierReference n nspan n_semantic_id (more (string s) end))) (more (child (Node Kind.IdentifierName k kspan k_semantic_id (more (string t) end))) rest)))) b = rw (lt-leb first n b.1.0) refl
+  callee-none h f b = refl
+
+  call-fits : (x : Naming) (kind : Kind) (ps : Parts) → Below first (preorder_of ps) → call_fits first [] keys x kind ps ≡ true
+  call-fits x Kind.CallExpression (more f (more (list (more e es)) rest)) b =
+      let callee : Below first (preorder_of_part f) = below-first first (preorder_of_part f) (preorder_of (more (list (more e es)) rest)) b in
+      rw (callee-none (codes "toPropertyKey") f callee, callee-none (codes "setFunctionName") f callee) refl
+  call-fits x kind ps b = refl
+
+  mutual
+    calls-fit : (x : Naming) (t : Tree) → Below first (preorder t) → calls_fit first [] keys x t ≡ true
+    calls-fit x (Node kind m span semantic_id ps) b = both (call-fits x kind ps b.1) (calls_in-fit (is_class_body kind) (naming_in x kind ps) ps b.1)
+
+    calls_in-fit : (is_body : Bool) (x : ℕ → Naming) (ps : Parts) → Below first (preorder_of ps) → calls_in first [] keys is_body x ps ≡ true
+    calls_in-fit is_body x end b = refl
+    calls_in-fit is_body x (more p ps) b =
+        both (calls_at-fit is_body (x 0) p (below-first first (preorder_of_part p) (preorder_of ps) b)) (calls_in-fit is_body (λ i. x (suc i)) ps (below-second first (preorder_of_part p) (preorder_of ps) b))
+
+    calls_at-fit : (is_body : Bool) (x : Naming) (p : Part) → Below first (preorder_of_part p) → calls_at first [] keys is_body x p ≡ true
+    calls_at-fit is_body x (child t) b = calls-fit x t b
+    calls_at-fit true x (list ps) b = calls_of_body-fit x (method_keys ps ++ field_keys ps) (method_keys ps) [] ps b
+    calls_at-fit false x (list ps) b = calls_of-fit x ps b
+    calls_at-fit true x p b = refl
+    calls_at-fit false x p b = refl
+
+    calls_of-fit : (x : Naming) (ps : Parts) → Below first (preorder_of ps) → calls_of first [] keys x ps ≡ true
+    calls_of-fit x end b = refl
+    calls_of-fit x (more p ps) b =
+        both (calls_at-fit false x p (below-first first (preorder_of_part p) (preorder_of ps) b)) (calls_of-fit x ps (below-second first (preorder_of_part p) (preorder_of ps) b))
+
+    calls_of_body-fit : (x : Naming) (all methods front : List StaticKey) (ps : Parts) → Below first (preorder_of ps) → calls_of_body first [] keys x all methods front ps ≡ true
+    calls_of_body-fit x all methods front end b = refl
+    calls_of_body-fit x all methods front (more p ps) b =
+        both (calls_at-fit false (naming_of_element x all methods front) p (below-first first (preorder_of_part p) (preorder_of ps) b))
+        (calls_of_body-fit x all methods (front ++ field_key p) ps (below-second first (preorder_of_part p) (preorder_of ps) b))
+
+abbrev none_around : Naming
+none_around = record { keys = []; outer_keys = []; all_keys = []; tested = [] }
 
 supers-none : (first : ℕ) (o : Options) (n : ℕ) (ts : List Tree) → super_definitions first o [] n ts ≡ []
 supers-none first o n [] = refl
@@ -412,15 +457,16 @@ unchanged-owes o t e h left =
         declared = refl;
         accounted = below-accounted (nodes t) (own_name_numbers t (preorder t)) (preorder t) turn.below;
         initialized = refl;
-        timely = names-timely (nodes t) t;
+        timely = names-timely (nodes t) (private_members t) t;
         temporaries = refl;
         keys = rw (temporaries-none (nodes t) o (private_members t) t (preorder t)) (keys-stand (lowers_fields o));
         nodes = all-stand (preorder t) (preorder t) (λ u i. i);
         statements = all-equal (free_statements o t) (preorder t) (free-among o t);
         lists = lists-within o (preorder t) turn.once t (λ u i. i);
-        homes = pairs-same (all_homes o t);
+        homes = home-same (nodes t) (lowered_blocks o t) (all_homes t);
         definitions = definitions-stand o t turn.below h;
         elements = elements-stand o (preorder t) (preorder t) h (λ u i. i) turn.once;
+        calls = calls-fit (nodes t) (computed_keys (preorder t)) none_around t turn.below;
         printable = same_or (is_printable t);
       };
     }

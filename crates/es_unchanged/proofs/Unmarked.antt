@@ -1,9 +1,11 @@
 -- Without generated names nothing in a program is marked, so each name stands in time.
-use Rattle.std.proofs.Common.{◌≡◌, refl, ℕ, suc, List, [], Bool, true, false, cond}
+use Rattle.std.proofs.Common.{◌≡◌, refl, ℕ, suc, List, [], ◌++◌, Bool, true, false, cond}
 use Rattle.es_base.specs.Tree.{Tree, Part, Parts, Node, end, more, child, absent, list, string, no_string, boolean, literal}
 use Rattle.es_base.specs.declared.kind.Kind.{Kind}
+use Rattle.es_steps.specs.HelperCalls.{is_class_body}
 use Rattle.es_steps.specs.Parts.{at}
-use Rattle.es_steps.specs.Timely.{Mark, Around, declared_mark, initialized_mark, marks_before, marks_behind, marks, marks_in, marks_at, marks_of, around_in, is_given, is_let_declaration, names_timely}
+use Rattle.es_steps.specs.PrivateNames.{PrivateMember, is_element}
+use Rattle.es_steps.specs.Timely.{Mark, Around, declared_mark, initialized_mark, marks_before, marks_behind, marks, marks_in, marks_at, marks_of, around_in, is_given, is_let_declaration, is_called_arrow, key_marks, value_marks, names_timely}
 
 abbrev Unmarked : List Mark → Type 0
 Unmarked ms = ms ≡ []
@@ -12,49 +14,69 @@ unless-unmarked : (b : Bool) (ms : List Mark) → Unmarked ms → Unmarked (cond
 unless-unmarked true ms h = refl
 unless-unmarked false ms h = h
 
-module _ (first : ℕ) where
-  declared-unmarked : (x : Around) (b : Bool) (id : Part) → Unmarked (declared_mark first [] x b id)
+either-unmarked : (last : Bool) (own rest : List Mark) → Unmarked own → Unmarked rest → Unmarked (cond last (rest ++ own) (own ++ rest))
+either-unmarked true own rest h i = rw (h, i) refl
+either-unmarked false own rest h i = rw (h, i) refl
+
+unless-neither : (b : Bool) (ms : List Mark) → Unmarked ms → Unmarked (cond b ms [])
+unless-neither true ms h = h
+unless-neither false ms h = refl
+
+module _ (first : ℕ) (members : List PrivateMember) where
+  declared-unmarked : (x : Around) (b : Bool) (id : Part) → Unmarked (declared_mark first [] members x b id)
   declared-unmarked x true id = refl
   declared-unmarked x false id = refl
 
-  initialized-unmarked : (x : Around) (id p : Part) → Unmarked (initialized_mark first [] x id p)
+  initialized-unmarked : (x : Around) (id p : Part) → Unmarked (initialized_mark first [] members x id p)
   initialized-unmarked x id (child t) = refl
   initialized-unmarked x id p = refl
 
-  before-unmarked : (x : Around) (kind : Kind) (ps : Parts) → Unmarked (marks_before first [] x kind ps)
-  before-unmarked x Kind.IdentifierReference ps = refl
-  before-unmarked x Kind.ClassDeclaration ps = refl
-  before-unmarked x Kind.ClassExpression ps = refl
-  before-unmarked x Kind.FunctionDeclaration ps = refl
-  before-unmarked x kind ps = refl
+  before-unmarked : (x : Around) (kind : Kind) (m : ℕ) (ps : Parts) → Unmarked (marks_before first [] members x kind m ps)
+  before-unmarked x Kind.IdentifierReference m ps = refl
+  before-unmarked x Kind.ClassDeclaration m ps = refl
+  before-unmarked x Kind.ClassExpression m ps = refl
+  before-unmarked x Kind.FunctionDeclaration m ps = refl
+  before-unmarked x kind m ps = refl
 
-  behind-unmarked : (x : Around) (in_let : Bool) (kind : Kind) (ps : Parts) → Unmarked (marks_behind first [] x in_let kind ps)
+  behind-unmarked : (x : Around) (in_let : Bool) (kind : Kind) (ps : Parts) → Unmarked (marks_behind first [] members x in_let kind ps)
   behind-unmarked x in_let Kind.AssignmentExpression ps = refl
   behind-unmarked x in_let Kind.VariableDeclarator ps = rw (declared-unmarked x in_let (at 0 ps), initialized-unmarked x (at 0 ps) (at 1 ps)) refl
   behind-unmarked x in_let kind ps = refl
 
   mutual
-    tree-unmarked : (x : Around) (in_let : Bool) (t : Tree) → Unmarked (marks first [] x in_let t)
+    tree-unmarked : (x : Around) (in_let : Bool) (t : Tree) → Unmarked (marks first [] members x in_let t)
     tree-unmarked x in_let (Node kind m span semantic_id ps) =
-        rw (before-unmarked x kind ps, parts-unmarked (around_in first x kind m ps) (is_given first [] kind ps) (is_let_declaration first [] kind ps) ps, behind-unmarked x in_let kind ps) refl
+        rw (before-unmarked x kind m ps, parts-unmarked (is_called_arrow kind ps) (is_class_body kind) (around_in first x kind m ps) (is_given first [] members kind ps) (is_let_declaration first [] members kind ps) ps, behind-unmarked x in_let kind ps) refl
 
-    parts-unmarked : (x : ℕ → Around) (given : ℕ → Bool) (in_let : Bool) (ps : Parts) → Unmarked (marks_in first [] x given in_let ps)
-    parts-unmarked x given in_let end = refl
-    parts-unmarked x given in_let (more p ps) =
-        rw (unless-unmarked (given 0) (marks_at first [] (x 0) in_let p) (part-unmarked (x 0) in_let p), parts-unmarked (λ i. x (suc i)) (λ i. given (suc i)) in_let ps) refl
+    parts-unmarked : (last is_body : Bool) (x : ℕ → Around) (given : ℕ → Bool) (in_let : Bool) (ps : Parts) → Unmarked (marks_in first [] members last is_body x given in_let ps)
+    parts-unmarked last is_body x given in_let end = refl
+    parts-unmarked last is_body x given in_let (more p ps) =
+        either-unmarked last _ _
+        (unless-unmarked (given 0) (marks_at first [] members is_body (x 0) in_let p) (part-unmarked is_body (x 0) in_let p))
+        (parts-unmarked false is_body (λ i. x (suc i)) (λ i. given (suc i)) in_let ps)
 
-    part-unmarked : (x : Around) (in_let : Bool) (p : Part) → Unmarked (marks_at first [] x in_let p)
-    part-unmarked x in_let (child t) = tree-unmarked x in_let t
-    part-unmarked x in_let absent = refl
-    part-unmarked x in_let (list ps) = list-unmarked x in_let ps
-    part-unmarked x in_let (string s) = refl
-    part-unmarked x in_let no_string = refl
-    part-unmarked x in_let (boolean b) = refl
-    part-unmarked x in_let (literal v) = refl
+    part-unmarked : (is_body : Bool) (x : Around) (in_let : Bool) (p : Part) → Unmarked (marks_at first [] members is_body x in_let p)
+    part-unmarked is_body x in_let (child t) = tree-unmarked x in_let t
+    part-unmarked true x in_let (list ps) = rw (keys-unmarked x ps, values-unmarked x ps) refl
+    part-unmarked false x in_let (list ps) = list-unmarked x in_let ps
+    part-unmarked true x in_let p = refl
+    part-unmarked false x in_let p = refl
 
-    list-unmarked : (x : Around) (in_let : Bool) (ps : Parts) → Unmarked (marks_of first [] x in_let ps)
+    list-unmarked : (x : Around) (in_let : Bool) (ps : Parts) → Unmarked (marks_of first [] members x in_let ps)
     list-unmarked x in_let end = refl
-    list-unmarked x in_let (more p ps) = rw (part-unmarked x in_let p, list-unmarked x in_let ps) refl
+    list-unmarked x in_let (more p ps) = rw (part-unmarked false x in_let p, list-unmarked x in_let ps) refl
 
-pub names-timely : (first : ℕ) (q : Tree) → names_timely first [] q ≡ true
-names-timely first q = rw (tree-unmarked first (record { held = []; later = []; is_called = false }) false q) refl
+    keys-unmarked : (x : Around) (ps : Parts) → Unmarked (key_marks first [] members x ps)
+    keys-unmarked x end = refl
+    keys-unmarked x (more (child (Node kind m span semantic_id (more k ps))) es) =
+        rw (unless-neither (is_element kind) (marks_at first [] members false (around_in first x kind m (more k ps) 0) false k) (part-unmarked false (around_in first x kind m (more k ps) 0) false k), keys-unmarked x es) refl
+    keys-unmarked x (more p es) = keys-unmarked x es
+
+    values-unmarked : (x : Around) (ps : Parts) → Unmarked (value_marks first [] members x ps)
+    values-unmarked x end = refl
+    values-unmarked x (more (child (Node kind m span semantic_id (more k ps))) es) =
+        rw (unless-unmarked (is_element kind) (marks_at first [] members false (around_in first x kind m (more k ps) 0) false k) (part-unmarked false (around_in first x kind m (more k ps) 0) false k), parts-unmarked false false (λ i. around_in first x kind m (more k ps) (suc i)) (λ i. false) false ps, values-unmarked x es) refl
+    values-unmarked x (more p es) = values-unmarked x es
+
+pub names-timely : (first : ℕ) (members : List PrivateMember) (q : Tree) → names_timely first [] members q ≡ true
+names-timely first members q = rw (tree-unmarked first members (record { held = []; later = []; is_called = false; running = [] }) false q) refl

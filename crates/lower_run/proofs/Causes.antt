@@ -1,14 +1,23 @@
 -- What follows from the cause of a status.
-use Rattle.std.proofs.Common.{inl, inr, ◌≡◌, refl, sym, ap, ap₂, ◌∙◌, subst, ℕ, ◌<◌, ◌≤◌, List, [], length, Option, Some, None, Result, Ok, Err, true≢false, arith}
+use Rattle.std.proofs.Common.{inl, inr, ◌≡◌, refl, sym, ap, ap₂, ◌∙◌, subst, ℕ, ◌<◌, ◌≤◌, List, [], length, Option, Some, None, Result, Ok, Err, true, true≢false, arith}
+use Rattle.std.specs.Prelude.{◌⊎◌, nat_le, is_none}
+use Rattle.std.proofs.lemmas.Bool.{leb-true}
 use Rattle.serde_json.specs.Data.{Data}
 use Rattle.serde_json.specs.Read.{read as read_text}
 use Rattle.es_base.specs.Tree.{Tree}
 use Rattle.es_reading.specs.Fault.{Fault, Read}
 use Rattle.es_reading.specs.Reading.{read, root}
 use Rattle.es_reading.specs.declared.numbers.Numbers.{Numbers}
-use Rattle.es_steps.specs.FirstForm.{not_yet}
+use Rattle.es_base.specs.Preorder.{nodes}
+use Rattle.es_steps.specs.FirstForm.{most_nodes, not_yet}
+use Rattle.es_steps.specs.Lowered.{nothing_left}
 use Rattle.es_steps.specs.declared.options.Options.{Options}
-use Rattle.lower_run.specs.Outcome.{IsOutputOfBytes, IsOutputOfSource, Cause, Complete, IsWritten, IsLowerable, HasLowered, most_bytes}
+use Rattle.es_node.proofs.Shapes.{left_of, right_of}
+use Rattle.es_validity.specs.Facts.{facts_of}
+use Rattle.es_validity.specs.Validity.{first_fault, is_valid, IsFirst}
+use Rattle.es_validity.specs.declared.error.LowerError.{LowerError}
+use Rattle.es_validity.specs.declared.fault.Cause as fault
+use Rattle.lower_run.specs.Outcome.{IsOutputOfBytes, IsOutputOfSource, Cause, Complete, IsRefused, IsRefusalText, IsWritten, IsLowerable, HasLowered, most_bytes}
 use Rattle.lower_run.specs.declared.status.Status.{Status}
 use Rattle.lower_io.specs.Held.{Extends}
 
@@ -24,11 +33,11 @@ err_ok : {A E B : Type 0} {a : A} {e : E} → Err e ≡ Ok a → B
 err_ok e = cc
 
 -- of the same bytes, the value that was read is that of the program
-same_value : (b : List ℕ) (l : IsLowerable b) (d : Data) → read_text b ≡ Some d → d ≡ l.d
-same_value b l d e = same_some (sym e ∙ l.value)
+same_value : (o : Options) (b : List ℕ) (l : IsLowerable o b) (d : Data) → read_text b ≡ Some d → d ≡ l.d
+same_value o b l d e = same_some (sym e ∙ l.value)
 
-no_fault : (b : List ℕ) (l : IsLowerable b) (d : Data) (fault : Fault) {B : Type 0} → read_text b ≡ Some d → read Numbers.Preorder d root 0 ≡ Err fault → B
-no_fault b l d fault e f = err_ok (sym f ∙ ap (λ v. read Numbers.Preorder v root 0) (same_value b l d e) ∙ l.tree)
+no_fault : (o : Options) (b : List ℕ) (l : IsLowerable o b) (d : Data) (fault : Fault) {B : Type 0} → read_text b ≡ Some d → read Numbers.Preorder d root 0 ≡ Err fault → B
+no_fault o b l d fault e f = err_ok (sym f ∙ ap (λ v. read Numbers.Preorder v root 0) (same_value o b l d e) ∙ l.tree)
 
 abbrev read_or : Read Tree → Result (Read Tree) Fault → Read Tree
 read_or r (Ok x) = x
@@ -37,35 +46,61 @@ read_or r (Err fault) = r
 read_parts : (r s : Read Tree) → Path (Result (Read Tree) Fault) (Ok r) (Ok s) → (r.value ≡ s.value) × (r.foreign ≡ s.foreign)
 read_parts r s e = (ap (λ x. (read_or r x).value) e, ap (λ x. (read_or r x).foreign) e)
 
-same_program : (b : List ℕ) (l : IsLowerable b) (d : Data) (p : Tree) (foreign : List ℕ) → read_text b ≡ Some d → read Numbers.Preorder d root 0 ≡ Ok (record { value = p; foreign = foreign }) → (p ≡ l.p) × (foreign ≡ [])
-same_program b l d p foreign e f =
-    read_parts (record { value = p; foreign = foreign }) (record { value = l.p; foreign = [] }) (sym f ∙ ap (λ v. read Numbers.Preorder v root 0) (same_value b l d e) ∙ l.tree)
+same_program : (o : Options) (b : List ℕ) (l : IsLowerable o b) (d : Data) (p : Tree) (foreign : List ℕ) → read_text b ≡ Some d → read Numbers.Preorder d root 0 ≡ Ok (record { value = p; foreign = foreign }) → (p ≡ l.p) × (foreign ≡ l.foreign)
+same_program o b l d p foreign e f =
+    read_parts (record { value = p; foreign = foreign }) (record { value = l.p; foreign = l.foreign }) (sym f ∙ ap (λ v. read Numbers.Preorder v root 0) (same_value o b l d e) ∙ l.tree)
 
--- such bytes are neither no tree nor of another form
-no_refusal : (o : Options) (b : List ℕ) (l : IsLowerable b) (text : List ℕ) {B : Type 0} → IsOutputOfBytes o b Status.Refused text → B
+-- a program that is valid, and has nothing to lower or is of the first form, is not refused
+module _ (o : Options) (p : Tree) (foreign : List ℕ) (valid : is_valid o foreign p ≡ true) where
+  small : nat_le (nodes p) most_nodes ≡ true
+  small = left_of (nat_le (nodes p) most_nodes) (is_none (first_fault o foreign p)) valid
+
+  no_first : (m : ℕ) (cause : fault.Cause) {B : Type 0} → IsFirst (facts_of p) o foreign p m cause → B
+  no_first m cause first = absurd (true≢false (sym (right_of (nat_le (nodes p) most_nodes) (is_none (first_fault o foreign p)) valid) ∙ ap is_none first.1))
+
+  never_refused : (nothing_left o p ≡ true) ⊎ (not_yet p foreign ≡ None) → (error : LowerError) (text : List ℕ) {B : Type 0} → IsRefused o p foreign error → IsRefusalText error text → B
+  never_refused form LowerError.NoMemory text refused written = absurd written
+  never_refused form (LowerError.Unsupported node what) text refused written = no_first node.0 (fault.Cause.Unsupported what) refused
+  never_refused form (LowerError.UndeclaredPrivate node) text refused written = no_first node.0 fault.Cause.UndeclaredPrivate refused
+  never_refused form (LowerError.DuplicatePrivate node) text refused written = no_first node.0 fault.Cause.DuplicatePrivate refused
+  never_refused form (LowerError.BadTree node rule) text refused written = no_first node.0 (fault.Cause.BadTree rule) refused
+  never_refused form (LowerError.TooLarge n) text refused written = absurd (omega (arith, leb-true (nodes p) most_nodes small, refused.1))
+  never_refused (inl none) (LowerError.NotYet node) text refused written = absurd (true≢false (sym none ∙ refused.1))
+  never_refused (inr none) (LowerError.NotYet node) text refused written = none_some (sym none ∙ refused.2)
+
+-- such bytes are neither no tree nor refused
+no_refusal : (o : Options) (b : List ℕ) (l : IsLowerable o b) (text : List ℕ) {B : Type 0} → IsOutputOfBytes o b Status.Refused text → B
 no_refusal o b l text of =
-    let same = same_program b l of.d of.output.p of.output.foreign of.value of.output.tree in
-    none_some (sym l.form ∙ sym (ap₂ not_yet same.0 same.1) ∙ of.output.output.least)
+    let same = same_program o b l of.d of.output.p of.output.foreign of.value of.output.tree in
+    let valid : is_valid o of.output.foreign of.output.p ≡ true = ap₂ (λ p foreign. is_valid o foreign p) same.0 same.1 ∙ l.valid in
+    let form : (nothing_left o of.output.p ≡ true) ⊎ (not_yet of.output.p of.output.foreign ≡ None) = turned of.output.p of.output.foreign same.0 same.1 in
+    never_refused o of.output.p of.output.foreign valid form of.output.output.error text of.output.output.refused of.output.output.written
+  where
+    turned : (p : Tree) (foreign : List ℕ) → p ≡ l.p → foreign ≡ l.foreign → (nothing_left o p ≡ true) ⊎ (not_yet p foreign ≡ None)
+    turned p foreign e f = elim l.form [ inl none ↦ inl (ap (nothing_left o) e ∙ none) | inr none ↦ inr (ap₂ not_yet e f ∙ none) ]
 
-no_want : (o : Options) (b : List ℕ) (l : IsLowerable b) (text : List ℕ) {B : Type 0} → IsOutputOfBytes o b Status.NotATree text → B
+no_want : (o : Options) (b : List ℕ) (l : IsLowerable o b) (text : List ℕ) {B : Type 0} → IsOutputOfBytes o b Status.NotATree text → B
 no_want o b l text (inl none) = none_some (sym (none.0 l.utf8) ∙ l.value)
-no_want o b l text (inr of) = no_fault b l of.d of.output.fault of.value of.output.first
+no_want o b l text (inr of) = no_fault o b l of.d of.output.fault of.value of.output.first
 
 too_many : (x b : List ℕ) {B : Type 0} → x ≡ b → most_bytes < length x → length b ≤ most_bytes → B
 too_many x b same more few = absurd (omega (arith, subst (λ (y : List ℕ). most_bytes < length y) same more, few))
 
+moved : (o options : Options) (x b : List ℕ) (status : Status) (text : List ℕ) → o ≡ options → x ≡ b → IsOutputOfBytes o x status text → IsOutputOfBytes options b status text
+moved o options x b status text e f output = subst (λ (y : List ℕ). IsOutputOfBytes options y status text) f (subst (λ (p : Options). IsOutputOfBytes p x status text) e output)
+
 pub cause-complete : (o : Option Options) (left : Option (List ℕ)) (before now : ℕ) (held after : Option (List ℕ)) (first last : ℕ) (status : Status)
     → Cause o left before now held after first last status → Complete o left before now first last status
-cause-complete o left before now held after first last Status.Done c = λ b arguments told l unread unwritten. inl refl
-cause-complete o left before now held after first last Status.NoMemory c = λ b arguments told l unread unwritten. inr refl
-cause-complete o left before now held after first last Status.WriteFault c = λ b arguments told l unread unwritten. absurd (unwritten c.0)
-cause-complete None left before now held after first last status c = λ b arguments told l unread unwritten. absurd (true≢false (sym arguments))
-cause-complete (Some o) left before now held after first last Status.BadArguments c = λ b arguments told l unread unwritten. absurd c.output
-cause-complete (Some o) left before now held after first last Status.ReadFault c = λ b arguments told l unread unwritten. absurd (unread c.output.0)
-cause-complete (Some o) None before now held after first last status c = λ b arguments told l unread unwritten. none_some told
-cause-complete (Some o) (Some x) before now held after first last Status.TooLong c = λ b arguments told l unread unwritten. too_many x b (same_some told) c.output.0 l.few
-cause-complete (Some o) (Some x) before now held after first last Status.Refused c = λ b arguments told l unread unwritten. no_refusal o b l c.text (subst (λ (y : List ℕ). IsOutputOfBytes o y Status.Refused c.text) (same_some told) c.output.1)
-cause-complete (Some o) (Some x) before now held after first last Status.NotATree c = λ b arguments told l unread unwritten. no_want o b l c.text (subst (λ (y : List ℕ). IsOutputOfBytes o y Status.NotATree c.text) (same_some told) c.output.1)
+cause-complete o left before now held after first last Status.Done c = λ options b arguments told l unread unwritten. inl refl
+cause-complete o left before now held after first last Status.NoMemory c = λ options b arguments told l unread unwritten. inr refl
+cause-complete o left before now held after first last Status.WriteFault c = λ options b arguments told l unread unwritten. absurd (unwritten c.0)
+cause-complete None left before now held after first last status c = λ options b arguments told l unread unwritten. none_some arguments
+cause-complete (Some o) left before now held after first last Status.BadArguments c = λ options b arguments told l unread unwritten. absurd c.output
+cause-complete (Some o) left before now held after first last Status.ReadFault c = λ options b arguments told l unread unwritten. absurd (unread c.output.0)
+cause-complete (Some o) None before now held after first last status c = λ options b arguments told l unread unwritten. none_some told
+cause-complete (Some o) (Some x) before now held after first last Status.TooLong c = λ options b arguments told l unread unwritten. too_many x b (same_some told) c.output.0 l.few
+cause-complete (Some o) (Some x) before now held after first last Status.Refused c = λ options b arguments told l unread unwritten. no_refusal options b l c.text (moved o options x b Status.Refused c.text (same_some arguments) (same_some told) c.output.1)
+cause-complete (Some o) (Some x) before now held after first last Status.NotATree c = λ options b arguments told l unread unwritten. no_want options b l c.text (moved o options x b Status.NotATree c.text (same_some arguments) (same_some told) c.output.1)
 
 -- ---- the main statement
 

@@ -1,7 +1,5 @@
 -- The arguments of the command line: none, or `--class-properties` once or more.
 use Rattle.std.specs.Prelude.{List, [], ◌∷◌, ℕ, Bool, true, cond, ◌&&◌, bytes_eq, codes, Option, Some, None}
-use Rattle.es_base.specs.Tree.{Tree}
-use Rattle.class_properties.specs.Lowering.{lowered}
 use Rattle.lower_run.specs.declared.arguments.Lowering.{Lowering}
 use Rattle.es_steps.specs.Options.{no_options, class_properties_alone}
 use Rattle.es_steps.specs.declared.options.Options.{Options}
@@ -21,8 +19,3 @@ options_of (argument ∷ arguments) = cond (all_class_properties (argument ∷ a
 abbrev pub options_for : Lowering → Options
 options_for Lowering.Nothing = no_options
 options_for Lowering.ClassProperties = class_properties_alone
-
--- the program that is written
-abbrev pub lowered_by : Lowering → Tree → Tree
-lowered_by Lowering.Nothing t = t
-lowered_by Lowering.ClassProperties t = lowered t

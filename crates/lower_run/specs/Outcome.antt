@@ -1,5 +1,5 @@
 -- What a run ends with, and why: the tree of the bytes, what is written of it, and the cause of each status.
-use Rattle.std.specs.Prelude.{◌≡◌, ◌≤◌, ◌<◌, List, [], ◌++◌, map, ℕ, length, Option, Some, None, IfSome, OnSome, Ok, Err, IsUtf8, ◌⊎◌, is_some, true}
+use Rattle.std.specs.Prelude.{◌≡◌, ◌≤◌, ◌<◌, List, [], ◌++◌, map, ℕ, length, Option, Some, None, IfSome, OnSome, Ok, Err, IsUtf8, ◌⊎◌, true, false}
 use Rattle.serde_json.specs.Data.{Data}
 use Rattle.serde_json.specs.Read.{read as read_text}
 use Rattle.serde_json.specs.Written.{compact_text}
@@ -16,13 +16,16 @@ use Rattle.es_reading.specs.Reading.{read, root}
 use Rattle.es_reading.specs.declared.fault.ReadError.{ReadError}
 use Rattle.es_reading.specs.declared.numbers.Numbers.{Numbers}
 use Rattle.es_steps.specs.FirstForm.{not_yet, is_first_form}
-use Rattle.es_steps.specs.Lowered.{IsLowered, IsUnchanged}
-use Rattle.es_steps.specs.Meaning.{Meaning, lowered_means, source_means}
+use Rattle.es_steps.specs.Lowered.{IsLowered, IsUnchanged, nothing_left}
+use Rattle.es_steps.specs.Meaning.{has_meaning, lowered_means, source_means}
 use Rattle.es_steps.specs.Shapes.{shapes}
 use Rattle.es_steps.specs.Told.{warnings_of}
-use Rattle.es_steps.specs.declared.error.LowerError.{LowerError}
 use Rattle.es_steps.specs.declared.options.Options.{Options}
-use Rattle.lower_run.specs.Lines.{line, bad_arguments_line, read_fault_line, too_long_line, json_line, fault_line, not_yet_line}
+use Rattle.es_validity.specs.Facts.{facts_of}
+use Rattle.es_validity.specs.Validity.{is_valid, IsRefusedBy}
+use Rattle.es_validity.specs.declared.error.LowerError.{LowerError}
+use Rattle.class_properties.specs.Lowering.{lowered}
+use Rattle.lower_run.specs.Lines.{line, bad_arguments_line, read_fault_line, too_long_line, json_line, fault_line, refusal_line}
 use Rattle.lower_run.specs.declared.status.Status.{Status}
 use Rattle.lower_io.specs.Causes.{Rose}
 use Rattle.lower_io.specs.Held.{Extends, ExtendsInPart}
@@ -36,7 +39,7 @@ most_bytes = 67108864
 -- the text of the tree q that p was lowered to, with these generated names, and with the warnings and the shapes of p. q is a
 -- program of the grammar, and all that is written is such as JSON holds, so the text fixes it. And what q owes: nothing that
 -- the options lower is left, every generated name has its declaration, a program with nothing to lower is unchanged, and q
--- means what p means.
+-- means what p means, which is there where p has something to lower.
 pub record IsLoweredTree (o : Options) (p : Tree) (names : List LedgerEntry) (text : List ℕ) : Type 0 where
   pub q : Tree
   pub warnings : List Diagnostic
@@ -48,30 +51,38 @@ pub record IsLoweredTree (o : Options) (p : Tree) (names : List LedgerEntry) (te
   pub warned : map (λ d. d.node.0) warnings ≡ warnings_of o p
   pub owed : IsLowered (nodes p) o names p q
   pub unchanged : IsUnchanged o names p q
-  pub meaning : Meaning
-  pub source : source_means o p ≡ Some meaning
-  pub same : lowered_means o names p q ≡ Some meaning
-
--- the line that names the least node that is not as the form asks
-pub record IsNotYet (p : Tree) (foreign : List ℕ) (text : List ℕ) : Type 0 where
-  pub node : ℕ
-  pub least : not_yet p foreign ≡ Some node
-  pub written : text ≡ not_yet_line node
+  pub same : lowered_means o names p q ≡ source_means o p
+  pub meant : nothing_left o p ≡ false → has_meaning (source_means o p) ≡ true
 
 -- a program is of the first form, and none of its nodes has members outside the table
 abbrev pub IsOfForm : Tree → List ℕ → Type 0
 IsOfForm p foreign = (foreign ≡ []) × (is_first_form p [] ≡ true)
 
--- it is refused by its least node that is not as the form asks, but for allocation failure
-abbrev pub IsRefused : Tree → List ℕ → LowerError → Type 0
-IsRefused p foreign LowerError.NoMemory = Unit
-IsRefused p foreign (LowerError.NotYet node) = not_yet p foreign ≡ Some node.0
+-- what a program is lowered to: itself where it has nothing to lower, and else what one of the first form is lowered to
+abbrev pub IsLoweredTo : Options → Tree → List ℕ → Tree → Type 0
+IsLoweredTo o p foreign q = ((nothing_left o p ≡ true) × (q ≡ p)) ⊎ ((nothing_left o p ≡ false) × IsOfForm p foreign × (q ≡ lowered p))
 
--- of a program, and its nodes that have members outside the table: what is lowered is of the form, which needs no generated
--- name
+-- why a program is refused, but for allocation failure: it has a fault, or is too large, or is valid, has something to lower,
+-- and is not of the first form
+abbrev pub IsRefused : Options → Tree → List ℕ → LowerError → Type 0
+IsRefused o p foreign (LowerError.NotYet node) = (is_valid o foreign p ≡ true) × (nothing_left o p ≡ false) × (not_yet p foreign ≡ Some node.0)
+IsRefused o p foreign e = IsRefusedBy (facts_of p) o foreign p e
+
+-- the line of an error that is no allocation failure
+abbrev pub IsRefusalText : LowerError → List ℕ → Type 0
+IsRefusalText LowerError.NoMemory text = ⊥
+IsRefusalText e text = text ≡ refusal_line e
+
+pub record IsRefusal (o : Options) (p : Tree) (foreign : List ℕ) (text : List ℕ) : Type 0 where
+  pub error : LowerError
+  pub refused : IsRefused o p foreign error
+  pub written : IsRefusalText error text
+
+-- of a program, and its nodes that have members outside the table: what is lowered is valid, and has nothing to lower or is of
+-- the first form, which needs no generated name
 abbrev pub IsOutputOfTree : Options → Tree → List ℕ → Status → List ℕ → Type 0
-IsOutputOfTree o p foreign Status.Done text = IsOfForm p foreign × IsLoweredTree o p [] text
-IsOutputOfTree o p foreign Status.Refused text = IsNotYet p foreign text
+IsOutputOfTree o p foreign Status.Done text = (is_valid o foreign p ≡ true) × ((nothing_left o p ≡ true) ⊎ IsOfForm p foreign) × IsLoweredTree o p [] text
+IsOutputOfTree o p foreign Status.Refused text = IsRefusal o p foreign text
 IsOutputOfTree o p foreign status text = ⊥
 
 -- ---- of a value
@@ -163,20 +174,22 @@ Cause o left before now held after first last status = IsWritten o left before n
 
 -- ---- completeness
 
--- the bytes are JSON text of this program, which is of the form
-pub record IsLowerable (b : List ℕ) : Type 0 where
+-- the bytes are JSON text of this program, which is valid, and has nothing to lower under the options or is of the first form
+pub record IsLowerable (o : Options) (b : List ℕ) : Type 0 where
   pub few : length b ≤ most_bytes
   pub utf8 : IsUtf8 b
   pub d : Data
   pub value : read_text b ≡ Some d
   pub p : Tree
-  pub tree : read Numbers.Preorder d root 0 ≡ Ok (record { value = p; foreign = [] })
-  pub form : not_yet p [] ≡ None
+  pub foreign : List ℕ
+  pub tree : read Numbers.Preorder d root 0 ≡ Ok (record { value = p; foreign = foreign })
+  pub valid : is_valid o foreign p ≡ true
+  pub form : (nothing_left o p ≡ true) ⊎ (not_yet p foreign ≡ None)
 
 -- of such bytes, with arguments of the grammar, and where neither the source nor the sink failed, nothing is answered but that
 -- the tree was written, or that memory ran out
 abbrev pub Complete : Option Options → Option (List ℕ) → ℕ → ℕ → ℕ → ℕ → Status → Type 0
-Complete o left before now first last status = (b : List ℕ) → is_some o ≡ true → left ≡ Some b → IsLowerable b → ¬ Rose before now → ¬ Rose first last → (status ≡ Status.Done) ⊎ (status ≡ Status.NoMemory)
+Complete o left before now first last status = (options : Options) (b : List ℕ) → o ≡ Some options → left ≡ Some b → IsLowerable options b → ¬ Rose before now → ¬ Rose first last → (status ≡ Status.Done) ⊎ (status ≡ Status.NoMemory)
 
 -- the main statement, of a source and a sink that tell their bytes: the arguments are in the grammar, the source had these
 -- bytes, and the sink holds what it held, followed by the text of what their tree was lowered to

@@ -4,6 +4,7 @@ ghost use Rattle.std.specs.Prelude.{◌≡◌, map, option_map, string_bytes};
 ghost use Rattle.lower_run.specs.Arguments.{options_of, options_for, all_class_properties, is_class_properties};
 
 use es_base::strings::is_word;
+use es_steps::options::{ClassPropertiesOptions, Options};
 
 /// What is lowered.
 #[derive(Debug, Clone, Copy, PartialEq, Eq)]
@@ -12,6 +13,22 @@ pub enum Lowering {
     Nothing,
     /// Class fields.
     ClassProperties,
+}
+
+impl Lowering {
+    /// The options of this lowering.
+    pub fn options(self) -> Options
+        ensures { result ≡ options_for self }
+    {
+        let mut options = Options::default();
+        match self {
+            Lowering::Nothing => {}
+            Lowering::ClassProperties => {
+                options.es2022.class_properties = Some(ClassPropertiesOptions { loose: false });
+            }
+        }
+        options
+    }
 }
 
 /// What the arguments ask for: nothing where there is none, class fields for `--class-properties` once or

@@ -8,3 +8,5 @@ mod edge;
 mod programs;
 #[cfg(test)]
 mod runs;
+#[cfg(test)]
+mod validity;

@@ -6,6 +6,12 @@ pub fn empty() -> &'static str {
     r#"{"type":"Program","sourceType":"script","body":[]}"#
 }
 
+/// The same script with many members that are dropped, in falling order of their keys, with a `type` that gives way to a
+/// later one, and with escapes.
+pub fn empty_of_many_members() -> &'static str {
+    r#"{"z9":9,"z8":8,"z7":7,"z6":6,"z5":5,"z4":4,"z3":3,"z2":2,"z1":1,"z0":0,"type":"None","y9":null,"y8":null,"y7":null,"y6":null,"y5":null,"y4":null,"y3":null,"y2":null,"y1":null,"y0":null,"t\u0079pe":"Pro\u0067ram","sourceType":"script","body":[]}"#
+}
+
 pub fn empty_written() -> &'static str {
     r#"{"body":[],"generated":[],"node":0,"outside":[],"sourceType":"script","type":"Program","warnings":[]}
 "#
@@ -18,6 +24,16 @@ pub fn no_field() -> &'static str {
 
 pub fn no_field_written() -> &'static str {
     r#"{"body":[{"body":{"body":[],"node":3,"type":"ClassBody"},"id":{"name":"C","node":2,"type":"Identifier"},"node":1,"superClass":null,"type":"ClassDeclaration"}],"generated":[],"node":0,"outside":[],"sourceType":"script","type":"Program","warnings":[]}
+"#
+}
+
+/// `export class D extends C {}`.
+pub fn derived() -> &'static str {
+    r#"{"type":"Program","body":[{"type":"ExportNamedDeclaration","declaration":{"type":"ClassDeclaration","id":{"type":"Identifier","name":"D"},"superClass":{"type":"Identifier","name":"C"},"body":{"type":"ClassBody","body":[]}},"specifiers":[],"source":null}],"sourceType":"module"}"#
+}
+
+pub fn derived_written() -> &'static str {
+    r#"{"body":[{"declaration":{"body":{"body":[],"node":5,"type":"ClassBody"},"id":{"name":"D","node":3,"type":"Identifier"},"node":2,"superClass":{"name":"C","node":4,"type":"Identifier"},"type":"ClassDeclaration"},"node":1,"source":null,"specifiers":[],"type":"ExportNamedDeclaration"}],"generated":[],"node":0,"outside":[],"sourceType":"module","type":"Program","warnings":[]}
 "#
 }
 

@@ -4,8 +4,9 @@
 ghost use Rattle.std.specs.Prelude.{◌<◌};
 
 use crate::programs::{
-    empty, empty_written, no_field, no_field_written, one_field, one_field_kept, one_field_lowered,
-    two_classes, two_classes_lowered, two_fields, two_fields_lowered,
+    derived, derived_written, empty, empty_of_many_members, empty_written, no_field,
+    no_field_written, one_field, one_field_kept, one_field_lowered, two_classes,
+    two_classes_lowered, two_fields, two_fields_lowered,
 };
 use lower_io::sink::{BytesSink, SureSink};
 use lower_io::source::{BytesSource, SureSource};
@@ -67,8 +68,14 @@ const ALL_AT_ONCE: Pace = Pace {
     fails: &[],
 };
 
+/// The status of a run with these arguments on this input.
+pub fn status_of(alloc: Global, arguments: &str, input: &str) -> Result<u8, AllocError> {
+    let ended = run_at(alloc, arguments, input, ALL_AT_ONCE, ALL_AT_ONCE)?;
+    Ok(ended.status)
+}
+
 /// Whether a run with these arguments on this input ends with this status and this output.
-fn ends_so(
+pub fn ends_so(
     alloc: Global,
     arguments: &str,
     input: &str,
@@ -79,9 +86,9 @@ fn ends_so(
     Ok(ended.status == status && ended.output.as_str() == output)
 }
 
-const NONE: &str = "";
+pub const NONE: &str = "";
 
-const LOWER: &str = "--class-properties\n";
+pub const LOWER: &str = "--class-properties\n";
 
 #[test]
 fn programs_of_the_form_are_lowered(rt: HostRuntime) -> Result<(), Fail> {
@@ -99,11 +106,18 @@ fn programs_of_the_form_are_lowered(rt: HostRuntime) -> Result<(), Fail> {
     assert!(rt; ends_so(alloc, twice, one_field(), 0, one_field_lowered())?);
     let kept = [
         (empty(), empty_written()),
+        (empty_of_many_members(), empty_written()),
         (no_field(), no_field_written()),
         (one_field(), one_field_kept()),
+        (derived(), derived_written()),
     ];
     for (input, output) in kept {
         assert!(rt; ends_so(alloc, NONE, input, 0, output)?, "of {input}");
+    }
+    // nothing to lower
+    let unchanged = [(empty(), empty_written()), (derived(), derived_written())];
+    for (input, output) in unchanged {
+        assert!(rt; ends_so(alloc, LOWER, input, 0, output)?, "of {input}");
     }
     Ok(())
 }
@@ -157,31 +171,6 @@ fn refusals_have_their_line(rt: HostRuntime) -> Result<(), Fail> {
     for (input, line) in no_programs {
         assert!(rt; ends_so(alloc, LOWER, input, 3, line)?, "of {input}");
         assert!(rt; ends_so(alloc, NONE, input, 3, line)?, "of {input}");
-    }
-    let other_forms = [
-        // class D extends C {}
-        (
-            r#"{"type":"Program","body":[{"type":"ClassDeclaration","id":{"type":"Identifier","name":"D"},"superClass":{"type":"Identifier","name":"C"},"body":{"type":"ClassBody","body":[]}}],"sourceType":"script"}"#,
-            "refused: NotYet at 1\n",
-        ),
-        (
-            r#"{"type":"Program","sourceType":"script","body":[{"type":"ExpressionStatement","expression":{"type":"JSXElement"}}]}"#,
-            "refused: NotYet at 1\n",
-        ),
-        // class C { @a x }
-        (
-            r#"{"type":"Program","body":[{"type":"ClassDeclaration","id":{"type":"Identifier","name":"C"},"superClass":null,"body":{"type":"ClassBody","body":[{"type":"PropertyDefinition","static":false,"computed":false,"key":{"type":"Identifier","name":"x"},"value":null,"decorators":[{"type":"Decorator","expression":{"type":"Identifier","name":"a"}}]}]}}],"sourceType":"script"}"#,
-            "refused: NotYet at 4\n",
-        ),
-        // class C {}, a module
-        (
-            r#"{"type":"Program","body":[{"type":"ClassDeclaration","id":{"type":"Identifier","name":"C"},"superClass":null,"body":{"type":"ClassBody","body":[]}}],"sourceType":"module"}"#,
-            "refused: NotYet at 0\n",
-        ),
-    ];
-    for (input, line) in other_forms {
-        assert!(rt; ends_so(alloc, LOWER, input, 1, line)?, "of {input}");
-        assert!(rt; ends_so(alloc, NONE, input, 1, line)?, "of {input}");
     }
     Ok(())
 }

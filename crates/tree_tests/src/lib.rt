@@ -5,6 +5,8 @@
 #[cfg(test)]
 mod base;
 #[cfg(test)]
+mod build;
+#[cfg(test)]
 mod json;
 #[cfg(test)]
 mod layer;
@@ -16,3 +18,5 @@ mod readme;
 mod scopes;
 #[cfg(test)]
 mod shapes;
+#[cfg(test)]
+mod sources;

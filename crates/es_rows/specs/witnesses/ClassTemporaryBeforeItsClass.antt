@@ -15,7 +15,7 @@ source_class_temporary_before_its_class = node Kind.Program 0 (more (string (cod
 
 -- a static field defined in front of its class, where `var _Class; let D = (_Class = class {}, B.defineProperty(_Class, "x", 1), _Class);` is right
 abbrev pub output_class_temporary_before_its_class : Tree
-output_class_temporary_before_its_class = node Kind.Program 0 (more (string (codes "script")) (more (list (trees (node Kind.VariableDeclaration 9 (more (string (codes "var")) (more (list (trees (node Kind.VariableDeclarator 10 (more (child (node Kind.BindingIdentifier 11 (more (string (codes "_Class")) end))) (more absent end)) ∷ []))) end)) ∷ node Kind.VariableDeclaration 1 (more (string (codes "let")) (more (list (trees (node Kind.VariableDeclarator 2 (more (child (node Kind.BindingIdentifier 3 (more (string (codes "D")) end))) (more (child (node Kind.SequenceExpression 12 (more (list (trees (node Kind.CallExpression 15 (more (child (node Kind.MemberExpression 16 (more (child (node Kind.IdentifierReference 17 (more (string (codes "babelHelpers")) end))) (more (child (node Kind.IdentifierName 18 (more (string (codes "defineProperty")) end))) (more (boolean false) (more (boolean false) end)))))) (more (list (trees (node Kind.IdentifierReference 19 (more (string (codes "_Class")) end) ∷ node Kind.Literal 20 (more (literal (literal_value.String (codes "x") None)) end) ∷ node Kind.Literal 8 (more (literal (literal_value.Number (codes "1"))) end) ∷ []))) (more (boolean false) end))) ∷ node Kind.AssignmentExpression 13 (more (string (codes "=")) (more (child (node Kind.IdentifierReference 14 (more (string (codes "_Class")) end))) (more (child (node Kind.ClassExpression 4 (more absent (more absent (more (child (node Kind.ClassBody 5 (more (list end) end))) end))))) end))) ∷ node Kind.IdentifierReference 21 (more (string (codes "_Class")) end) ∷ []))) end))) end)) ∷ []))) end)) ∷ []))) end))
+output_class_temporary_before_its_class = node Kind.Program 0 (more (string (codes "script")) (more (list (trees (node Kind.VariableDeclaration 9 (more (string (codes "var")) (more (list (trees (node Kind.VariableDeclarator 10 (more (child (node Kind.BindingIdentifier 11 (more (string (codes "_Class")) end))) (more absent end)) ∷ []))) end)) ∷ node Kind.VariableDeclaration 1 (more (string (codes "let")) (more (list (trees (node Kind.VariableDeclarator 2 (more (child (node Kind.BindingIdentifier 3 (more (string (codes "D")) end))) (more (child (node Kind.SequenceExpression 12 (more (list (trees (node Kind.CallExpression 13 (more (child (node Kind.MemberExpression 14 (more (child (node Kind.IdentifierReference 15 (more (string (codes "babelHelpers")) end))) (more (child (node Kind.IdentifierName 16 (more (string (codes "defineProperty")) end))) (more (boolean false) (more (boolean false) end)))))) (more (list (trees (node Kind.IdentifierReference 17 (more (string (codes "_Class")) end) ∷ node Kind.Literal 18 (more (literal (literal_value.String (codes "x") None)) end) ∷ node Kind.Literal 8 (more (literal (literal_value.Number (codes "1"))) end) ∷ []))) (more (boolean false) end))) ∷ node Kind.AssignmentExpression 19 (more (string (codes "=")) (more (child (node Kind.IdentifierReference 20 (more (string (codes "_Class")) end))) (more (child (node Kind.ClassExpression 4 (more absent (more absent (more (child (node Kind.ClassBody 5 (more (list end) end))) end))))) end))) ∷ node Kind.IdentifierReference 21 (more (string (codes "_Class")) end) ∷ []))) end))) end)) ∷ []))) end)) ∷ []))) end))
 
 abbrev pub generated_class_temporary_before_its_class : List LedgerEntry
 generated_class_temporary_before_its_class = record { name = codes "_Class"; kind = GeneratedKind.ClassTemp (record { 0 = 4 }) } ∷ []

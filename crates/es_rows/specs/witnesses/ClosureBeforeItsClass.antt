@@ -14,7 +14,7 @@ source_closure_before_its_class = node Kind.Program 0 (more (string (codes "scri
 
 -- a static block run in front of its class, where `var _staticBlock; let C = (class C { static #_ = _staticBlock = () => (foo, this); }, _staticBlock());` is right
 abbrev pub output_closure_before_its_class : Tree
-output_closure_before_its_class = node Kind.Program 0 (more (string (codes "script")) (more (list (trees (node Kind.VariableDeclaration 7 (more (string (codes "var")) (more (list (trees (node Kind.VariableDeclarator 8 (more (child (node Kind.BindingIdentifier 9 (more (string (codes "_staticBlock")) end))) (more absent end)) ∷ []))) end)) ∷ node Kind.VariableDeclaration 10 (more (string (codes "let")) (more (list (trees (node Kind.VariableDeclarator 11 (more (child (node Kind.BindingIdentifier 2 (more (string (codes "C")) end))) (more (child (node Kind.SequenceExpression 12 (more (list (trees (node Kind.CallExpression 21 (more (child (node Kind.IdentifierReference 22 (more (string (codes "_staticBlock")) end))) (more (list end) (more (boolean false) end))) ∷ node Kind.ClassExpression 1 (more (child (node Kind.BindingIdentifier 13 (more (string (codes "C")) end))) (more absent (more (child (node Kind.ClassBody 3 (more (list (trees (node Kind.PropertyDefinition 14 (more (child (node Kind.PrivateIdentifier 15 (more (string (codes "_")) end))) (more (child (node Kind.AssignmentExpression 16 (more (string (codes "=")) (more (child (node Kind.IdentifierReference 17 (more (string (codes "_staticBlock")) end))) (more (child (node Kind.ArrowFunctionExpression 18 (more (list end) (more (child (node Kind.SequenceExpression 19 (more (list (trees (node Kind.IdentifierReference 6 (more (string (codes "foo")) end) ∷ node Kind.ThisExpression 20 end ∷ []))) end))) (more (boolean false) end))))) end))))) (more (boolean false) (more (boolean true) end)))) ∷ []))) end))) end))) ∷ []))) end))) end)) ∷ []))) end)) ∷ []))) end))
+output_closure_before_its_class = node Kind.Program 0 (more (string (codes "script")) (more (list (trees (node Kind.VariableDeclaration 7 (more (string (codes "var")) (more (list (trees (node Kind.VariableDeclarator 8 (more (child (node Kind.BindingIdentifier 9 (more (string (codes "_staticBlock")) end))) (more absent end)) ∷ []))) end)) ∷ node Kind.VariableDeclaration 10 (more (string (codes "let")) (more (list (trees (node Kind.VariableDeclarator 11 (more (child (node Kind.BindingIdentifier 2 (more (string (codes "C")) end))) (more (child (node Kind.SequenceExpression 12 (more (list (trees (node Kind.CallExpression 13 (more (child (node Kind.IdentifierReference 14 (more (string (codes "_staticBlock")) end))) (more (list end) (more (boolean false) end))) ∷ node Kind.ClassExpression 1 (more (child (node Kind.BindingIdentifier 15 (more (string (codes "C")) end))) (more absent (more (child (node Kind.ClassBody 3 (more (list (trees (node Kind.PropertyDefinition 16 (more (child (node Kind.PrivateIdentifier 17 (more (string (codes "_")) end))) (more (child (node Kind.AssignmentExpression 18 (more (string (codes "=")) (more (child (node Kind.IdentifierReference 19 (more (string (codes "_staticBlock")) end))) (more (child (node Kind.ArrowFunctionExpression 20 (more (list end) (more (child (node Kind.SequenceExpression 21 (more (list (trees (node Kind.IdentifierReference 6 (more (string (codes "foo")) end) ∷ node Kind.ThisExpression 22 end ∷ []))) end))) (more (boolean false) end))))) end))))) (more (boolean false) (more (boolean true) end)))) ∷ []))) end))) end))) ∷ []))) end))) end)) ∷ []))) end)) ∷ []))) end))
 
 abbrev pub generated_closure_before_its_class : List LedgerEntry
 generated_closure_before_its_class = record { name = codes "_"; kind = GeneratedKind.Private (record { 0 = 1 }) } ∷ record { name = codes "_staticBlock"; kind = GeneratedKind.Closure } ∷ []

@@ -15,7 +15,7 @@ source_dead_temporary = node Kind.Program 0 (more (string (codes "script")) (mor
 
 -- a temporary in front of its `let`, where `let _foo; _foo = foo(); class C { constructor() { B.defineProperty(this, _foo, 1); } }` is right
 abbrev pub output_dead_temporary : Tree
-output_dead_temporary = node Kind.Program 0 (more (string (codes "script")) (more (list (trees (node Kind.ExpressionStatement 11 (more (child (node Kind.AssignmentExpression 12 (more (string (codes "=")) (more (child (node Kind.IdentifierReference 13 (more (string (codes "_foo")) end))) (more (child (node Kind.CallExpression 5 (more (child (node Kind.IdentifierReference 6 (more (string (codes "foo")) end))) (more (list end) (more (boolean false) end))))) end))))) (more no_string end)) ∷ node Kind.ClassDeclaration 1 (more (child (node Kind.BindingIdentifier 2 (more (string (codes "C")) end))) (more absent (more (child (node Kind.ClassBody 3 (more (list (trees (node Kind.MethodDefinition 14 (more (child (node Kind.IdentifierName 15 (more (string (codes "constructor")) end))) (more (child (node Kind.FunctionExpression 16 (more absent (more (list end) (more (child (node Kind.BlockStatement 17 (more (list (trees (node Kind.ExpressionStatement 18 (more (child (node Kind.CallExpression 19 (more (child (node Kind.MemberExpression 20 (more (child (node Kind.IdentifierReference 21 (more (string (codes "babelHelpers")) end))) (more (child (node Kind.IdentifierName 22 (more (string (codes "defineProperty")) end))) (more (boolean false) (more (boolean false) end)))))) (more (list (trees (node Kind.ThisExpression 23 end ∷ node Kind.IdentifierReference 24 (more (string (codes "_foo")) end) ∷ node Kind.Literal 7 (more (literal (literal_value.Number (codes "1"))) end) ∷ []))) (more (boolean false) end))))) (more no_string end)) ∷ []))) end))) (more (boolean false) (more (boolean false) end))))))) (more (string (codes "constructor")) (more (boolean false) (more (boolean false) end))))) ∷ []))) end))) end))) ∷ node Kind.VariableDeclaration 8 (more (string (codes "let")) (more (list (trees (node Kind.VariableDeclarator 9 (more (child (node Kind.BindingIdentifier 10 (more (string (codes "_foo")) end))) (more absent end)) ∷ []))) end)) ∷ []))) end))
+output_dead_temporary = node Kind.Program 0 (more (string (codes "script")) (more (list (trees (node Kind.ExpressionStatement 8 (more (child (node Kind.AssignmentExpression 9 (more (string (codes "=")) (more (child (node Kind.IdentifierReference 10 (more (string (codes "_foo")) end))) (more (child (node Kind.CallExpression 5 (more (child (node Kind.IdentifierReference 6 (more (string (codes "foo")) end))) (more (list end) (more (boolean false) end))))) end))))) (more no_string end)) ∷ node Kind.ClassDeclaration 1 (more (child (node Kind.BindingIdentifier 2 (more (string (codes "C")) end))) (more absent (more (child (node Kind.ClassBody 3 (more (list (trees (node Kind.MethodDefinition 11 (more (child (node Kind.IdentifierName 12 (more (string (codes "constructor")) end))) (more (child (node Kind.FunctionExpression 13 (more absent (more (list end) (more (child (node Kind.BlockStatement 14 (more (list (trees (node Kind.ExpressionStatement 15 (more (child (node Kind.CallExpression 16 (more (child (node Kind.MemberExpression 17 (more (child (node Kind.IdentifierReference 18 (more (string (codes "babelHelpers")) end))) (more (child (node Kind.IdentifierName 19 (more (string (codes "defineProperty")) end))) (more (boolean false) (more (boolean false) end)))))) (more (list (trees (node Kind.ThisExpression 20 end ∷ node Kind.IdentifierReference 21 (more (string (codes "_foo")) end) ∷ node Kind.Literal 7 (more (literal (literal_value.Number (codes "1"))) end) ∷ []))) (more (boolean false) end))))) (more no_string end)) ∷ []))) end))) (more (boolean false) (more (boolean false) end))))))) (more (string (codes "constructor")) (more (boolean false) (more (boolean false) end))))) ∷ []))) end))) end))) ∷ node Kind.VariableDeclaration 22 (more (string (codes "let")) (more (list (trees (node Kind.VariableDeclarator 23 (more (child (node Kind.BindingIdentifier 24 (more (string (codes "_foo")) end))) (more absent end)) ∷ []))) end)) ∷ []))) end))
 
 abbrev pub generated_dead_temporary : List LedgerEntry
 generated_dead_temporary = record { name = codes "_foo"; kind = GeneratedKind.Temp } ∷ []

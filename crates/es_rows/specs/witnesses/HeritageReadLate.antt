@@ -15,7 +15,7 @@ source_heritage_read_late = node Kind.Program 0 (more (string (codes "script")) 
 
 -- a heritage read behind its class, where `class D { constructor() { B.defineProperty(this, "x", 1); } m() { h(); class C extends k() { constructor(..._args) { super(..._args); B.defineProperty(this, "y", 2); } } return C; } }` is right
 abbrev pub output_heritage_read_late : Tree
-output_heritage_read_late = node Kind.Program 0 (more (string (codes "script")) (more (list (trees (node Kind.ClassDeclaration 1 (more (child (node Kind.BindingIdentifier 2 (more (string (codes "D")) end))) (more absent (more (child (node Kind.ClassBody 3 (more (list (trees (node Kind.MethodDefinition 24 (more (child (node Kind.IdentifierName 25 (more (string (codes "constructor")) end))) (more (child (node Kind.FunctionExpression 26 (more absent (more (list end) (more (child (node Kind.BlockStatement 27 (more (list (trees (node Kind.ExpressionStatement 28 (more (child (node Kind.CallExpression 29 (more (child (node Kind.MemberExpression 30 (more (child (node Kind.IdentifierReference 31 (more (string (codes "babelHelpers")) end))) (more (child (node Kind.IdentifierName 32 (more (string (codes "defineProperty")) end))) (more (boolean false) (more (boolean false) end)))))) (more (list (trees (node Kind.ThisExpression 33 end ∷ node Kind.Literal 34 (more (literal (literal_value.String (codes "x") None)) end) ∷ node Kind.Literal 6 (more (literal (literal_value.Number (codes "1"))) end) ∷ []))) (more (boolean false) end))))) (more no_string end)) ∷ []))) end))) (more (boolean false) (more (boolean false) end))))))) (more (string (codes "constructor")) (more (boolean false) (more (boolean false) end))))) ∷ node Kind.MethodDefinition 7 (more (child (node Kind.IdentifierName 8 (more (string (codes "m")) end))) (more (child (node Kind.FunctionExpression 9 (more absent (more (list end) (more (child (node Kind.BlockStatement 10 (more (list (trees (node Kind.VariableDeclaration 55 (more (string (codes "let")) (more (list (trees (node Kind.VariableDeclarator 56 (more (child (node Kind.BindingIdentifier 57 (more (string (codes "_t")) end))) (more absent end)) ∷ []))) end)) ∷ node Kind.ExpressionStatement 11 (more (child (node Kind.AssignmentExpression 53 (more (string (codes "=")) (more (child (node Kind.IdentifierReference 54 (more (string (codes "_t")) end))) (more (child (node Kind.CallExpression 12 (more (child (node Kind.IdentifierReference 13 (more (string (codes "h")) end))) (more (list end) (more (boolean false) end))))) end))))) (more no_string end)) ∷ node Kind.ClassDeclaration 14 (more (child (node Kind.BindingIdentifier 15 (more (string (codes "C")) end))) (more (child (node Kind.IdentifierReference 58 (more (string (codes "_t")) end))) (more (child (node Kind.ClassBody 18 (more (list (trees (node Kind.MethodDefinition 35 (more (child (node Kind.IdentifierName 36 (more (string (codes "constructor")) end))) (more (child (node Kind.FunctionExpression 37 (more absent (more (list (trees (node Kind.RestElement 38 (more (child (node Kind.BindingIdentifier 39 (more (string (codes "_args")) end))) end) ∷ []))) (more (child (node Kind.BlockStatement 40 (more (list (trees (node Kind.ExpressionStatement 41 (more (child (node Kind.CallExpression 42 (more (child (node Kind.Super 43 end)) (more (list (trees (node Kind.SpreadElement 44 (more (child (node Kind.IdentifierReference 45 (more (string (codes "_args")) end))) end) ∷ []))) (more (boolean false) end))))) (more no_string end)) ∷ node Kind.ExpressionStatement 46 (more (child (node Kind.CallExpression 47 (more (child (node Kind.MemberExpression 48 (more (child (node Kind.IdentifierReference 49 (more (string (codes "babelHelpers")) end))) (more (child (node Kind.IdentifierName 50 (more (string (codes "defineProperty")) end))) (more (boolean false) (more (boolean false) end)))))) (more (list (trees (node Kind.ThisExpression 51 end ∷ node Kind.Literal 52 (more (literal (literal_value.String (codes "y") None)) end) ∷ node Kind.Literal 21 (more (literal (literal_value.Number (codes "2"))) end) ∷ []))) (more (boolean false) end))))) (more no_string end)) ∷ []))) end))) (more (boolean false) (more (boolean false) end))))))) (more (string (codes "constructor")) (more (boolean false) (more (boolean false) end))))) ∷ []))) end))) end))) ∷ node Kind.ExpressionStatement 58 (more (child (node Kind.AssignmentExpression 59 (more (string (codes "=")) (more (child (node Kind.IdentifierReference 60 (more (string (codes "_t")) end))) (more (child (node Kind.CallExpression 16 (more (child (node Kind.IdentifierReference 17 (more (string (codes "k")) end))) (more (list end) (more (boolean false) end))))) end))))) (more no_string end)) ∷ node Kind.ReturnStatement 22 (more (child (node Kind.IdentifierReference 23 (more (string (codes "C")) end))) end) ∷ []))) end))) (more (boolean false) (more (boolean false) end))))))) (more (string (codes "method")) (more (boolean false) (more (boolean false) end))))) ∷ []))) end))) end))) ∷ []))) end))
+output_heritage_read_late = node Kind.Program 0 (more (string (codes "script")) (more (list (trees (node Kind.ClassDeclaration 1 (more (child (node Kind.BindingIdentifier 2 (more (string (codes "D")) end))) (more absent (more (child (node Kind.ClassBody 3 (more (list (trees (node Kind.MethodDefinition 24 (more (child (node Kind.IdentifierName 25 (more (string (codes "constructor")) end))) (more (child (node Kind.FunctionExpression 26 (more absent (more (list end) (more (child (node Kind.BlockStatement 27 (more (list (trees (node Kind.ExpressionStatement 28 (more (child (node Kind.CallExpression 29 (more (child (node Kind.MemberExpression 30 (more (child (node Kind.IdentifierReference 31 (more (string (codes "babelHelpers")) end))) (more (child (node Kind.IdentifierName 32 (more (string (codes "defineProperty")) end))) (more (boolean false) (more (boolean false) end)))))) (more (list (trees (node Kind.ThisExpression 33 end ∷ node Kind.Literal 34 (more (literal (literal_value.String (codes "x") None)) end) ∷ node Kind.Literal 6 (more (literal (literal_value.Number (codes "1"))) end) ∷ []))) (more (boolean false) end))))) (more no_string end)) ∷ []))) end))) (more (boolean false) (more (boolean false) end))))))) (more (string (codes "constructor")) (more (boolean false) (more (boolean false) end))))) ∷ node Kind.MethodDefinition 7 (more (child (node Kind.IdentifierName 8 (more (string (codes "m")) end))) (more (child (node Kind.FunctionExpression 9 (more absent (more (list end) (more (child (node Kind.BlockStatement 10 (more (list (trees (node Kind.VariableDeclaration 35 (more (string (codes "let")) (more (list (trees (node Kind.VariableDeclarator 36 (more (child (node Kind.BindingIdentifier 37 (more (string (codes "_t")) end))) (more absent end)) ∷ []))) end)) ∷ node Kind.ExpressionStatement 11 (more (child (node Kind.AssignmentExpression 38 (more (string (codes "=")) (more (child (node Kind.IdentifierReference 39 (more (string (codes "_t")) end))) (more (child (node Kind.CallExpression 12 (more (child (node Kind.IdentifierReference 13 (more (string (codes "h")) end))) (more (list end) (more (boolean false) end))))) end))))) (more no_string end)) ∷ node Kind.ClassDeclaration 14 (more (child (node Kind.BindingIdentifier 15 (more (string (codes "C")) end))) (more (child (node Kind.IdentifierReference 40 (more (string (codes "_t")) end))) (more (child (node Kind.ClassBody 18 (more (list (trees (node Kind.MethodDefinition 41 (more (child (node Kind.IdentifierName 42 (more (string (codes "constructor")) end))) (more (child (node Kind.FunctionExpression 43 (more absent (more (list (trees (node Kind.RestElement 44 (more (child (node Kind.BindingIdentifier 45 (more (string (codes "_args")) end))) end) ∷ []))) (more (child (node Kind.BlockStatement 46 (more (list (trees (node Kind.ExpressionStatement 47 (more (child (node Kind.CallExpression 48 (more (child (node Kind.Super 49 end)) (more (list (trees (node Kind.SpreadElement 50 (more (child (node Kind.IdentifierReference 51 (more (string (codes "_args")) end))) end) ∷ []))) (more (boolean false) end))))) (more no_string end)) ∷ node Kind.ExpressionStatement 52 (more (child (node Kind.CallExpression 53 (more (child (node Kind.MemberExpression 54 (more (child (node Kind.IdentifierReference 55 (more (string (codes "babelHelpers")) end))) (more (child (node Kind.IdentifierName 56 (more (string (codes "defineProperty")) end))) (more (boolean false) (more (boolean false) end)))))) (more (list (trees (node Kind.ThisExpression 57 end ∷ node Kind.Literal 58 (more (literal (literal_value.String (codes "y") None)) end) ∷ node Kind.Literal 21 (more (literal (literal_value.Number (codes "2"))) end) ∷ []))) (more (boolean false) end))))) (more no_string end)) ∷ []))) end))) (more (boolean false) (more (boolean false) end))))))) (more (string (codes "constructor")) (more (boolean false) (more (boolean false) end))))) ∷ []))) end))) end))) ∷ node Kind.ExpressionStatement 59 (more (child (node Kind.AssignmentExpression 60 (more (string (codes "=")) (more (child (node Kind.IdentifierReference 61 (more (string (codes "_t")) end))) (more (child (node Kind.CallExpression 16 (more (child (node Kind.IdentifierReference 17 (more (string (codes "k")) end))) (more (list end) (more (boolean false) end))))) end))))) (more no_string end)) ∷ node Kind.ReturnStatement 22 (more (child (node Kind.IdentifierReference 23 (more (string (codes "C")) end))) end) ∷ []))) end))) (more (boolean false) (more (boolean false) end))))))) (more (string (codes "method")) (more (boolean false) (more (boolean false) end))))) ∷ []))) end))) end))) ∷ []))) end))
 
 abbrev pub generated_heritage_read_late : List LedgerEntry
 generated_heritage_read_late = record { name = codes "_t"; kind = GeneratedKind.Temp } ∷ record { name = codes "_args"; kind = GeneratedKind.Args } ∷ []

@@ -15,7 +15,7 @@ source_static_key_read_late = node Kind.Program 0 (more (string (codes "script")
 
 -- the key of a static field read behind a later key, where `class D { static v = (q(), 1); m() { z(); class C { static [k()] = 1; [h()]() {} } return C; } }` is right
 abbrev pub output_static_key_read_late : Tree
-output_static_key_read_late = node Kind.Program 0 (more (string (codes "script")) (more (list (trees (node Kind.ClassDeclaration 1 (more (child (node Kind.BindingIdentifier 2 (more (string (codes "D")) end))) (more absent (more (child (node Kind.ClassBody 3 (more (list (trees (node Kind.PropertyDefinition 8 (more (child (node Kind.IdentifierName 9 (more (string (codes "v")) end))) (more (child (node Kind.SequenceExpression 32 (more (list (trees (node Kind.CallExpression 6 (more (child (node Kind.IdentifierReference 7 (more (string (codes "q")) end))) (more (list end) (more (boolean false) end))) ∷ node Kind.Literal 10 (more (literal (literal_value.Number (codes "1"))) end) ∷ []))) end))) (more (boolean false) (more (boolean true) end)))) ∷ node Kind.MethodDefinition 11 (more (child (node Kind.IdentifierName 12 (more (string (codes "m")) end))) (more (child (node Kind.FunctionExpression 13 (more absent (more (list end) (more (child (node Kind.BlockStatement 14 (more (list (trees (node Kind.VariableDeclaration 35 (more (string (codes "let")) (more (list (trees (node Kind.VariableDeclarator 36 (more (child (node Kind.BindingIdentifier 37 (more (string (codes "_u")) end))) (more absent end)) ∷ []))) end)) ∷ node Kind.ExpressionStatement 15 (more (child (node Kind.AssignmentExpression 33 (more (string (codes "=")) (more (child (node Kind.IdentifierReference 34 (more (string (codes "_u")) end))) (more (child (node Kind.CallExpression 16 (more (child (node Kind.IdentifierReference 17 (more (string (codes "z")) end))) (more (list end) (more (boolean false) end))))) end))))) (more no_string end)) ∷ node Kind.ClassDeclaration 18 (more (child (node Kind.BindingIdentifier 19 (more (string (codes "C")) end))) (more absent (more (child (node Kind.ClassBody 20 (more (list (trees (node Kind.PropertyDefinition 21 (more (child (node Kind.IdentifierReference 41 (more (string (codes "_u")) end))) (more (child (node Kind.Literal 24 (more (literal (literal_value.Number (codes "1"))) end))) (more (boolean true) (more (boolean true) end)))) ∷ node Kind.MethodDefinition 25 (more (child (node Kind.SequenceExpression 38 (more (list (trees (node Kind.AssignmentExpression 39 (more (string (codes "=")) (more (child (node Kind.IdentifierReference 40 (more (string (codes "_u")) end))) (more (child (node Kind.CallExpression 22 (more (child (node Kind.IdentifierReference 23 (more (string (codes "k")) end))) (more (list end) (more (boolean false) end))))) end))) ∷ node Kind.CallExpression 26 (more (child (node Kind.IdentifierReference 27 (more (string (codes "h")) end))) (more (list end) (more (boolean false) end))) ∷ []))) end))) (more (child (node Kind.FunctionExpression 28 (more absent (more (list end) (more (child (node Kind.BlockStatement 29 (more (list end) end))) (more (boolean false) (more (boolean false) end))))))) (more (string (codes "method")) (more (boolean true) (more (boolean false) end))))) ∷ []))) end))) end))) ∷ node Kind.ReturnStatement 30 (more (child (node Kind.IdentifierReference 31 (more (string (codes "C")) end))) end) ∷ []))) end))) (more (boolean false) (more (boolean false) end))))))) (more (string (codes "method")) (more (boolean false) (more (boolean false) end))))) ∷ []))) end))) end))) ∷ []))) end))
+output_static_key_read_late = node Kind.Program 0 (more (string (codes "script")) (more (list (trees (node Kind.ClassDeclaration 1 (more (child (node Kind.BindingIdentifier 2 (more (string (codes "D")) end))) (more absent (more (child (node Kind.ClassBody 3 (more (list (trees (node Kind.PropertyDefinition 8 (more (child (node Kind.IdentifierName 9 (more (string (codes "v")) end))) (more (child (node Kind.SequenceExpression 32 (more (list (trees (node Kind.CallExpression 6 (more (child (node Kind.IdentifierReference 7 (more (string (codes "q")) end))) (more (list end) (more (boolean false) end))) ∷ node Kind.Literal 10 (more (literal (literal_value.Number (codes "1"))) end) ∷ []))) end))) (more (boolean false) (more (boolean true) end)))) ∷ node Kind.MethodDefinition 11 (more (child (node Kind.IdentifierName 12 (more (string (codes "m")) end))) (more (child (node Kind.FunctionExpression 13 (more absent (more (list end) (more (child (node Kind.BlockStatement 14 (more (list (trees (node Kind.VariableDeclaration 33 (more (string (codes "let")) (more (list (trees (node Kind.VariableDeclarator 34 (more (child (node Kind.BindingIdentifier 35 (more (string (codes "_u")) end))) (more absent end)) ∷ []))) end)) ∷ node Kind.ExpressionStatement 15 (more (child (node Kind.AssignmentExpression 36 (more (string (codes "=")) (more (child (node Kind.IdentifierReference 37 (more (string (codes "_u")) end))) (more (child (node Kind.CallExpression 16 (more (child (node Kind.IdentifierReference 17 (more (string (codes "z")) end))) (more (list end) (more (boolean false) end))))) end))))) (more no_string end)) ∷ node Kind.ClassDeclaration 18 (more (child (node Kind.BindingIdentifier 19 (more (string (codes "C")) end))) (more absent (more (child (node Kind.ClassBody 20 (more (list (trees (node Kind.PropertyDefinition 21 (more (child (node Kind.IdentifierReference 38 (more (string (codes "_u")) end))) (more (child (node Kind.Literal 24 (more (literal (literal_value.Number (codes "1"))) end))) (more (boolean true) (more (boolean true) end)))) ∷ node Kind.MethodDefinition 25 (more (child (node Kind.SequenceExpression 39 (more (list (trees (node Kind.AssignmentExpression 40 (more (string (codes "=")) (more (child (node Kind.IdentifierReference 41 (more (string (codes "_u")) end))) (more (child (node Kind.CallExpression 22 (more (child (node Kind.IdentifierReference 23 (more (string (codes "k")) end))) (more (list end) (more (boolean false) end))))) end))) ∷ node Kind.CallExpression 26 (more (child (node Kind.IdentifierReference 27 (more (string (codes "h")) end))) (more (list end) (more (boolean false) end))) ∷ []))) end))) (more (child (node Kind.FunctionExpression 28 (more absent (more (list end) (more (child (node Kind.BlockStatement 29 (more (list end) end))) (more (boolean false) (more (boolean false) end))))))) (more (string (codes "method")) (more (boolean true) (more (boolean false) end))))) ∷ []))) end))) end))) ∷ node Kind.ReturnStatement 30 (more (child (node Kind.IdentifierReference 31 (more (string (codes "C")) end))) end) ∷ []))) end))) (more (boolean false) (more (boolean false) end))))))) (more (string (codes "method")) (more (boolean false) (more (boolean false) end))))) ∷ []))) end))) end))) ∷ []))) end))
 
 abbrev pub generated_static_key_read_late : List LedgerEntry
 generated_static_key_read_late = record { name = codes "_u"; kind = GeneratedKind.Temp } ∷ []

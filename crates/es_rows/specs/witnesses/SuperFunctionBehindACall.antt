@@ -15,7 +15,7 @@ source_super_function_behind_a_call = node Kind.Program 0 (more (string (codes "
 
 -- what stands for `super(..)` given behind a call that reaches it, where `class A extends P { constructor(a) { var _super = (..._args) => (super(..._args), B.defineProperty(this, "x", 1), this); h(() => _super()); } }` is right
 abbrev pub output_super_function_behind_a_call : Tree
-output_super_function_behind_a_call = node Kind.Program 0 (more (string (codes "script")) (more (list (trees (node Kind.ClassDeclaration 1 (more (child (node Kind.BindingIdentifier 2 (more (string (codes "A")) end))) (more (child (node Kind.IdentifierReference 3 (more (string (codes "P")) end))) (more (child (node Kind.ClassBody 4 (more (list (trees (node Kind.MethodDefinition 8 (more (child (node Kind.IdentifierName 9 (more (string (codes "constructor")) end))) (more (child (node Kind.FunctionExpression 10 (more absent (more (list (trees (node Kind.BindingIdentifier 11 (more (string (codes "a")) end) ∷ []))) (more (child (node Kind.BlockStatement 12 (more (list (trees (node Kind.ExpressionStatement 13 (more (child (node Kind.CallExpression 14 (more (child (node Kind.IdentifierReference 15 (more (string (codes "h")) end))) (more (list (trees (node Kind.ArrowFunctionExpression 16 (more (list end) (more (child (node Kind.CallExpression 17 (more (child (node Kind.IdentifierReference 37 (more (string (codes "_super")) end))) (more (list end) (more (boolean false) end))))) (more (boolean false) end))) ∷ []))) (more (boolean false) end))))) (more no_string end)) ∷ node Kind.VariableDeclaration 19 (more (string (codes "var")) (more (list (trees (node Kind.VariableDeclarator 20 (more (child (node Kind.BindingIdentifier 21 (more (string (codes "_super")) end))) (more (child (node Kind.ArrowFunctionExpression 22 (more (list (trees (node Kind.RestElement 23 (more (child (node Kind.BindingIdentifier 24 (more (string (codes "_args")) end))) end) ∷ []))) (more (child (node Kind.SequenceExpression 25 (more (list (trees (node Kind.CallExpression 26 (more (child (node Kind.Super 27 end)) (more (list (trees (node Kind.SpreadElement 28 (more (child (node Kind.IdentifierReference 29 (more (string (codes "_args")) end))) end) ∷ []))) (more (boolean false) end))) ∷ node Kind.CallExpression 30 (more (child (node Kind.MemberExpression 31 (more (child (node Kind.IdentifierReference 32 (more (string (codes "babelHelpers")) end))) (more (child (node Kind.IdentifierName 33 (more (string (codes "defineProperty")) end))) (more (boolean false) (more (boolean false) end)))))) (more (list (trees (node Kind.ThisExpression 34 end ∷ node Kind.Literal 35 (more (literal (literal_value.String (codes "x") None)) end) ∷ node Kind.Literal 7 (more (literal (literal_value.Number (codes "1"))) end) ∷ []))) (more (boolean false) end))) ∷ node Kind.ThisExpression 36 end ∷ []))) end))) (more (boolean false) end))))) end)) ∷ []))) end)) ∷ []))) end))) (more (boolean false) (more (boolean false) end))))))) (more (string (codes "constructor")) (more (boolean false) (more (boolean false) end))))) ∷ []))) end))) end))) ∷ []))) end))
+output_super_function_behind_a_call = node Kind.Program 0 (more (string (codes "script")) (more (list (trees (node Kind.ClassDeclaration 1 (more (child (node Kind.BindingIdentifier 2 (more (string (codes "A")) end))) (more (child (node Kind.IdentifierReference 3 (more (string (codes "P")) end))) (more (child (node Kind.ClassBody 4 (more (list (trees (node Kind.MethodDefinition 8 (more (child (node Kind.IdentifierName 9 (more (string (codes "constructor")) end))) (more (child (node Kind.FunctionExpression 10 (more absent (more (list (trees (node Kind.BindingIdentifier 11 (more (string (codes "a")) end) ∷ []))) (more (child (node Kind.BlockStatement 12 (more (list (trees (node Kind.ExpressionStatement 13 (more (child (node Kind.CallExpression 14 (more (child (node Kind.IdentifierReference 15 (more (string (codes "h")) end))) (more (list (trees (node Kind.ArrowFunctionExpression 16 (more (list end) (more (child (node Kind.CallExpression 17 (more (child (node Kind.IdentifierReference 19 (more (string (codes "_super")) end))) (more (list end) (more (boolean false) end))))) (more (boolean false) end))) ∷ []))) (more (boolean false) end))))) (more no_string end)) ∷ node Kind.VariableDeclaration 20 (more (string (codes "var")) (more (list (trees (node Kind.VariableDeclarator 21 (more (child (node Kind.BindingIdentifier 22 (more (string (codes "_super")) end))) (more (child (node Kind.ArrowFunctionExpression 23 (more (list (trees (node Kind.RestElement 24 (more (child (node Kind.BindingIdentifier 25 (more (string (codes "_args")) end))) end) ∷ []))) (more (child (node Kind.SequenceExpression 26 (more (list (trees (node Kind.CallExpression 27 (more (child (node Kind.Super 28 end)) (more (list (trees (node Kind.SpreadElement 29 (more (child (node Kind.IdentifierReference 30 (more (string (codes "_args")) end))) end) ∷ []))) (more (boolean false) end))) ∷ node Kind.CallExpression 31 (more (child (node Kind.MemberExpression 32 (more (child (node Kind.IdentifierReference 33 (more (string (codes "babelHelpers")) end))) (more (child (node Kind.IdentifierName 34 (more (string (codes "defineProperty")) end))) (more (boolean false) (more (boolean false) end)))))) (more (list (trees (node Kind.ThisExpression 35 end ∷ node Kind.Literal 36 (more (literal (literal_value.String (codes "x") None)) end) ∷ node Kind.Literal 7 (more (literal (literal_value.Number (codes "1"))) end) ∷ []))) (more (boolean false) end))) ∷ node Kind.ThisExpression 37 end ∷ []))) end))) (more (boolean false) end))))) end)) ∷ []))) end)) ∷ []))) end))) (more (boolean false) (more (boolean false) end))))))) (more (string (codes "constructor")) (more (boolean false) (more (boolean false) end))))) ∷ []))) end))) end))) ∷ []))) end))
 
 abbrev pub generated_super_function_behind_a_call : List LedgerEntry
 generated_super_function_behind_a_call = record { name = codes "_args"; kind = GeneratedKind.Args } ∷ record { name = codes "_super"; kind = GeneratedKind.SuperFn (record { 0 = 1 }) } ∷ []

@@ -15,7 +15,7 @@ source_super_function_behind_its_calls = node Kind.Program 0 (more (string (code
 
 -- what stands for `super(..)` assigned behind its calls, where `class A extends P { constructor(a) { var _super = (..._args) => (super(..._args), B.defineProperty(this, "x", 1), this); if (a) _super(a); else _super(); } }` is right
 abbrev pub output_super_function_behind_its_calls : Tree
-output_super_function_behind_its_calls = node Kind.Program 0 (more (string (codes "script")) (more (list (trees (node Kind.ClassDeclaration 1 (more (child (node Kind.BindingIdentifier 2 (more (string (codes "A")) end))) (more (child (node Kind.IdentifierReference 3 (more (string (codes "P")) end))) (more (child (node Kind.ClassBody 4 (more (list (trees (node Kind.MethodDefinition 8 (more (child (node Kind.IdentifierName 9 (more (string (codes "constructor")) end))) (more (child (node Kind.FunctionExpression 10 (more absent (more (list (trees (node Kind.BindingIdentifier 11 (more (string (codes "a")) end) ∷ []))) (more (child (node Kind.BlockStatement 12 (more (list (trees (node Kind.IfStatement 13 (more (child (node Kind.IdentifierReference 14 (more (string (codes "a")) end))) (more (child (node Kind.ExpressionStatement 15 (more (child (node Kind.CallExpression 16 (more (child (node Kind.IdentifierReference 40 (more (string (codes "_super")) end))) (more (list (trees (node Kind.IdentifierReference 18 (more (string (codes "a")) end) ∷ []))) (more (boolean false) end))))) (more no_string end)))) (more (child (node Kind.ExpressionStatement 19 (more (child (node Kind.CallExpression 20 (more (child (node Kind.IdentifierReference 41 (more (string (codes "_super")) end))) (more (list end) (more (boolean false) end))))) (more no_string end)))) end))) ∷ node Kind.VariableDeclaration 22 (more (string (codes "var")) (more (list (trees (node Kind.VariableDeclarator 23 (more (child (node Kind.BindingIdentifier 24 (more (string (codes "_super")) end))) (more (child (node Kind.ArrowFunctionExpression 25 (more (list (trees (node Kind.RestElement 26 (more (child (node Kind.BindingIdentifier 27 (more (string (codes "_args")) end))) end) ∷ []))) (more (child (node Kind.SequenceExpression 28 (more (list (trees (node Kind.CallExpression 29 (more (child (node Kind.Super 30 end)) (more (list (trees (node Kind.SpreadElement 31 (more (child (node Kind.IdentifierReference 32 (more (string (codes "_args")) end))) end) ∷ []))) (more (boolean false) end))) ∷ node Kind.CallExpression 33 (more (child (node Kind.MemberExpression 34 (more (child (node Kind.IdentifierReference 35 (more (string (codes "babelHelpers")) end))) (more (child (node Kind.IdentifierName 36 (more (string (codes "defineProperty")) end))) (more (boolean false) (more (boolean false) end)))))) (more (list (trees (node Kind.ThisExpression 37 end ∷ node Kind.Literal 38 (more (literal (literal_value.String (codes "x") None)) end) ∷ node Kind.Literal 7 (more (literal (literal_value.Number (codes "1"))) end) ∷ []))) (more (boolean false) end))) ∷ node Kind.ThisExpression 39 end ∷ []))) end))) (more (boolean false) end))))) end)) ∷ []))) end)) ∷ []))) end))) (more (boolean false) (more (boolean false) end))))))) (more (string (codes "constructor")) (more (boolean false) (more (boolean false) end))))) ∷ []))) end))) end))) ∷ []))) end))
+output_super_function_behind_its_calls = node Kind.Program 0 (more (string (codes "script")) (more (list (trees (node Kind.ClassDeclaration 1 (more (child (node Kind.BindingIdentifier 2 (more (string (codes "A")) end))) (more (child (node Kind.IdentifierReference 3 (more (string (codes "P")) end))) (more (child (node Kind.ClassBody 4 (more (list (trees (node Kind.MethodDefinition 8 (more (child (node Kind.IdentifierName 9 (more (string (codes "constructor")) end))) (more (child (node Kind.FunctionExpression 10 (more absent (more (list (trees (node Kind.BindingIdentifier 11 (more (string (codes "a")) end) ∷ []))) (more (child (node Kind.BlockStatement 12 (more (list (trees (node Kind.IfStatement 13 (more (child (node Kind.IdentifierReference 14 (more (string (codes "a")) end))) (more (child (node Kind.ExpressionStatement 15 (more (child (node Kind.CallExpression 16 (more (child (node Kind.IdentifierReference 22 (more (string (codes "_super")) end))) (more (list (trees (node Kind.IdentifierReference 18 (more (string (codes "a")) end) ∷ []))) (more (boolean false) end))))) (more no_string end)))) (more (child (node Kind.ExpressionStatement 19 (more (child (node Kind.CallExpression 20 (more (child (node Kind.IdentifierReference 23 (more (string (codes "_super")) end))) (more (list end) (more (boolean false) end))))) (more no_string end)))) end))) ∷ node Kind.VariableDeclaration 24 (more (string (codes "var")) (more (list (trees (node Kind.VariableDeclarator 25 (more (child (node Kind.BindingIdentifier 26 (more (string (codes "_super")) end))) (more (child (node Kind.ArrowFunctionExpression 27 (more (list (trees (node Kind.RestElement 28 (more (child (node Kind.BindingIdentifier 29 (more (string (codes "_args")) end))) end) ∷ []))) (more (child (node Kind.SequenceExpression 30 (more (list (trees (node Kind.CallExpression 31 (more (child (node Kind.Super 32 end)) (more (list (trees (node Kind.SpreadElement 33 (more (child (node Kind.IdentifierReference 34 (more (string (codes "_args")) end))) end) ∷ []))) (more (boolean false) end))) ∷ node Kind.CallExpression 35 (more (child (node Kind.MemberExpression 36 (more (child (node Kind.IdentifierReference 37 (more (string (codes "babelHelpers")) end))) (more (child (node Kind.IdentifierName 38 (more (string (codes "defineProperty")) end))) (more (boolean false) (more (boolean false) end)))))) (more (list (trees (node Kind.ThisExpression 39 end ∷ node Kind.Literal 40 (more (literal (literal_value.String (codes "x") None)) end) ∷ node Kind.Literal 7 (more (literal (literal_value.Number (codes "1"))) end) ∷ []))) (more (boolean false) end))) ∷ node Kind.ThisExpression 41 end ∷ []))) end))) (more (boolean false) end))))) end)) ∷ []))) end)) ∷ []))) end))) (more (boolean false) (more (boolean false) end))))))) (more (string (codes "constructor")) (more (boolean false) (more (boolean false) end))))) ∷ []))) end))) end))) ∷ []))) end))
 
 abbrev pub generated_super_function_behind_its_calls : List LedgerEntry
 generated_super_function_behind_its_calls = record { name = codes "_args"; kind = GeneratedKind.Args } ∷ record { name = codes "_super"; kind = GeneratedKind.SuperFn (record { 0 = 1 }) } ∷ []

@@ -1,9 +1,9 @@
-use Rattle.std.proofs.Common.{◌≡◌, ◌∙◌, sym, refl, ◌+◌, ◌<◌, ◌++◌, [], ◌∷◌, ℕ, List, length, map, drop, cond, arith, ap, get_or, Option}
+use Rattle.std.proofs.Common.{◌≡◌, ◌∙◌, sym, refl, ◌+◌, ◌<◌, ◌++◌, [], length, map, drop, cond, arith, ap, get_or}
 use Rattle.es_base.specs.Preorder.{nodes, nodes_of, nodes_of_part}
 use Rattle.es_base.specs.Table.{field_of, members_of}
 use Rattle.es_base.specs.Tree.{nullable, trees, nullable_trees}
 use Rattle.es_node.proofs.Below.{nodes_in, part_below, tree_below, hole_below}
-use Rattle.es_node.specs.View.{part_of, parts_of, parts_in, kind_of, have_shapes}
+use Rattle.es_node.specs.View.{part_of, parts_of, parts_in, have_shapes}
 use Rattle.es_steps.specs.Scopes.{no_class, binds, bound_names, bound_members, bound_part, bound_items}
 use Rattle.es_binding_faults.proofs.Appending.{appended, appended_at, appended_all, OnOk-map}
 use Rattle.es_binding_faults.proofs.Bindings.{any_member, bound_here, bound_below, next_member}
@@ -48,10 +48,12 @@ add_bound_members-loop-i-preserved t c =
     let ms = c.args.members.now in
     let ps = c.args.parts.now in
     let i = c.loop-i.i in
-    let within : i < length ms = omega (arith, c.loop-i.invariant.0, c.loop-i-test.true) in
-    (c.loop-i.invariant.0, appended_at (λ k xs. bound_members no_class (map field_of (drop k ms)) (parts_of xs)) (λ k p. cond (binds (get_or ms k any_member).sort) (bound_part no_class (part_of p)) [])
-        (named c.loop-i.names.items) (named c.add_bound_member.new.names.items) _ ps i c.index-parts-i.result c.loop-i-test.true c.index-parts-i.is
-        (next_member ms i any_member (part_of (get_or ps i c.index-parts-i.result)) (parts_of (drop (i + 1) ps)) within) c.in_ok-add_bound_member.ensures c.loop-i.invariant.1)
+    let within : i < length ms = omega (arith, c.loop-i.invariant.0, c.loop-i-test.true) in (
+      c.loop-i.invariant.0,
+      appended_at (λ k xs. bound_members no_class (map field_of (drop k ms)) (parts_of xs)) (λ k p. cond (binds (get_or ms k any_member).sort) (bound_part no_class (part_of p)) [])
+          (named c.loop-i.names.items) (named c.add_bound_member.new.names.items) _ ps i c.index-parts-i.result c.loop-i-test.true c.index-parts-i.is
+          (next_member ms i any_member (part_of (get_or ps i c.index-parts-i.result)) (parts_of (drop (i + 1) ps)) within) c.in_ok-add_bound_member.ensures c.loop-i.invariant.1,
+    )
 
 pub add_bound_members-returns : goal.add_bound_members-returns
 add_bound_members-returns t c =
@@ -69,7 +71,7 @@ add_bound-returns-then-is_binding_identifier t c =
 pub add_bound-returns-else-is_binding_identifier : goal.add_bound-returns-else-is_binding_identifier
 add_bound-returns-else-is_binding_identifier t c =
     let is : bound_names no_class c.args.node.now ≡ bound_members no_class (map field_of c.members.result.now) (parts_of c.parts.result.now) =
-        bound_below c.args.node.now (sym c.if-is_binding_identifier.ensures)
-        ∙ ap (λ fs. bound_members no_class fs (parts_in c.args.node.now)) (sym (c.members.ensures ∙ ap members_of c.kind.ensures))
-        ∙ ap (λ ps. bound_members no_class (map field_of c.members.result.now) ps) c.parts.ensures.list in
+    bound_below c.args.node.now (sym c.if-is_binding_identifier.ensures)
+    ∙ ap (λ fs. bound_members no_class fs (parts_in c.args.node.now)) (sym (c.members.ensures ∙ ap members_of c.kind.ensures))
+    ∙ ap (λ ps. bound_members no_class (map field_of c.members.result.now) ps) c.parts.ensures.list in
     OnOk-map c.add_bound_members.result _ _ (λ e. e ∙ ap (λ ds. named c.args.names.now.items ++ ds) (sym is)) c.add_bound_members.ensures

@@ -1,7 +1,7 @@
-use Rattle.std.proofs.Common.{◌≡◌, ◌∙◌, sym, ap, ◌++◌}
+use Rattle.std.proofs.Common.{◌∙◌, sym, ap, ◌++◌}
 use Rattle.es_node.specs.View.{parts_of}
 use Rattle.es_steps.specs.Parts.{at}
-use Rattle.es_steps.specs.Scopes.{no_class, bound_part, var_part}
+use Rattle.es_steps.specs.Scopes.{no_class, bound_part}
 use Rattle.es_binding_faults.proofs.Appending.{OnOk-map, appended_twice}
 use Rattle.es_binding_faults.proofs.ScopeNames.{catch_counted}
 use Rattle.es_binding_faults.specs.Hoisted.{hoisted_part}

@@ -1,13 +1,12 @@
-use Rattle.std.proofs.Common.{◌≡◌, ◌∙◌, sym, refl, ◌+◌, ◌++◌, [], ℕ, List, cond, arith, ap, get_or, Option}
+use Rattle.std.proofs.Common.{◌≡◌, ◌∙◌, sym, ◌++◌, cond, arith, ap, get_or}
 use Rattle.es_base.specs.Preorder.{nodes, nodes_of, nodes_of_part}
-use Rattle.es_base.specs.Table.{members_of}
 use Rattle.es_base.specs.Tree.{child, nullable, trees, nullable_trees}
 use Rattle.es_node.proofs.Below.{nodes_in, part_below, tree_below, hole_below}
-use Rattle.es_node.specs.View.{part_of, parts_of, parts_in, kind_of, have_shapes}
+use Rattle.es_node.specs.View.{part_of, parts_of, parts_in}
 use Rattle.es_steps.specs.Scopes.{statement_form}
 use Rattle.es_binding_faults.proofs.Appending.{appended, appended_all, OnOk-map}
-use Rattle.es_binding_faults.proofs.Hoisting.{hoisted_is, hoisted_one, hoisted_none, variables_kind}
-use Rattle.es_binding_faults.specs.Hoisted.{hoisted, hoisted_part, hoisted_items, own, form_of}
+use Rattle.es_binding_faults.proofs.Hoisting.{hoisted_is, hoisted_one, hoisted_none}
+use Rattle.es_binding_faults.specs.Hoisted.{hoisted, hoisted_part, hoisted_items, own}
 use Rattle.es_binding_faults.specs.Named.{named}
 use Rattle.es_binding_faults.proofs.hoisted.+hoisted.Goals as goal
 
@@ -59,9 +58,9 @@ add_hoisted-returns-then-descends t c =
     let u = c.args.node.now in
     let form = c.statement_form-form.result in
     let is : hoisted h u ≡ hoisted_items h (parts_of c.parts.result.now) =
-        hoisted_is h u form (c.statement_form-form.ensures ∙ ap statement_form c.kind.ensures)
-        ∙ ap (λ b. cond b (hoisted_items h (parts_in u)) (own h form (parts_in u))) (sym c.if-descends.ensures)
-        ∙ ap (hoisted_items h) c.parts.ensures.list in
+    hoisted_is h u form (c.statement_form-form.ensures ∙ ap statement_form c.kind.ensures)
+    ∙ ap (λ b. cond b (hoisted_items h (parts_in u)) (own h form (parts_in u))) (sym c.if-descends.ensures)
+    ∙ ap (hoisted_items h) c.parts.ensures.list in
     OnOk-map c.add_hoisted_parts.result _ _ (λ e. e ∙ ap (λ ds. named c.args.names.now.items ++ ds) (sym is)) c.add_hoisted_parts.ensures
 
 pub add_hoisted-returns-else-descends : goal.add_hoisted-returns-else-descends
@@ -70,7 +69,7 @@ add_hoisted-returns-else-descends t c =
     let u = c.args.node.now in
     let form = c.statement_form-form.result in
     let is : hoisted h u ≡ own h form (parts_of c.parts-else-descends.result.now) =
-        hoisted_is h u form (c.statement_form-form.ensures ∙ ap statement_form c.kind.ensures)
-        ∙ ap (λ b. cond b (hoisted_items h (parts_in u)) (own h form (parts_in u))) (sym c.if-descends.ensures)
-        ∙ ap (own h form) c.parts-else-descends.ensures.list in
+    hoisted_is h u form (c.statement_form-form.ensures ∙ ap statement_form c.kind.ensures)
+    ∙ ap (λ b. cond b (hoisted_items h (parts_in u)) (own h form (parts_in u))) (sym c.if-descends.ensures)
+    ∙ ap (own h form) c.parts-else-descends.ensures.list in
     OnOk-map c.add_own.result _ _ (λ e. e ∙ ap (λ ds. named c.args.names.now.items ++ ds) (sym is)) c.add_own.ensures

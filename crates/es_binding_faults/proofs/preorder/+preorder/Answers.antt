@@ -1,9 +1,8 @@
-use Rattle.std.proofs.Common.{◌≡◌, ◌∙◌, sym, refl, ◌+◌, ◌++◌, [], ℕ, List, arith, ap, get_or, Option}
+use Rattle.std.proofs.Common.{◌≡◌, ◌∙◌, sym, refl, ◌++◌, arith, ap, get_or}
 use Rattle.es_base.specs.Preorder.{nodes, nodes_of, nodes_of_part, preorder, preorder_of, preorder_of_part}
-use Rattle.es_base.specs.Tree.{Tree, nullable, trees, nullable_trees}
+use Rattle.es_base.specs.Tree.{nullable, trees, nullable_trees}
 use Rattle.es_node.proofs.Below.{nodes_in, part_below, tree_below, hole_below}
-use Rattle.es_node.specs.View.{part_of, parts_of, parts_in}
-use Rattle.es_node.specs.declared.node.Part as code
+use Rattle.es_node.specs.View.{part_of, parts_of}
 use Rattle.es_binding_faults.proofs.Appending.{appended, appended_all, OnOk-map}
 use Rattle.es_binding_faults.proofs.Seen.{node_seen}
 use Rattle.es_binding_faults.specs.Seen.{seen}

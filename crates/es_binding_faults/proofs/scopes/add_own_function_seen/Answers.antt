@@ -1,9 +1,9 @@
-use Rattle.std.proofs.Common.{◌≡◌, ◌∙◌, sym, ap, ◌++◌, append_assoc}
+use Rattle.std.proofs.Common.{◌∙◌, sym, ap, ◌++◌}
 use Rattle.es_node.specs.View.{parts_of}
 use Rattle.es_steps.specs.Parts.{at}
 use Rattle.es_steps.specs.Scopes.{no_class, bound_part, function_scope, seen}
 use Rattle.es_binding_faults.proofs.Appending.{OnOk-map, appended_twice}
-use Rattle.es_binding_faults.proofs.ScopeNames.{seen_parameters, seen_function, seen_own, seen_arrow_parameters, seen_arrow}
+use Rattle.es_binding_faults.proofs.ScopeNames.{seen_own}
 use Rattle.es_binding_faults.specs.Named.{named, plain}
 use Rattle.es_binding_faults.proofs.scopes.add_own_function_seen.Goals as goal
 

@@ -1,9 +1,9 @@
-use Rattle.std.proofs.Common.{◌≡◌, ◌∙◌, sym, ap, ◌++◌, append_assoc, nat_eq, cond}
+use Rattle.std.proofs.Common.{◌∙◌, sym, ap, ◌++◌}
 use Rattle.es_node.specs.View.{parts_of}
-use Rattle.es_steps.specs.Parts.{at, items, block_items}
-use Rattle.es_steps.specs.Scopes.{no_class, bound_part, body_names, own_name, scope_names, seen}
+use Rattle.es_steps.specs.Parts.{at}
+use Rattle.es_steps.specs.Scopes.{no_class, own_name, scope_names}
 use Rattle.es_binding_faults.proofs.Appending.{OnOk-map}
-use Rattle.es_binding_faults.proofs.Plain.{plain-append, plain-bound_part}
+use Rattle.es_binding_faults.proofs.Plain.{plain-bound_part}
 use Rattle.es_binding_faults.proofs.ScopeNames.{plain-function}
 use Rattle.es_binding_faults.specs.Named.{named, plain}
 use Rattle.es_binding_faults.specs.ScopeForms.{scope_of}
@@ -33,4 +33,3 @@ pub returns-in-Catch : goal.returns-in-Catch
 returns-in-Catch c =
     let ps = parts_of c.args.parts.now in
     OnOk-map c.add_bound_at-in-Catch.result _ _ (λ e. e ∙ ap (λ ds. named c.args.names.now.items ++ ds) (sym (plain-bound_part no_class (at 0 ps)) ∙ ap (λ f. plain (scope_names (scope_of f) 0 ps)) (sym c.in-Catch.is))) c.add_bound_at-in-Catch.ensures
-

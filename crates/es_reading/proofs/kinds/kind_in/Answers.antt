@@ -1,5 +1,5 @@
 use Rattle.es_reading.proofs.Named.{enough}
-use Rattle.serde_json.specs.View.{view}
+use Rattle.borrowed_json.specs.View.{view}
 use Rattle.es_reading.proofs.kinds.kind_in.Goals as goal
 
 pub loop-kind-init : goal.loop-kind-init

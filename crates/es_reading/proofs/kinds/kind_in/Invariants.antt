@@ -1,6 +1,6 @@
 use Rattle.std.proofs.Common.{◌≡◌, drop}
 use Rattle.es_reading.specs.Kinds.{kind_in, kind_among}
-use Rattle.serde_json.specs.View.{view}
+use Rattle.borrowed_json.specs.View.{view}
 use Rattle.es_reading.proofs.kinds.kind_in.Given as goal
 
 abbrev pub invariant-loop-kind : goal.invariant-loop-kind

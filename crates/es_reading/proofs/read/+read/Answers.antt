@@ -1,7 +1,7 @@
 use Rattle.std.proofs.Common.{rules, refl, sym, ap, ◌∙◌, ◌+◌, map, drop, List, ◌∷◌, None, subst, arith}
 use Rattle.std.proofs.lemmas.List.{drop_more, drop_all}
-use Rattle.serde_json.specs.View.{view, items_view}
-use Rattle.serde_json.specs.declared.value.Value.{Value}
+use Rattle.borrowed_json.specs.View.{view, items_view}
+use Rattle.borrowed_json.specs.declared.value.Value.{Value}
 use Rattle.es_base.specs.Table.{Field, field_of, members_of}
 use Rattle.es_base.specs.Preorder.{nodes_of, nodes_of_part}
 use Rattle.es_base.specs.Tree.{Node, trees, nullable_trees}
@@ -127,7 +127,7 @@ read_list-read_node-requires t c =
     let d = view c.args.value.now in
     let xs = c.items_at-items.result.now in
     let here = ap (λ ys. values_of_items (items_view ys)) (drop_more xs c.loop-i.i c.index-items-i.result c.loop-i-test.true ∙ ap (λ (x : Value). x ∷ drop (c.loop-i.i + 1) xs) (sym c.index-items-i.is)) in (
-      omega (arith, item_depth xs c.loop-i.i c.index-items-i.result c.loop-i-test.true c.index-items-i.is, items_fall d c.args.member.name.now (items_view xs) c.items_at-items.ensures),
+      omega (arith, item_depth view xs c.loop-i.i c.index-items-i.result c.loop-i-test.true c.index-items-i.is, items_fall d c.args.member.name.now (items_view xs) c.items_at-items.ensures),
       omega (arith, here, c.loop-i.invariant.bound, items_there d c.args.member.name.now (items_view xs) c.items_at-items.ensures, c.requires.room),
     )
 
@@ -177,7 +177,7 @@ read_list_with_holes-read_nullable_node-requires t c =
     let d = view c.args.value.now in
     let xs = c.items_at-items.result.now in
     let here = ap (λ ys. values_of_items (items_view ys)) (drop_more xs c.loop-i.i c.index-items-i.result c.loop-i-test.true ∙ ap (λ (x : Value). x ∷ drop (c.loop-i.i + 1) xs) (sym c.index-items-i.is)) in (
-      omega (arith, item_depth xs c.loop-i.i c.index-items-i.result c.loop-i-test.true c.index-items-i.is, items_fall d c.args.member.name.now (items_view xs) c.items_at-items.ensures),
+      omega (arith, item_depth view xs c.loop-i.i c.index-items-i.result c.loop-i-test.true c.index-items-i.is, items_fall d c.args.member.name.now (items_view xs) c.items_at-items.ensures),
       omega (arith, here, c.loop-i.invariant.bound, items_there d c.args.member.name.now (items_view xs) c.items_at-items.ensures, c.requires.room),
     )
 

@@ -1,5 +1,5 @@
 use Rattle.std.proofs.Common.{◌≡◌, ◌+◌, ◌*◌, ◌≤◌, List, ◌++◌, map, drop, true}
-use Rattle.serde_json.specs.View.{view, items_view}
+use Rattle.borrowed_json.specs.View.{view, items_view}
 use Rattle.serde_json.specs.Data.{depth}
 use Rattle.es_base.specs.Preorder.{nodes_of}
 use Rattle.es_base.specs.Table.{field_of}

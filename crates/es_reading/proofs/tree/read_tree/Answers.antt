@@ -1,4 +1,4 @@
-use Rattle.serde_json.specs.View.{view}
+use Rattle.borrowed_json.specs.View.{view}
 use Rattle.es_reading.proofs.Given.{given_conforms, given_in_order}
 use Rattle.es_reading.specs.Reading.{root}
 use Rattle.es_reading.proofs.tree.read_tree.Goals as goal

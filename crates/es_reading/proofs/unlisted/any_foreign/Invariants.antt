@@ -1,6 +1,6 @@
 use Rattle.std.proofs.Common.{◌≡◌, drop}
 use Rattle.es_reading.specs.Unlisted.{any_foreign}
-use Rattle.serde_json.specs.View.{items_view}
+use Rattle.borrowed_json.specs.View.{items_view}
 use Rattle.es_reading.proofs.unlisted.any_foreign.Given as goal
 
 abbrev pub invariant-loop-item : goal.invariant-loop-item

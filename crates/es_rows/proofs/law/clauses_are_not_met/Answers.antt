@@ -4,6 +4,9 @@ use Rattle.es_rows.proofs.law.clauses_are_not_met.Goals as goal
 pub returns-clause-another_literal_of_a_written_class : goal.returns-clause-another_literal_of_a_written_class
 returns-clause-another_literal_of_a_written_class c = refl
 
+pub returns-clause-block_without_a_function : goal.returns-clause-block_without_a_function
+returns-clause-block_without_a_function c = refl
+
 pub returns-clause-body_dropped : goal.returns-clause-body_dropped
 returns-clause-body_dropped c = refl
 
@@ -12,6 +15,9 @@ returns-clause-body_in_an_arrow c = refl
 
 pub returns-clause-break_in_an_arrow : goal.returns-clause-break_in_an_arrow
 returns-clause-break_in_an_arrow c = refl
+
+pub returns-clause-break_in_an_arrow_beside_await : goal.returns-clause-break_in_an_arrow_beside_await
+returns-clause-break_in_an_arrow_beside_await c = refl
 
 pub returns-clause-class_behind_its_use : goal.returns-clause-class_behind_its_use
 returns-clause-class_behind_its_use c = refl
@@ -22,17 +28,29 @@ returns-clause-class_in_a_constructor c = refl
 pub returns-clause-class_temporary_before_its_class : goal.returns-clause-class_temporary_before_its_class
 returns-clause-class_temporary_before_its_class c = refl
 
+pub returns-clause-class_temporary_in_its_class : goal.returns-clause-class_temporary_in_its_class
+returns-clause-class_temporary_in_its_class c = refl
+
 pub returns-clause-class_temporary_of_another_case : goal.returns-clause-class_temporary_of_another_case
 returns-clause-class_temporary_of_another_case c = refl
 
 pub returns-clause-closure_before_its_class : goal.returns-clause-closure_before_its_class
 returns-clause-closure_before_its_class c = refl
 
+pub returns-clause-closure_called_in_a_key : goal.returns-clause-closure_called_in_a_key
+returns-clause-closure_called_in_a_key c = refl
+
 pub returns-clause-constant_temporary : goal.returns-clause-constant_temporary
 returns-clause-constant_temporary c = refl
 
+pub returns-clause-conversion_of_no_key : goal.returns-clause-conversion_of_no_key
+returns-clause-conversion_of_no_key c = refl
+
 pub returns-clause-dead_temporary : goal.returns-clause-dead_temporary
 returns-clause-dead_temporary c = refl
+
+pub returns-clause-directive_behind_a_name : goal.returns-clause-directive_behind_a_name
+returns-clause-directive_behind_a_name c = refl
 
 pub returns-clause-elements_of_a_written_class_dropped : goal.returns-clause-elements_of_a_written_class_dropped
 returns-clause-elements_of_a_written_class_dropped c = refl
@@ -52,11 +70,32 @@ returns-clause-function_out_of_its_block c = refl
 pub returns-clause-hidden_body : goal.returns-clause-hidden_body
 returns-clause-hidden_body c = refl
 
+pub returns-clause-key_given_again : goal.returns-clause-key_given_again
+returns-clause-key_given_again c = refl
+
+pub returns-clause-let_of_another_case : goal.returns-clause-let_of_another_case
+returns-clause-let_of_another_case c = refl
+
+pub returns-clause-map_made_in_a_branch : goal.returns-clause-map_made_in_a_branch
+returns-clause-map_made_in_a_branch c = refl
+
+pub returns-clause-map_made_in_a_called_arrow : goal.returns-clause-map_made_in_a_called_arrow
+returns-clause-map_made_in_a_called_arrow c = refl
+
+pub returns-clause-map_made_in_a_pattern : goal.returns-clause-map_made_in_a_pattern
+returns-clause-map_made_in_a_pattern c = refl
+
 pub returns-clause-method_assigned_in_another_function : goal.returns-clause-method_assigned_in_another_function
 returns-clause-method_assigned_in_another_function c = refl
 
 pub returns-clause-method_given_behind_its_calls : goal.returns-clause-method_given_behind_its_calls
 returns-clause-method_given_behind_its_calls c = refl
+
+pub returns-clause-name_given_in_a_closure : goal.returns-clause-name_given_in_a_closure
+returns-clause-name_given_in_a_closure c = refl
+
+pub returns-clause-name_of_a_named_class : goal.returns-clause-name_of_a_named_class
+returns-clause-name_of_a_named_class c = refl
 
 pub returns-clause-name_of_no_member : goal.returns-clause-name_of_no_member
 returns-clause-name_of_no_member c = refl
@@ -64,11 +103,20 @@ returns-clause-name_of_no_member c = refl
 pub returns-clause-name_twice : goal.returns-clause-name_twice
 returns-clause-name_twice c = refl
 
+pub returns-clause-name_without_a_sign : goal.returns-clause-name_without_a_sign
+returns-clause-name_without_a_sign c = refl
+
 pub returns-clause-parameter_read_later : goal.returns-clause-parameter_read_later
 returns-clause-parameter_read_later c = refl
 
+pub returns-clause-parameter_renamed : goal.returns-clause-parameter_renamed
+returns-clause-parameter_renamed c = refl
+
 pub returns-clause-private_name_twice : goal.returns-clause-private_name_twice
 returns-clause-private_name_twice c = refl
+
+pub returns-clause-strict_rest : goal.returns-clause-strict_rest
+returns-clause-strict_rest c = refl
 
 pub returns-clause-super_function_behind_a_call : goal.returns-clause-super_function_behind_a_call
 returns-clause-super_function_behind_a_call c = refl
@@ -79,14 +127,35 @@ returns-clause-super_function_behind_its_calls c = refl
 pub returns-clause-temporary_given_again : goal.returns-clause-temporary_given_again
 returns-clause-temporary_given_again c = refl
 
+pub returns-clause-temporary_given_again_in_a_branch : goal.returns-clause-temporary_given_again_in_a_branch
+returns-clause-temporary_given_again_in_a_branch c = refl
+
 pub returns-clause-temporary_given_again_in_a_loop : goal.returns-clause-temporary_given_again_in_a_loop
 returns-clause-temporary_given_again_in_a_loop c = refl
+
+pub returns-clause-temporary_given_again_in_a_round : goal.returns-clause-temporary_given_again_in_a_round
+returns-clause-temporary_given_again_in_a_round c = refl
 
 pub returns-clause-temporary_of_a_hoisted_function : goal.returns-clause-temporary_of_a_hoisted_function
 returns-clause-temporary_of_a_hoisted_function c = refl
 
 pub returns-clause-temporary_of_the_program : goal.returns-clause-temporary_of_the_program
 returns-clause-temporary_of_the_program c = refl
+
+pub returns-clause-two_brands : goal.returns-clause-two_brands
+returns-clause-two_brands c = refl
+
+pub returns-clause-two_functions : goal.returns-clause-two_functions
+returns-clause-two_functions c = refl
+
+pub returns-clause-two_maps : goal.returns-clause-two_maps
+returns-clause-two_maps c = refl
+
+pub returns-clause-unconverted_name_of_a_class : goal.returns-clause-unconverted_name_of_a_class
+returns-clause-unconverted_name_of_a_class c = refl
+
+pub returns-clause-untested_name_of_a_class : goal.returns-clause-untested_name_of_a_class
+returns-clause-untested_name_of_a_class c = refl
 
 pub returns-clause-weak_map_in_another_function : goal.returns-clause-weak_map_in_another_function
 returns-clause-weak_map_in_another_function c = refl

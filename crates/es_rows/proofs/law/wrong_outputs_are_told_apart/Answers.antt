@@ -16,6 +16,9 @@ returns-clause-arrow_out_of_a_loop c = refl
 pub returns-clause-async_constructor : goal.returns-clause-async_constructor
 returns-clause-async_constructor c = refl
 
+pub returns-clause-await_in_a_static_element : goal.returns-clause-await_in_a_static_element
+returns-clause-await_in_a_static_element c = refl
+
 pub returns-clause-binding_in_a_temporary : goal.returns-clause-binding_in_a_temporary
 returns-clause-binding_in_a_temporary c = refl
 
@@ -85,6 +88,9 @@ returns-clause-heritage_read_late c = refl
 pub returns-clause-key_given_behind_the_fields : goal.returns-clause-key_given_behind_the_fields
 returns-clause-key_given_behind_the_fields c = refl
 
+pub returns-clause-key_given_in_its_value : goal.returns-clause-key_given_in_its_value
+returns-clause-key_given_in_its_value c = refl
+
 pub returns-clause-key_of_a_binding_in_a_temporary : goal.returns-clause-key_of_a_binding_in_a_temporary
 returns-clause-key_of_a_binding_in_a_temporary c = refl
 
@@ -147,6 +153,9 @@ returns-clause-receiver_of_a_private_call c = refl
 
 pub returns-clause-receiver_of_a_super_call : goal.returns-clause-receiver_of_a_super_call
 returns-clause-receiver_of_a_super_call c = refl
+
+pub returns-clause-regular_expression_in_a_temporary : goal.returns-clause-regular_expression_in_a_temporary
+returns-clause-regular_expression_in_a_temporary c = refl
 
 pub returns-clause-result_of_the_setter : goal.returns-clause-result_of_the_setter
 returns-clause-result_of_the_setter c = refl

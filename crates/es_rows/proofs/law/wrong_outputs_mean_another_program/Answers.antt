@@ -13,11 +13,32 @@ returns-clause-block_dropped c = (refl, refl)
 pub returns-clause-branch_of_a_key_of_another : goal.returns-clause-branch_of_a_key_of_another
 returns-clause-branch_of_a_key_of_another c = (refl, refl)
 
+pub returns-clause-class_of_a_head : goal.returns-clause-class_of_a_head
+returns-clause-class_of_a_head c = (refl, refl)
+
+pub returns-clause-class_of_a_right_side : goal.returns-clause-class_of_a_right_side
+returns-clause-class_of_a_right_side c = (refl, refl)
+
+pub returns-clause-conversions_of_a_template : goal.returns-clause-conversions_of_a_template
+returns-clause-conversions_of_a_template c = (refl, refl)
+
+pub returns-clause-default_function_expression : goal.returns-clause-default_function_expression
+returns-clause-default_function_expression c = (refl, refl)
+
 pub returns-clause-elements_dropped : goal.returns-clause-elements_dropped
 returns-clause-elements_dropped c = (refl, refl)
 
+pub returns-clause-functions_of_a_block_exchanged : goal.returns-clause-functions_of_a_block_exchanged
+returns-clause-functions_of_a_block_exchanged c = (refl, refl)
+
 pub returns-clause-import_read_early : goal.returns-clause-import_read_early
 returns-clause-import_read_early c = (refl, refl)
+
+pub returns-clause-let_beside_a_caught_name : goal.returns-clause-let_beside_a_caught_name
+returns-clause-let_beside_a_caught_name c = (refl, refl)
+
+pub returns-clause-let_out_of_a_head : goal.returns-clause-let_out_of_a_head
+returns-clause-let_out_of_a_head c = (refl, refl)
 
 pub returns-clause-read_moved : goal.returns-clause-read_moved
 returns-clause-read_moved c = (refl, refl)

@@ -24,3 +24,6 @@ returns-clause-free_name c = refl
 
 pub returns-clause-compound : goal.returns-clause-compound
 returns-clause-compound c = refl
+
+pub returns-clause-arguments : goal.returns-clause-arguments
+returns-clause-arguments c = refl

@@ -1,3 +1,4 @@
+use Rattle.es_scopes.proofs.AlikeCalls.{removed-alike}
 use Rattle.es_scopes.proofs.AlikeLemmas.{scope_flags-alike, new_scope-alike, parent-alike, binding-alike}
 use Rattle.es_scopes.proofs.law.scopes_stay_alike.Goals as goal
 
@@ -12,3 +13,6 @@ returns-clause-parent c = parent-alike
 
 pub returns-clause-name : goal.returns-clause-name
 returns-clause-name c = binding-alike
+
+pub returns-clause-removed : goal.returns-clause-removed
+returns-clause-removed c = removed-alike

@@ -1,12 +1,10 @@
-use Rattle.std.proofs.Common.{◌≡◌, refl, sym, ap, ◌∙◌, ◌+◌, get_or, arith}
+use Rattle.std.proofs.Common.{◌≡◌, refl, sym, ap, ◌∙◌, get_or, arith}
 use Rattle.es_base.specs.Preorder.{nodes, nodes_of, nodes_of_part}
 use Rattle.es_base.specs.Table.{members_of}
 use Rattle.es_base.specs.Tree.{child, trees, nullable, nullable_trees}
-use Rattle.es_base.specs.declared.ids.NodeId.{NodeId}
-use Rattle.es_base.specs.declared.ids.ScopeId.{ScopeId}
 use Rattle.es_node.specs.View.{part_of, parts_of, parts_in, have_shapes}
 use Rattle.es_node.proofs.Below.{nodes_in, part_below, tree_below, hole_below}
-use Rattle.es_scopes.specs.Entries.{Collected, collected, collected_parts, collected_part, collected_items, entered}
+use Rattle.es_scopes.specs.Entries.{Collected, collected, collected_parts, collected_part, collected_items}
 use Rattle.es_scopes.specs.Surroundings.{inside}
 use Rattle.es_scopes_build.proofs.WalkLemmas.{step, item_room, few_in_part, collected_from, next_entered, IfOk-map}
 use Rattle.es_scopes_build.proofs.collect.+collect.Goals as goal

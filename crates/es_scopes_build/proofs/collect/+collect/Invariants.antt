@@ -1,6 +1,6 @@
-use Rattle.std.proofs.Common.{◌≡◌, ◌+◌, ◌*◌}
+use Rattle.std.proofs.Common.{◌+◌, ◌*◌}
 use Rattle.es_base.specs.Preorder.{nodes, nodes_of, nodes_of_part}
-use Rattle.es_base.specs.Tree.{child, trees, nullable, nullable_trees}
+use Rattle.es_base.specs.Tree.{trees, nullable, nullable_trees}
 use Rattle.es_node.specs.View.{part_of, parts_of}
 use Rattle.es_scopes.specs.Entries.{collected_parts, collected_items}
 use Rattle.es_scopes.specs.Surroundings.{inside}

@@ -2,7 +2,7 @@ use Rattle.std.proofs.Common.{refl, ap, ◌∙◌, length, arith}
 use Rattle.es_base.specs.Tree.{child, trees, nullable, nullable_trees}
 use Rattle.es_node.specs.View.{part_of, parts_of}
 use Rattle.es_node.proofs.Renumbered.{refilled_same, have_shapes-set}
-use Rattle.es_scopes_build.specs.Written.{written_parts}
+use Rattle.es_scopes_law.specs.Written.{written_parts}
 use Rattle.es_scopes_build.proofs.WriteLemmas.{step, done_list}
 use Rattle.es_scopes_build.proofs.written.+written.Goals as goal
 

@@ -1,4 +1,4 @@
-use Rattle.std.proofs.Common.{◌≡◌, ◌∙◌, ap, sym, ℕ, cond, Some, Option, refl}
+use Rattle.std.proofs.Common.{◌∙◌, ap, ℕ, cond, Some}
 use Rattle.std.specs.Prelude.{bytes_eq}
 use Rattle.std.specs.Str.{chars}
 use Rattle.es_binding_faults.specs.Leasts.{number_of, lesser}

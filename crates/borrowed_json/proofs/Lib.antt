@@ -1,0 +1,6 @@
+pub mod Agreement
+pub mod Borrowing
+pub mod Depths
+pub mod Found
+pub mod InOrder
+pub mod Turns

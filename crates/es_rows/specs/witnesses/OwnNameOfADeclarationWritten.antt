@@ -1,0 +1,20 @@
+-- Printed by tools/rows/witnesses.js.
+use Rattle.std.specs.Prelude.{ℕ, List, [], ◌∷◌, false, codes, None}
+use Rattle.es_base.specs.Tree.{Tree, end, more, child, absent, list, string, no_string, literal, trees}
+use Rattle.es_base.specs.declared.kind.Kind.{Kind}
+use Rattle.es_base.specs.declared.ledger.LedgerEntry.{LedgerEntry}
+use Rattle.es_base.specs.declared.literal.LiteralValue.TheVariants as literal_value
+use Rattle.es_steps.specs.Generated.{node}
+use Rattle.es_steps.specs.Options.{options_of}
+use Rattle.es_steps.specs.declared.options.Options.{Options}
+
+-- the name of a class declaration written in its body, where it is constant, and outside: `class C { static { C = 1; } }`
+abbrev pub first_own_name_of_a_declaration_written : Tree
+first_own_name_of_a_declaration_written = node Kind.Program 0 (more (string (codes "script")) (more (list (trees (node Kind.ClassDeclaration 1 (more (child (node Kind.BindingIdentifier 2 (more (string (codes "C")) end))) (more absent (more (child (node Kind.ClassBody 3 (more (list (trees (node Kind.StaticBlock 4 (more (list (trees (node Kind.ExpressionStatement 5 (more (child (node Kind.AssignmentExpression 6 (more (string (codes "=")) (more (child (node Kind.IdentifierReference 7 (more (string (codes "C")) end))) (more (child (node Kind.Literal 8 (more (literal (literal_value.Number (codes "1"))) end))) end))))) (more no_string end)) ∷ []))) end) ∷ []))) end))) end))) ∷ []))) end))
+
+-- `class C { static {} } C = 1;`, with numbers of the first
+abbrev pub second_own_name_of_a_declaration_written : Tree
+second_own_name_of_a_declaration_written = node Kind.Program 0 (more (string (codes "script")) (more (list (trees (node Kind.ClassDeclaration 1 (more (child (node Kind.BindingIdentifier 2 (more (string (codes "C")) end))) (more absent (more (child (node Kind.ClassBody 3 (more (list (trees (node Kind.StaticBlock 4 (more (list end) end) ∷ []))) end))) end))) ∷ node Kind.ExpressionStatement 5 (more (child (node Kind.AssignmentExpression 6 (more (string (codes "=")) (more (child (node Kind.IdentifierReference 7 (more (string (codes "C")) end))) (more (child (node Kind.Literal 8 (more (literal (literal_value.Number (codes "1"))) end))) end))))) (more no_string end)) ∷ []))) end))
+
+abbrev pub options_own_name_of_a_declaration_written : Options
+options_own_name_of_a_declaration_written = options_of false None false

@@ -1,0 +1,4 @@
+pub mod Build
+pub mod Law
+pub mod Symbols
+pub mod Written

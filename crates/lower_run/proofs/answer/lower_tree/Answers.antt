@@ -1,0 +1,11 @@
+use Rattle.std.proofs.Common.{inr, sym}
+use Rattle.es_reading.specs.Told.{ids}
+use Rattle.lower_run.proofs.Forms.{none-of_form}
+use Rattle.lower_run.proofs.answer.lower_tree.Goals as goal
+
+pub lower-requires-clause-form : goal.lower-requires-clause-form
+lower-requires-clause-form c = (none-of_form c.args.tree (ids c.args.foreign.now) c.in_ok-node.field-0 c.in-None.is c.in_ok-node.ensures.answer).1
+
+pub returns-in_ok-lower-in-None-clause-lowered : goal.returns-in_ok-lower-in-None-clause-lowered
+returns-in_ok-lower-in-None-clause-lowered c =
+    inr (sym c.if-nothing_left.ensures, none-of_form c.args.tree (ids c.args.foreign.now) c.in_ok-node.field-0 c.in-None.is c.in_ok-node.ensures.answer, c.in_ok-lower-in-None.ensures.lowered)
