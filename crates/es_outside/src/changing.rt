@@ -1,0 +1,174 @@
+// The bindings that change without a reference that writes them, and those that are assigned to.
+
+ghost use Rattle.std.specs.Prelude.{◌≡◌, ℕ, ◌++◌, ◌||◌, [], ◌∷◌, cond, IfOk, OnOk};
+ghost use Rattle.std.specs.Str.{chars};
+ghost use Rattle.es_base.specs.Conforms.{is_among};
+ghost use Rattle.es_binding_faults.specs.Named.{named};
+ghost use Rattle.es_binding_faults.specs.Seen.{seen};
+ghost use Rattle.es_name_set.specs.Names.{HaveSame};
+ghost use Rattle.es_node.specs.View.{kind_of, number_in, parts_in};
+ghost use Rattle.es_steps.specs.Parts.{at};
+ghost use Rattle.es_steps.specs.References as spec;
+ghost use Rattle.es_steps.specs.References.{has_number, numbers_of};
+ghost use Rattle.es_steps.specs.Scopes.{scope_names, scope_form, var_part};
+ghost use Rattle.es_outside.specs.Changing.{ids, assigned_in, own_number};
+
+use crate::references::Meant;
+use es_base::ids::NodeId;
+use es_base::kind::Kind;
+use es_binding_faults::bound::Declared;
+use es_binding_faults::hoisted::{Hoist, add_bound_at};
+use es_binding_faults::scopes::{add_hoisted_at, add_scope_names, scope_form};
+use es_name_set::Names;
+use es_node::node::Node;
+use std::alloc::{AllocError, Global};
+
+// ---- assigned
+
+/// The bindings that these references write. Fails on allocation failure alone.
+pub fn assigned(alloc: Global, references: &[Meant]) -> Result<Vec<NodeId>, AllocError>
+    ensures { IfOk result (λ r. ids r.items ≡ assigned_in references.now) }
+{
+    let mut bindings = Vec::new(alloc);
+    for reference in references {
+        add_if_written(reference, &mut bindings)?;
+    }
+    Ok(bindings)
+}
+
+/// Adds the binding, if the reference writes one.
+fn add_if_written(reference: &Meant, bindings: &mut Vec<NodeId>) -> Result<(), AllocError>
+    ensures { OnOk result (ids bindings.new.items ≡ ids bindings.old.items ++ own_number reference.now) }
+{
+    match reference.binding {
+        Some(binding) if reference.writes => {
+            bindings.push(binding)?;
+            Ok(())
+        }
+        _ => Ok(()),
+    }
+}
+
+// ---- declared again
+
+/// The bindings that more than one identifier declares in a scope, and those of `var` in the head of a
+/// for-in or for-of, in some order. Fails on allocation failure alone.
+pub fn redeclared(alloc: Global, nodes: &[&Node]) -> Result<Vec<NodeId>, AllocError>
+    ensures { IfOk result (λ r. (n : ℕ) → has_number n (ids r.items) ≡ has_number n (spec.written_by_all (seen nodes.now))) }
+{
+    let mut bindings = Vec::new(alloc);
+    for node in nodes {
+        add_redeclared(alloc, node, &mut bindings)?;
+    }
+    Ok(bindings)
+}
+
+/// Adds those of one node.
+fn add_redeclared(alloc: Global, node: &Node, bindings: &mut Vec<NodeId>) -> Result<(), AllocError>
+    ensures { OnOk result ((n : ℕ) → has_number n (ids bindings.new.items) ≡ (has_number n (ids bindings.old.items) || has_number n (spec.written_by node.now))) }
+{
+    add_repeated_in(alloc, node, bindings)?;
+    add_heads(alloc, node, bindings)
+}
+
+/// Adds the names that the scope of the node holds more than once.
+fn add_repeated_in(alloc: Global, node: &Node, bindings: &mut Vec<NodeId>) -> Result<(), AllocError>
+    ensures { OnOk result ((n : ℕ) → has_number n (ids bindings.new.items) ≡ (has_number n (ids bindings.old.items) || has_number n (spec.repeated (scope_names (scope_form (kind_of node.now)) (number_in node.now) (parts_in node.now))))) }
+{
+    let names = names_of(alloc, node)?;
+    add_repeated(alloc, names.as_slice(), bindings)
+}
+
+/// The names that the scope of the node holds.
+#[tactic(auto, using(crate::proofs::DeclaredNames::repeated_scope))]
+fn names_of(alloc: Global, node: &Node) -> Result<Vec<Declared<'_>>, AllocError>
+    ensures { IfOk result (λ r. spec.repeated (named r.items) ≡ spec.repeated (scope_names (scope_form (kind_of node.now)) (number_in node.now) (parts_in node.now))) }
+{
+    let mut names = Vec::new(alloc);
+    add_scope_names(scope_form(node.kind()), node.parts(), &mut names)?;
+    Ok(names)
+}
+
+/// Adds each of these names that stands among those behind it too, the last first.
+fn add_repeated(
+    alloc: Global,
+    names: &[Declared],
+    bindings: &mut Vec<NodeId>,
+) -> Result<(), AllocError>
+    ensures { OnOk result ((n : ℕ) → has_number n (ids bindings.new.items) ≡ (has_number n (ids bindings.old.items) || has_number n (spec.repeated (named names.now)))) }
+{
+    let mut later = Names::new(alloc);
+    for i in (0..names.len()).rev() {
+        add_if_later(names[i], &mut later, bindings)?;
+    }
+    Ok(())
+}
+
+/// Adds the name, if it is one of those behind it, and makes it one of these.
+fn add_if_later<'a>(
+    declared: Declared<'a>,
+    later: &mut Names<'a>,
+    bindings: &mut Vec<NodeId>,
+) -> Result<(), AllocError>
+    ensures later { OnOk result (HaveSame later.new (chars declared.entry.name.now ∷ later.old)) }
+    ensures bindings { OnOk result (ids bindings.new.items ≡ ids bindings.old.items ++ cond (is_among (chars declared.entry.name.now) later.old) (declared.entry.node.0 ∷ []) []) }
+{
+    if later.has(declared.name) {
+        bindings.push(declared.node)?;
+    }
+    later.insert(declared.name)
+}
+
+/// Adds the names of `var` in the head of a for-in or for-of.
+#[tactic(auto, using(crate::proofs::DeclaredNames::head_numbers, crate::proofs::DeclaredNames::no_head))]
+fn add_heads(alloc: Global, node: &Node, bindings: &mut Vec<NodeId>) -> Result<(), AllocError>
+    ensures { OnOk result (ids bindings.new.items ≡ ids bindings.old.items ++ cond (spec.is_for_each (kind_of node.now)) (numbers_of (var_part (at 0 (parts_in node.now)))) []) }
+{
+    match node.kind() {
+        Kind::ForInStatement | Kind::ForOfStatement => {
+            let mut names = Vec::new(alloc);
+            add_hoisted_at(Hoist::Var, node.parts(), 0, &mut names)?;
+            add_numbers(names.as_slice(), bindings)
+        }
+        _ => Ok(()),
+    }
+}
+
+/// Adds all of these.
+fn add_numbers(names: &[Declared], bindings: &mut Vec<NodeId>) -> Result<(), AllocError>
+    ensures { OnOk result (ids bindings.new.items ≡ ids bindings.old.items ++ numbers_of (named names.now)) }
+{
+    for declared in names {
+        bindings.push(declared.node)?;
+    }
+    Ok(())
+}
+
+// ---- imported
+
+/// The bindings that imports declare. Fails on allocation failure alone.
+pub fn imported(alloc: Global, nodes: &[&Node]) -> Result<Vec<NodeId>, AllocError>
+    ensures { IfOk result (λ r. ids r.items ≡ spec.imported_by_all (seen nodes.now)) }
+{
+    let mut bindings = Vec::new(alloc);
+    for node in nodes {
+        add_imported(alloc, node, &mut bindings)?;
+    }
+    Ok(bindings)
+}
+
+/// Adds those of one node.
+#[tactic(auto, using(crate::proofs::DeclaredNames::imports_bound, crate::proofs::DeclaredNames::no_import))]
+fn add_imported(alloc: Global, node: &Node, bindings: &mut Vec<NodeId>) -> Result<(), AllocError>
+    ensures { OnOk result (ids bindings.new.items ≡ ids bindings.old.items ++ spec.imported_by node.now) }
+{
+    match node.kind() {
+        // import { a } from "m";
+        Kind::ImportDeclaration => {
+            let mut names = Vec::new(alloc);
+            add_bound_at(node.parts(), 0, &mut names)?;
+            add_numbers(names.as_slice(), bindings)
+        }
+        _ => Ok(()),
+    }
+}

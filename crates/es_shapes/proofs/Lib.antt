@@ -1,0 +1,11 @@
+pub mod AnyNode
+pub mod Awaits
+pub mod Chains
+pub mod Classes
+pub mod Heritages
+pub mod Lowered
+pub mod NameScopes
+pub mod Names
+pub mod Parameters
+pub mod Twice
+pub mod Written

@@ -1,0 +1,49 @@
+// What the names of a program mean, as far as its shapes ask.
+
+ghost use Rattle.std.specs.Prelude.{◌≡◌, option_map};
+ghost use Rattle.es_base.specs.Tree.{Tree};
+ghost use Rattle.es_steps.specs.LoweredClasses.{referent_of};
+ghost use Rattle.es_steps.specs.References.{resolve, written, imported, varying, assigned, has_number};
+ghost use Rattle.es_steps.specs.declared.options.Options.{Options};
+ghost use Rattle.es_shapes.specs.Heritages.{heritage_events};
+ghost use Rattle.es_shapes.specs.Names.{bound_number};
+
+use es_base::ids::NodeId;
+
+/// What the names of a program mean, by the numbers of its nodes. A binding is known by the first
+/// identifier that declares it.
+pub trait NameFacts: Drop {
+    ghost program: { Self → Tree };
+
+    /// The binding that the reference means; nothing where it is free.
+    fn binding_of(&self, reference: NodeId) -> Option<NodeId>
+        ensures { option_map (λ n. n.0) result ≡ bound_number (referent_of reference.0 (resolve (program self.now))) };
+
+    /// Whether the binding is written anywhere in the program: a reference writes it, more than one
+    /// identifier declares it, or it is a `var` of a for-in or for-of head.
+    fn is_written(&self, binding: NodeId) -> bool
+        ensures { result ≡ has_number binding.0 (written (program self.now)) };
+
+    /// Whether an import declares the binding.
+    fn is_imported(&self, binding: NodeId) -> bool
+        ensures { result ≡ has_number binding.0 (imported (program self.now)) };
+
+    /// Whether the binding is written or imported.
+    fn is_varying(&self, binding: NodeId) -> bool
+        ensures { result ≡ has_number binding.0 (varying (program self.now)) };
+
+    /// Whether a reference writes the binding.
+    fn is_assigned(&self, binding: NodeId) -> bool
+        ensures { result ≡ has_number binding.0 (assigned (resolve (program self.now))) };
+}
+
+/// Which heritages of a source program have events, under these options.
+pub trait HeritageFacts: Drop {
+    ghost program: { Self → Tree };
+
+    ghost options: { Self → Options };
+
+    /// Whether the evaluation of the heritage of the class has events (docs/MEANING.md).
+    fn has_events(&self, class: NodeId) -> bool
+        ensures { result ≡ heritage_events (options self.now) (program self.now) class.0 };
+}
