@@ -98,11 +98,6 @@ pub record Made (d : Declarations) : Type 0 where
   pub whole : IsWhole d.scoping
   pub many : length d.declarers ≡ length d.scoping.symbols
 
--- that an entry declares the name in this scope
-abbrev pub entry_at : ℕ → List ℕ → Entry → Bool
-entry_at q x (entry.Binding node (Some s) who name flags head) = is_at q x s name
-entry_at q x e = false
-
 module _ {X : Type 0} (none : X) (A : Declarations → SymbolId → X) (F : Declarer → SymbolFlags → Bool → X) (G : X → Declarer → Declarer → SymbolFlags → Bool → X) where
   -- how it changes
   pub record Changes : Type 0 where

@@ -39,9 +39,6 @@ points (Some r) y = is_target r.symbol_id y
 abbrev IsListed : List Symbol → List Reference → Type 0
 IsListed symbols references = (y : ℕ) (x : Symbol) → slice_get symbols y ≡ Some x → (k : ℕ) → set.contains x.references k ≡ points (slice_get references k) y
 
-some-is : {X : Type 0} (a b : X) → Some a ≡ Some b → a ≡ b
-some-is a b e = cc
-
 map-is : {X Y : Type 0} (f : X → Y) (o : Option X) (y : Y) → option_map f o ≡ Some y → (x : X) × (o ≡ Some x) × (f x ≡ y)
 map-is f None y e = absurd (cc e)
 map-is f (Some x) y e = (x, refl, cc)
