@@ -3,8 +3,6 @@ use Rattle.std.proofs.Common.{◌≡◌, refl, sym, ap, ◌∙◌, ℕ, ◌+◌,
 use Rattle.std.proofs.lemmas.List.{at_drop_more}
 use Rattle.es_base.specs.Conforms.{is_among}
 use Rattle.es_base.specs.Tree.{Tree, child, trees}
-use Rattle.es_name_set.proofs.NameSets.{bytes_eq-flipped}
-use Rattle.es_name_set.specs.Names.{HaveSame}
 use Rattle.es_steps.specs.PrivateNames.{PrivateMember, element_members, elements_members, is_written}
 use Rattle.es_steps.specs.Values.{String}
 use Rattle.es_outside.proofs.PrivateTargets.{declares_append, declares_written_append}

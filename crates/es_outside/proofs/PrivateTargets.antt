@@ -1,11 +1,10 @@
 -- Private members around a node: what the kind of a node says, and what a name means where classes are around.
-use Rattle.std.proofs.Common.{◌≡◌, refl, ap, sym, ◌∙◌, ℕ, suc, ◌+◌, ◌<◌, arith, List, [], ◌∷◌, ◌++◌, map, length, drop, drop-cons, get_or, Bool, true, false, cond, not, ◌&&◌, ◌||◌, nat_eq, bytes_eq, Option, Some, None}
+use Rattle.std.proofs.Common.{◌≡◌, refl, ap, sym, ◌∙◌, ℕ, suc, ◌+◌, arith, List, [], ◌∷◌, ◌++◌, map, Bool, true, false, cond, not, ◌&&◌, ◌||◌, nat_eq, bytes_eq, Option, Some, None}
 use Rattle.std.specs.Str.{chars}
 use Rattle.std.proofs.lemmas.Str.{chars-nil}
 use Rattle.es_base.specs.Tree.{Tree, Part, Parts, Node, end, more, child, absent, list, string, no_string, boolean, literal}
 use Rattle.es_base.specs.declared.kind.Kind.{Kind}
-use Rattle.es_node.specs.View.{kind_of, number_in, parts_in, part_of, parts_of}
-use Rattle.es_node.specs.declared.node.Part as code
+use Rattle.es_node.specs.View.{kind_of, number_in, parts_in}
 use Rattle.es_steps.specs.Parts.{at, string_of}
 use Rattle.es_steps.specs.PrivateNames.{PrivateMember, PrivateKind, keyed_member, element_members, elements_members, body_members, members_at, declared_member, first_number, is_written, private_reference, reference_to, class_of}
 use Rattle.es_steps.specs.Shapes.{is_present_number, is_unwritable, private_spelling, is_unwritable_target, holds_unwritable, has_unwritable, unwritable_in, unwritable_part}

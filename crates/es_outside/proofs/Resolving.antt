@@ -1,12 +1,10 @@
 -- References in code are those of the resolution.
-use Rattle.std.proofs.Common.{◌≡◌, refl, sym, ap, ◌∙◌, ℕ, suc, ◌+◌, ◌<◌, List, [], ◌∷◌, ◌++◌, map, length, drop, get_or, Bool, true, false, cond, bytes_eq, Option, Some, None, arith}
-use Rattle.std.proofs.lemmas.List.{at_drop_more, map-append}
-use Rattle.es_base.specs.Table.{Field, field_of, members_of}
+use Rattle.std.proofs.Common.{◌≡◌, refl, sym, ap, ◌∙◌, ℕ, suc, ◌+◌, List, [], ◌∷◌, ◌++◌, Bool, true, false, cond, bytes_eq, Option, Some, None, arith}
+use Rattle.std.proofs.lemmas.List.{map-append}
+use Rattle.es_base.specs.Table.{Field, members_of}
 use Rattle.es_base.specs.Tree.{Tree, Part, Parts, Node, end, more, child, absent, list, string, no_string, boolean, literal}
 use Rattle.es_base.specs.declared.ids.NodeId.{NodeId}
 use Rattle.es_base.specs.declared.kind.Kind.{Kind}
-use Rattle.es_base.specs.declared.table.Member.{Member}
-use Rattle.es_node.specs.View.{kind_of, number_in, parts_in}
 use Rattle.es_binding_faults.specs.Named.{plain, plain_one}
 use Rattle.es_binding_faults.proofs.Plain.{plain-append, plain-bound_part}
 use Rattle.es_steps.specs.Parts.{at, string_of}
