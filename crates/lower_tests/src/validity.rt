@@ -3,6 +3,7 @@
 // out, and what static blocks that are lowered may not hold, since no argument asks for these yet.
 
 use crate::runs::{LOWER, NONE, ends_so, status_of};
+use std::alloc::Global;
 use std::test::Fail;
 
 /// A program.
@@ -13,7 +14,8 @@ struct Case {
     line: &'static str,
 }
 
-fn cases() -> &'static [Case] {
+/// Constructors of classes, and keys that are as theirs.
+fn constructors() -> &'static [Case] {
     &[
         // class C { constructor() {} constructor() {} }
         Case {
@@ -75,6 +77,12 @@ fn cases() -> &'static [Case] {
             arguments: NONE,
             line: "",
         },
+    ]
+}
+
+/// `super`, and `delete` of private members.
+fn supers_and_deletes() -> &'static [Case] {
+    &[
         // class C { constructor() { super(); } }
         Case {
             text: r#"{"type":"Program","body":[{"type":"ClassDeclaration","id":{"type":"Identifier","name":"C"},"superClass":null,"body":{"type":"ClassBody","body":[{"type":"MethodDefinition","static":false,"computed":false,"key":{"type":"Identifier","name":"constructor"},"kind":"constructor","value":{"type":"FunctionExpression","id":null,"generator":false,"async":false,"params":[],"body":{"type":"BlockStatement","body":[{"type":"ExpressionStatement","expression":{"type":"CallExpression","callee":{"type":"Super"},"arguments":[],"optional":false}}]}}}]}}],"sourceType":"script"}"#,
@@ -129,6 +137,12 @@ fn cases() -> &'static [Case] {
             arguments: NONE,
             line: "",
         },
+    ]
+}
+
+/// `break`, `continue` and `return`.
+fn jumps() -> &'static [Case] {
+    &[
         // break;
         Case {
             text: r#"{"type":"Program","body":[{"type":"BreakStatement","label":null}],"sourceType":"script"}"#,
@@ -171,6 +185,12 @@ fn cases() -> &'static [Case] {
             arguments: NONE,
             line: "",
         },
+    ]
+}
+
+/// `arguments`, `await` and `yield`.
+fn arguments_and_suspensions() -> &'static [Case] {
+    &[
         // class C { x = () => arguments; }
         Case {
             text: r#"{"type":"Program","body":[{"type":"ClassDeclaration","id":{"type":"Identifier","name":"C"},"superClass":null,"body":{"type":"ClassBody","body":[{"type":"PropertyDefinition","static":false,"computed":false,"key":{"type":"Identifier","name":"x"},"value":{"type":"ArrowFunctionExpression","async":false,"params":[],"body":{"type":"Identifier","name":"arguments"}}}]}}],"sourceType":"script"}"#,
@@ -225,6 +245,12 @@ fn cases() -> &'static [Case] {
             arguments: NONE,
             line: "",
         },
+    ]
+}
+
+/// Declarations without a name, chains, and where declarations stand.
+fn forms() -> &'static [Case] {
+    &[
         // class {}
         Case {
             text: r#"{"type":"Program","body":[{"type":"ClassDeclaration","id":null,"superClass":null,"body":{"type":"ClassBody","body":[]}}],"sourceType":"module"}"#,
@@ -297,6 +323,12 @@ fn cases() -> &'static [Case] {
             arguments: NONE,
             line: "refused: DuplicatePrivate at 7\n",
         },
+    ]
+}
+
+/// Private names: declared twice, or not at all.
+fn private_names() -> &'static [Case] {
+    &[
         // class C { get #x() {} set #x(a) {} }
         Case {
             text: r#"{"type":"Program","body":[{"type":"ClassDeclaration","id":{"type":"Identifier","name":"C"},"superClass":null,"body":{"type":"ClassBody","body":[{"type":"MethodDefinition","static":false,"computed":false,"key":{"type":"PrivateIdentifier","name":"x"},"kind":"get","value":{"type":"FunctionExpression","id":null,"generator":false,"async":false,"params":[],"body":{"type":"BlockStatement","body":[]}}},{"type":"MethodDefinition","static":false,"computed":false,"key":{"type":"PrivateIdentifier","name":"x"},"kind":"set","value":{"type":"FunctionExpression","id":null,"generator":false,"async":false,"params":[{"type":"Identifier","name":"a"}],"body":{"type":"BlockStatement","body":[]}}}]}}],"sourceType":"script"}"#,
@@ -369,6 +401,12 @@ fn cases() -> &'static [Case] {
             arguments: NONE,
             line: "refused: Unsupported With at 1\n",
         },
+    ]
+}
+
+/// `with`, and names that lowered programs use.
+fn names_left_out() -> &'static [Case] {
+    &[
         // function f(WeakMap) {}
         Case {
             text: r#"{"type":"Program","body":[{"type":"FunctionDeclaration","id":{"type":"Identifier","name":"f"},"generator":false,"async":false,"params":[{"type":"Identifier","name":"WeakMap"}],"body":{"type":"BlockStatement","body":[]}}],"sourceType":"script"}"#,
@@ -405,6 +443,12 @@ fn cases() -> &'static [Case] {
             arguments: LOWER,
             line: "refused: Unsupported SuperForm at 6\n",
         },
+    ]
+}
+
+/// Forms of `super` that are not lowered.
+fn supers_left_out() -> &'static [Case] {
+    &[
         // class C { x = delete super.y; }
         Case {
             text: r#"{"type":"Program","body":[{"type":"ClassDeclaration","id":{"type":"Identifier","name":"C"},"superClass":null,"body":{"type":"ClassBody","body":[{"type":"PropertyDefinition","static":false,"computed":false,"key":{"type":"Identifier","name":"x"},"value":{"type":"UnaryExpression","operator":"delete","prefix":true,"argument":{"type":"MemberExpression","object":{"type":"Super"},"property":{"type":"Identifier","name":"y"},"computed":false,"optional":false}}}]}}],"sourceType":"script"}"#,
@@ -453,6 +497,12 @@ fn cases() -> &'static [Case] {
             arguments: NONE,
             line: "refused: Unsupported With at 1\n",
         },
+    ]
+}
+
+/// Programs with two faults.
+fn first_faults() -> &'static [Case] {
+    &[
         // class C { constructor() {} get constructor() {} }
         Case {
             text: r#"{"type":"Program","body":[{"type":"ClassDeclaration","id":{"type":"Identifier","name":"C"},"superClass":null,"body":{"type":"ClassBody","body":[{"type":"MethodDefinition","static":false,"computed":false,"key":{"type":"Identifier","name":"constructor"},"kind":"constructor","value":{"type":"FunctionExpression","id":null,"generator":false,"async":false,"params":[],"body":{"type":"BlockStatement","body":[]}}},{"type":"MethodDefinition","static":false,"computed":false,"key":{"type":"Identifier","name":"constructor"},"kind":"get","value":{"type":"FunctionExpression","id":null,"generator":false,"async":false,"params":[],"body":{"type":"BlockStatement","body":[]}}}]}}],"sourceType":"script"}"#,
@@ -471,6 +521,12 @@ fn cases() -> &'static [Case] {
             arguments: NONE,
             line: "refused: BadTree RepeatedName at 6\n",
         },
+    ]
+}
+
+/// Names that are declared twice.
+fn repeated_names() -> &'static [Case] {
+    &[
         // let a; { let a; }
         Case {
             text: r#"{"type":"Program","body":[{"type":"VariableDeclaration","declarations":[{"type":"VariableDeclarator","id":{"type":"Identifier","name":"a"},"init":null}],"kind":"let"},{"type":"BlockStatement","body":[{"type":"VariableDeclaration","declarations":[{"type":"VariableDeclarator","id":{"type":"Identifier","name":"a"},"init":null}],"kind":"let"}]}],"sourceType":"script"}"#,
@@ -525,6 +581,12 @@ fn cases() -> &'static [Case] {
             arguments: NONE,
             line: "",
         },
+    ]
+}
+
+/// The same, in loops, switches, imports, patterns, functions and static blocks.
+fn repeated_names_in_scopes() -> &'static [Case] {
+    &[
         // for (let a;;) { var a; }
         Case {
             text: r#"{"type":"Program","body":[{"type":"ForStatement","init":{"type":"VariableDeclaration","declarations":[{"type":"VariableDeclarator","id":{"type":"Identifier","name":"a"},"init":null}],"kind":"let"},"test":null,"update":null,"body":{"type":"BlockStatement","body":[{"type":"VariableDeclaration","declarations":[{"type":"VariableDeclarator","id":{"type":"Identifier","name":"a"},"init":null}],"kind":"var"}]}}],"sourceType":"script"}"#,
@@ -573,6 +635,12 @@ fn cases() -> &'static [Case] {
             arguments: NONE,
             line: "refused: Unsupported Eval at 2\n",
         },
+    ]
+}
+
+/// Calls of `eval`.
+fn evals() -> &'static [Case] {
+    &[
         // (0, eval)(a);
         Case {
             text: r#"{"type":"Program","body":[{"type":"ExpressionStatement","expression":{"type":"CallExpression","callee":{"type":"SequenceExpression","expressions":[{"type":"Literal","value":0,"raw":"0"},{"type":"Identifier","name":"eval"}]},"arguments":[{"type":"Identifier","name":"a"}],"optional":false}}],"sourceType":"script"}"#,
@@ -627,6 +695,12 @@ fn cases() -> &'static [Case] {
             arguments: NONE,
             line: "refused: Unsupported Foreign at 2\n",
         },
+    ]
+}
+
+/// Foreign nodes, and what is not lowered yet.
+fn left_to_come() -> &'static [Case] {
+    &[
         // class C { @a x }
         Case {
             text: r#"{"type":"Program","body":[{"type":"ClassDeclaration","id":{"type":"Identifier","name":"C"},"superClass":null,"body":{"type":"ClassBody","body":[{"type":"PropertyDefinition","static":false,"computed":false,"key":{"type":"Identifier","name":"x"},"value":null,"decorators":[{"type":"Decorator","expression":{"type":"Identifier","name":"a"}}]}]}}],"sourceType":"script"}"#,
@@ -672,23 +746,62 @@ fn cases() -> &'static [Case] {
     ]
 }
 
+/// The text of the first of these programs that does not end as it has to, if there is one.
+fn first_wrong(alloc: Global, cases: &'static [Case]) -> Result<Option<&'static str>, Fail> {
+    for case in cases {
+        let holds = if case.line.is_empty() {
+            status_of(alloc, case.arguments, case.text)? == 0
+        } else {
+            ends_so(alloc, case.arguments, case.text, 1, case.line)?
+        };
+        if !holds {
+            return Ok(Some(case.text));
+        }
+    }
+    Ok(None)
+}
+
 #[test]
 fn each_rule(rt: HostRuntime) -> Result<(), Fail> {
     let alloc = rt.alloc();
-    for case in cases() {
-        if case.line.is_empty() {
-            assert!(rt;
-                status_of(alloc, case.arguments, case.text)? == 0,
-                "of {}",
-                case.text
-            );
-        } else {
-            assert!(rt;
-                ends_so(alloc, case.arguments, case.text, 1, case.line)?,
-                "of {}",
-                case.text
-            );
-        }
+    if let Some(text) = first_wrong(alloc, constructors())? {
+        assert!(rt; false, "of {}", text);
+    }
+    if let Some(text) = first_wrong(alloc, supers_and_deletes())? {
+        assert!(rt; false, "of {}", text);
+    }
+    if let Some(text) = first_wrong(alloc, jumps())? {
+        assert!(rt; false, "of {}", text);
+    }
+    if let Some(text) = first_wrong(alloc, arguments_and_suspensions())? {
+        assert!(rt; false, "of {}", text);
+    }
+    if let Some(text) = first_wrong(alloc, forms())? {
+        assert!(rt; false, "of {}", text);
+    }
+    if let Some(text) = first_wrong(alloc, private_names())? {
+        assert!(rt; false, "of {}", text);
+    }
+    if let Some(text) = first_wrong(alloc, names_left_out())? {
+        assert!(rt; false, "of {}", text);
+    }
+    if let Some(text) = first_wrong(alloc, supers_left_out())? {
+        assert!(rt; false, "of {}", text);
+    }
+    if let Some(text) = first_wrong(alloc, first_faults())? {
+        assert!(rt; false, "of {}", text);
+    }
+    if let Some(text) = first_wrong(alloc, repeated_names())? {
+        assert!(rt; false, "of {}", text);
+    }
+    if let Some(text) = first_wrong(alloc, repeated_names_in_scopes())? {
+        assert!(rt; false, "of {}", text);
+    }
+    if let Some(text) = first_wrong(alloc, evals())? {
+        assert!(rt; false, "of {}", text);
+    }
+    if let Some(text) = first_wrong(alloc, left_to_come())? {
+        assert!(rt; false, "of {}", text);
     }
     Ok(())
 }
