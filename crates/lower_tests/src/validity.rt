@@ -3,7 +3,6 @@
 // out, and what static blocks that are lowered may not hold, since no argument asks for these yet.
 
 use crate::runs::{LOWER, NONE, ends_so, status_of};
-use std::alloc::Global;
 use std::test::Fail;
 
 /// A program.
@@ -746,62 +745,39 @@ fn left_to_come() -> &'static [Case] {
     ]
 }
 
-/// The text of the first of these programs that does not end as it has to, if there is one.
-fn first_wrong(alloc: Global, cases: &'static [Case]) -> Result<Option<&'static str>, Fail> {
-    for case in cases {
-        let holds = if case.line.is_empty() {
-            status_of(alloc, case.arguments, case.text)? == 0
-        } else {
-            ends_so(alloc, case.arguments, case.text, 1, case.line)?
-        };
-        if !holds {
-            return Ok(Some(case.text));
-        }
-    }
-    Ok(None)
-}
-
 #[test]
 fn each_rule(rt: HostRuntime) -> Result<(), Fail> {
     let alloc = rt.alloc();
-    if let Some(text) = first_wrong(alloc, constructors())? {
-        assert!(rt; false, "of {}", text);
-    }
-    if let Some(text) = first_wrong(alloc, supers_and_deletes())? {
-        assert!(rt; false, "of {}", text);
-    }
-    if let Some(text) = first_wrong(alloc, jumps())? {
-        assert!(rt; false, "of {}", text);
-    }
-    if let Some(text) = first_wrong(alloc, arguments_and_suspensions())? {
-        assert!(rt; false, "of {}", text);
-    }
-    if let Some(text) = first_wrong(alloc, forms())? {
-        assert!(rt; false, "of {}", text);
-    }
-    if let Some(text) = first_wrong(alloc, private_names())? {
-        assert!(rt; false, "of {}", text);
-    }
-    if let Some(text) = first_wrong(alloc, names_left_out())? {
-        assert!(rt; false, "of {}", text);
-    }
-    if let Some(text) = first_wrong(alloc, supers_left_out())? {
-        assert!(rt; false, "of {}", text);
-    }
-    if let Some(text) = first_wrong(alloc, first_faults())? {
-        assert!(rt; false, "of {}", text);
-    }
-    if let Some(text) = first_wrong(alloc, repeated_names())? {
-        assert!(rt; false, "of {}", text);
-    }
-    if let Some(text) = first_wrong(alloc, repeated_names_in_scopes())? {
-        assert!(rt; false, "of {}", text);
-    }
-    if let Some(text) = first_wrong(alloc, evals())? {
-        assert!(rt; false, "of {}", text);
-    }
-    if let Some(text) = first_wrong(alloc, left_to_come())? {
-        assert!(rt; false, "of {}", text);
+    for cases in [
+        constructors(),
+        supers_and_deletes(),
+        jumps(),
+        arguments_and_suspensions(),
+        forms(),
+        private_names(),
+        names_left_out(),
+        supers_left_out(),
+        first_faults(),
+        repeated_names(),
+        repeated_names_in_scopes(),
+        evals(),
+        left_to_come(),
+    ] {
+        for case in cases {
+            if case.line.is_empty() {
+                assert!(rt;
+                    status_of(alloc, case.arguments, case.text)? == 0,
+                    "of {}",
+                    case.text
+                );
+            } else {
+                assert!(rt;
+                    ends_so(alloc, case.arguments, case.text, 1, case.line)?,
+                    "of {}",
+                    case.text
+                );
+            }
+        }
     }
     Ok(())
 }
