@@ -11,9 +11,11 @@ use Rattle.es_steps.specs.Definitions.{definitions_stand, all_temporaries, eleme
 use Rattle.es_steps.specs.HelperCalls.{computed_keys, helper_calls_fit}
 use Rattle.es_steps.specs.KeptNodes.{nodes_kept, statements_kept, lists_kept, homes_kept}
 use Rattle.es_steps.specs.Lowered.{nothing_left, names_declared, declarations_accounted, initializations_stand, keys_stand, IsLowered}
+use Rattle.es_steps.specs.OwnNames.{own_names_stay}
 use Rattle.es_steps.specs.Printable.{is_printable}
 use Rattle.es_steps.specs.PrivateNames.{private_members}
 use Rattle.es_steps.specs.References.{has_number}
+use Rattle.es_steps.specs.Strict.{strict_numbers, all_stay_strict}
 use Rattle.es_steps.specs.Temporaries.{temporaries_steady}
 use Rattle.es_steps.specs.Timely.{names_timely}
 use Rattle.es_steps.specs.declared.options.Options.{Options}
@@ -36,6 +38,8 @@ clauses o ledger p q =
     ∷ nothing_left o q
     ∷ names_declared (nodes p) ledger q
     ∷ declarations_accounted (nodes p) ledger p q
+    ∷ own_names_stay p q
+    ∷ all_stay_strict (nodes p) (strict_numbers false p) (preorder q)
     ∷ initializations_stand (nodes p) ledger (private_members p) q ledger
     ∷ names_timely (nodes p) ledger (private_members p) q
     ∷ temporaries_steady (nodes p) ledger q
@@ -51,7 +55,7 @@ clauses o ledger p q =
     ∷ []
 
 abbrev all_met : List Bool
-all_met = true ∷ true ∷ true ∷ true ∷ true ∷ true ∷ true ∷ true ∷ true ∷ true ∷ true ∷ true ∷ true ∷ true ∷ true ∷ true ∷ []
+all_met = true ∷ true ∷ true ∷ true ∷ true ∷ true ∷ true ∷ true ∷ true ∷ true ∷ true ∷ true ∷ true ∷ true ∷ true ∷ true ∷ true ∷ true ∷ []
 
 -- ---- numbers
 
@@ -109,23 +113,27 @@ lowered {p = p} {q = q} e0 =
     let e13 = rest_of _ _ _ _ e12 in
     let e14 = rest_of _ _ _ _ e13 in
     let e15 = rest_of _ _ _ _ e14 in
+    let e16 = rest_of _ _ _ _ e15 in
+    let e17 = rest_of _ _ _ _ e16 in
     record {
       numbered = numbered (nodes p) q (first_of _ _ _ _ e0);
       clauses = record {
         left = first_of _ _ _ _ e1;
         declared = first_of _ _ _ _ e2;
         accounted = first_of _ _ _ _ e3;
-        initialized = first_of _ _ _ _ e4;
-        timely = first_of _ _ _ _ e5;
-        temporaries = first_of _ _ _ _ e6;
-        keys = first_of _ _ _ _ e7;
-        nodes = first_of _ _ _ _ e8;
-        statements = first_of _ _ _ _ e9;
-        lists = first_of _ _ _ _ e10;
-        homes = first_of _ _ _ _ e11;
-        definitions = first_of _ _ _ _ e12;
-        elements = first_of _ _ _ _ e13;
-        calls = first_of _ _ _ _ e14;
-        printable = first_of _ _ _ _ e15;
+        names = first_of _ _ _ _ e4;
+        strict = first_of _ _ _ _ e5;
+        initialized = first_of _ _ _ _ e6;
+        timely = first_of _ _ _ _ e7;
+        temporaries = first_of _ _ _ _ e8;
+        keys = first_of _ _ _ _ e9;
+        nodes = first_of _ _ _ _ e10;
+        statements = first_of _ _ _ _ e11;
+        lists = first_of _ _ _ _ e12;
+        homes = first_of _ _ _ _ e13;
+        definitions = first_of _ _ _ _ e14;
+        elements = first_of _ _ _ _ e15;
+        calls = first_of _ _ _ _ e16;
+        printable = first_of _ _ _ _ e17;
       };
     }

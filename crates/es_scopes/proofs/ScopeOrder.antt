@@ -6,7 +6,8 @@ use Rattle.es_base.specs.Tree.{Tree, Part, Parts, Node, end, more, child, absent
 use Rattle.es_base.specs.declared.kind.Kind.{Kind}
 use Rattle.es_scopes.specs.Entries.{Collected, binding, entry_of, entered, collected, collected_parts, collected_part, collected_items, nothing_yet, entries_of}
 use Rattle.es_scopes.specs.NodeScopes as scopes
-use Rattle.es_scopes.specs.NodeScopes.{NodeScope, own_scope, node_scopes, scopes_of_parts, scopes_of_part, scopes_of_items, scopes_of, outermost, opens, has_scope, is_strict, makes_strict, scope_flags}
+use Rattle.es_scopes.specs.NodeScopes.{NodeScope, own_scope, node_scopes, scopes_of_parts, scopes_of_part, scopes_of_items, scopes_of, outermost, opens, has_scope, is_strict, scope_flags}
+use Rattle.es_steps.specs.Strict.{makes_strict}
 use Rattle.es_scopes.specs.Shown.{scope_flags_in}
 use Rattle.es_scopes.specs.Surroundings.{scope_place, inside, nowhere}
 use Rattle.es_scopes.specs.declared.entry.Entry.{Entry}

@@ -6,6 +6,7 @@ use Rattle.es_base.specs.declared.kind.Kind.{Kind}
 use Rattle.es_scopes.specs.declared.flags.ScopeFlags.{ScopeFlags}
 use Rattle.es_scopes.specs.declared.flags.TheConstants.ScopeFlags as flag
 use Rattle.es_steps.specs.Parts.{at, items, string_of}
+use Rattle.es_steps.specs.Strict.{makes_strict}
 
 -- ---- which nodes have a scope
 
@@ -46,32 +47,6 @@ is_body_place kind i = false
 abbrev pub is_outside : Kind → ℕ → Bool
 is_outside Kind.SwitchStatement i = nat_eq i 0
 is_outside kind i = false
-
--- ---- strict code
-
--- `"use strict";` as a directive
-abbrev pub is_use_strict : Part → Bool
-is_use_strict (child (Node Kind.ExpressionStatement m span id ps)) = bytes_eq (string_of (at 1 ps)) (codes "use strict")
-is_use_strict p = false
-
-abbrev pub has_use_strict : Parts → Bool
-has_use_strict end = false
-has_use_strict (more p ps) = is_use_strict p || has_use_strict ps
-
--- the statements of a function's body
-abbrev pub directives : Part → Parts
-directives (child (Node Kind.BlockStatement m span id ps)) = items (at 0 ps)
-directives p = end
-
--- what makes the code of a node strict: a module, a class, and a program or function with the directive
-abbrev pub makes_strict : Kind → Parts → Bool
-makes_strict Kind.Program ps = bytes_eq (string_of (at 0 ps)) (codes "module") || has_use_strict (items (at 1 ps))
-makes_strict Kind.ClassDeclaration ps = true
-makes_strict Kind.ClassExpression ps = true
-makes_strict Kind.FunctionDeclaration ps = has_use_strict (directives (at 2 ps))
-makes_strict Kind.FunctionExpression ps = has_use_strict (directives (at 2 ps))
-makes_strict Kind.ArrowFunctionExpression ps = has_use_strict (directives (at 1 ps))
-makes_strict kind ps = false
 
 -- ---- flags
 

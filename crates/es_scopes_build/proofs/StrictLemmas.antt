@@ -7,7 +7,7 @@ use Rattle.std.proofs.lemmas.Bool.Decides.{same_from_decides}
 use Rattle.es_base.specs.Tree.{Tree, Node, end, child}
 use Rattle.es_base.specs.declared.kind.Kind.{Kind}
 use Rattle.es_node.specs.View.{kind_of, parts_in}
-use Rattle.es_scopes.specs.NodeScopes.{directives, is_use_strict}
+use Rattle.es_steps.specs.Strict.{directives, is_use_strict}
 use Rattle.es_steps.specs.Parts.{at, items, string_of}
 
 pub block_is : (t : Tree) → kind_of t ≡ Kind.BlockStatement → directives (child t) ≡ items (at 0 (parts_in t))

@@ -5,7 +5,8 @@ ghost use Rattle.es_base.specs.Tree.{child, trees};
 ghost use Rattle.es_base.specs.Table.{members_of};
 ghost use Rattle.es_base.specs.declared.kind.Kind.{Kind};
 ghost use Rattle.es_node.specs.View.{part_of, parts_of, have_shapes, is_nullable_string};
-ghost use Rattle.es_scopes.specs.NodeScopes.{makes_strict, directives, has_use_strict, is_use_strict, is_strict};
+ghost use Rattle.es_scopes.specs.NodeScopes.{is_strict};
+ghost use Rattle.es_steps.specs.Strict.{makes_strict, directives, has_use_strict, is_use_strict};
 ghost use Rattle.es_scopes.specs.Surroundings.{scope_place};
 ghost use Rattle.es_steps.specs.Parts.{at, string_of};
 

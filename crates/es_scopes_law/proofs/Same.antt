@@ -19,7 +19,8 @@ use Rattle.es_scopes.specs.Built.{built_table}
 use Rattle.es_scopes.specs.Entries.{Collected, scope_entry, entry_of, entered, collected, collected_parts, collected_part, collected_items, nothing_yet, entries_of, binding}
 use Rattle.es_scopes.specs.NodeBindings.{flags_in, in_head, variable_flags}
 use Rattle.es_scopes.specs.NodeReferences.{use_in, assignment_flags}
-use Rattle.es_scopes.specs.NodeScopes.{opens, has_scope, is_use_strict, has_use_strict, directives, makes_strict, value_flags, flags_of_word}
+use Rattle.es_scopes.specs.NodeScopes.{opens, has_scope, value_flags, flags_of_word}
+use Rattle.es_steps.specs.Strict.{is_use_strict, has_use_strict, directives, makes_strict}
 use Rattle.es_scopes.specs.Surroundings.{scope_place, inside, declares_in, in_scope, var_scope, lexical_scope, nowhere}
 use Rattle.es_scopes.specs.Tables.{numbering_of}
 use Rattle.es_scopes.specs.declared.entry.Entry.{Entry}

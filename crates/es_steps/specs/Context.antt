@@ -67,8 +67,8 @@ pub record Context : Type 0 where
   pub let_class : Option (ℕ × ℕ)
   -- whether a block here is the body of a function
   pub is_body : Bool
-  -- whether a function that is declared here stands in a block, a case or a branch of an `if` (B.3.2)
-  pub in_block : Bool
+  -- what is seen around the block, the cases or the `if` that a function which is declared here stands in (B.3.2)
+  pub around : Option (List Declaration)
 
 abbrev pub new_here : Context → ℕ → Bool
 new_here c m = is_new c.first_new m
@@ -251,12 +251,14 @@ abbrev pub inner_name : Kind → ℕ → Parts → ℕ → List Declaration
 inner_name Kind.ClassDeclaration m ps i = cond (nat_eq i 0) [] (bound_part (own_name m) (at 0 ps))
 inner_name kind m ps i = []
 
-abbrev pub is_block_part : Bool → Kind → ℕ → Bool
-is_block_part is_body Kind.BlockStatement i = not is_body
-is_block_part is_body Kind.SwitchCase i = true
-is_block_part is_body Kind.IfStatement i = true
-is_block_part is_body kind i = false
+abbrev pub around_inside : Context → Kind → Option (List Declaration)
+around_inside c Kind.BlockStatement = cond c.is_body None (Some c.names)
+around_inside c Kind.SwitchStatement = Some c.names
+around_inside c Kind.SwitchCase = c.around
+around_inside c Kind.LabeledStatement = c.around
+around_inside c Kind.IfStatement = Some c.names
+around_inside c kind = None
 
 -- the context of the i-th part of a node
 abbrev pub inside : Context → Kind → ℕ → Parts → ℕ → Context
-inside c kind m ps i = record (framed (frame_of kind) m ps i c) { names = inner_name kind m ps i ++ names_at c.is_body kind m ps i ++ c.names; privates = seen_members kind m ps i ++ c.privates; role = role_in (frame_of kind) ps i c; is_body = is_body_part kind i; in_block = is_block_part c.is_body kind i }
+inside c kind m ps i = record (framed (frame_of kind) m ps i c) { names = inner_name kind m ps i ++ names_at c.is_body kind m ps i ++ c.names; privates = seen_members kind m ps i ++ c.privates; role = role_in (frame_of kind) ps i c; is_body = is_body_part kind i; around = around_inside c kind }

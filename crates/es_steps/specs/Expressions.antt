@@ -9,7 +9,7 @@ use Rattle.es_steps.specs.Context.{Context, NameKind, Changing, Generated, Stati
 use Rattle.es_steps.specs.Events.{Detail, Operand, Spelled, Flag, Key, Prototype, OfKind, Delete}
 use Rattle.es_steps.specs.GeneratedForms.{helper_member, generated_member, generated_call, generated_binary, generated_assignment, is_undefined_test, again_of, tested_object, class_named, is_method_kind}
 use Rattle.es_steps.specs.Members.{Member, Members, code, string, literal, at, operands, details, codes_of, word_of, flag_of}
-use Rattle.es_steps.specs.PrivateNames.{PrivateMember, PrivateReference, private_reference, test_of, member_at}
+use Rattle.es_steps.specs.PrivateNames.{element_name, PrivateMember, PrivateReference, private_reference, test_of, member_at}
 use Rattle.es_steps.specs.Values.{String, Constant, StringOf, NumberOf, BigIntOf, RegExpOf, BooleanOf, Null, Value, ConstantOf, Undefined, ResultOf, ThisOf, ClassOf, ArgumentsOf, Bound, Free, Home}
 
 -- the rule of all kinds that have none of their own: the operands in order, then the operation
@@ -120,7 +120,7 @@ names_class r (Some n) = true
 
 abbrev pub private_on : Context → ℕ → String → Option PrivateReference → Code → Code → Code
 private_on c m s None o checked_o = no_rule
-private_on c m s (Some r) o checked_o = cond (is_made_private c s r) (cond (names_class r (class_named o)) (private_value s) no_rule) (private_member m r checked_o)
+private_on c m s (Some r) o checked_o = cond (is_made_private c s r) (cond (names_class r (class_named o)) (private_value (element_name r.class s)) no_rule) (private_member m r checked_o)
 
 abbrev pub private_field_of : Context → ℕ → Bool → Code → Code → Code
 private_field_of c m optional super k = no_rule

@@ -1,5 +1,5 @@
 -- Calls of helpers that convert or name: what they are called with. (Our own.)
-use Rattle.std.specs.Prelude.{ℕ, suc, List, [], ◌∷◌, ◌++◌, Bool, true, false, cond, not, ◌&&◌, ◌||◌, nat_eq, bytes_eq, codes, Option, Some, None}
+use Rattle.std.specs.Prelude.{ℕ, suc, List, [], ◌∷◌, ◌++◌, Bool, true, false, cond, not, ◌&&◌, ◌||◌, nat_eq, bytes_eq, codes, Option, Some, None, is_some}
 use Rattle.es_base.specs.Conforms.{is_among}
 use Rattle.es_base.specs.Numbered.{is_new}
 use Rattle.es_base.specs.Preorder.{preorder_of, number_of}
@@ -64,6 +64,8 @@ method_key p = []
 
 abbrev pub field_key : Part → List StaticKey
 field_key (child (Node Kind.PropertyDefinition m span semantic_id ps)) = static_key (is_true (at 3 ps)) (is_true (at 2 ps)) (at 0 ps)
+-- what a static block does may give one
+field_key (child (Node Kind.StaticBlock m span semantic_id ps)) = is_name ∷ []
 field_key p = []
 
 abbrev pub method_keys : Parts → List StaticKey
@@ -75,8 +77,22 @@ field_keys end = []
 field_keys (more p ps) = field_key p ++ field_keys ps
 
 abbrev pub body_keys : Part → List StaticKey
-body_keys (child (Node Kind.ClassBody m span semantic_id ps)) = method_keys (items (at 0 ps)) ++ field_keys (items (at 0 ps))
+body_keys (child (Node Kind.ClassBody m span semantic_id ps)) = method_keys (items (at 0 ps))
 body_keys p = []
+
+-- whether a class has a static block or a static field
+abbrev pub runs_with_class : Part → Bool
+runs_with_class (child (Node Kind.StaticBlock m span semantic_id ps)) = true
+runs_with_class (child (Node Kind.PropertyDefinition m span semantic_id ps)) = is_true (at 3 ps)
+runs_with_class p = false
+
+abbrev pub any_runs : Parts → Bool
+any_runs end = false
+any_runs (more p ps) = runs_with_class p || any_runs ps
+
+abbrev pub body_runs : Part → Bool
+body_runs (child (Node Kind.ClassBody m span semantic_id ps)) = any_runs (items (at 0 ps))
+body_runs p = false
 
 -- ---- where a call stands
 
@@ -128,17 +144,14 @@ is_class_body kind = false
 
 -- ---- each call
 
--- what `setFunctionName` names has no static `name` of its own: a function, a class where it stands, the class around by `this`
+-- what `setFunctionName` names has no static `name` of its own: a function, a class where it stands, with which nothing runs
+-- that may give it one, the class around by `this`
 abbrev pub is_without_name : Naming → Part → Bool
 is_without_name x (child (Node Kind.FunctionExpression m span semantic_id ps)) = true
 is_without_name x (child (Node Kind.ArrowFunctionExpression m span semantic_id ps)) = true
-is_without_name x (child (Node Kind.ClassExpression m span semantic_id ps)) = none_is_name (body_keys (at 2 ps)) []
+is_without_name x (child (Node Kind.ClassExpression m span semantic_id ps)) = none_is_name (body_keys (at 2 ps)) [] && not (body_runs (at 2 ps))
 is_without_name x (child (Node Kind.ThisExpression m span semantic_id ps)) = none_is_name x.keys x.tested
 is_without_name x p = false
-
-abbrev pub is_there : Option GeneratedKind → Bool
-is_there None = false
-is_there (Some g) = true
 
 module _ (first : ℕ) (ledger : List LedgerEntry) (keys : List ℕ) where
   abbrev pub is_any_helper : Part → Bool
@@ -150,7 +163,7 @@ module _ (first : ℕ) (ledger : List LedgerEntry) (keys : List ℕ) where
   holds_key (t ∷ ts) = has_number (number_of t) keys || holds_key ts
 
   abbrev pub is_generated_name : Part → Bool
-  is_generated_name (child (Node Kind.IdentifierReference m span semantic_id ps)) = is_there (generated_as (string_of (at 0 ps)) ledger)
+  is_generated_name (child (Node Kind.IdentifierReference m span semantic_id ps)) = is_some (generated_as (string_of (at 0 ps)) ledger)
   is_generated_name p = false
 
   abbrev pub ends_with_name : Parts → Bool

@@ -63,7 +63,7 @@ key_value_define m w k v = settle (bind k (λ a. bind v (λ c. event (Define w (
 
 -- the context inside a call
 abbrev pub in_call : Context → Context
-in_call c = record c { role = a_function; is_body = false; in_block = false }
+in_call c = record c { role = a_function; is_body = false; around = None }
 
 -- a call of the helper `defineProperty` on an object that is known does so, where the helpers' name is new, free and not
 -- generated

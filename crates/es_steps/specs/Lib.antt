@@ -20,6 +20,7 @@ pub mod Modules
 pub mod NameScopes
 pub mod Opening
 pub mod Options
+pub mod OwnNames
 pub mod Parts
 pub mod Printable
 pub mod PrivateNames
@@ -34,6 +35,7 @@ pub mod Shapes
 pub mod Shared
 pub mod Statements
 pub mod Standing
+pub mod Strict
 pub mod Temporaries
 pub mod Timely
 pub mod Told

@@ -1,6 +1,6 @@
 -- What a lowered program owes, whatever it means: its numbers, that nothing is left to lower, and what its new names
 -- are. (Our own. p is the source, q what it was lowered to, `first` the number of the first new node.)
-use Rattle.std.specs.Prelude.{◌≡◌, ℕ, List, [], ◌∷◌, ◌++◌, Bool, true, false, cond, not, ◌&&◌, ◌||◌, bytes_eq, nat_eq, codes, Option, Some, None}
+use Rattle.std.specs.Prelude.{◌≡◌, ℕ, List, [], ◌∷◌, ◌++◌, Bool, true, false, cond, not, ◌&&◌, ◌||◌, bytes_eq, nat_eq, codes, Option, Some, None, is_some}
 use Rattle.es_base.specs.Carried.{stripped}
 use Rattle.es_base.specs.Conforms.{is_among}
 use Rattle.es_base.specs.Numbered.{IsNumbered, is_new}
@@ -16,11 +16,13 @@ use Rattle.es_steps.specs.HelperCalls.{is_helper_callee, computed_keys, helper_c
 use Rattle.es_steps.specs.KeptNodes.{statement_list, is_function_declaration, is_underscored, nodes_kept, statements_kept, lists_kept, homes_kept}
 use Rattle.es_steps.specs.LoweredClasses.{has_lowered_class}
 use Rattle.es_steps.specs.Options.{lowers_fields, lowers_blocks}
+use Rattle.es_steps.specs.OwnNames.{own_name_numbers, own_names_stay}
 use Rattle.es_steps.specs.Parts.{at, items, string_of, is_present}
 use Rattle.es_steps.specs.Printable.{is_printable}
 use Rattle.es_steps.specs.PrivateNames.{PrivateMember, private_members, member_at, is_a_field}
 use Rattle.es_steps.specs.References.{Reference, resolve, has_number}
 use Rattle.es_steps.specs.Scopes.{is_binding_identifier, class_in}
+use Rattle.es_steps.specs.Strict.{strict_numbers, all_stay_strict}
 use Rattle.es_steps.specs.Temporaries.{temporaries_steady}
 use Rattle.es_steps.specs.Timely.{names_timely}
 use Rattle.es_steps.specs.Values.{String, Referent, Bound}
@@ -131,23 +133,6 @@ names_declared first (e ∷ es) q = (is_underscored e.name && not (is_named_agai
 
 -- ---- each new declaration is accounted for
 
--- the identifier that is the own name of class expression n, where p declares a class n of that name
-abbrev pub class_name_at : ℕ → Tree → List String
-class_name_at n (Node Kind.ClassDeclaration m span semantic_id (more (child (Node kind b bspan b_semantic_id bs)) ps)) = cond (nat_eq n m) (string_of (at 0 bs) ∷ []) []
-class_name_at n t = []
-
-abbrev pub declares_class : ℕ → String → List Tree → Bool
-declares_class n s [] = false
-declares_class n s (t ∷ ts) = is_among s (class_name_at n t) || declares_class n s ts
-
-abbrev pub own_name_number : Tree → Tree → List ℕ
-own_name_number p (Node Kind.ClassExpression n span semantic_id (more (child (Node kind b bspan b_semantic_id bs)) ps)) = cond (declares_class n (string_of (at 0 bs)) (preorder p)) (b ∷ []) []
-own_name_number p t = []
-
-abbrev pub own_name_numbers : Tree → List Tree → List ℕ
-own_name_numbers p [] = []
-own_name_numbers p (t ∷ ts) = own_name_number p t ++ own_name_numbers p ts
-
 abbrev pub is_generated : Option GeneratedKind → Bool
 is_generated None = false
 is_generated (Some (GeneratedKind.Private n)) = false
@@ -167,7 +152,7 @@ all_accounted first ledger own [] = true
 all_accounted first ledger own (t ∷ ts) = not (is_new_const first t) && (is_accounted first ledger own t && all_accounted first ledger own ts)
 
 abbrev pub declarations_accounted : ℕ → List LedgerEntry → Tree → Tree → Bool
-declarations_accounted first ledger p q = all_accounted first ledger (own_name_numbers p (preorder q)) (preorder q)
+declarations_accounted first ledger p q = all_accounted first ledger (own_name_numbers p (resolve q) (preorder q)) (preorder q)
 
 -- ---- each generated name that is initialized has its one initialization, of the form of its kind, in its place
 
@@ -292,20 +277,16 @@ needs_none (GeneratedKind.Private n) = true
 needs_none kind = false
 
 -- what a name belongs to is a member, or a class with private methods of its instances, of the source
-abbrev pub is_there : Option PrivateMember → Bool
-is_there None = false
-is_there (Some x) = true
-
 abbrev pub has_branded : ℕ → List PrivateMember → Bool
 has_branded n [] = false
 has_branded n (x ∷ xs) = (nat_eq n x.class && (is_function_member x && not x.is_static)) || has_branded n xs
 
 abbrev pub belongs : List PrivateMember → GeneratedKind → Bool
-belongs members (GeneratedKind.WeakMap d) = is_there (if_member is_instance_field (member_at d.0 members))
-belongs members (GeneratedKind.StaticField d) = is_there (if_member is_static_field (member_at d.0 members))
+belongs members (GeneratedKind.WeakMap d) = is_some (if_member is_instance_field (member_at d.0 members))
+belongs members (GeneratedKind.StaticField d) = is_some (if_member is_static_field (member_at d.0 members))
 belongs members (GeneratedKind.Brand n) = has_branded n.0 members
-belongs members (GeneratedKind.Method d) = is_there (if_member is_function_member (member_at d.0 members))
-belongs members (GeneratedKind.LooseKey d) = is_there (if_member (λ x. is_a_field x.kind) (member_at d.0 members))
+belongs members (GeneratedKind.Method d) = is_some (if_member is_function_member (member_at d.0 members))
+belongs members (GeneratedKind.LooseKey d) = is_some (if_member (λ x. is_a_field x.kind) (member_at d.0 members))
 belongs members g = true
 
 abbrev pub is_one_initialization : GeneratedKind → List PrivateMember → Tree → List (ℕ × Bool) → Bool
@@ -348,6 +329,8 @@ pub record MeetsClauses (first : ℕ) (o : Options) (ledger : List LedgerEntry) 
   pub left : nothing_left o q ≡ true
   pub declared : names_declared first ledger q ≡ true
   pub accounted : declarations_accounted first ledger p q ≡ true
+  pub names : own_names_stay p q ≡ true
+  pub strict : all_stay_strict first (strict_numbers false p) (preorder q) ≡ true
   pub initialized : initializations_stand first ledger (private_members p) q ledger ≡ true
   pub timely : names_timely first ledger (private_members p) q ≡ true
   pub temporaries : temporaries_steady first ledger q ≡ true

@@ -223,7 +223,7 @@ start o t = record {
   role = a_function;
   let_class = None;
   is_body = false;
-  in_block = false;
+  around = None;
 }
 
 abbrev pub source_type_of : Tree → String

@@ -1,20 +1,16 @@
 -- What the options ask, as definitions read them.
-use Rattle.std.specs.Prelude.{Bool, true, false, ◌||◌, ◌&&◌, Option, Some, None}
+use Rattle.std.specs.Prelude.{Bool, true, false, ◌||◌, ◌&&◌, Option, Some, None, is_some}
 use Rattle.es_steps.specs.declared.options.ClassPropertiesOptions.{ClassPropertiesOptions}
 use Rattle.es_steps.specs.declared.options.CompilerAssumptions.{CompilerAssumptions}
 use Rattle.es_steps.specs.declared.options.Options.{Options}
 
 -- class fields and private members are lowered
-abbrev pub is_there : Option ClassPropertiesOptions → Bool
-is_there None = false
-is_there (Some p) = true
-
 abbrev pub is_loose : Option ClassPropertiesOptions → Bool
 is_loose None = false
 is_loose (Some p) = p.loose
 
 abbrev pub lowers_fields : Options → Bool
-lowers_fields o = is_there o.es2022.class_properties
+lowers_fields o = is_some o.es2022.class_properties
 
 -- static blocks are lowered
 abbrev pub lowers_blocks : Options → Bool

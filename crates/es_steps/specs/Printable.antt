@@ -10,6 +10,7 @@ use Rattle.es_steps.specs.Context.{is_constructor, is_function}
 use Rattle.es_steps.specs.KeptNodes.{statement_list}
 use Rattle.es_steps.specs.Parts.{at, items, block_items, string_of, is_true, is_present}
 use Rattle.es_steps.specs.Repeated.{is_loop, is_arrow}
+use Rattle.es_steps.specs.Strict.{has_use_strict, directives}
 use Rattle.es_steps.specs.Values.{String}
 
 -- ---- characters
@@ -209,14 +210,6 @@ abbrev pub has_late_directive : Bool → Parts → Bool
 has_late_directive late end = false
 has_late_directive late (more p ps) = (late && is_directive p) || has_late_directive (late || not (is_directive p)) ps
 
-abbrev pub is_use_strict : Part → Bool
-is_use_strict (child (Node Kind.ExpressionStatement m span semantic_id (more e (more (string s) end)))) = bytes_eq s (codes "use strict")
-is_use_strict p = false
-
-abbrev pub uses_strict : Parts → Bool
-uses_strict end = false
-uses_strict (more p ps) = is_use_strict p || uses_strict ps
-
 abbrev pub is_binding_name : Part → Bool
 is_binding_name (child (Node Kind.BindingIdentifier m span semantic_id ps)) = true
 is_binding_name p = false
@@ -226,7 +219,7 @@ are_names end = true
 are_names (more p ps) = is_binding_name p && are_names ps
 
 abbrev pub is_strict_with_patterns : Part → Part → Bool
-is_strict_with_patterns parameters body = not (are_names (items parameters)) && uses_strict (block_items body)
+is_strict_with_patterns parameters body = not (are_names (items parameters)) && has_use_strict (directives body)
 
 abbrev pub has_bad_prologue : Kind → Parts → Bool
 has_bad_prologue Kind.FunctionDeclaration ps = is_strict_with_patterns (at 1 ps) (at 2 ps)

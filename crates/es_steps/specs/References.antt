@@ -7,7 +7,7 @@ use Rattle.es_base.specs.Conforms.{is_target_place}
 use Rattle.es_base.specs.Preorder.{preorder}
 use Rattle.es_base.specs.declared.kind.Kind.{Kind}
 use Rattle.es_base.specs.declared.table.Sort.{Sort}
-use Rattle.es_steps.specs.Parts.{at, string_of}
+use Rattle.es_steps.specs.Parts.{at, items, string_of, is_true}
 use Rattle.es_steps.specs.Scopes.{Declaration, no_class, bound_part, names_at, is_body_part, scope_form, scope_names, var_part}
 use Rattle.es_steps.specs.Values.{String, Referent, Bound, Free}
 
@@ -112,6 +112,63 @@ written_by_all (t ∷ ts) = written_by t ++ written_by_all ts
 abbrev pub written : Tree → List ℕ
 written t = assigned (resolve t) ++ written_by_all (preorder t)
 
+-- ---- names that change without a reference or a scope that says so
+
+-- a `var` in a catch of the name that the catch declares gives its value to that name (B.3.4)
+abbrev pub caught_again : Tree → List ℕ
+caught_again (Node Kind.CatchClause m span semantic_id ps) = repeated (bound_part no_class (at 0 ps) ++ var_part (at 1 ps))
+caught_again t = []
+
+abbrev pub caught_again_in : List Tree → List ℕ
+caught_again_in [] = []
+caught_again_in (t ∷ ts) = caught_again t ++ caught_again_in ts
+
+-- what the name of a function in a block, in a case or in a branch of an `if` means around is given the function, too (B.3.2)
+abbrev pub bound_spelling : Part → List String
+bound_spelling (child (Node Kind.BindingIdentifier b span semantic_id ps)) = string_of (at 0 ps) ∷ []
+bound_spelling p = []
+
+abbrev pub function_name : Part → List String
+function_name (child (Node Kind.FunctionDeclaration m span semantic_id ps)) = cond (is_true (at 3 ps) || is_true (at 4 ps)) [] (bound_spelling (at 0 ps))
+function_name (child (Node Kind.LabeledStatement m span semantic_id (more label (more s end)))) = function_name s
+function_name p = []
+
+abbrev pub function_names : Parts → List String
+function_names end = []
+function_names (more p ps) = function_name p ++ function_names ps
+
+abbrev pub case_functions : Parts → List String
+case_functions end = []
+case_functions (more (child (Node kind m span semantic_id ps)) rest) = function_names (items (at 1 ps)) ++ case_functions rest
+case_functions (more p rest) = case_functions rest
+
+abbrev pub inner_functions : Bool → Kind → Parts → List String
+inner_functions false Kind.BlockStatement ps = function_names (items (at 0 ps))
+inner_functions is_body Kind.SwitchStatement ps = case_functions (items (at 1 ps))
+inner_functions is_body Kind.IfStatement ps = function_name (at 1 ps) ++ function_name (at 2 ps)
+inner_functions is_body kind ps = []
+
+abbrev pub meant : List Declaration → List String → List ℕ
+meant names [] = []
+meant names (s ∷ ss) = if_bound true (referent s (declared s names)) ++ meant names ss
+
+abbrev mutual
+  pub given_around : List Declaration → Bool → Tree → List ℕ
+  given_around names is_body (Node kind m span semantic_id ps) = meant names (inner_functions is_body kind ps) ++ given_in (λ i. names_at is_body kind m ps i ++ names) (is_body_part kind) ps
+
+  pub given_in : (ℕ → List Declaration) → (ℕ → Bool) → Parts → List ℕ
+  given_in names bodies end = []
+  given_in names bodies (more p ps) = given_at (names 0) (bodies 0) p ++ given_in (λ i. names (suc i)) (λ i. bodies (suc i)) ps
+
+  pub given_at : List Declaration → Bool → Part → List ℕ
+  given_at names is_body (child t) = given_around names is_body t
+  given_at names is_body (list ps) = given_of names ps
+  given_at names is_body p = []
+
+  pub given_of : List Declaration → Parts → List ℕ
+  given_of names end = []
+  given_of names (more p ps) = given_at names false p ++ given_of names ps
+
 -- the identifiers that imports declare: what such a name holds changes without a write here (ECMA-262, 9.1.1.5)
 abbrev pub imported_by : Tree → List ℕ
 imported_by (Node Kind.ImportDeclaration m span semantic_id ps) = numbers_of (bound_part no_class (at 0 ps))
@@ -124,9 +181,12 @@ imported_by_all (t ∷ ts) = imported_by t ++ imported_by_all ts
 abbrev pub imported : Tree → List ℕ
 imported t = imported_by_all (preorder t)
 
--- the bindings that are written anywhere, and those that are imported
+abbrev pub changed_otherwise : Tree → List ℕ
+changed_otherwise t = imported t ++ (caught_again_in (preorder t) ++ given_around [] false t)
+
+-- the bindings that are written anywhere, and those that change without
 abbrev pub varying : Tree → List ℕ
-varying t = written t ++ imported t
+varying t = written t ++ changed_otherwise t
 
 -- whether a free name of this spelling is written
 abbrev pub writes_free : String → List Reference → Bool

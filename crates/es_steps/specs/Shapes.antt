@@ -17,7 +17,7 @@ use Rattle.es_steps.specs.Options.{lowers_fields, lowers_blocks, keeps_privates_
 use Rattle.es_steps.specs.Parts.{at, items, string_of, is_true, is_present, has_pattern}
 use Rattle.es_steps.specs.PrivateNames.{PrivateMember, PrivateReference, seen_members, private_reference}
 use Rattle.es_steps.specs.Reading.{read}
-use Rattle.es_steps.specs.References.{Reference, resolve, written, imported, varying, has_number}
+use Rattle.es_steps.specs.References.{Reference, resolve, written, changed_otherwise, varying, has_number}
 use Rattle.es_steps.specs.Scopes.{is_class_expression}
 use Rattle.es_steps.specs.Values.{Undefined, Referent, Bound, Free}
 use Rattle.es_steps.specs.declared.options.Options.{Options}
@@ -187,7 +187,7 @@ abbrev pub has_imported_key : List ℕ → List ℕ → List Reference → Class
 has_imported_key written imported references k = any_element (is_imported_key (any_element (is_hoisted_key written references) k.elements) imported references) k.elements
 
 abbrev pub has_shape_4 : Options → Tree → List ClassAt → Bool
-has_shape_4 o t ks = lowers_fields o && (reads_twice o (varying t) (resolve t) false false t || any_class (has_imported_key (written t) (imported t) (resolve t)) ks)
+has_shape_4 o t ks = lowers_fields o && (reads_twice o (varying t) (resolve t) false false t || any_class (has_imported_key (written t) (changed_otherwise t) (resolve t)) ks)
 
 -- ---- 5: a private member without a writing side as a target in a pattern; 8: a private name behind `?.` in one chain
 

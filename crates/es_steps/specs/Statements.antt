@@ -6,12 +6,14 @@ use Rattle.es_steps.specs.Code.{Code, Codes, Target, FunctionForm, FieldForm, de
 use Rattle.es_steps.specs.Context.{Context, Generated, MeansClass, Changing, new_here, is_constructor, is_generated_private}
 use Rattle.es_steps.specs.Events.{Detail, Operand, Empty, Index, Rest, OfKind, Take}
 use Rattle.es_steps.specs.Expressions.{the_code, key_code, key_details, target_of}
-use Rattle.es_steps.specs.GeneratedForms.{given}
+use Rattle.es_steps.specs.GeneratedForms.{given, opened_body}
 use Rattle.es_steps.specs.Members.{Member, Members, code, absent, list, string, more, end, at, from, before, operands, details, codes_in, codes_of, word_of, flag_of}
 use Rattle.es_steps.specs.Options.{sets_fields, leaves_out_fields}
-use Rattle.es_steps.specs.PrivateNames.{PrivateMember, PrivateKind, a_method, a_getter, a_setter, method_kind, member_at}
+use Rattle.es_steps.specs.References.{declared, referent}
+use Rattle.es_steps.specs.Scopes.{Declaration}
+use Rattle.es_steps.specs.PrivateNames.{element_name, PrivateMember, PrivateKind, a_method, a_getter, a_setter, method_kind, member_at}
 use Rattle.es_steps.specs.SameValues.{same_boolean}
-use Rattle.es_steps.specs.Values.{String, StringOf, ConstantOf, FunctionOf, Free, Undefined}
+use Rattle.es_steps.specs.Values.{String, StringOf, ConstantOf, FunctionOf, Undefined}
 use Rattle.es_steps.specs.declared.options.Options.{Options}
 
 -- ---- statements
@@ -63,13 +65,13 @@ for_each_code kind m ps =
     let head : Code = the_code (at 0 ps) in
     operation m (OfKind kind (details (from 1 ps))) (joined (head_initializers head) (codes_of (at 1 ps))) (one (steps (joined (head_targets m head) (codes_of (at 2 ps)))))
 
--- a new directive stands in a new function alone
-abbrev pub is_directive : Member → Bool
-is_directive (string s) = true
-is_directive p = false
+-- a directive that is none of those that a lowering may add
+abbrev pub is_other_directive : Member → Bool
+is_other_directive (string s) = not (bytes_eq s (codes "use strict"))
+is_other_directive p = false
 
 abbrev pub expression_code : Context → ℕ → Members → Code
-expression_code c m ps = cond (is_directive (at 1 ps) && (new_here c m && not c.in_new_function)) no_rule (steps (codes_in ps))
+expression_code c m ps = cond (is_other_directive (at 1 ps) && new_here c m) no_rule (steps (codes_in ps))
 
 -- a new declarator of a name that was not generated is a `let` of a class
 abbrev pub declarator_of : Context → ℕ → Bool → Code → Member → Code
@@ -172,22 +174,37 @@ function_code c f own_name ps = function_or_new (new_here c f) f (form_of false 
 abbrev pub function_expression_code : Context → ℕ → Members → Code
 function_expression_code c f ps = function_code c f (own_name_of c (at 0 ps)) ps
 
--- the declaration of a generated name assigns its function
-abbrev pub hoisted_function : Bool → ℕ → String → Code → Code
-hoisted_function true f s e = steps (and e (and (assign (to_name f s (Changing (Free s))) (value (FunctionOf f))) done))
-hoisted_function false f s e = e
+-- what the name of a function in a block means around is given the function (B.3.2)
+abbrev pub hoisted_function : Option (List Declaration) → ℕ → String → Code → Code
+hoisted_function None f s e = e
+hoisted_function (Some names) f s e = steps (and e (and (assign (to_name f s (Changing (referent s (declared s names)))) (value (FunctionOf f))) done))
 
-abbrev pub declared_function : Bool → ℕ → Member → Code → Code
-declared_function here f (code (binding b s (Generated (GeneratedKind.Method d)))) e = give_function f s (GeneratedKind.Method d) e
-declared_function here f (code (binding b s (Generated g))) e = no_rule
-declared_function here f (code (binding b s kind)) e = hoisted_function here f s e
-declared_function here f p e = e
+-- the declaration of a generated name assigns its function
+abbrev pub declared_function : Option (List Declaration) → ℕ → Member → Code → Code
+declared_function around f (code (binding b s (Generated (GeneratedKind.Method d)))) e = give_function f s (GeneratedKind.Method d) e
+declared_function around f (code (binding b s (Generated g))) e = no_rule
+declared_function around f (code (binding b s kind)) e = hoisted_function around f s e
+declared_function around f p e = e
+
+-- an async function or a generator is bound in its block alone
+abbrev pub around_plain : Bool → Option (List Declaration) → Option (List Declaration)
+around_plain suspends around = cond suspends None around
 
 abbrev pub function_declaration_code : Context → ℕ → Members → Code
-function_declaration_code c f ps = declared_function (c.in_block && not (flag_of (at 3 ps) || flag_of (at 4 ps))) f (at 0 ps) (function_code c f None ps)
+function_declaration_code c f ps = declared_function (around_plain (flag_of (at 3 ps) || flag_of (at 4 ps)) c.around) f (at 0 ps) (function_code c f None ps)
+
+-- the expression that is the body of an arrow may become a new `return` at the end of a list
+abbrev pub ends_with_return : Codes → Bool
+ends_with_return done = false
+ends_with_return (and (new_return es) done) = true
+ends_with_return (and c cs) = ends_with_return cs
+
+abbrev pub arrow_body : Bool → Code → Code
+arrow_body false (steps cs) = cond (ends_with_return cs) (opened_body (steps cs)) (steps cs)
+arrow_body new e = e
 
 abbrev pub arrow_code : Context → ℕ → Members → Code
-arrow_code c f ps = function_or_new (new_here c f) f (form_of true (flag_of (at 2 ps)) false) None (codes_of (at 0 ps)) (the_code (at 1 ps))
+arrow_code c f ps = function_or_new (new_here c f) f (form_of true (flag_of (at 2 ps)) false) None (codes_of (at 0 ps)) (arrow_body (new_here c f) (the_code (at 1 ps)))
 
 -- ---- classes
 
@@ -233,7 +250,7 @@ field_form o is_static key init =
 
 -- a private element is generated, or declares the member d
 abbrev pub private_element : Context → Bool → ℕ → String → Code → Code
-private_element c is_static d s e = cond (new_here c d) (cond (is_static && is_generated_private s c.class c.ledger) (generated_element s e) no_rule) (private_field is_static d e)
+private_element c is_static d s e = cond (new_here c d) (cond (is_static && is_generated_private s c.class c.ledger) (generated_element (element_name c.class s) e) no_rule) (private_field is_static d e)
 
 abbrev pub field_of : Context → Members → Code → Code
 field_of c ps (private_name d s r) = private_element c (flag_of (at 3 ps)) d s (value_or_undefined (at 1 ps))

@@ -9,7 +9,7 @@ use Rattle.es_base.specs.declared.ledger.LedgerEntry.{LedgerEntry}
 use Rattle.es_steps.specs.Context.{generated_as, is_function}
 use Rattle.es_steps.specs.Definitions.{spelling}
 use Rattle.es_steps.specs.Expressions.{is_logical}
-use Rattle.es_steps.specs.HelperCalls.{is_class_body}
+use Rattle.es_steps.specs.HelperCalls.{is_class_body, body_runs}
 use Rattle.es_steps.specs.KeptNodes.{all_pairs_stand}
 use Rattle.es_steps.specs.Parts.{at, items, string_of, is_true}
 use Rattle.es_steps.specs.PrivateNames.{PrivateMember, member_at, is_class, is_element}
@@ -63,20 +63,6 @@ is_held Kind.ArrayPattern ps i = true
 is_held Kind.ObjectAssignmentTarget ps i = true
 is_held Kind.ArrayAssignmentTarget ps i = true
 is_held kind ps i = is_loop kind || is_function kind
-
--- whether a class has a static block or a static field
-abbrev pub runs_with_class : Part → Bool
-runs_with_class (child (Node Kind.StaticBlock m span semantic_id ps)) = true
-runs_with_class (child (Node Kind.PropertyDefinition m span semantic_id ps)) = is_true (at 3 ps)
-runs_with_class p = false
-
-abbrev pub any_runs : Parts → Bool
-any_runs end = false
-any_runs (more p ps) = runs_with_class p || any_runs ps
-
-abbrev pub body_runs : Part → Bool
-body_runs (child (Node Kind.ClassBody m span semantic_id ps)) = any_runs (items (at 0 ps))
-body_runs p = false
 
 -- an arrow, unless it is new and called where it stands
 abbrev pub is_held_arrow : ℕ → Around → Kind → ℕ → Bool

@@ -1,0 +1,70 @@
+-- The own names of classes: those that a lowering may give, and those that it may not take. (Our own.)
+use Rattle.std.specs.Prelude.{ℕ, List, [], ◌∷◌, ◌++◌, Bool, true, false, cond, not, ◌&&◌, ◌||◌, nat_eq}
+use Rattle.es_base.specs.Conforms.{is_among}
+use Rattle.es_base.specs.Preorder.{number_of, preorder, preorder_of_part}
+use Rattle.es_base.specs.Tree.{Tree, Part, Node, more, child, absent}
+use Rattle.es_base.specs.declared.kind.Kind.{Kind}
+use Rattle.es_steps.specs.HelperCalls.{body_runs}
+use Rattle.es_steps.specs.Parts.{at, string_of}
+use Rattle.es_steps.specs.References.{Reference, resolve, has_number}
+use Rattle.es_steps.specs.Values.{String, Referent, Bound}
+
+abbrev pub is_bound_among : List ℕ → Referent → Bool
+is_bound_among bs (Bound b) = has_number b bs
+is_bound_among bs r = false
+
+-- the references to these identifiers
+abbrev pub references_to : List ℕ → List Reference → List ℕ
+references_to bs [] = []
+references_to bs (r ∷ rs) = cond (is_bound_among bs r.to) (r.number ∷ []) [] ++ references_to bs rs
+
+-- ---- own names that are new
+
+-- the identifier that is the own name of class expression n, where p declares a class n of that name
+abbrev pub class_name_at : ℕ → Tree → List String
+class_name_at n (Node Kind.ClassDeclaration m span semantic_id (more (child (Node kind b bspan b_semantic_id bs)) ps)) = cond (nat_eq n m) (string_of (at 0 bs) ∷ []) []
+class_name_at n t = []
+
+abbrev pub declares_class : ℕ → String → List Tree → Bool
+declares_class n s [] = false
+declares_class n s (t ∷ ts) = is_among s (class_name_at n t) || declares_class n s ts
+
+-- or an own name that nothing refers to: what a class is named is no step
+abbrev pub are_none : List ℕ → Bool
+are_none [] = true
+are_none (n ∷ ns) = false
+
+abbrev pub own_name_number : Tree → List Reference → Tree → List ℕ
+own_name_number p references (Node Kind.ClassExpression n span semantic_id (more (child (Node kind b bspan b_semantic_id bs)) ps)) = cond (declares_class n (string_of (at 0 bs)) (preorder p) || are_none (references_to (b ∷ []) references)) (b ∷ []) []
+own_name_number p references t = []
+
+abbrev pub own_name_numbers : Tree → List Reference → List Tree → List ℕ
+own_name_numbers p references [] = []
+own_name_numbers p references (t ∷ ts) = own_name_number p references t ++ own_name_numbers p references ts
+
+-- ---- a class expression that was a declaration, without its name
+
+-- the identifier of class declaration n
+abbrev pub identifier_at : ℕ → Tree → List ℕ
+identifier_at n (Node Kind.ClassDeclaration m span semantic_id (more (child (Node kind b bspan b_semantic_id bs)) ps)) = cond (nat_eq n m) (b ∷ []) []
+identifier_at n t = []
+
+abbrev pub identifiers_at : ℕ → List Tree → List ℕ
+identifiers_at n [] = []
+identifiers_at n (t ∷ ts) = identifier_at n t ++ identifiers_at n ts
+
+abbrev pub any_stands : List ℕ → List Tree → Bool
+any_stands ns [] = false
+any_stands ns (t ∷ ts) = has_number (number_of t) ns || any_stands ns ts
+
+-- what runs with such a class reads the name around it, which is given a value behind the class
+abbrev pub loses_name : List Tree → List Reference → Tree → Bool
+loses_name ps references (Node Kind.ClassExpression n span semantic_id (more absent (more heritage (more body rest)))) = body_runs body && any_stands (references_to (identifiers_at n ps) references) (preorder_of_part body)
+loses_name ps references t = false
+
+abbrev pub none_loses_name : List Tree → List Reference → List Tree → Bool
+none_loses_name ps references [] = true
+none_loses_name ps references (t ∷ ts) = not (loses_name ps references t) && none_loses_name ps references ts
+
+abbrev pub own_names_stay : Tree → Tree → Bool
+own_names_stay p q = none_loses_name (preorder p) (resolve q) (preorder q)
