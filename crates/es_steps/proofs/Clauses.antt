@@ -1,5 +1,5 @@
 -- What a lowered program owes is kept where its new numbers are given anew.
-use Rattle.std.specs.Prelude.{◌≡◌, ℕ, List, map, Bool, true, not, ◌||◌, None}
+use Rattle.std.specs.Prelude.{◌≡◌, ℕ, List, map, Bool, true, not, ◌||◌, None, false}
 use Rattle.std.proofs.Common.{refl, sym, ap, ap₂, ◌∙◌}
 use Rattle.std.proofs.lemmas.Bool.{and_parts}
 use Rattle.std.proofs.lemmas.List.{map-append}
@@ -13,11 +13,14 @@ use Rattle.es_steps.specs.HelperCalls.{computed_keys, helper_calls_fit}
 use Rattle.es_steps.specs.KeptNodes.{nodes_kept, statements_kept, lists_kept, homes_kept}
 use Rattle.es_steps.specs.Law.{ClausesLaw}
 use Rattle.es_steps.specs.Lowered.{nothing_left, names_declared, declarations_accounted, initializations_stand, keys_stand}
+use Rattle.es_steps.specs.OwnNames.{own_names_stay}
 use Rattle.es_steps.specs.Printable.{is_printable}
 use Rattle.es_steps.specs.PrivateNames.{PrivateMember, members_of_all, private_members}
 use Rattle.es_steps.specs.Standing.{all_numbers, ledger_numbers, all_pass, all_old}
+use Rattle.es_steps.specs.Strict.{strict_numbers, all_stay_strict}
 use Rattle.es_steps.specs.Temporaries.{temporaries_steady}
 use Rattle.es_steps.specs.Timely.{names_timely}
+use Rattle.es_steps.proofs.StrictMapped.{all_stay_strict-mapped}
 use Rattle.es_steps.proofs.TemporariesMapped.{temporaries_steady-mapped}
 use Rattle.es_steps.proofs.TimelyMapped.{names_timely-mapped}
 use Rattle.es_steps.specs.declared.options.Options.{Options}
@@ -26,6 +29,7 @@ use Rattle.es_steps.proofs.HelperCallsMapped.{all_computed_keys-mapped, helper_c
 use Rattle.es_steps.proofs.KeptNodesMapped.{nodes_kept-mapped, statements_kept-mapped, lists_kept-mapped, homes_kept-mapped}
 use Rattle.es_steps.proofs.LoweredMapped.{nothing_left-mapped, names_declared-mapped, declarations_accounted-mapped, initializations_stand-mapped, keys_stand-mapped}
 use Rattle.es_steps.proofs.Mapped.{Renames, mapped, mapped_part, mapped_parts, mapped_ledger, mapped_privates}
+use Rattle.es_steps.proofs.OwnNamesMapped.{own_names_stay-mapped}
 use Rattle.es_steps.proofs.PartsMapped.{preorder-mapped}
 use Rattle.es_steps.proofs.PrintableMapped.{is_printable-mapped}
 use Rattle.es_steps.proofs.Renaming.{same, renaming, renaming-renames, renaming-renumbers, EachOnce-filter}
@@ -119,6 +123,8 @@ clauses_law first o ledger p q once old generated met = record {
     left = kept first ledger p q once old generated (λ l p q. nothing_left o q) (λ f r l p q. nothing_left-mapped f o q) met.left;
     declared = kept first ledger p q once old generated (λ l p q. names_declared first l q) (λ f r l p q. names_declared-mapped r l q) met.declared;
     accounted = kept first ledger p q once old generated (declarations_accounted first) (λ f r l p q. declarations_accounted-mapped r l p q) met.accounted;
+    names = kept first ledger p q once old generated (λ l p q. own_names_stay p q) (λ f r l p q. own_names_stay-mapped r p q) met.names;
+    strict = kept first ledger p q once old generated (λ l p q. all_stay_strict first (strict_numbers false p) (preorder q)) (λ f r l p q. all_stay_strict-mapped r p q) met.strict;
     initialized = kept first ledger p q once old generated (λ l p q. initializations_stand first l (private_members p) q l) (initialized-unchanging first o) met.initialized;
     timely = kept first ledger p q once old generated (λ l p q. names_timely first l (private_members p) q) (timely-unchanging first o) met.timely;
     temporaries = kept first ledger p q once old generated (λ l p q. temporaries_steady first l q) (λ f r l p q. temporaries_steady-mapped r l q) met.temporaries;

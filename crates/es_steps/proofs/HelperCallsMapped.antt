@@ -1,5 +1,5 @@
 -- What calls of helpers have to be, under a change of numbers.
-use Rattle.std.specs.Prelude.{◌≡◌, ℕ, suc, List, [], ◌∷◌, ◌++◌, map, Bool, true, false, cond, not, ◌&&◌, ◌||◌, bytes_eq, codes, Option, Some, None}
+use Rattle.std.specs.Prelude.{◌≡◌, ℕ, suc, List, [], ◌∷◌, ◌++◌, map, Bool, true, false, cond, not, ◌&&◌, ◌||◌, bytes_eq, codes, Option, Some, None, is_some}
 use Rattle.std.proofs.Common.{refl, ap, ap₂, ◌∙◌}
 use Rattle.es_base.specs.Preorder.{preorder, preorder_of, number_of}
 use Rattle.es_base.specs.Tree.{Tree, Part, Parts, Node, end, more, child, list, string, literal}
@@ -9,7 +9,7 @@ use Rattle.es_base.specs.declared.ledger.LedgerEntry.{LedgerEntry}
 use Rattle.es_base.specs.declared.literal.LiteralValue.TheVariants as literal_value
 use Rattle.es_steps.specs.Context.{generated_as}
 use Rattle.es_steps.specs.Definitions.{spelling}
-use Rattle.es_steps.specs.HelperCalls.{is_helper_callee, part_number, computed_key, computed_keys, StaticKey, is_name, is_key_conversion, computed_static_key, static_key, method_key, field_key, method_keys, field_keys, body_keys, Naming, is_name_literal, tests_of, tests_at, naming_in, naming_of_element, is_class_body, is_without_name, is_there, is_any_helper, holds_key, is_generated_name, ends_with_name, stands_for_key, form_for_key, part_for_key, last_for_key, any_for_key, call_fits, calls_fit, calls_in, calls_at, calls_of, calls_of_body, helper_calls_fit}
+use Rattle.es_steps.specs.HelperCalls.{is_helper_callee, part_number, computed_key, computed_keys, StaticKey, is_name, is_key_conversion, computed_static_key, static_key, method_key, field_key, method_keys, field_keys, body_keys, Naming, is_name_literal, tests_of, tests_at, naming_in, naming_of_element, is_class_body, is_without_name, runs_with_class, any_runs, body_runs, is_any_helper, holds_key, is_generated_name, ends_with_name, stands_for_key, form_for_key, part_for_key, last_for_key, any_for_key, call_fits, calls_fit, calls_in, calls_at, calls_of, calls_of_body, helper_calls_fit}
 use Rattle.es_steps.specs.Parts.{at, items, string_of, is_true}
 use Rattle.es_steps.specs.References.{has_number}
 use Rattle.es_steps.specs.Values.{String}
@@ -68,6 +68,7 @@ module _ (f : ℕ → ℕ) where
 
   field_key-mapped : (p : Part) → field_key (mapped_part f p) ≡ field_key p
   field_key-mapped (child (Node Kind.PropertyDefinition m span semantic_id ps)) = element_key-mapped 3 2 ps
+  field_key-mapped (child (Node Kind.StaticBlock m span semantic_id ps)) = refl
   field_key-mapped p = refl
 
   method_keys-mapped : (ps : Parts) → method_keys (mapped_parts f ps) ≡ method_keys ps
@@ -79,8 +80,21 @@ module _ (f : ℕ → ℕ) where
   field_keys-mapped (more p ps) = ap₂ (λ a b. a ++ b) (field_key-mapped p) (field_keys-mapped ps)
 
   body_keys-mapped : (p : Part) → body_keys (mapped_part f p) ≡ body_keys p
-  body_keys-mapped (child (Node Kind.ClassBody m span semantic_id ps)) = rw (items_at-mapped f 0 ps) (ap₂ (λ a b. a ++ b) (method_keys-mapped (items (at 0 ps))) (field_keys-mapped (items (at 0 ps))))
+  body_keys-mapped (child (Node Kind.ClassBody m span semantic_id ps)) = ap method_keys (items_at-mapped f 0 ps) ∙ method_keys-mapped (items (at 0 ps))
   body_keys-mapped p = refl
+
+  runs_with_class-mapped : (p : Part) → runs_with_class (mapped_part f p) ≡ runs_with_class p
+  runs_with_class-mapped (child (Node Kind.StaticBlock m span semantic_id ps)) = refl
+  runs_with_class-mapped (child (Node Kind.PropertyDefinition m span semantic_id ps)) = is_true_at-mapped f 3 ps
+  runs_with_class-mapped p = refl
+
+  any_runs-mapped : (ps : Parts) → any_runs (mapped_parts f ps) ≡ any_runs ps
+  any_runs-mapped end = refl
+  any_runs-mapped (more p ps) = ap₂ (λ a b. a || b) (runs_with_class-mapped p) (any_runs-mapped ps)
+
+  pub body_runs-mapped : (p : Part) → body_runs (mapped_part f p) ≡ body_runs p
+  body_runs-mapped (child (Node Kind.ClassBody m span semantic_id ps)) = ap any_runs (items_at-mapped f 0 ps) ∙ any_runs-mapped (items (at 0 ps))
+  body_runs-mapped p = refl
 
   -- ---- tests
 
@@ -105,7 +119,7 @@ module _ (f : ℕ → ℕ) where
   is_without_name-mapped : (x : Naming) (p : Part) → is_without_name x (mapped_part f p) ≡ is_without_name x p
   is_without_name-mapped x (child (Node Kind.FunctionExpression m span semantic_id ps)) = refl
   is_without_name-mapped x (child (Node Kind.ArrowFunctionExpression m span semantic_id ps)) = refl
-  is_without_name-mapped x (child (Node Kind.ClassExpression m span semantic_id ps)) = rw (at-mapped f 2 ps, body_keys-mapped (at 2 ps)) refl
+  is_without_name-mapped x (child (Node Kind.ClassExpression m span semantic_id ps)) = rw (at-mapped f 2 ps, body_keys-mapped (at 2 ps), body_runs-mapped (at 2 ps)) refl
   is_without_name-mapped x (child (Node Kind.ThisExpression m span semantic_id ps)) = refl
   is_without_name-mapped x p = refl
 
@@ -124,16 +138,16 @@ module _ {first : ℕ} {f : ℕ → ℕ} (r : Renames first f) where
     abbrev there : List LedgerEntry
     there = mapped_ledger f ledger
 
-    is_there-mapped : (g : Option GeneratedKind) → is_there (mapped_option (mapped_generated f) g) ≡ is_there g
-    is_there-mapped None = refl
-    is_there-mapped (Some g) = refl
+    is_some-mapped : (g : Option GeneratedKind) → is_some (mapped_option (mapped_generated f) g) ≡ is_some g
+    is_some-mapped None = refl
+    is_some-mapped (Some g) = refl
 
     is_any_helper-mapped : (p : Part) → is_any_helper first there (map f keys) (mapped_part f p) ≡ is_any_helper first ledger keys p
     is_any_helper-mapped (child (Node Kind.MemberExpression m span semantic_id (more (child (Node Kind.IdentifierReference b bspan b_semantic_id (more (string s) end))) rest))) = rw (r.new b) refl
     is_any_helper-mapped p = refl
 
     is_generated_name-mapped : (p : Part) → is_generated_name first there (map f keys) (mapped_part f p) ≡ is_generated_name first ledger keys p
-    is_generated_name-mapped (child (Node Kind.IdentifierReference m span semantic_id ps)) = rw (string_at-mapped f 0 ps, generated_as-mapped f (string_of (at 0 ps)) ledger) (is_there-mapped (generated_as (string_of (at 0 ps)) ledger))
+    is_generated_name-mapped (child (Node Kind.IdentifierReference m span semantic_id ps)) = rw (string_at-mapped f 0 ps, generated_as-mapped f (string_of (at 0 ps)) ledger) (is_some-mapped (generated_as (string_of (at 0 ps)) ledger))
     is_generated_name-mapped p = refl
 
     ends_with_name-mapped : (ps : Parts) → ends_with_name first there (map f keys) (mapped_parts f ps) ≡ ends_with_name first ledger keys ps

@@ -17,6 +17,7 @@ pub mod EvaluationMapped
 pub mod OpeningMapped
 pub mod EntriesMapped
 pub mod ModulesMapped
+pub mod StrictMapped
 pub mod RepeatedMapped
 pub mod SharedMapped
 pub mod Still
@@ -27,6 +28,7 @@ pub mod PrintableMapped
 pub mod KeptNodesMapped
 pub mod DefinitionsMapped
 pub mod HelperCallsMapped
+pub mod OwnNamesMapped
 pub mod LoweredMapped
 pub mod TemporariesMapped
 pub mod TimelyMapped

@@ -1,5 +1,5 @@
 -- What a lowered program owes, under a change of numbers of both programs.
-use Rattle.std.specs.Prelude.{◌≡◌, ℕ, List, [], ◌∷◌, map, Bool, not, ◌&&◌, ◌||◌, bytes_eq, nat_eq, codes, Option, Some, None}
+use Rattle.std.specs.Prelude.{◌≡◌, ℕ, List, [], ◌∷◌, map, Bool, not, ◌&&◌, ◌||◌, bytes_eq, nat_eq, codes, Option, Some, None, is_some}
 use Rattle.std.proofs.Common.{refl, ap, ap₂, ◌∙◌}
 use Rattle.es_base.specs.Conforms.{is_among}
 use Rattle.es_base.specs.Preorder.{preorder, number_of}
@@ -10,8 +10,9 @@ use Rattle.es_base.specs.declared.ledger.LedgerEntry.{LedgerEntry}
 use Rattle.es_steps.specs.Context.{generated_as}
 use Rattle.es_steps.specs.Definitions.{spelling, field_part, names_class, class_identifiers, all_different, is_among_first}
 use Rattle.es_steps.specs.KeptNodes.{statement_list, is_underscored}
-use Rattle.es_steps.specs.Lowered.{none_lowered, nothing_left, declaring_number, declaring_numbers, is_bound_to, all_mean, is_one_new, private_key, private_keys, keys_of_body, keys_of_class, keys_in, is_one, declared_by_kind, same_space, is_named_again, same_subject, has_another_name, is_temp, is_at_most_one, names_declared, is_new_const, is_there, has_branded, belongs, class_name_at, declares_class, own_name_number, own_name_numbers, is_generated, is_accounted, all_accounted, declarations_accounted, spelled_as, is_new_of, is_key_call, is_function_part, class_number_in, assignment_number, paired, pairs_behind, all_behind, has_pair, is_class_or_name, is_class_value, is_initial, is_class_kind, is_method_kind, initialization_at, initializations, comes_before, class_of_member, class_before, is_declared_function, all_before, needs_none, is_one_initialization, initialization_stands, initializations_stand, any_before, keys_before, keys_stand}
+use Rattle.es_steps.specs.Lowered.{none_lowered, nothing_left, declaring_number, declaring_numbers, is_bound_to, all_mean, is_one_new, private_key, private_keys, keys_of_body, keys_of_class, keys_in, is_one, declared_by_kind, same_space, is_named_again, same_subject, has_another_name, is_temp, is_at_most_one, names_declared, is_new_const, has_branded, belongs, is_generated, is_accounted, all_accounted, declarations_accounted, spelled_as, is_new_of, is_key_call, is_function_part, class_number_in, assignment_number, paired, pairs_behind, all_behind, has_pair, is_class_or_name, is_class_value, is_initial, is_class_kind, is_method_kind, initialization_at, initializations, comes_before, class_of_member, class_before, is_declared_function, all_before, needs_none, is_one_initialization, initialization_stands, initializations_stand, any_before, keys_before, keys_stand}
 use Rattle.es_steps.specs.Options.{lowers_fields}
+use Rattle.es_steps.specs.OwnNames.{own_name_numbers}
 use Rattle.es_steps.specs.Parts.{at, items, string_of, is_present}
 use Rattle.es_steps.specs.GeneratedForms.{if_member, is_instance_field, is_static_field, is_function_member}
 use Rattle.es_steps.specs.PrivateNames.{PrivateMember, member_at, is_a_field}
@@ -25,6 +26,7 @@ use Rattle.es_steps.proofs.FormsMapped.{if_member-mapped}
 use Rattle.es_steps.proofs.HelperCallsMapped.{is_helper_callee-mapped}
 use Rattle.es_steps.proofs.KeptNodesMapped.{statement_list-mapped, is_function_declaration-mapped}
 use Rattle.es_steps.proofs.Mapped.{Renames, mapped, mapped_part, mapped_parts, mapped_option, mapped_generated, mapped_ledger, mapped_ledger_entry, mapped_privates, mapped_private, mapped_pair, mapped_referent, mapped_reference}
+use Rattle.es_steps.proofs.OwnNamesMapped.{own_name_numbers-mapped}
 use Rattle.es_steps.proofs.PartsMapped.{cond-mapped, append-mapped, at-mapped, items_at-mapped, string_at-mapped, is_present-mapped, is_present_at-mapped, number_of-mapped, preorder-mapped}
 use Rattle.es_steps.proofs.PrivatesMapped.{member_at-mapped}
 use Rattle.es_steps.proofs.ReferencesMapped.{resolve-mapped, has_number-mapped}
@@ -202,23 +204,6 @@ module _ {first : ℕ} {f : ℕ → ℕ} (r : Renames first f) where
 
   -- ---- new declarations
 
-  class_name_at-mapped : (n : ℕ) (t : Tree) → class_name_at (f n) (mapped f t) ≡ class_name_at n t
-  class_name_at-mapped n (Node Kind.ClassDeclaration m span semantic_id (more (child (Node kind b bspan b_semantic_id bs)) ps)) = rw (r.apart n m, string_at-mapped f 0 bs) refl
-  class_name_at-mapped n t = refl
-
-  declares_class-mapped : (n : ℕ) (s : String) (ts : List Tree) → declares_class (f n) s (map (mapped f) ts) ≡ declares_class n s ts
-  declares_class-mapped n s [] = refl
-  declares_class-mapped n s (t ∷ ts) = ap₂ (λ a b. is_among s a || b) (class_name_at-mapped n t) (declares_class-mapped n s ts)
-
-  own_name_number-mapped : (p t : Tree) → own_name_number (mapped f p) (mapped f t) ≡ map f (own_name_number p t)
-  own_name_number-mapped p (Node Kind.ClassExpression n span semantic_id (more (child (Node kind b bspan b_semantic_id bs)) ps)) =
-      rw (string_at-mapped f 0 bs, preorder-mapped f p, declares_class-mapped n (string_of (at 0 bs)) (preorder p)) (cond-mapped (map f) (declares_class n (string_of (at 0 bs)) (preorder p)) (b ∷ []) [] refl refl)
-  own_name_number-mapped p t = refl
-
-  own_name_numbers-mapped : (p : Tree) (ts : List Tree) → own_name_numbers (mapped f p) (map (mapped f) ts) ≡ map f (own_name_numbers p ts)
-  own_name_numbers-mapped p [] = refl
-  own_name_numbers-mapped p (t ∷ ts) = append-mapped f _ _ (own_name_number-mapped p t) (own_name_numbers-mapped p ts)
-
   is_accounted-mapped : (ledger : List LedgerEntry) (own : List ℕ) (t : Tree) → is_accounted first (mapped_ledger f ledger) (map f own) (mapped f t) ≡ is_accounted first ledger own t
   is_accounted-mapped ledger own (Node kind b span semantic_id ps) = rw (r.new b, string_at-mapped f 0 ps, generated_as-mapped f (string_of (at 0 ps)) ledger, is_generated-mapped f (generated_as (string_of (at 0 ps)) ledger), has_number-mapped r b own) refl
 
@@ -231,7 +216,7 @@ module _ {first : ℕ} {f : ℕ → ℕ} (r : Renames first f) where
   all_accounted-mapped ledger own (t ∷ ts) = ap₂ (λ a b. not a && b) (is_new_const-mapped t) (ap₂ (λ a b. a && b) (is_accounted-mapped ledger own t) (all_accounted-mapped ledger own ts))
 
   pub declarations_accounted-mapped : (ledger : List LedgerEntry) (p q : Tree) → declarations_accounted first (mapped_ledger f ledger) (mapped f p) (mapped f q) ≡ declarations_accounted first ledger p q
-  declarations_accounted-mapped ledger p q = rw (preorder-mapped f q, own_name_numbers-mapped p (preorder q)) (all_accounted-mapped ledger (own_name_numbers p (preorder q)) (preorder q))
+  declarations_accounted-mapped ledger p q = rw (preorder-mapped f q, resolve-mapped f q, own_name_numbers-mapped r p (resolve q) (preorder q)) (all_accounted-mapped ledger (own_name_numbers p (resolve q) (preorder q)) (preorder q))
 
   -- ---- initializations
 
@@ -313,14 +298,14 @@ module _ {first : ℕ} {f : ℕ → ℕ} (r : Renames first f) where
   is_declared_function-mapped m [] = refl
   is_declared_function-mapped m (t ∷ ts) = rw (number_of-mapped f t, r.apart m (number_of t), is_function_declaration-mapped f t, is_declared_function-mapped m ts) refl
 
-  is_there-mapped : (x : Option PrivateMember) → is_there (mapped_option (mapped_private f) x) ≡ is_there x
-  is_there-mapped None = refl
-  is_there-mapped (Some x) = refl
+  is_some-mapped : (x : Option PrivateMember) → is_some (mapped_option (mapped_private f) x) ≡ is_some x
+  is_some-mapped None = refl
+  is_some-mapped (Some x) = refl
 
-  member_there-mapped : (test : PrivateMember → Bool) (d : ℕ) (members : List PrivateMember) → ((x : PrivateMember) → test (mapped_private f x) ≡ test x) → is_there (if_member test (member_at (f d) (mapped_privates f members))) ≡ is_there (if_member test (member_at d members))
+  member_there-mapped : (test : PrivateMember → Bool) (d : ℕ) (members : List PrivateMember) → ((x : PrivateMember) → test (mapped_private f x) ≡ test x) → is_some (if_member test (member_at (f d) (mapped_privates f members))) ≡ is_some (if_member test (member_at d members))
   member_there-mapped test d members same =
-      ap (λ x. is_there (if_member test x)) (member_at-mapped r d members)
-      ∙ ap is_there (if_member-mapped f test same (member_at d members)) ∙ is_there-mapped (if_member test (member_at d members))
+      ap (λ x. is_some (if_member test x)) (member_at-mapped r d members)
+      ∙ ap is_some (if_member-mapped f test same (member_at d members)) ∙ is_some-mapped (if_member test (member_at d members))
 
   has_branded-mapped : (n : ℕ) (members : List PrivateMember) → has_branded (f n) (mapped_privates f members) ≡ has_branded n members
   has_branded-mapped n [] = refl

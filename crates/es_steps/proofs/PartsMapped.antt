@@ -79,7 +79,7 @@ module _ (f : ℕ → ℕ) where
     pub preorder-mapped : (t : Tree) → preorder (mapped f t) ≡ map (mapped f) (preorder t)
     preorder-mapped (Node kind m span semantic_id ps) = ap (λ ts. Node kind (f m) None None (mapped_parts f ps) ∷ ts) (preorder_of-mapped ps)
 
-    preorder_of_part-mapped : (p : Part) → preorder_of_part (mapped_part f p) ≡ map (mapped f) (preorder_of_part p)
+    pub preorder_of_part-mapped : (p : Part) → preorder_of_part (mapped_part f p) ≡ map (mapped f) (preorder_of_part p)
     preorder_of_part-mapped (child t) = preorder-mapped t
     preorder_of_part-mapped (list ps) = preorder_of-mapped ps
     preorder_of_part-mapped p = refl

@@ -7,11 +7,14 @@ use Rattle.es_base.specs.declared.kind.Kind.{Kind}
 use Rattle.es_base.specs.declared.literal.LiteralValue.TheVariants as literal_value
 use Rattle.es_steps.specs.KeptNodes.{statement_list}
 use Rattle.es_steps.specs.Parts.{at, items, block_items, is_present}
-use Rattle.es_steps.specs.Printable.{is_bad_name, is_bad_label_name, is_bad_label, is_bad_literal, tails_fit, is_bad_template, is_directive_of, is_bad_directive, is_directive, has_late_directive, is_use_strict, uses_strict, is_binding_name, are_names, is_strict_with_patterns, has_bad_prologue, count, is_kind_of, is_default, is_function_expression, is_identifier_name, name_of_part, shorthand_name, has_id, is_suspending, is_bad_property, is_spelled, is_bad_method, is_bad_field, is_meta_property, only_named, are_behind_default, are_specifiers, is_declaration_body, is_lexical_body, ends_open, part_ends_open, is_bad_if, is_super_part, has_optional, part_has_optional, is_spine_kind, any_optional, behind_first, has_stray_optional, is_bad_form, is_bad_node, is_default_export, is_module, is_declaration_without_name, is_bad_in, has_bad, bad_at, bad_in, Jumps, no_jumps, is_label_among, is_stray, is_looping, part_is_looping, jumps_inside, has_stray, stray_at, stray_in, is_printable}
+use Rattle.es_steps.specs.Printable.{is_bad_name, is_bad_label_name, is_bad_label, is_bad_literal, tails_fit, is_bad_template, is_directive_of, is_bad_directive, is_directive, has_late_directive, is_binding_name, are_names, is_strict_with_patterns, has_bad_prologue, count, is_kind_of, is_default, is_function_expression, is_identifier_name, name_of_part, shorthand_name, has_id, is_suspending, is_bad_property, is_spelled, is_bad_method, is_bad_field, is_meta_property, only_named, are_behind_default, are_specifiers, is_declaration_body, is_lexical_body, ends_open, part_ends_open, is_bad_if, is_super_part, has_optional, part_has_optional, is_spine_kind, any_optional, behind_first, has_stray_optional, is_bad_form, is_bad_node, is_default_export, is_module, is_declaration_without_name, is_bad_in, has_bad, bad_at, bad_in, Jumps, no_jumps, is_label_among, is_stray, is_looping, part_is_looping, jumps_inside, has_stray, stray_at, stray_in, is_printable}
+use Rattle.es_steps.specs.Strict.{has_use_strict, directives}
 use Rattle.es_steps.specs.Values.{String}
 use Rattle.es_steps.proofs.KeptNodesMapped.{statement_list-mapped}
 use Rattle.es_steps.proofs.Mapped.{mapped, mapped_part, mapped_parts}
 use Rattle.es_steps.proofs.PartsMapped.{cond-mapped, at-mapped, items_at-mapped, block_items_at-mapped, string_at-mapped, is_true_at-mapped, is_present_at-mapped}
+
+use Rattle.es_steps.proofs.StrictMapped.{body_strict-mapped}
 
 module _ (f : ℕ → ℕ) where
   is_bad_name-mapped : (kind : Kind) (ps : Parts) → is_bad_name kind (mapped_parts f ps) ≡ is_bad_name kind ps
@@ -62,14 +65,6 @@ module _ (f : ℕ → ℕ) where
   has_late_directive-mapped late end = refl
   has_late_directive-mapped late (more p ps) = rw (is_directive-mapped p, has_late_directive-mapped (late || not (is_directive p)) ps) refl
 
-  is_use_strict-mapped : (p : Part) → is_use_strict (mapped_part f p) ≡ is_use_strict p
-  is_use_strict-mapped (child (Node Kind.ExpressionStatement m span semantic_id (more e (more (string s) end)))) = refl
-  is_use_strict-mapped p = refl
-
-  uses_strict-mapped : (ps : Parts) → uses_strict (mapped_parts f ps) ≡ uses_strict ps
-  uses_strict-mapped end = refl
-  uses_strict-mapped (more p ps) = ap₂ (λ a b. a || b) (is_use_strict-mapped p) (uses_strict-mapped ps)
-
   is_binding_name-mapped : (p : Part) → is_binding_name (mapped_part f p) ≡ is_binding_name p
   is_binding_name-mapped (child (Node Kind.BindingIdentifier m span semantic_id ps)) = refl
   is_binding_name-mapped p = refl
@@ -79,7 +74,7 @@ module _ (f : ℕ → ℕ) where
   are_names-mapped (more p ps) = ap₂ (λ a b. a && b) (is_binding_name-mapped p) (are_names-mapped ps)
 
   strict_with_patterns-mapped : (i j : ℕ) (ps : Parts) → is_strict_with_patterns (at i (mapped_parts f ps)) (at j (mapped_parts f ps)) ≡ is_strict_with_patterns (at i ps) (at j ps)
-  strict_with_patterns-mapped i j ps = rw (items_at-mapped f i ps, block_items_at-mapped f j ps) (ap₂ (λ a b. not a && b) (are_names-mapped (items (at i ps))) (uses_strict-mapped (block_items (at j ps))))
+  strict_with_patterns-mapped i j ps = rw (items_at-mapped f i ps) (ap₂ (λ a b. not a && b) (are_names-mapped (items (at i ps))) (body_strict-mapped f j ps))
 
   late_in-mapped : (kind : Kind) (ps : Parts) → has_late_directive false (statement_list kind (mapped_parts f ps)) ≡ has_late_directive false (statement_list kind ps)
   late_in-mapped kind ps = ap (has_late_directive false) (statement_list-mapped f kind ps) ∙ has_late_directive-mapped false (statement_list kind ps)

@@ -1,16 +1,16 @@
 -- What references refer to, and which bindings are written, follow a change of numbers.
 use Rattle.std.specs.Prelude.{◌≡◌, ℕ, suc, List, [], ◌∷◌, ◌++◌, ◌||◌, map, Bool, true, false, bytes_eq, Option, Some, None}
-use Rattle.std.proofs.Common.{refl, ap, ◌∙◌}
+use Rattle.std.proofs.Common.{refl, ap, ap₂, ◌∙◌}
 use Rattle.es_base.specs.Preorder.{preorder}
 use Rattle.es_base.specs.Table.{Field, members_of}
 use Rattle.es_base.specs.Tree.{Tree, Part, Parts, Node, end, more, child, list}
 use Rattle.es_base.specs.declared.kind.Kind.{Kind}
-use Rattle.es_steps.specs.Parts.{at, string_of}
-use Rattle.es_steps.specs.References.{declared, referent, Reference, is_target, is_reference, reference, references, references_in, part_references, item_references, resolve, has_number, numbers_of, if_bound, assigned, is_declared, repeated, is_for_each, written_by, written_by_all, written, imported_by, imported_by_all, imported, varying, is_free, writes_free}
+use Rattle.es_steps.specs.Parts.{at, items, string_of, is_true}
+use Rattle.es_steps.specs.References.{declared, referent, Reference, is_target, is_reference, reference, references, references_in, part_references, item_references, resolve, has_number, numbers_of, if_bound, assigned, is_declared, repeated, is_for_each, written_by, written_by_all, written, imported_by, imported_by_all, imported, caught_again, caught_again_in, bound_spelling, function_name, function_names, case_functions, inner_functions, meant, given_around, given_in, given_at, given_of, changed_otherwise, varying, is_free, writes_free}
 use Rattle.es_steps.specs.Scopes.{Declaration, no_class, bound_part, names_at, is_body_part, scope_form, scope_names, var_part}
 use Rattle.es_steps.specs.Values.{String, Referent, Bound, Free}
 use Rattle.es_steps.proofs.Mapped.{mapped, mapped_part, mapped_parts, mapped_declaration, mapped_declarations, mapped_option, mapped_reference, mapped_referent, Renames}
-use Rattle.es_steps.proofs.PartsMapped.{cond-mapped, append-mapped, at-mapped, string_at-mapped, preorder-mapped}
+use Rattle.es_steps.proofs.PartsMapped.{cond-mapped, append-mapped, at-mapped, items_at-mapped, string_at-mapped, is_true_at-mapped, preorder-mapped}
 use Rattle.es_steps.proofs.ScopesMapped.{bound_part-mapped, names_at-mapped, scope_names-mapped, var_part-mapped}
 
 module _ (f : ℕ → ℕ) where
@@ -20,7 +20,7 @@ module _ (f : ℕ → ℕ) where
   declared-mapped s [] = refl
   declared-mapped s (d ∷ ds) = cond-mapped (mapped_option (mapped_declaration f)) (bytes_eq s d.spelling) _ _ refl (declared-mapped s ds)
 
-  referent-mapped : (s : String) (d : Option Declaration) → referent s (mapped_option (mapped_declaration f) d) ≡ mapped_referent f (referent s d)
+  pub referent-mapped : (s : String) (d : Option Declaration) → referent s (mapped_option (mapped_declaration f) d) ≡ mapped_referent f (referent s d)
   referent-mapped s None = refl
   referent-mapped s (Some d) = refl
 
@@ -105,8 +105,82 @@ module _ (f : ℕ → ℕ) where
   imported_by_all-mapped [] = refl
   imported_by_all-mapped (t ∷ ts) = append-mapped f _ _ (imported_by-mapped t) (imported_by_all-mapped ts)
 
+  caught_again-mapped : (t : Tree) → caught_again (mapped f t) ≡ map f (caught_again t)
+  caught_again-mapped (Node Kind.CatchClause m span semantic_id ps) =
+      rw (at-mapped f 0 ps, at-mapped f 1 ps, append-mapped (mapped_declaration f) (bound_part no_class (at 0 ps)) (var_part (at 1 ps)) (bound_part-mapped f no_class (at 0 ps)) (var_part-mapped f (at 1 ps)))
+      (repeated-mapped (bound_part no_class (at 0 ps) ++ var_part (at 1 ps)))
+  caught_again-mapped t = refl
+
+  caught_again_in-mapped : (ts : List Tree) → caught_again_in (map (mapped f) ts) ≡ map f (caught_again_in ts)
+  caught_again_in-mapped [] = refl
+  caught_again_in-mapped (t ∷ ts) = append-mapped f _ _ (caught_again-mapped t) (caught_again_in-mapped ts)
+
+  bound_spelling-mapped : (p : Part) → bound_spelling (mapped_part f p) ≡ bound_spelling p
+  bound_spelling-mapped (child (Node Kind.BindingIdentifier b span semantic_id ps)) = ap (λ s. s ∷ []) (string_at-mapped f 0 ps)
+  bound_spelling-mapped p = refl
+
+  function_name-mapped : (p : Part) → function_name (mapped_part f p) ≡ function_name p
+  function_name-mapped (child (Node Kind.FunctionDeclaration m span semantic_id ps)) = rw (is_true_at-mapped f 3 ps, is_true_at-mapped f 4 ps, at-mapped f 0 ps, bound_spelling-mapped (at 0 ps)) refl
+  function_name-mapped (child (Node Kind.LabeledStatement m span semantic_id (more label (more s end)))) = function_name-mapped s
+  function_name-mapped p = refl
+
+  function_names-mapped : (ps : Parts) → function_names (mapped_parts f ps) ≡ function_names ps
+  function_names-mapped end = refl
+  function_names-mapped (more p ps) = ap₂ (λ a b. a ++ b) (function_name-mapped p) (function_names-mapped ps)
+
+  items_functions-mapped : (i : ℕ) (ps : Parts) → function_names (items (at i (mapped_parts f ps))) ≡ function_names (items (at i ps))
+  items_functions-mapped i ps = ap function_names (items_at-mapped f i ps) ∙ function_names-mapped (items (at i ps))
+
+  case_functions-mapped : (ps : Parts) → case_functions (mapped_parts f ps) ≡ case_functions ps
+  case_functions-mapped end = refl
+  case_functions-mapped (more (child (Node kind m span semantic_id ps)) rest) = ap₂ (λ a b. a ++ b) (items_functions-mapped 1 ps) (case_functions-mapped rest)
+  case_functions-mapped (more p rest) = case_functions-mapped rest
+
+  inner_functions-mapped : (is_body : Bool) (kind : Kind) (ps : Parts) → inner_functions is_body kind (mapped_parts f ps) ≡ inner_functions is_body kind ps
+  inner_functions-mapped false Kind.BlockStatement ps = items_functions-mapped 0 ps
+  inner_functions-mapped true Kind.BlockStatement ps = refl
+  inner_functions-mapped is_body Kind.SwitchStatement ps = ap case_functions (items_at-mapped f 1 ps) ∙ case_functions-mapped (items (at 1 ps))
+  inner_functions-mapped is_body Kind.IfStatement ps = rw (at-mapped f 1 ps, at-mapped f 2 ps, function_name-mapped (at 1 ps), function_name-mapped (at 2 ps)) refl
+  inner_functions-mapped is_body kind ps = refl
+
+  meant-mapped : (names : List Declaration) (ss : List String) → meant (mapped_declarations f names) ss ≡ map f (meant names ss)
+  meant-mapped names [] = refl
+  meant-mapped names (s ∷ ss) =
+      append-mapped f _ _
+      (rw (declared-mapped s names, referent-mapped s (declared s names)) (if_bound-mapped true (referent s (declared s names))))
+      (meant-mapped names ss)
+
+  mutual
+    given_around-mapped : (names : List Declaration) (is_body : Bool) (t : Tree) → given_around (mapped_declarations f names) is_body (mapped f t) ≡ map f (given_around names is_body t)
+    given_around-mapped names is_body (Node kind m span semantic_id ps) =
+        append-mapped f _ _
+        (rw (inner_functions-mapped is_body kind ps) (meant-mapped names (inner_functions is_body kind ps)))
+        (given_in-mapped _ (λ i. names_at is_body kind m ps i ++ names) (is_body_part kind) (λ i. append-mapped (mapped_declaration f) _ names (names_at-mapped f is_body kind m ps i) refl) ps)
+
+    given_in-mapped : (seen names : ℕ → List Declaration) (bodies : ℕ → Bool) → ((i : ℕ) → seen i ≡ mapped_declarations f (names i)) → (ps : Parts) → given_in seen bodies (mapped_parts f ps) ≡ map f (given_in names bodies ps)
+    given_in-mapped seen names bodies same end = refl
+    given_in-mapped seen names bodies same (more p ps) =
+        append-mapped f _ _
+        (rw (same 0) (given_at-mapped (names 0) (bodies 0) p))
+        (given_in-mapped (λ i. seen (suc i)) (λ i. names (suc i)) (λ i. bodies (suc i)) (λ i. same (suc i)) ps)
+
+    given_at-mapped : (names : List Declaration) (is_body : Bool) (p : Part) → given_at (mapped_declarations f names) is_body (mapped_part f p) ≡ map f (given_at names is_body p)
+    given_at-mapped names is_body (child t) = given_around-mapped names is_body t
+    given_at-mapped names is_body (list ps) = given_of-mapped names ps
+    given_at-mapped names is_body p = refl
+
+    given_of-mapped : (names : List Declaration) (ps : Parts) → given_of (mapped_declarations f names) (mapped_parts f ps) ≡ map f (given_of names ps)
+    given_of-mapped names end = refl
+    given_of-mapped names (more p ps) = append-mapped f _ _ (given_at-mapped names false p) (given_of-mapped names ps)
+
+  changed_otherwise-mapped : (t : Tree) → changed_otherwise (mapped f t) ≡ map f (changed_otherwise t)
+  changed_otherwise-mapped t =
+      append-mapped f (imported t) (caught_again_in (preorder t) ++ given_around [] false t)
+      (ap imported_by_all (preorder-mapped f t) ∙ imported_by_all-mapped (preorder t))
+      (append-mapped f (caught_again_in (preorder t)) (given_around [] false t) (ap caught_again_in (preorder-mapped f t) ∙ caught_again_in-mapped (preorder t)) (given_around-mapped [] false t))
+
   pub varying-mapped : (t : Tree) → varying (mapped f t) ≡ map f (varying t)
-  varying-mapped t = append-mapped f (written t) (imported t) (written-mapped t) (ap imported_by_all (preorder-mapped f t) ∙ imported_by_all-mapped (preorder t))
+  varying-mapped t = append-mapped f (written t) (changed_otherwise t) (written-mapped t) (changed_otherwise-mapped t)
 
   is_free-mapped : (s : String) (to : Referent) → is_free s (mapped_referent f to) ≡ is_free s to
   is_free-mapped s (Bound b) = refl

@@ -10,15 +10,19 @@ use Rattle.es_steps.specs.Events.{Detail, Operand, Empty, Index, Rest, OfKind, T
 use Rattle.es_steps.specs.Expressions.{the_code, key_code, key_details, target_of}
 use Rattle.es_steps.specs.Members.{Member, Members, code, absent, list, string, more, end, at, from, before, operands, details, codes_in, codes_of, word_of, flag_of}
 use Rattle.es_steps.specs.PrivateNames.{PrivateMember, member_at}
-use Rattle.es_steps.specs.Statements.{held_from, case_code, given_codes, catch_code, is_initialized, initialized_first, head_initializers, declared_target, given_targets, head_targets, for_each_code, is_directive, expression_code, declarator_of, declarator_code, return_code, suspension_code, default_export_code, default_code, rest_code, pattern_property_code, target_number, taken, taken_element, elements_from, members_of_list, array_pattern_code, taken_properties, object_pattern_code, form_of, function_or_new, own_name_of, function_code, function_expression_code, hoisted_function, declared_function, function_declaration_code, arrow_code, declared_by, declared_by_let, elements_of, class_of, value_or_undefined, is_name_or_length, is_absent, field_form, private_element, field_of, field_code, is_constructor_key, method_or_constructor, is_declared_as, method_of, method_code}
+use Rattle.es_steps.specs.Statements.{held_from, case_code, given_codes, catch_code, is_initialized, initialized_first, head_initializers, declared_target, given_targets, head_targets, for_each_code, is_other_directive, expression_code, declarator_of, declarator_code, return_code, suspension_code, default_export_code, default_code, rest_code, pattern_property_code, target_number, taken, taken_element, elements_from, members_of_list, array_pattern_code, taken_properties, object_pattern_code, form_of, function_or_new, own_name_of, function_code, function_expression_code, hoisted_function, declared_function, around_plain, is_new_return, ends_with_return, arrow_body, function_declaration_code, arrow_code, declared_by, declared_by_let, elements_of, class_of, value_or_undefined, is_name_or_length, is_absent, field_form, private_element, field_of, field_code, is_constructor_key, method_or_constructor, is_declared_as, method_of, method_code}
+use Rattle.es_steps.specs.GeneratedForms.{opened_body}
+use Rattle.es_steps.specs.References.{declared, referent}
+use Rattle.es_steps.specs.Scopes.{Declaration}
 use Rattle.es_steps.specs.Values.{String, StringOf, ConstantOf}
 use Rattle.es_steps.proofs.ContextMapped.{is_generated_private-mapped}
 use Rattle.es_steps.proofs.ExpressionsMapped.{the_code_at-mapped, key_code-mapped, key_details-mapped, target_of-mapped, target_at-mapped}
-use Rattle.es_steps.proofs.FormsMapped.{code-cond, cond-code, here, given-mapped}
-use Rattle.es_steps.proofs.Mapped.{Renames, mapped_option, mapped_generated, mapped_private, mapped_pair, mapped_context, mapped_code, mapped_codes, mapped_target, mapped_member, mapped_members}
+use Rattle.es_steps.proofs.FormsMapped.{code-cond, cond-code, here, given-mapped, opened_body-mapped}
+use Rattle.es_steps.proofs.Mapped.{Renames, mapped_option, mapped_declarations, mapped_generated, mapped_private, mapped_pair, mapped_context, mapped_code, mapped_codes, mapped_target, mapped_member, mapped_members}
 use Rattle.es_steps.proofs.PrivatesMapped.{member_at-mapped}
 use Rattle.es_steps.proofs.MembersMapped.{at-mapped, from-mapped, before-mapped, joined-mapped, operands-mapped, details-mapped, codes_in-mapped, word_at-mapped, flag_at-mapped, codes_at-mapped}
 use Rattle.es_steps.proofs.PartsMapped.{cond-mapped}
+use Rattle.es_steps.proofs.ReferencesMapped.{declared-mapped, referent-mapped}
 
 module _ (f : ℕ → ℕ) where
   -- ---- statements
@@ -65,9 +69,9 @@ module _ (f : ℕ → ℕ) where
       rw (from-mapped f 1 ps, details-mapped f (from 1 ps), the_code_at-mapped f 0 ps, head_initializers-mapped (the_code (at 0 ps)), head_targets-mapped m (the_code (at 0 ps)), codes_at-mapped f 1 ps, codes_at-mapped f 2 ps, joined-mapped f (head_initializers (the_code (at 0 ps))) (codes_of (at 1 ps)), joined-mapped f (head_targets m (the_code (at 0 ps))) (codes_of (at 2 ps)))
       refl
 
-  is_directive-mapped : (p : Member) → is_directive (mapped_member f p) ≡ is_directive p
-  is_directive-mapped (string s) = refl
-  is_directive-mapped p = refl
+  is_other_directive-mapped : (p : Member) → is_other_directive (mapped_member f p) ≡ is_other_directive p
+  is_other_directive-mapped (string s) = refl
+  is_other_directive-mapped p = refl
 
   pub default_export_code-mapped : (ps : Members) → default_export_code (mapped_members f ps) ≡ mapped_code f (default_export_code ps)
   default_export_code-mapped ps = rw (the_code_at-mapped f 0 ps) refl
@@ -125,15 +129,24 @@ module _ (f : ℕ → ℕ) where
   function_or_new-mapped true g form own ps body = refl
   function_or_new-mapped false g form own ps body = refl
 
-  hoisted_function-mapped : (here : Bool) (g : ℕ) (s : String) (e : Code) → hoisted_function here (f g) s (mapped_code f e) ≡ mapped_code f (hoisted_function here g s e)
-  hoisted_function-mapped true g s e = refl
-  hoisted_function-mapped false g s e = refl
+  is_new_return-mapped : (c : Code) → is_new_return (mapped_code f c) ≡ is_new_return c
+  is_new_return-mapped (new_return es) = refl
+  is_new_return-mapped c = refl
 
-  declared_function-mapped : (here : Bool) (g : ℕ) (p : Member) (e : Code) → declared_function here (f g) (mapped_member f p) (mapped_code f e) ≡ mapped_code f (declared_function here g p e)
+  ends_with_return-mapped : (cs : Codes) → ends_with_return (mapped_codes f cs) ≡ ends_with_return cs
+  ends_with_return-mapped done = refl
+  ends_with_return-mapped (and c done) = is_new_return-mapped c
+  ends_with_return-mapped (and c (and d cs)) = ends_with_return-mapped (and d cs)
+
+  hoisted_function-mapped : (around : Option (List Declaration)) (g : ℕ) (s : String) (e : Code) → hoisted_function (mapped_option (mapped_declarations f) around) (f g) s (mapped_code f e) ≡ mapped_code f (hoisted_function around g s e)
+  hoisted_function-mapped None g s e = refl
+  hoisted_function-mapped (Some names) g s e = rw (declared-mapped f s names, referent-mapped f s (declared s names)) refl
+
+  declared_function-mapped : (around : Option (List Declaration)) (g : ℕ) (p : Member) (e : Code) → declared_function (mapped_option (mapped_declarations f) around) (f g) (mapped_member f p) (mapped_code f e) ≡ mapped_code f (declared_function around g p e)
   declared_function-mapped here g (code (binding b s (Generated (GeneratedKind.Method d)))) e = refl
   declared_function-mapped here g (code (binding b s (Generated k))) e = of_kind k
     where
-      of_kind : (k : GeneratedKind) → declared_function here (f g) (code (binding (f b) s (Generated (mapped_generated f k)))) (mapped_code f e) ≡ mapped_code f (declared_function here g (code (binding b s (Generated k))) e)
+      of_kind : (k : GeneratedKind) → declared_function (mapped_option (mapped_declarations f) here) (f g) (code (binding (f b) s (Generated (mapped_generated f k)))) (mapped_code f e) ≡ mapped_code f (declared_function here g (code (binding b s (Generated k))) e)
       of_kind (GeneratedKind.Method d) = refl
       of_kind k = refl
   declared_function-mapped here g (code (binding b s (Fixed n))) e = hoisted_function-mapped here g s e
@@ -203,8 +216,8 @@ module _ {first : ℕ} {f : ℕ → ℕ} (r : Renames first f) (c : Context) (e 
 
   pub expression_code-mapped : (m : ℕ) (ps : Members) → expression_code there (f m) (mapped_members f ps) ≡ mapped_code f (expression_code c m ps)
   expression_code-mapped m ps =
-      rw (at-mapped f 1 ps, is_directive-mapped f (at 1 ps), here r c e m, codes_in-mapped f ps)
-      (cond-code f (is_directive (at 1 ps) && (is_new c.first_new m && not c.in_new_function)) no_rule (steps (codes_in ps)))
+      rw (at-mapped f 1 ps, is_other_directive-mapped f (at 1 ps), here r c e m, codes_in-mapped f ps)
+      (cond-code f (is_other_directive (at 1 ps) && is_new c.first_new m) no_rule (steps (codes_in ps)))
 
   -- a declarator: its binding or pattern, and its initializer
   declarator_of-mapped : (m : ℕ) (new : Bool) (d : Code) (p : Member) → declarator_of there (f m) new (mapped_code f d) (mapped_member f p) ≡ mapped_code f (declarator_of c m new d p)
@@ -245,15 +258,22 @@ module _ {first : ℕ} {f : ℕ → ℕ} (r : Renames first f) (c : Context) (e 
 
   pub function_declaration_code-mapped : (g : ℕ) (ps : Members) → function_declaration_code there (f g) (mapped_members f ps) ≡ mapped_code f (function_declaration_code c g ps)
   function_declaration_code-mapped g ps =
-      let here : Bool = c.in_block && not (flag_of (at 3 ps) || flag_of (at 4 ps)) in
-      ap₂ (λ a b. declared_function (c.in_block && not (a || b)) (f g) (at 0 (mapped_members f ps)) (function_code there (f g) None (mapped_members f ps))) (flag_at-mapped f 3 ps) (flag_at-mapped f 4 ps)
-      ∙ ap₂ (declared_function here (f g)) (at-mapped f 0 ps) (function_code-mapped g None ps)
-      ∙ declared_function-mapped f here g (at 0 ps) (function_code c g None ps)
+      let suspends : Bool = flag_of (at 3 ps) || flag_of (at 4 ps) in
+      let around : Option (List Declaration) = around_plain suspends c.around in
+      ap₂ (λ a b. declared_function (around_plain (a || b) there.around) (f g) (at 0 (mapped_members f ps)) (function_code there (f g) None (mapped_members f ps))) (flag_at-mapped f 3 ps) (flag_at-mapped f 4 ps)
+      ∙ ap (λ x. declared_function x (f g) (at 0 (mapped_members f ps)) (function_code there (f g) None (mapped_members f ps))) (cond-mapped (mapped_option (mapped_declarations f)) suspends None c.around refl refl)
+      ∙ ap₂ (declared_function (mapped_option (mapped_declarations f) around) (f g)) (at-mapped f 0 ps) (function_code-mapped g None ps)
+      ∙ declared_function-mapped f around g (at 0 ps) (function_code c g None ps)
+
+  arrow_body-mapped : (new : Bool) (q : Code) → arrow_body new (mapped_code f q) ≡ mapped_code f (arrow_body new q)
+  arrow_body-mapped false (steps cs) = rw (ends_with_return-mapped f cs, opened_body-mapped f (steps cs)) (cond-code f (ends_with_return cs) (opened_body (steps cs)) (steps cs))
+  arrow_body-mapped new q = refl
 
   pub arrow_code-mapped : (g : ℕ) (ps : Members) → arrow_code there (f g) (mapped_members f ps) ≡ mapped_code f (arrow_code c g ps)
   arrow_code-mapped g ps =
-      rw (here r c e g, flag_at-mapped f 2 ps, codes_at-mapped f 0 ps, the_code_at-mapped f 1 ps)
-      (function_or_new-mapped f (is_new c.first_new g) g (form_of true (flag_of (at 2 ps)) false) None (codes_of (at 0 ps)) (the_code (at 1 ps)))
+      let body : Code = the_code (at 1 ps) in
+      rw (here r c e g, flag_at-mapped f 2 ps, codes_at-mapped f 0 ps, the_code_at-mapped f 1 ps, arrow_body-mapped (is_new c.first_new g) body)
+      (function_or_new-mapped f (is_new c.first_new g) g (form_of true (flag_of (at 2 ps)) false) None (codes_of (at 0 ps)) (arrow_body (is_new c.first_new g) body))
 
   -- ---- classes
 

@@ -8,14 +8,15 @@ use Rattle.es_base.specs.declared.ledger.LedgerEntry.{LedgerEntry}
 use Rattle.es_steps.specs.Context.{generated_as}
 use Rattle.es_steps.specs.Definitions.{spelling}
 use Rattle.es_steps.specs.Expressions.{is_logical}
-use Rattle.es_steps.specs.HelperCalls.{is_class_body}
+use Rattle.es_steps.specs.HelperCalls.{is_class_body, body_runs}
 use Rattle.es_steps.specs.KeptNodes.{pair_stands, all_pairs_stand}
 use Rattle.es_steps.specs.Parts.{at, items, string_of}
 use Rattle.es_steps.specs.PrivateNames.{PrivateMember, member_at, is_class, is_element}
-use Rattle.es_steps.specs.Timely.{MarkForm, declares, initializes, hoists, uses, Around, Mark, is_held, is_held_arrow, is_instance_value, runs_later, around_in, mark_by, mark, declared_mark, initialized_mark, marks_before, marks_behind, is_given, is_let_declaration, runs_with_class, any_runs, body_runs, is_of_class, is_needed_by, needed_names, uses_of, is_called_arrow, marks, marks_in, marks_at, marks_of, key_marks, value_marks, is_later, gives_by, gives_in_time, any_gives, is_dead_by, is_dead, is_skipped_by, is_skipped, is_followed, is_use, comes_first, is_early_by, is_early, asks, in_time, names_timely}
+use Rattle.es_steps.specs.Timely.{MarkForm, declares, initializes, hoists, uses, Around, Mark, is_held, is_held_arrow, is_instance_value, runs_later, around_in, mark_by, mark, declared_mark, initialized_mark, marks_before, marks_behind, is_given, is_let_declaration, is_of_class, is_needed_by, needed_names, uses_of, is_called_arrow, marks, marks_in, marks_at, marks_of, key_marks, value_marks, is_later, gives_by, gives_in_time, any_gives, is_dead_by, is_dead, is_skipped_by, is_skipped, is_followed, is_use, comes_first, is_early_by, is_early, asks, in_time, names_timely}
 use Rattle.es_steps.specs.Values.{String}
 use Rattle.es_steps.proofs.ContextMapped.{generated_as-mapped}
 use Rattle.es_steps.proofs.DefinitionsMapped.{spelling-mapped}
+use Rattle.es_steps.proofs.HelperCallsMapped.{body_runs-mapped}
 use Rattle.es_steps.proofs.Mapped.{Renames, mapped, mapped_part, mapped_parts, mapped_option, mapped_generated, mapped_ledger, mapped_privates, mapped_private}
 use Rattle.es_steps.proofs.PartsMapped.{cond-mapped, append-mapped, at-mapped, items_at-mapped, string_at-mapped, is_true_at-mapped}
 use Rattle.es_steps.proofs.PrivatesMapped.{member_at-mapped}
@@ -78,22 +79,9 @@ module _ {first : ℕ} {f : ℕ → ℕ} (r : Renames first f) where
   later_in-mapped : (x : Around) (kind : Kind) (m : ℕ) (ps : Parts) (i : ℕ) → cond (runs_later first kind (f m) (mapped_parts f ps) i) (f m ∷ map f x.later) (map f x.later) ≡ map f (cond (runs_later first kind m ps i) (m ∷ x.later) x.later)
   later_in-mapped x kind m ps i = rw (runs_later-mapped kind m ps i) (cond-mapped (map f) (runs_later first kind m ps i) (m ∷ x.later) x.later refl refl)
 
-  runs_with_class-mapped : (p : Part) → runs_with_class (mapped_part f p) ≡ runs_with_class p
-  runs_with_class-mapped (child (Node Kind.StaticBlock m span semantic_id ps)) = refl
-  runs_with_class-mapped (child (Node Kind.PropertyDefinition m span semantic_id ps)) = is_true_at-mapped f 3 ps
-  runs_with_class-mapped p = refl
-
-  any_runs-mapped : (ps : Parts) → any_runs (mapped_parts f ps) ≡ any_runs ps
-  any_runs-mapped end = refl
-  any_runs-mapped (more p ps) = ap₂ (λ a b. a || b) (runs_with_class-mapped p) (any_runs-mapped ps)
-
-  body_runs-mapped : (p : Part) → body_runs (mapped_part f p) ≡ body_runs p
-  body_runs-mapped (child (Node Kind.ClassBody m span semantic_id ps)) = ap any_runs (items_at-mapped f 0 ps) ∙ any_runs-mapped (items (at 0 ps))
-  body_runs-mapped p = refl
-
   running_in-mapped : (x : Around) (kind : Kind) (m : ℕ) (ps : Parts) → cond (is_class kind && body_runs (at 2 (mapped_parts f ps))) (f m ∷ map f x.running) (map f x.running) ≡ map f (cond (is_class kind && body_runs (at 2 ps)) (m ∷ x.running) x.running)
   running_in-mapped x kind m ps =
-      ap (λ b. cond (is_class kind && b) (f m ∷ map f x.running) (map f x.running)) (ap body_runs (at-mapped f 2 ps) ∙ body_runs-mapped (at 2 ps))
+      ap (λ b. cond (is_class kind && b) (f m ∷ map f x.running) (map f x.running)) (ap body_runs (at-mapped f 2 ps) ∙ body_runs-mapped f (at 2 ps))
       ∙ cond-mapped (map f) (is_class kind && body_runs (at 2 ps)) (m ∷ x.running) x.running refl refl
 
   around_in-mapped : (x : Around) (kind : Kind) (m : ℕ) (ps : Parts) (i : ℕ) → around_in first (mapped_around f x) kind (f m) (mapped_parts f ps) i ≡ mapped_around f (around_in first x kind m ps i)

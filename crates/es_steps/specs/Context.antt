@@ -93,6 +93,15 @@ abbrev pub is_generated_private : String → ℕ → List LedgerEntry → Bool
 is_generated_private s n [] = false
 is_generated_private s n (e ∷ es) = (is_private_for n e.kind && bytes_eq s e.name) || is_generated_private s n es
 
+abbrev pub is_private_elsewhere : ℕ → GeneratedKind → Bool
+is_private_elsewhere n (GeneratedKind.Private k) = not (nat_eq n k.0)
+is_private_elsewhere n g = false
+
+-- .. and for another one
+abbrev pub is_generated_elsewhere : String → ℕ → List LedgerEntry → Bool
+is_generated_elsewhere s n [] = false
+is_generated_elsewhere s n (e ∷ es) = (is_private_elsewhere n e.kind && bytes_eq s e.name) || is_generated_elsewhere s n es
+
 abbrev pub unless_varying : List ℕ → ℕ → NameKind → NameKind
 unless_varying varying b kind = cond (has_number b varying) (Changing (Bound b)) kind
 

@@ -5,11 +5,11 @@ use Rattle.es_base.specs.declared.ledger.GeneratedKind.{GeneratedKind}
 use Rattle.es_base.specs.declared.literal.LiteralValue.{LiteralValue}
 use Rattle.es_base.specs.declared.literal.LiteralValue.TheVariants as literal_value
 use Rattle.es_steps.specs.Code.{Code, Codes, Target, Callee, TemplateString, no_rule, value, spelled, private_name, binding, name, super, member, private_member, super_member, private_in, compound, logical, logical_assign, update, call, tag, construct, template_string, template, operation, piece, chain, short, tested, pattern, from_call, from_member, bound, setter, private_value, to_name, to_member, to_private, to_super, to_setter, no_target, plain, on_member, on_private, on_super, with_receiver, checked, on_chain, behind_test, done, and}
-use Rattle.es_steps.specs.Context.{Context, NameKind, Changing, Generated, StaticMethod, name_kind, new_here, is_generated_private}
+use Rattle.es_steps.specs.Context.{Context, NameKind, Changing, Generated, StaticMethod, name_kind, new_here, is_generated_private, is_generated_elsewhere}
 use Rattle.es_steps.specs.Events.{Detail, Operand, Spelled, Flag, Key, Prototype, OfKind, Delete}
 use Rattle.es_steps.specs.GeneratedForms.{helper_member, generated_member, generated_call, generated_binary, generated_assignment, is_undefined_test, again_of, tested_object, class_named, is_method_kind}
 use Rattle.es_steps.specs.Members.{Member, Members, code, string, literal, at, operands, details, codes_of, word_of, flag_of}
-use Rattle.es_steps.specs.PrivateNames.{element_name, PrivateMember, PrivateReference, private_reference, test_of, member_at}
+use Rattle.es_steps.specs.PrivateNames.{PrivateMember, PrivateReference, private_reference, test_of, member_at}
 use Rattle.es_steps.specs.Values.{String, Constant, StringOf, NumberOf, BigIntOf, RegExpOf, BooleanOf, Null, Value, ConstantOf, Undefined, ResultOf, ThisOf, ClassOf, ArgumentsOf, Bound, Free, Home}
 
 -- the rule of all kinds that have none of their own: the operands in order, then the operation
@@ -110,7 +110,8 @@ member_code c m ps =
     let k : Code = the_code (at 1 ps) in
     helper_member c (flag_of (at 2 ps)) o k (member_on c m (flag_of (at 3 ps)) o (key_code (flag_of (at 2 ps)) k))
 
--- a private name that was generated stands for what its element holds, where its object is a name of its class
+-- a private name that was generated stands for what its element holds, where its object is a name of its class, and no other
+-- class has a generated name of that spelling
 abbrev pub is_made_private : Context → String → PrivateReference → Bool
 is_made_private c s r = is_generated_private s r.class c.ledger
 
@@ -120,7 +121,7 @@ names_class r (Some n) = true
 
 abbrev pub private_on : Context → ℕ → String → Option PrivateReference → Code → Code → Code
 private_on c m s None o checked_o = no_rule
-private_on c m s (Some r) o checked_o = cond (is_made_private c s r) (cond (names_class r (class_named o)) (private_value (element_name r.class s)) no_rule) (private_member m r checked_o)
+private_on c m s (Some r) o checked_o = cond (is_made_private c s r) (cond (names_class r (class_named o) && not (is_generated_elsewhere s r.class c.ledger)) (private_value s) no_rule) (private_member m r checked_o)
 
 abbrev pub private_field_of : Context → ℕ → Bool → Code → Code → Code
 private_field_of c m optional super k = no_rule

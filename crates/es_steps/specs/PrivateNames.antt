@@ -1,6 +1,6 @@
 -- Private names: what the classes of a program declare, and which class each use of one means. (ECMA-262, 9.2:
 -- private environments; a use means the nearest class body around it that declares its spelling.)
-use Rattle.std.specs.Prelude.{ℕ, suc, List, [], ◌∷◌, ◌++◌, Bool, true, false, cond, bytes_eq, nat_eq, ◌&&◌, codes, decimal, Option, Some, None}
+use Rattle.std.specs.Prelude.{ℕ, suc, List, [], ◌∷◌, ◌++◌, Bool, true, false, cond, bytes_eq, nat_eq, ◌&&◌, codes, Option, Some, None}
 use Rattle.es_base.specs.Preorder.{preorder}
 use Rattle.es_base.specs.Tree.{Tree, Part, Parts, Node, end, more, child, list}
 use Rattle.es_base.specs.declared.kind.Kind.{Kind}
@@ -66,10 +66,6 @@ members_of_all (Node kind m span semantic_id ps ∷ ts) = members_at kind m ps +
 
 abbrev pub private_members : Tree → List PrivateMember
 private_members t = members_of_all (preorder t)
-
--- what a generated private element of class n holds is kept by the class and the spelling
-abbrev pub element_name : ℕ → String → String
-element_name n s = decimal n ++ (32 ∷ s)
 
 -- the member that the key d declares
 abbrev pub member_at : ℕ → List PrivateMember → Option PrivateMember

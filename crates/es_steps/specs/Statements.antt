@@ -11,7 +11,7 @@ use Rattle.es_steps.specs.Members.{Member, Members, code, absent, list, string, 
 use Rattle.es_steps.specs.Options.{sets_fields, leaves_out_fields}
 use Rattle.es_steps.specs.References.{declared, referent}
 use Rattle.es_steps.specs.Scopes.{Declaration}
-use Rattle.es_steps.specs.PrivateNames.{element_name, PrivateMember, PrivateKind, a_method, a_getter, a_setter, method_kind, member_at}
+use Rattle.es_steps.specs.PrivateNames.{PrivateMember, PrivateKind, a_method, a_getter, a_setter, method_kind, member_at}
 use Rattle.es_steps.specs.SameValues.{same_boolean}
 use Rattle.es_steps.specs.Values.{String, StringOf, ConstantOf, FunctionOf, Undefined}
 use Rattle.es_steps.specs.declared.options.Options.{Options}
@@ -194,10 +194,14 @@ abbrev pub function_declaration_code : Context → ℕ → Members → Code
 function_declaration_code c f ps = declared_function (around_plain (flag_of (at 3 ps) || flag_of (at 4 ps)) c.around) f (at 0 ps) (function_code c f None ps)
 
 -- the expression that is the body of an arrow may become a new `return` at the end of a list
+abbrev pub is_new_return : Code → Bool
+is_new_return (new_return es) = true
+is_new_return c = false
+
 abbrev pub ends_with_return : Codes → Bool
 ends_with_return done = false
-ends_with_return (and (new_return es) done) = true
-ends_with_return (and c cs) = ends_with_return cs
+ends_with_return (and c done) = is_new_return c
+ends_with_return (and c (and d cs)) = ends_with_return (and d cs)
 
 abbrev pub arrow_body : Bool → Code → Code
 arrow_body false (steps cs) = cond (ends_with_return cs) (opened_body (steps cs)) (steps cs)
@@ -250,7 +254,7 @@ field_form o is_static key init =
 
 -- a private element is generated, or declares the member d
 abbrev pub private_element : Context → Bool → ℕ → String → Code → Code
-private_element c is_static d s e = cond (new_here c d) (cond (is_static && is_generated_private s c.class c.ledger) (generated_element (element_name c.class s) e) no_rule) (private_field is_static d e)
+private_element c is_static d s e = cond (new_here c d) (cond (is_static && is_generated_private s c.class c.ledger) (generated_element s e) no_rule) (private_field is_static d e)
 
 abbrev pub field_of : Context → Members → Code → Code
 field_of c ps (private_name d s r) = private_element c (flag_of (at 3 ps)) d s (value_or_undefined (at 1 ps))

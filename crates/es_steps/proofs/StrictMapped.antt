@@ -1,0 +1,91 @@
+-- Strict code, and that none becomes strict, under a change of numbers.
+use Rattle.std.specs.Prelude.{◌≡◌, ℕ, List, [], ◌∷◌, ◌++◌, map, Bool, true, false, not, ◌&&◌, ◌||◌, bytes_eq, codes}
+use Rattle.std.proofs.Common.{refl, ap, ap₂, ◌∙◌}
+use Rattle.es_base.specs.Numbered.{is_new}
+use Rattle.es_base.specs.Preorder.{number_of, preorder, preorder_of}
+use Rattle.es_base.specs.Tree.{Tree, Part, Parts, Node, end, more, child, list}
+use Rattle.es_base.specs.declared.kind.Kind.{Kind}
+use Rattle.es_steps.specs.Parts.{at, items}
+use Rattle.es_steps.specs.Strict.{is_use_strict, has_use_strict, directives, makes_strict, if_strict, strict_numbers, strict_in, strict_at, prologue, is_new_part, has_new_use_strict, were_strict, stays_strict, all_stay_strict}
+use Rattle.es_steps.proofs.Mapped.{Renames, mapped, mapped_part, mapped_parts}
+use Rattle.es_steps.proofs.PartsMapped.{append-mapped, at-mapped, items_at-mapped, string_at-mapped, number_of-mapped, preorder-mapped, preorder_of-mapped}
+use Rattle.es_steps.proofs.ReferencesMapped.{has_number-mapped}
+
+module _ (f : ℕ → ℕ) where
+  is_use_strict-mapped : (p : Part) → is_use_strict (mapped_part f p) ≡ is_use_strict p
+  is_use_strict-mapped (child (Node Kind.ExpressionStatement m span semantic_id ps)) = ap (λ s. bytes_eq s (codes "use strict")) (string_at-mapped f 1 ps)
+  is_use_strict-mapped p = refl
+
+  has_use_strict-mapped : (ps : Parts) → has_use_strict (mapped_parts f ps) ≡ has_use_strict ps
+  has_use_strict-mapped end = refl
+  has_use_strict-mapped (more p ps) = ap₂ (λ a b. a || b) (is_use_strict-mapped p) (has_use_strict-mapped ps)
+
+  directives-mapped : (p : Part) → directives (mapped_part f p) ≡ mapped_parts f (directives p)
+  directives-mapped (child (Node Kind.BlockStatement m span semantic_id ps)) = items_at-mapped f 0 ps
+  directives-mapped p = refl
+
+  directives_at-mapped : (i : ℕ) (ps : Parts) → directives (at i (mapped_parts f ps)) ≡ mapped_parts f (directives (at i ps))
+  directives_at-mapped i ps = ap directives (at-mapped f i ps) ∙ directives-mapped (at i ps)
+
+  pub body_strict-mapped : (i : ℕ) (ps : Parts) → has_use_strict (directives (at i (mapped_parts f ps))) ≡ has_use_strict (directives (at i ps))
+  body_strict-mapped i ps = ap has_use_strict (directives_at-mapped i ps) ∙ has_use_strict-mapped (directives (at i ps))
+
+  makes_strict-mapped : (kind : Kind) (ps : Parts) → makes_strict kind (mapped_parts f ps) ≡ makes_strict kind ps
+  makes_strict-mapped Kind.Program ps =
+      ap₂ (λ s b. bytes_eq s (codes "module") || b) (string_at-mapped f 0 ps) (ap has_use_strict (items_at-mapped f 1 ps) ∙ has_use_strict-mapped (items (at 1 ps)))
+  makes_strict-mapped Kind.ClassDeclaration ps = refl
+  makes_strict-mapped Kind.ClassExpression ps = refl
+  makes_strict-mapped Kind.FunctionDeclaration ps = body_strict-mapped 2 ps
+  makes_strict-mapped Kind.FunctionExpression ps = body_strict-mapped 2 ps
+  makes_strict-mapped Kind.ArrowFunctionExpression ps = body_strict-mapped 1 ps
+  makes_strict-mapped kind ps = refl
+
+  if_strict-mapped : (strict : Bool) (m : ℕ) → if_strict strict (f m) ≡ map f (if_strict strict m)
+  if_strict-mapped true m = refl
+  if_strict-mapped false m = refl
+
+  mutual
+    pub strict_numbers-mapped : (strict : Bool) (t : Tree) → strict_numbers strict (mapped f t) ≡ map f (strict_numbers strict t)
+    strict_numbers-mapped strict (Node kind m span semantic_id ps) =
+        let here : Bool = strict || makes_strict kind ps in
+        rw (makes_strict-mapped kind ps) (append-mapped f (if_strict here m) (strict_in here ps) (if_strict-mapped here m) (strict_in-mapped here ps))
+
+    strict_in-mapped : (strict : Bool) (ps : Parts) → strict_in strict (mapped_parts f ps) ≡ map f (strict_in strict ps)
+    strict_in-mapped strict end = refl
+    strict_in-mapped strict (more p ps) = append-mapped f _ _ (strict_at-mapped strict p) (strict_in-mapped strict ps)
+
+    strict_at-mapped : (strict : Bool) (p : Part) → strict_at strict (mapped_part f p) ≡ map f (strict_at strict p)
+    strict_at-mapped strict (child t) = strict_numbers-mapped strict t
+    strict_at-mapped strict (list ps) = strict_in-mapped strict ps
+    strict_at-mapped strict p = refl
+
+  prologue-mapped : (kind : Kind) (ps : Parts) → prologue kind (mapped_parts f ps) ≡ mapped_parts f (prologue kind ps)
+  prologue-mapped Kind.Program ps = items_at-mapped f 1 ps
+  prologue-mapped Kind.FunctionDeclaration ps = directives_at-mapped 2 ps
+  prologue-mapped Kind.FunctionExpression ps = directives_at-mapped 2 ps
+  prologue-mapped Kind.ArrowFunctionExpression ps = directives_at-mapped 1 ps
+  prologue-mapped kind ps = refl
+
+module _ {first : ℕ} {f : ℕ → ℕ} (r : Renames first f) where
+  is_new_part-mapped : (p : Part) → is_new_part first (mapped_part f p) ≡ is_new_part first p
+  is_new_part-mapped (child (Node kind m span semantic_id ps)) = r.new m
+  is_new_part-mapped p = refl
+
+  has_new_use_strict-mapped : (ps : Parts) → has_new_use_strict first (mapped_parts f ps) ≡ has_new_use_strict first ps
+  has_new_use_strict-mapped end = refl
+  has_new_use_strict-mapped (more p ps) = rw (is_new_part-mapped p, is_use_strict-mapped f p, has_new_use_strict-mapped ps) refl
+
+  were_strict-mapped : (strict : List ℕ) (ts : List Tree) → were_strict first (map f strict) (map (mapped f) ts) ≡ were_strict first strict ts
+  were_strict-mapped strict [] = refl
+  were_strict-mapped strict (t ∷ ts) = rw (number_of-mapped f t, r.new (number_of t), has_number-mapped r (number_of t) strict, were_strict-mapped strict ts) refl
+
+  stays_strict-mapped : (strict : List ℕ) (t : Tree) → stays_strict first (map f strict) (mapped f t) ≡ stays_strict first strict t
+  stays_strict-mapped strict (Node kind m span semantic_id ps) =
+      rw (prologue-mapped f kind ps, has_new_use_strict-mapped (prologue kind ps), preorder_of-mapped f ps, were_strict-mapped strict (preorder_of ps)) refl
+
+  all_strict-mapped : (strict : List ℕ) (ts : List Tree) → all_stay_strict first (map f strict) (map (mapped f) ts) ≡ all_stay_strict first strict ts
+  all_strict-mapped strict [] = refl
+  all_strict-mapped strict (t ∷ ts) = ap₂ (λ a b. a && b) (stays_strict-mapped strict t) (all_strict-mapped strict ts)
+
+  pub all_stay_strict-mapped : (p q : Tree) → all_stay_strict first (strict_numbers false (mapped f p)) (preorder (mapped f q)) ≡ all_stay_strict first (strict_numbers false p) (preorder q)
+  all_stay_strict-mapped p q = rw (strict_numbers-mapped f false p, preorder-mapped f q) (all_strict-mapped (strict_numbers false p) (preorder q))
