@@ -85,6 +85,7 @@ PRINTED = 'not (is_printable source_{n}) || is_printable output_{n}'
 NAMED = 'names_declared (nodes source_{n}) generated_{n} output_{n}'
 STEADY = 'temporaries_steady (nodes source_{n}) generated_{n} output_{n}'
 INITIALIZED = 'initializations_stand (nodes source_{n}) generated_{n} (private_members source_{n}) output_{n} generated_{n}'
+ACCOUNTED = 'declarations_accounted (nodes source_{n}) generated_{n} source_{n} output_{n}'
 NOT_MET = {
     'temporary_given_again': STEADY,
     'temporary_given_again_in_a_loop': STEADY,
@@ -122,7 +123,7 @@ NOT_MET = {
     'body_dropped': DEFINED,
     'break_in_an_arrow': PRINTABLE,
     'hidden_body': 'conforms Place.Program output_{n}',
-    'constant_temporary': 'declarations_accounted (nodes source_{n}) generated_{n} source_{n} output_{n}',
+    'constant_temporary': ACCOUNTED,
     'private_name_twice': NAMED,
     'name_twice': NAMED,
     'name_of_no_member': INITIALIZED,
@@ -139,13 +140,17 @@ NOT_MET = {
     'unconverted_name_of_a_class': CALLS,
     'name_given_in_a_closure': CALLS,
     'break_in_an_arrow_beside_await': PRINTED,
+    'own_name_that_is_meant': ACCOUNTED,
+    'declaration_without_its_name': 'own_names_stay source_{n} output_{n}',
+    'name_of_a_class_with_a_block': CALLS,
+    'strict_arrow': 'all_stay_strict (nodes source_{n}) (strict_numbers false source_{n}) (preorder output_{n})',
 }
 # the shapes of the two programs
-SHAPES = {'loose_member_read_once': ('[]', '4 ∷ []'), 'super_key_that_stays': ('[]', '4 ∷ []'), 'suspended_class_written': ('6 ∷ []', '[]'), 'imported_object': ('4 ∷ []', '[]'), 'imported_key': ('4 ∷ []', '[]'), 'imported_key_of_a_method': ('4 ∷ []', '[]')}
+SHAPES = {'loose_member_read_once': ('[]', '4 ∷ []'), 'super_key_that_stays': ('[]', '4 ∷ []'), 'suspended_class_written': ('6 ∷ []', '[]'), 'imported_object': ('4 ∷ []', '[]'), 'imported_key': ('4 ∷ []', '[]'), 'imported_key_of_a_method': ('4 ∷ []', '[]'), 'key_that_a_function_in_a_block_gives': ('4 ∷ []', '[]'), 'caught_key': ('4 ∷ []', '[]')}
 # outputs that mean what their sources mean
 RIGHT = ('private_name_beside_a_name', 'branch_of_a_key', 'class_in_a_case', 'key_of_a_binding_for_a_name')
 # outputs that owe nothing either
-OWING_NOTHING = ('tested_name_of_a_class', 'block_of_a_binding')
+OWING_NOTHING = ('tested_name_of_a_class', 'block_of_a_binding', 'own_name_that_nothing_means', 'strict_function_of_a_method', 'block_of_an_arrow')
 # wrong outputs that have a meaning, and those of programs whose parameters come before their fields
 OTHER = ('branch_of_a_key_of_another', 'elements_dropped', 'static_field_dropped', 'block_dropped', 'block_behind_a_kept_field', 'read_moved', 'import_read_early', 'statements_of_a_case_exchanged', 'statement_of_another_case', 'arrow_moved_into_parameters', 'functions_of_a_block_exchanged', 'default_function_expression', 'let_out_of_a_head', 'class_of_a_head', 'class_of_a_right_side', 'conversions_of_a_template', 'let_beside_a_caught_name')
 AFTER = ('field_behind_parameters_dropped', 'field_behind_parameters_doubled', 'fields_behind_parameters_exchanged', 'another_literal_behind_parameters')
@@ -207,8 +212,10 @@ ghost use Rattle.es_steps.specs.HelperCalls.{computed_keys, helper_calls_fit};
 ghost use Rattle.es_steps.specs.KeptNodes.{lists_kept, homes_kept};
 ghost use Rattle.es_steps.specs.Lowered.{names_declared, declarations_accounted, initializations_stand};
 ghost use Rattle.es_steps.specs.Meaning.{source_means};
+ghost use Rattle.es_steps.specs.OwnNames.{own_names_stay};
 ghost use Rattle.es_steps.specs.Printable.{is_printable};
 ghost use Rattle.es_steps.specs.PrivateNames.{private_members};
+ghost use Rattle.es_steps.specs.Strict.{strict_numbers, all_stay_strict};
 ghost use Rattle.es_steps.specs.Temporaries.{temporaries_steady};
 ghost use Rattle.es_steps.specs.Timely.{names_timely};
 ''' + '\n'.join(uses) + '\n\n' + '\n'.join(functions)

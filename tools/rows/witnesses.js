@@ -136,6 +136,8 @@ function outOfTheLoop(t, part) {
 const privateField = { options: ['--class-properties'], source: 'class A { #x = 1; m() { return this.#x; } }', output: 'var _x = new WeakMap(); class A { constructor() { B.classPrivateFieldInitSpec(this, _x, 1); } m() { return B.classPrivateFieldGet2(_x, this); } }' };
 const privateMethod = { options: ['--class-properties'], source: 'class A { #m() { f(); } n() { return this.#m; } }', output: 'var _b = new WeakSet(); class A { constructor() { B.classPrivateMethodInitSpec(this, _b); } n() { return B.assertClassBrand(_b, this, _m); } } function _m() { f(); }' };
 const blockNamed = { options: ['--static-block'], source: 'let D = class { static x = 1; static name = 2; static { a; } };', output: 'var _staticBlock; let D = (class { static x = 1; static name = ((_value) => (_staticBlock = () => (a, this), _value))(2); }, _staticBlock());' };
+// an arrow whose body becomes a block, in which a name is declared
+const arrowBlock = { options: ['--class-properties'], source: 'const f = () => class { static x = 1; };', output: 'const f = () => { var _Class; return (_Class = class {}, B.defineProperty(_Class, "x", 1), _Class); };', numbers: { 5: 50, 6: 51, 7: 52, 8: 53, 9: 54, 13: 5, 14: 6, 21: 9 }, generated: [{ name: '_Class', kind: 'ClassTemp', number: 5 }] };
 
 const witnesses = [
   pair('parameters_exchanged', 'the parameters of a constructor', 'class A { constructor(a, b) { f(a, b); } }', 'class A { constructor(b, a) { f(a, b); } }', { 7: 8, 8: 7 }),
@@ -412,6 +414,33 @@ const witnesses = [
   // printed
   clause('break_in_an_arrow_beside_await', 'a `break` in a new arrow, in a script with a name `await`', { options: ['--class-properties'], source: 'var await; while (c()) { if (d(class { x = 1; })) break; }', output: 'var await; while (c()) { if (d(class { constructor() { B.defineProperty(this, "x", 1); } })) break; }' },
     q => { const loop = q.body[1], s = statement(q, '(() => { 1; })();'); s.expression.callee.body.body = loop.body.body; loop.body.body = [s]; }),
+  // what changes without a write
+  pair('function_in_a_block_of_another_name', 'a `var` around a function in a block, of its name or of another one', 'function f() { var g = 1; { function g() {} } }', 'function f() { var h = 1; { function g() {} } }', {}),
+  pair('labelled_function_in_a_block', 'a function behind a label in a block, in front of a call with its name and behind it', '{ l: function g() {} } h(g);', 'h(g); { l: function g() {} }', { 1: 7, 2: 8, 3: 9, 4: 1, 5: 2, 6: 3, 7: 4, 8: 5, 9: 6, 10: 10 }),
+  pair('read_behind_a_function_in_a_block', 'a name read in front of a function in a block that gives it a value, and behind it', 'var g = 1; f(g); { function g() {} }', 'var g = 1; { function g() {} } f(g);', { 5: 9, 6: 10, 7: 11, 8: 12, 9: 5, 10: 6, 11: 7, 12: 8 }),
+  pair('key_that_a_function_in_a_block_gives', 'a key that a function in a block gives a value', 'var k = "a"; class C { [k] = 1; } { function k() {} }', 'var k = "a"; class C { [k] = 1; } { function j() {} }', {}, { options: ['--class-properties'] }),
+  pair('caught_key', 'a key that is caught, and that a `var` of the catch gives a value', 'try { f(); } catch (k) { class C { [k] = 1; } var k = 2; }', 'try { f(); } catch (k) { class C { [k] = 1; } var j = 2; }', {}, { options: ['--class-properties'] }),
+  // own names, and what classes are named
+  right('own_name_that_nothing_means', 'a class expression with an own name that nothing means', { options: ['--class-properties'], source: 'var A = class { x = 1; };', output: 'var A = class { constructor() { B.defineProperty(this, "x", 1); } };' },
+    q => { found(q, n => n.type === 'ClassExpression').id = fresh(q, tree('class A {}').body[0].id); }),
+  clause('own_name_that_is_meant', 'a class expression with an own name that is meant in its place', { options: ['--class-properties'], source: 'var A = class { x = 1; m() { f(A); } };', output: 'var A = class { constructor() { B.defineProperty(this, "x", 1); } m() { f(A); } };' },
+    q => { found(q, n => n.type === 'ClassExpression').id = fresh(q, tree('class A {}').body[0].id); }),
+  clause('declaration_without_its_name', 'a class declaration that becomes an expression without its name, which a static field reads', { options: ['--static-block'], source: 'class C { static x = C; static { f(); } }', output: 'class C { static x = C; static #_ = f(); }', numbers: { 7: 40, 8: 41 } },
+    q => { const c = q.body[0], s = statement(q, 'let C = class {};'), d = s.declarations[0]; d.id = c.id; d.init = c; c.id = null; for (const k of ['type', 'nodeKind']) c[k] = 'ClassExpression'; q.body[0] = s; }, [{ name: '_', kind: 'Private', number: 1 }]),
+  clause('name_of_a_class_with_a_block', 'a class that is named behind its static block, which may name it', { options: ['--class-properties'], source: 'x = class { static { f(this); } }; class D { y = 1; }', output: 'x = class { static { f(this); } }; class D { constructor() { B.defineProperty(this, "y", 1); } }' },
+    q => { const e = q.body[0].expression, call = fresh(q, expression('B.setFunctionName(1, "x")')); call.arguments[0] = e.right; e.right = call; }),
+  // strict code
+  clause('strict_arrow', 'a new arrow with `"use strict"` around code that is not strict', { options: ['--class-properties'], source: 'g(h(), class { x = 1; });', output: 'g(h(), class { constructor() { B.defineProperty(this, "x", 1); } });' },
+    q => { const g = q.body[0].expression, arrow = fresh(q, expression('(() => { "use strict"; return 1; })()')); arrow.callee.body.body[1].argument = g.arguments[0]; g.arguments[0] = arrow; }),
+  right('strict_function_of_a_method', 'the function of a private method, which leaves its class, with `"use strict"`', privateMethod,
+    q => { q.body[2].body.body.unshift(statement(q, '"use strict";')); }),
+  // an arrow
+  wrong('arrow_without_its_return', 'an arrow that does not give its class', arrowBlock, q => { const body = found(q, n => n.type === 'ArrowFunctionExpression').body.body, s = statement(q, 'f();'); s.expression = body[1].argument; body[1] = s; }, arrowBlock.generated),
+  wrong('arrow_that_gives_another', 'an arrow that gives another class', arrowBlock, q => { const e = found(q, n => n.type === 'ReturnStatement').argument.expressions; e.pop(); }, arrowBlock.generated),
+  right('block_of_an_arrow', 'an arrow whose body was an expression', arrowBlock, q => {}, arrowBlock.generated),
+  // generated private names of two classes
+  wrong('private_name_of_another_class', 'a generated private name read where another class has one of that spelling', { options: ['--static-block'], source: 'class C { static { f(); } static x = class { static { g(); } }; static y = 1; }', output: 'class C { static #_ = f(); static x = class { static #_ = g(); }; static y = 1; }', numbers: { 4: 40, 5: 41, 12: 42, 13: 43 } },
+    q => { const y = q.body[0].body.body[2]; y.value = fresh(q, tree('class C { #_; m() { C.#_; } }').body[0].body.body[1].value.body.body[0].expression); }, [{ name: '_', kind: 'Private', number: 1 }, { name: '_', kind: 'Private', number: 10 }]),
 ];
 
 // a row that `match.js` has no reading of; `numbers` are those that differ from the place in preorder

@@ -6,6 +6,8 @@ pub mod ArgumentsOfAProgram
 pub mod ArgumentsOfAnother
 pub mod ArrowMovedIntoParameters
 pub mod ArrowOutOfALoop
+pub mod ArrowThatGivesAnother
+pub mod ArrowWithoutItsReturn
 pub mod AsyncConstructor
 pub mod AwaitInAStaticElement
 pub mod BindingInATemporary
@@ -14,6 +16,7 @@ pub mod BlockBehindAKeptField
 pub mod BlockBehindFields
 pub mod BlockDropped
 pub mod BlockOfABinding
+pub mod BlockOfAnArrow
 pub mod BlockWithoutAFunction
 pub mod BodyDropped
 pub mod BodyInAnArrow
@@ -22,6 +25,7 @@ pub mod BranchOfAKey
 pub mod BranchOfAKeyOfAnother
 pub mod BreakInAnArrow
 pub mod BreakInAnArrowBesideAwait
+pub mod CaughtKey
 pub mod CaughtNamesExchanged
 pub mod ClassBehindItsUse
 pub mod ClassInACase
@@ -42,6 +46,7 @@ pub mod ConstructorOfAnotherKey
 pub mod ConversionOfNoKey
 pub mod ConversionsOfATemplate
 pub mod DeadTemporary
+pub mod DeclarationWithoutItsName
 pub mod DefaultExports
 pub mod DefaultFunction
 pub mod DefaultFunctionExpression
@@ -63,6 +68,7 @@ pub mod FieldsBehindParametersExchanged
 pub mod FieldsExchanged
 pub mod FieldsOfAWrittenClassExchanged
 pub mod FreeName
+pub mod FunctionInABlockOfAnotherName
 pub mod FunctionOfABlock
 pub mod FunctionOfABlockOverAVar
 pub mod FunctionOfABranch
@@ -92,6 +98,8 @@ pub mod KeyOfABindingInATemporary
 pub mod KeyOfAMethod
 pub mod KeyReadLate
 pub mod KeyReadTwice
+pub mod KeyThatAFunctionInABlockGives
+pub mod LabelledFunctionInABlock
 pub mod LetBesideACaughtName
 pub mod LetOfAHead
 pub mod LetOfAnotherCase
@@ -108,6 +116,7 @@ pub mod MethodAssignedInAnotherFunction
 pub mod MethodGivenBehindItsCalls
 pub mod MethodWithoutBrand
 pub mod NameGivenInAClosure
+pub mod NameOfAClassWithABlock
 pub mod NameOfANamedClass
 pub mod NameOfNoMember
 pub mod NameTwice
@@ -120,6 +129,8 @@ pub mod OddConstructor
 pub mod OwnNameOfAClassBehindAWrite
 pub mod OwnNameOfADeclarationWritten
 pub mod OwnNameOfADeclarationWrittenLater
+pub mod OwnNameThatIsMeant
+pub mod OwnNameThatNothingMeans
 pub mod OwnNamesExchanged
 pub mod ParameterInFront
 pub mod ParameterOfANewConstructor
@@ -134,8 +145,10 @@ pub mod PrivateFieldDropped
 pub mod PrivateMethodDropped
 pub mod PrivateMethodOfAnotherClass
 pub mod PrivateNameBesideAName
+pub mod PrivateNameOfAnotherClass
 pub mod PrivateNameOfTheOuterClass
 pub mod PrivateNameTwice
+pub mod ReadBehindAFunctionInABlock
 pub mod ReadInFrontOfABlock
 pub mod ReadMoved
 pub mod ReceiverOfAConditional
@@ -157,6 +170,8 @@ pub mod StaticFieldDropped
 pub mod StaticGetterOrMethod
 pub mod StaticKeyReadLate
 pub mod StaticPrivateMethodOfAnotherClass
+pub mod StrictArrow
+pub mod StrictFunctionOfAMethod
 pub mod StrictRest
 pub mod SuperFunctionBehindACall
 pub mod SuperFunctionBehindItsCalls

@@ -10,8 +10,10 @@ ghost use Rattle.es_steps.specs.HelperCalls.{computed_keys, helper_calls_fit};
 ghost use Rattle.es_steps.specs.KeptNodes.{lists_kept, homes_kept};
 ghost use Rattle.es_steps.specs.Lowered.{names_declared, declarations_accounted, initializations_stand};
 ghost use Rattle.es_steps.specs.Meaning.{source_means};
+ghost use Rattle.es_steps.specs.OwnNames.{own_names_stay};
 ghost use Rattle.es_steps.specs.Printable.{is_printable};
 ghost use Rattle.es_steps.specs.PrivateNames.{private_members};
+ghost use Rattle.es_steps.specs.Strict.{strict_numbers, all_stay_strict};
 ghost use Rattle.es_steps.specs.Temporaries.{temporaries_steady};
 ghost use Rattle.es_steps.specs.Timely.{names_timely};
 ghost use Rattle.es_rows.specs.rows.InstanceField.{source_instance_field, output_instance_field, generated_instance_field, options_instance_field, outside_instance_field};
@@ -105,6 +107,8 @@ ghost use Rattle.es_rows.specs.witnesses.ArgumentsBehindAWrite.{first_arguments_
 ghost use Rattle.es_rows.specs.witnesses.ArgumentsOfAnother.{source_arguments_of_another, output_arguments_of_another, generated_arguments_of_another, options_arguments_of_another};
 ghost use Rattle.es_rows.specs.witnesses.ArrowMovedIntoParameters.{source_arrow_moved_into_parameters, output_arrow_moved_into_parameters, generated_arrow_moved_into_parameters, options_arrow_moved_into_parameters};
 ghost use Rattle.es_rows.specs.witnesses.ArrowOutOfALoop.{source_arrow_out_of_a_loop, output_arrow_out_of_a_loop, generated_arrow_out_of_a_loop, options_arrow_out_of_a_loop};
+ghost use Rattle.es_rows.specs.witnesses.ArrowThatGivesAnother.{source_arrow_that_gives_another, output_arrow_that_gives_another, generated_arrow_that_gives_another, options_arrow_that_gives_another};
+ghost use Rattle.es_rows.specs.witnesses.ArrowWithoutItsReturn.{source_arrow_without_its_return, output_arrow_without_its_return, generated_arrow_without_its_return, options_arrow_without_its_return};
 ghost use Rattle.es_rows.specs.witnesses.AsyncConstructor.{source_async_constructor, output_async_constructor, generated_async_constructor, options_async_constructor};
 ghost use Rattle.es_rows.specs.witnesses.AwaitInAStaticElement.{source_await_in_a_static_element, output_await_in_a_static_element, generated_await_in_a_static_element, options_await_in_a_static_element};
 ghost use Rattle.es_rows.specs.witnesses.BindingInATemporary.{source_binding_in_a_temporary, output_binding_in_a_temporary, generated_binding_in_a_temporary, options_binding_in_a_temporary};
@@ -113,6 +117,7 @@ ghost use Rattle.es_rows.specs.witnesses.BlockBehindAKeptField.{source_block_beh
 ghost use Rattle.es_rows.specs.witnesses.BlockBehindFields.{source_block_behind_fields, output_block_behind_fields, generated_block_behind_fields, options_block_behind_fields};
 ghost use Rattle.es_rows.specs.witnesses.BlockDropped.{source_block_dropped, output_block_dropped, generated_block_dropped, options_block_dropped};
 ghost use Rattle.es_rows.specs.witnesses.BlockOfABinding.{source_block_of_a_binding, output_block_of_a_binding, generated_block_of_a_binding, options_block_of_a_binding};
+ghost use Rattle.es_rows.specs.witnesses.BlockOfAnArrow.{source_block_of_an_arrow, output_block_of_an_arrow, generated_block_of_an_arrow, options_block_of_an_arrow};
 ghost use Rattle.es_rows.specs.witnesses.BlockWithoutAFunction.{source_block_without_a_function, output_block_without_a_function, generated_block_without_a_function, options_block_without_a_function};
 ghost use Rattle.es_rows.specs.witnesses.BodyDropped.{source_body_dropped, output_body_dropped, generated_body_dropped, options_body_dropped};
 ghost use Rattle.es_rows.specs.witnesses.BodyInAnArrow.{source_body_in_an_arrow, output_body_in_an_arrow, generated_body_in_an_arrow, options_body_in_an_arrow};
@@ -121,6 +126,7 @@ ghost use Rattle.es_rows.specs.witnesses.BranchOfAKey.{source_branch_of_a_key, o
 ghost use Rattle.es_rows.specs.witnesses.BranchOfAKeyOfAnother.{source_branch_of_a_key_of_another, output_branch_of_a_key_of_another, generated_branch_of_a_key_of_another, options_branch_of_a_key_of_another};
 ghost use Rattle.es_rows.specs.witnesses.BreakInAnArrow.{source_break_in_an_arrow, output_break_in_an_arrow, generated_break_in_an_arrow, options_break_in_an_arrow};
 ghost use Rattle.es_rows.specs.witnesses.BreakInAnArrowBesideAwait.{source_break_in_an_arrow_beside_await, output_break_in_an_arrow_beside_await, generated_break_in_an_arrow_beside_await, options_break_in_an_arrow_beside_await};
+ghost use Rattle.es_rows.specs.witnesses.CaughtKey.{first_caught_key, second_caught_key, options_caught_key};
 ghost use Rattle.es_rows.specs.witnesses.CaughtNamesExchanged.{first_caught_names_exchanged, second_caught_names_exchanged, options_caught_names_exchanged};
 ghost use Rattle.es_rows.specs.witnesses.ClassBehindItsUse.{source_class_behind_its_use, output_class_behind_its_use, generated_class_behind_its_use, options_class_behind_its_use};
 ghost use Rattle.es_rows.specs.witnesses.ClassInACase.{source_class_in_a_case, output_class_in_a_case, generated_class_in_a_case, options_class_in_a_case};
@@ -140,6 +146,7 @@ ghost use Rattle.es_rows.specs.witnesses.ConstructorOfAnotherKey.{source_constru
 ghost use Rattle.es_rows.specs.witnesses.ConversionOfNoKey.{source_conversion_of_no_key, output_conversion_of_no_key, generated_conversion_of_no_key, options_conversion_of_no_key};
 ghost use Rattle.es_rows.specs.witnesses.ConversionsOfATemplate.{source_conversions_of_a_template, output_conversions_of_a_template, generated_conversions_of_a_template, options_conversions_of_a_template};
 ghost use Rattle.es_rows.specs.witnesses.DeadTemporary.{source_dead_temporary, output_dead_temporary, generated_dead_temporary, options_dead_temporary};
+ghost use Rattle.es_rows.specs.witnesses.DeclarationWithoutItsName.{source_declaration_without_its_name, output_declaration_without_its_name, generated_declaration_without_its_name, options_declaration_without_its_name};
 ghost use Rattle.es_rows.specs.witnesses.DefaultExports.{first_default_exports, second_default_exports, options_default_exports};
 ghost use Rattle.es_rows.specs.witnesses.DefaultFunction.{first_default_function, second_default_function, options_default_function};
 ghost use Rattle.es_rows.specs.witnesses.DefaultFunctionExpression.{source_default_function_expression, output_default_function_expression, generated_default_function_expression, options_default_function_expression};
@@ -160,6 +167,7 @@ ghost use Rattle.es_rows.specs.witnesses.FieldOfAWrittenClassDropped.{source_fie
 ghost use Rattle.es_rows.specs.witnesses.FieldsBehindParametersExchanged.{source_fields_behind_parameters_exchanged, output_fields_behind_parameters_exchanged, generated_fields_behind_parameters_exchanged, options_fields_behind_parameters_exchanged};
 ghost use Rattle.es_rows.specs.witnesses.FieldsExchanged.{source_fields_exchanged, output_fields_exchanged, generated_fields_exchanged, options_fields_exchanged};
 ghost use Rattle.es_rows.specs.witnesses.FieldsOfAWrittenClassExchanged.{source_fields_of_a_written_class_exchanged, output_fields_of_a_written_class_exchanged, generated_fields_of_a_written_class_exchanged, options_fields_of_a_written_class_exchanged};
+ghost use Rattle.es_rows.specs.witnesses.FunctionInABlockOfAnotherName.{first_function_in_a_block_of_another_name, second_function_in_a_block_of_another_name, options_function_in_a_block_of_another_name};
 ghost use Rattle.es_rows.specs.witnesses.FunctionOfABlock.{first_function_of_a_block, second_function_of_a_block, options_function_of_a_block};
 ghost use Rattle.es_rows.specs.witnesses.FunctionOfABlockOverAVar.{first_function_of_a_block_over_a_var, second_function_of_a_block_over_a_var, options_function_of_a_block_over_a_var};
 ghost use Rattle.es_rows.specs.witnesses.FunctionOfABranch.{first_function_of_a_branch, second_function_of_a_branch, options_function_of_a_branch};
@@ -189,6 +197,8 @@ ghost use Rattle.es_rows.specs.witnesses.KeyOfABindingInATemporary.{source_key_o
 ghost use Rattle.es_rows.specs.witnesses.KeyOfAMethod.{first_key_of_a_method, second_key_of_a_method, options_key_of_a_method};
 ghost use Rattle.es_rows.specs.witnesses.KeyReadLate.{source_key_read_late, output_key_read_late, generated_key_read_late, options_key_read_late};
 ghost use Rattle.es_rows.specs.witnesses.KeyReadTwice.{source_key_read_twice, output_key_read_twice, generated_key_read_twice, options_key_read_twice};
+ghost use Rattle.es_rows.specs.witnesses.KeyThatAFunctionInABlockGives.{first_key_that_a_function_in_a_block_gives, second_key_that_a_function_in_a_block_gives, options_key_that_a_function_in_a_block_gives};
+ghost use Rattle.es_rows.specs.witnesses.LabelledFunctionInABlock.{first_labelled_function_in_a_block, second_labelled_function_in_a_block, options_labelled_function_in_a_block};
 ghost use Rattle.es_rows.specs.witnesses.LetBesideACaughtName.{source_let_beside_a_caught_name, output_let_beside_a_caught_name, generated_let_beside_a_caught_name, options_let_beside_a_caught_name};
 ghost use Rattle.es_rows.specs.witnesses.LetOfAHead.{first_let_of_a_head, second_let_of_a_head, options_let_of_a_head};
 ghost use Rattle.es_rows.specs.witnesses.LetOfAnotherCase.{source_let_of_another_case, output_let_of_another_case, generated_let_of_another_case, options_let_of_another_case};
@@ -205,6 +215,7 @@ ghost use Rattle.es_rows.specs.witnesses.MethodAssignedInAnotherFunction.{source
 ghost use Rattle.es_rows.specs.witnesses.MethodGivenBehindItsCalls.{source_method_given_behind_its_calls, output_method_given_behind_its_calls, generated_method_given_behind_its_calls, options_method_given_behind_its_calls};
 ghost use Rattle.es_rows.specs.witnesses.MethodWithoutBrand.{source_method_without_brand, output_method_without_brand, generated_method_without_brand, options_method_without_brand};
 ghost use Rattle.es_rows.specs.witnesses.NameGivenInAClosure.{source_name_given_in_a_closure, output_name_given_in_a_closure, generated_name_given_in_a_closure, options_name_given_in_a_closure};
+ghost use Rattle.es_rows.specs.witnesses.NameOfAClassWithABlock.{source_name_of_a_class_with_a_block, output_name_of_a_class_with_a_block, generated_name_of_a_class_with_a_block, options_name_of_a_class_with_a_block};
 ghost use Rattle.es_rows.specs.witnesses.NameOfANamedClass.{source_name_of_a_named_class, output_name_of_a_named_class, generated_name_of_a_named_class, options_name_of_a_named_class};
 ghost use Rattle.es_rows.specs.witnesses.NameOfNoMember.{source_name_of_no_member, output_name_of_no_member, generated_name_of_no_member, options_name_of_no_member};
 ghost use Rattle.es_rows.specs.witnesses.NameTwice.{source_name_twice, output_name_twice, generated_name_twice, options_name_twice};
@@ -216,6 +227,8 @@ ghost use Rattle.es_rows.specs.witnesses.OddConstructor.{source_odd_constructor,
 ghost use Rattle.es_rows.specs.witnesses.OwnNameOfAClassBehindAWrite.{first_own_name_of_a_class_behind_a_write, second_own_name_of_a_class_behind_a_write, options_own_name_of_a_class_behind_a_write};
 ghost use Rattle.es_rows.specs.witnesses.OwnNameOfADeclarationWritten.{first_own_name_of_a_declaration_written, second_own_name_of_a_declaration_written, options_own_name_of_a_declaration_written};
 ghost use Rattle.es_rows.specs.witnesses.OwnNameOfADeclarationWrittenLater.{first_own_name_of_a_declaration_written_later, second_own_name_of_a_declaration_written_later, options_own_name_of_a_declaration_written_later};
+ghost use Rattle.es_rows.specs.witnesses.OwnNameThatIsMeant.{source_own_name_that_is_meant, output_own_name_that_is_meant, generated_own_name_that_is_meant, options_own_name_that_is_meant};
+ghost use Rattle.es_rows.specs.witnesses.OwnNameThatNothingMeans.{source_own_name_that_nothing_means, output_own_name_that_nothing_means, generated_own_name_that_nothing_means, options_own_name_that_nothing_means};
 ghost use Rattle.es_rows.specs.witnesses.OwnNamesExchanged.{first_own_names_exchanged, second_own_names_exchanged, options_own_names_exchanged};
 ghost use Rattle.es_rows.specs.witnesses.ParameterInFront.{source_parameter_in_front, output_parameter_in_front, generated_parameter_in_front, options_parameter_in_front};
 ghost use Rattle.es_rows.specs.witnesses.ParameterOfANewConstructor.{source_parameter_of_a_new_constructor, output_parameter_of_a_new_constructor, generated_parameter_of_a_new_constructor, options_parameter_of_a_new_constructor};
@@ -230,8 +243,10 @@ ghost use Rattle.es_rows.specs.witnesses.PrivateFieldDropped.{source_private_fie
 ghost use Rattle.es_rows.specs.witnesses.PrivateMethodDropped.{source_private_method_dropped, output_private_method_dropped, generated_private_method_dropped, options_private_method_dropped};
 ghost use Rattle.es_rows.specs.witnesses.PrivateMethodOfAnotherClass.{first_private_method_of_another_class, second_private_method_of_another_class, options_private_method_of_another_class};
 ghost use Rattle.es_rows.specs.witnesses.PrivateNameBesideAName.{source_private_name_beside_a_name, output_private_name_beside_a_name, generated_private_name_beside_a_name, options_private_name_beside_a_name};
+ghost use Rattle.es_rows.specs.witnesses.PrivateNameOfAnotherClass.{source_private_name_of_another_class, output_private_name_of_another_class, generated_private_name_of_another_class, options_private_name_of_another_class};
 ghost use Rattle.es_rows.specs.witnesses.PrivateNameOfTheOuterClass.{source_private_name_of_the_outer_class, output_private_name_of_the_outer_class, generated_private_name_of_the_outer_class, options_private_name_of_the_outer_class};
 ghost use Rattle.es_rows.specs.witnesses.PrivateNameTwice.{source_private_name_twice, output_private_name_twice, generated_private_name_twice, options_private_name_twice};
+ghost use Rattle.es_rows.specs.witnesses.ReadBehindAFunctionInABlock.{first_read_behind_a_function_in_a_block, second_read_behind_a_function_in_a_block, options_read_behind_a_function_in_a_block};
 ghost use Rattle.es_rows.specs.witnesses.ReadInFrontOfABlock.{first_read_in_front_of_a_block, second_read_in_front_of_a_block, options_read_in_front_of_a_block};
 ghost use Rattle.es_rows.specs.witnesses.ReadMoved.{source_read_moved, output_read_moved, generated_read_moved, options_read_moved};
 ghost use Rattle.es_rows.specs.witnesses.ReceiverOfAConditional.{source_receiver_of_a_conditional, output_receiver_of_a_conditional, generated_receiver_of_a_conditional, options_receiver_of_a_conditional};
@@ -253,6 +268,8 @@ ghost use Rattle.es_rows.specs.witnesses.StaticFieldDropped.{source_static_field
 ghost use Rattle.es_rows.specs.witnesses.StaticGetterOrMethod.{first_static_getter_or_method, second_static_getter_or_method, options_static_getter_or_method};
 ghost use Rattle.es_rows.specs.witnesses.StaticKeyReadLate.{source_static_key_read_late, output_static_key_read_late, generated_static_key_read_late, options_static_key_read_late};
 ghost use Rattle.es_rows.specs.witnesses.StaticPrivateMethodOfAnotherClass.{first_static_private_method_of_another_class, second_static_private_method_of_another_class, options_static_private_method_of_another_class};
+ghost use Rattle.es_rows.specs.witnesses.StrictArrow.{source_strict_arrow, output_strict_arrow, generated_strict_arrow, options_strict_arrow};
+ghost use Rattle.es_rows.specs.witnesses.StrictFunctionOfAMethod.{source_strict_function_of_a_method, output_strict_function_of_a_method, generated_strict_function_of_a_method, options_strict_function_of_a_method};
 ghost use Rattle.es_rows.specs.witnesses.StrictRest.{source_strict_rest, output_strict_rest, generated_strict_rest, options_strict_rest};
 ghost use Rattle.es_rows.specs.witnesses.SuperFunctionBehindACall.{source_super_function_behind_a_call, output_super_function_behind_a_call, generated_super_function_behind_a_call, options_super_function_behind_a_call};
 ghost use Rattle.es_rows.specs.witnesses.SuperFunctionBehindItsCalls.{source_super_function_behind_its_calls, output_super_function_behind_its_calls, generated_super_function_behind_its_calls, options_super_function_behind_its_calls};
@@ -403,6 +420,7 @@ pub fn programs_are_told_apart()
     ensures default_exports { TellsApart options_default_exports first_default_exports second_default_exports }
     ensures default_function { TellsApart options_default_function first_default_function second_default_function }
     ensures delete_of_a_name { TellsApart options_delete_of_a_name first_delete_of_a_name second_delete_of_a_name }
+    ensures function_in_a_block_of_another_name { TellsApart options_function_in_a_block_of_another_name first_function_in_a_block_of_another_name second_function_in_a_block_of_another_name }
     ensures function_of_a_block { TellsApart options_function_of_a_block first_function_of_a_block second_function_of_a_block }
     ensures function_of_a_block_over_a_var { TellsApart options_function_of_a_block_over_a_var first_function_of_a_block_over_a_var second_function_of_a_block_over_a_var }
     ensures function_of_a_branch { TellsApart options_function_of_a_branch first_function_of_a_branch second_function_of_a_branch }
@@ -414,6 +432,7 @@ pub fn programs_are_told_apart()
     ensures imports_exchanged { TellsApart options_imports_exchanged first_imports_exchanged second_imports_exchanged }
     ensures inner_name_of_a_written_class { TellsApart options_inner_name_of_a_written_class first_inner_name_of_a_written_class second_inner_name_of_a_written_class }
     ensures key_heads_exchanged { TellsApart options_key_heads_exchanged first_key_heads_exchanged second_key_heads_exchanged }
+    ensures labelled_function_in_a_block { TellsApart options_labelled_function_in_a_block first_labelled_function_in_a_block second_labelled_function_in_a_block }
     ensures let_of_a_head { TellsApart options_let_of_a_head first_let_of_a_head second_let_of_a_head }
     ensures let_out_of_a_loop { TellsApart options_let_out_of_a_loop first_let_out_of_a_loop second_let_out_of_a_loop }
     ensures loop_heads_exchanged { TellsApart options_loop_heads_exchanged first_loop_heads_exchanged second_loop_heads_exchanged }
@@ -424,6 +443,7 @@ pub fn programs_are_told_apart()
     ensures parameters_exchanged { TellsApart options_parameters_exchanged first_parameters_exchanged second_parameters_exchanged }
     ensures pattern_keys { TellsApart options_pattern_keys first_pattern_keys second_pattern_keys }
     ensures private_method_of_another_class { TellsApart options_private_method_of_another_class first_private_method_of_another_class second_private_method_of_another_class }
+    ensures read_behind_a_function_in_a_block { TellsApart options_read_behind_a_function_in_a_block first_read_behind_a_function_in_a_block second_read_behind_a_function_in_a_block }
     ensures read_in_front_of_a_block { TellsApart options_read_in_front_of_a_block first_read_in_front_of_a_block second_read_in_front_of_a_block }
     ensures rest_dropped { TellsApart options_rest_dropped first_rest_dropped second_rest_dropped }
     ensures shared_parameters { TellsApart options_shared_parameters first_shared_parameters second_shared_parameters }
@@ -445,6 +465,8 @@ pub fn wrong_outputs_are_told_apart()
     ensures another_literal_of_a_written_class { Refused options_another_literal_of_a_written_class generated_another_literal_of_a_written_class source_another_literal_of_a_written_class output_another_literal_of_a_written_class }
     ensures arguments_of_another { Refused options_arguments_of_another generated_arguments_of_another source_arguments_of_another output_arguments_of_another }
     ensures arrow_out_of_a_loop { Refused options_arrow_out_of_a_loop generated_arrow_out_of_a_loop source_arrow_out_of_a_loop output_arrow_out_of_a_loop }
+    ensures arrow_that_gives_another { Refused options_arrow_that_gives_another generated_arrow_that_gives_another source_arrow_that_gives_another output_arrow_that_gives_another }
+    ensures arrow_without_its_return { Refused options_arrow_without_its_return generated_arrow_without_its_return source_arrow_without_its_return output_arrow_without_its_return }
     ensures async_constructor { Refused options_async_constructor generated_async_constructor source_async_constructor output_async_constructor }
     ensures await_in_a_static_element { Refused options_await_in_a_static_element generated_await_in_a_static_element source_await_in_a_static_element output_await_in_a_static_element }
     ensures binding_in_a_temporary { Refused options_binding_in_a_temporary generated_binding_in_a_temporary source_binding_in_a_temporary output_binding_in_a_temporary }
@@ -488,6 +510,7 @@ pub fn wrong_outputs_are_told_apart()
     ensures picked_by_an_async_arrow { Refused options_picked_by_an_async_arrow generated_picked_by_an_async_arrow source_picked_by_an_async_arrow output_picked_by_an_async_arrow }
     ensures private_field_dropped { Refused options_private_field_dropped generated_private_field_dropped source_private_field_dropped output_private_field_dropped }
     ensures private_method_dropped { Refused options_private_method_dropped generated_private_method_dropped source_private_method_dropped output_private_method_dropped }
+    ensures private_name_of_another_class { Refused options_private_name_of_another_class generated_private_name_of_another_class source_private_name_of_another_class output_private_name_of_another_class }
     ensures private_name_of_the_outer_class { Refused options_private_name_of_the_outer_class generated_private_name_of_the_outer_class source_private_name_of_the_outer_class output_private_name_of_the_outer_class }
     ensures receiver_of_a_conditional { Refused options_receiver_of_a_conditional generated_receiver_of_a_conditional source_receiver_of_a_conditional output_receiver_of_a_conditional }
     ensures receiver_of_a_private_call { Refused options_receiver_of_a_private_call generated_receiver_of_a_private_call source_receiver_of_a_private_call output_receiver_of_a_private_call }
@@ -558,6 +581,7 @@ pub fn clauses_are_not_met()
     ensures constant_temporary { declarations_accounted (nodes source_constant_temporary) generated_constant_temporary source_constant_temporary output_constant_temporary ≡ false }
     ensures conversion_of_no_key { helper_calls_fit (nodes source_conversion_of_no_key) generated_conversion_of_no_key (computed_keys (preorder source_conversion_of_no_key)) output_conversion_of_no_key ≡ false }
     ensures dead_temporary { names_timely (nodes source_dead_temporary) generated_dead_temporary (private_members source_dead_temporary) output_dead_temporary ≡ false }
+    ensures declaration_without_its_name { own_names_stay source_declaration_without_its_name output_declaration_without_its_name ≡ false }
     ensures directive_behind_a_name { is_printable output_directive_behind_a_name ≡ false }
     ensures elements_of_a_written_class_dropped { definitions_stand (nodes source_elements_of_a_written_class_dropped) options_elements_of_a_written_class_dropped generated_elements_of_a_written_class_dropped (private_members source_elements_of_a_written_class_dropped) source_elements_of_a_written_class_dropped output_elements_of_a_written_class_dropped ≡ false }
     ensures field_of_a_written_class_doubled { definitions_stand (nodes source_field_of_a_written_class_doubled) options_field_of_a_written_class_doubled generated_field_of_a_written_class_doubled (private_members source_field_of_a_written_class_doubled) source_field_of_a_written_class_doubled output_field_of_a_written_class_doubled ≡ false }
@@ -573,13 +597,16 @@ pub fn clauses_are_not_met()
     ensures method_assigned_in_another_function { names_timely (nodes source_method_assigned_in_another_function) generated_method_assigned_in_another_function (private_members source_method_assigned_in_another_function) output_method_assigned_in_another_function ≡ false }
     ensures method_given_behind_its_calls { initializations_stand (nodes source_method_given_behind_its_calls) generated_method_given_behind_its_calls (private_members source_method_given_behind_its_calls) output_method_given_behind_its_calls generated_method_given_behind_its_calls ≡ false }
     ensures name_given_in_a_closure { helper_calls_fit (nodes source_name_given_in_a_closure) generated_name_given_in_a_closure (computed_keys (preorder source_name_given_in_a_closure)) output_name_given_in_a_closure ≡ false }
+    ensures name_of_a_class_with_a_block { helper_calls_fit (nodes source_name_of_a_class_with_a_block) generated_name_of_a_class_with_a_block (computed_keys (preorder source_name_of_a_class_with_a_block)) output_name_of_a_class_with_a_block ≡ false }
     ensures name_of_a_named_class { helper_calls_fit (nodes source_name_of_a_named_class) generated_name_of_a_named_class (computed_keys (preorder source_name_of_a_named_class)) output_name_of_a_named_class ≡ false }
     ensures name_of_no_member { initializations_stand (nodes source_name_of_no_member) generated_name_of_no_member (private_members source_name_of_no_member) output_name_of_no_member generated_name_of_no_member ≡ false }
     ensures name_twice { names_declared (nodes source_name_twice) generated_name_twice output_name_twice ≡ false }
     ensures name_without_a_sign { names_declared (nodes source_name_without_a_sign) generated_name_without_a_sign output_name_without_a_sign ≡ false }
+    ensures own_name_that_is_meant { declarations_accounted (nodes source_own_name_that_is_meant) generated_own_name_that_is_meant source_own_name_that_is_meant output_own_name_that_is_meant ≡ false }
     ensures parameter_read_later { temporaries_steady (nodes source_parameter_read_later) generated_parameter_read_later output_parameter_read_later ≡ false }
     ensures parameter_renamed { homes_kept (nodes source_parameter_renamed) options_parameter_renamed source_parameter_renamed output_parameter_renamed ≡ false }
     ensures private_name_twice { names_declared (nodes source_private_name_twice) generated_private_name_twice output_private_name_twice ≡ false }
+    ensures strict_arrow { all_stay_strict (nodes source_strict_arrow) (strict_numbers false source_strict_arrow) (preorder output_strict_arrow) ≡ false }
     ensures strict_rest { is_printable output_strict_rest ≡ false }
     ensures super_function_behind_a_call { names_timely (nodes source_super_function_behind_a_call) generated_super_function_behind_a_call (private_members source_super_function_behind_a_call) output_super_function_behind_a_call ≡ false }
     ensures super_function_behind_its_calls { names_timely (nodes source_super_function_behind_its_calls) generated_super_function_behind_its_calls (private_members source_super_function_behind_its_calls) output_super_function_behind_its_calls ≡ false }
@@ -608,14 +635,19 @@ pub fn outputs_mean_their_sources()
 /// Outputs that mean what their sources mean and owe nothing, though they look like wrong ones.
 pub fn outputs_owe_nothing()
     ensures block_of_a_binding { Kept options_block_of_a_binding generated_block_of_a_binding source_block_of_a_binding output_block_of_a_binding [] }
+    ensures block_of_an_arrow { Kept options_block_of_an_arrow generated_block_of_an_arrow source_block_of_an_arrow output_block_of_an_arrow [] }
+    ensures own_name_that_nothing_means { Kept options_own_name_that_nothing_means generated_own_name_that_nothing_means source_own_name_that_nothing_means output_own_name_that_nothing_means [] }
+    ensures strict_function_of_a_method { Kept options_strict_function_of_a_method generated_strict_function_of_a_method source_strict_function_of_a_method output_strict_function_of_a_method [] }
     ensures tested_name_of_a_class { Kept options_tested_name_of_a_class generated_tested_name_of_a_class source_tested_name_of_a_class output_tested_name_of_a_class [] }
 {}
 
 /// Pairs of programs that have different shapes.
 pub fn shapes_are_told()
+    ensures caught_key { HaveShapes options_caught_key first_caught_key (4 ∷ []) second_caught_key ([]) }
     ensures imported_key { HaveShapes options_imported_key first_imported_key (4 ∷ []) second_imported_key ([]) }
     ensures imported_key_of_a_method { HaveShapes options_imported_key_of_a_method first_imported_key_of_a_method (4 ∷ []) second_imported_key_of_a_method ([]) }
     ensures imported_object { HaveShapes options_imported_object first_imported_object (4 ∷ []) second_imported_object ([]) }
+    ensures key_that_a_function_in_a_block_gives { HaveShapes options_key_that_a_function_in_a_block_gives first_key_that_a_function_in_a_block_gives (4 ∷ []) second_key_that_a_function_in_a_block_gives ([]) }
     ensures loose_member_read_once { HaveShapes options_loose_member_read_once first_loose_member_read_once ([]) second_loose_member_read_once (4 ∷ []) }
     ensures super_key_that_stays { HaveShapes options_super_key_that_stays first_super_key_that_stays ([]) second_super_key_that_stays (4 ∷ []) }
     ensures suspended_class_written { HaveShapes options_suspended_class_written first_suspended_class_written (6 ∷ []) second_suspended_class_written ([]) }

@@ -49,6 +49,9 @@ returns-clause-conversion_of_no_key c = refl
 pub returns-clause-dead_temporary : goal.returns-clause-dead_temporary
 returns-clause-dead_temporary c = refl
 
+pub returns-clause-declaration_without_its_name : goal.returns-clause-declaration_without_its_name
+returns-clause-declaration_without_its_name c = refl
+
 pub returns-clause-directive_behind_a_name : goal.returns-clause-directive_behind_a_name
 returns-clause-directive_behind_a_name c = refl
 
@@ -94,6 +97,9 @@ returns-clause-method_given_behind_its_calls c = refl
 pub returns-clause-name_given_in_a_closure : goal.returns-clause-name_given_in_a_closure
 returns-clause-name_given_in_a_closure c = refl
 
+pub returns-clause-name_of_a_class_with_a_block : goal.returns-clause-name_of_a_class_with_a_block
+returns-clause-name_of_a_class_with_a_block c = refl
+
 pub returns-clause-name_of_a_named_class : goal.returns-clause-name_of_a_named_class
 returns-clause-name_of_a_named_class c = refl
 
@@ -106,6 +112,9 @@ returns-clause-name_twice c = refl
 pub returns-clause-name_without_a_sign : goal.returns-clause-name_without_a_sign
 returns-clause-name_without_a_sign c = refl
 
+pub returns-clause-own_name_that_is_meant : goal.returns-clause-own_name_that_is_meant
+returns-clause-own_name_that_is_meant c = refl
+
 pub returns-clause-parameter_read_later : goal.returns-clause-parameter_read_later
 returns-clause-parameter_read_later c = refl
 
@@ -114,6 +123,9 @@ returns-clause-parameter_renamed c = refl
 
 pub returns-clause-private_name_twice : goal.returns-clause-private_name_twice
 returns-clause-private_name_twice c = refl
+
+pub returns-clause-strict_arrow : goal.returns-clause-strict_arrow
+returns-clause-strict_arrow c = refl
 
 pub returns-clause-strict_rest : goal.returns-clause-strict_rest
 returns-clause-strict_rest c = refl

@@ -16,6 +16,9 @@ returns-clause-default_function c = (refl, refl, refl)
 pub returns-clause-delete_of_a_name : goal.returns-clause-delete_of_a_name
 returns-clause-delete_of_a_name c = (refl, refl, refl)
 
+pub returns-clause-function_in_a_block_of_another_name : goal.returns-clause-function_in_a_block_of_another_name
+returns-clause-function_in_a_block_of_another_name c = (refl, refl, refl)
+
 pub returns-clause-function_of_a_block : goal.returns-clause-function_of_a_block
 returns-clause-function_of_a_block c = (refl, refl, refl)
 
@@ -49,6 +52,9 @@ returns-clause-inner_name_of_a_written_class c = (refl, refl, refl)
 pub returns-clause-key_heads_exchanged : goal.returns-clause-key_heads_exchanged
 returns-clause-key_heads_exchanged c = (refl, refl, refl)
 
+pub returns-clause-labelled_function_in_a_block : goal.returns-clause-labelled_function_in_a_block
+returns-clause-labelled_function_in_a_block c = (refl, refl, refl)
+
 pub returns-clause-let_of_a_head : goal.returns-clause-let_of_a_head
 returns-clause-let_of_a_head c = (refl, refl, refl)
 
@@ -78,6 +84,9 @@ returns-clause-pattern_keys c = (refl, refl, refl)
 
 pub returns-clause-private_method_of_another_class : goal.returns-clause-private_method_of_another_class
 returns-clause-private_method_of_another_class c = (refl, refl, refl)
+
+pub returns-clause-read_behind_a_function_in_a_block : goal.returns-clause-read_behind_a_function_in_a_block
+returns-clause-read_behind_a_function_in_a_block c = (refl, refl, refl)
 
 pub returns-clause-read_in_front_of_a_block : goal.returns-clause-read_in_front_of_a_block
 returns-clause-read_in_front_of_a_block c = (refl, refl, refl)

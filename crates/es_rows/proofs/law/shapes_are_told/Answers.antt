@@ -1,6 +1,9 @@
 use Rattle.std.specs.Prelude.{refl}
 use Rattle.es_rows.proofs.law.shapes_are_told.Goals as goal
 
+pub returns-clause-caught_key : goal.returns-clause-caught_key
+returns-clause-caught_key c = (refl, refl)
+
 pub returns-clause-imported_key : goal.returns-clause-imported_key
 returns-clause-imported_key c = (refl, refl)
 
@@ -9,6 +12,9 @@ returns-clause-imported_key_of_a_method c = (refl, refl)
 
 pub returns-clause-imported_object : goal.returns-clause-imported_object
 returns-clause-imported_object c = (refl, refl)
+
+pub returns-clause-key_that_a_function_in_a_block_gives : goal.returns-clause-key_that_a_function_in_a_block_gives
+returns-clause-key_that_a_function_in_a_block_gives c = (refl, refl)
 
 pub returns-clause-loose_member_read_once : goal.returns-clause-loose_member_read_once
 returns-clause-loose_member_read_once c = (refl, refl)

@@ -13,6 +13,12 @@ returns-clause-arguments_of_another c = refl
 pub returns-clause-arrow_out_of_a_loop : goal.returns-clause-arrow_out_of_a_loop
 returns-clause-arrow_out_of_a_loop c = refl
 
+pub returns-clause-arrow_that_gives_another : goal.returns-clause-arrow_that_gives_another
+returns-clause-arrow_that_gives_another c = refl
+
+pub returns-clause-arrow_without_its_return : goal.returns-clause-arrow_without_its_return
+returns-clause-arrow_without_its_return c = refl
+
 pub returns-clause-async_constructor : goal.returns-clause-async_constructor
 returns-clause-async_constructor c = refl
 
@@ -141,6 +147,9 @@ returns-clause-private_field_dropped c = refl
 
 pub returns-clause-private_method_dropped : goal.returns-clause-private_method_dropped
 returns-clause-private_method_dropped c = refl
+
+pub returns-clause-private_name_of_another_class : goal.returns-clause-private_name_of_another_class
+returns-clause-private_name_of_another_class c = refl
 
 pub returns-clause-private_name_of_the_outer_class : goal.returns-clause-private_name_of_the_outer_class
 returns-clause-private_name_of_the_outer_class c = refl
