@@ -86,6 +86,7 @@ NAMED = 'names_declared (nodes source_{n}) generated_{n} output_{n}'
 STEADY = 'temporaries_steady (nodes source_{n}) generated_{n} output_{n}'
 INITIALIZED = 'initializations_stand (nodes source_{n}) generated_{n} (private_members source_{n}) output_{n} generated_{n}'
 ACCOUNTED = 'declarations_accounted (nodes source_{n}) generated_{n} source_{n} output_{n}'
+STRICT = 'none_becomes_strict (nodes source_{n}) source_{n} output_{n}'
 NOT_MET = {
     'temporary_given_again': STEADY,
     'temporary_given_again_in_a_loop': STEADY,
@@ -143,7 +144,10 @@ NOT_MET = {
     'own_name_that_is_meant': ACCOUNTED,
     'declaration_without_its_name': 'own_names_stay source_{n} output_{n}',
     'name_of_a_class_with_a_block': CALLS,
-    'strict_arrow': 'all_stay_strict (nodes source_{n}) (strict_numbers false source_{n}) (preorder output_{n})',
+    'strict_arrow': STRICT,
+    'function_in_a_class': STRICT,
+    'name_given_behind_a_field': CALLS,
+    'let_out_of_its_block': LISTS,
 }
 # the shapes of the two programs
 SHAPES = {'loose_member_read_once': ('[]', '4 ∷ []'), 'super_key_that_stays': ('[]', '4 ∷ []'), 'suspended_class_written': ('6 ∷ []', '[]'), 'imported_object': ('4 ∷ []', '[]'), 'imported_key': ('4 ∷ []', '[]'), 'imported_key_of_a_method': ('4 ∷ []', '[]'), 'key_that_a_function_in_a_block_gives': ('4 ∷ []', '[]'), 'caught_key': ('4 ∷ []', '[]')}
@@ -215,7 +219,7 @@ ghost use Rattle.es_steps.specs.Meaning.{source_means};
 ghost use Rattle.es_steps.specs.OwnNames.{own_names_stay};
 ghost use Rattle.es_steps.specs.Printable.{is_printable};
 ghost use Rattle.es_steps.specs.PrivateNames.{private_members};
-ghost use Rattle.es_steps.specs.Strict.{strict_numbers, all_stay_strict};
+ghost use Rattle.es_steps.specs.Strict.{none_becomes_strict};
 ghost use Rattle.es_steps.specs.Temporaries.{temporaries_steady};
 ghost use Rattle.es_steps.specs.Timely.{names_timely};
 ''' + '\n'.join(uses) + '\n\n' + '\n'.join(functions)

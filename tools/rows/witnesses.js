@@ -441,6 +441,13 @@ const witnesses = [
   // generated private names of two classes
   wrong('private_name_of_another_class', 'a generated private name read where another class has one of that spelling', { options: ['--static-block'], source: 'class C { static { f(); } static x = class { static { g(); } }; static y = 1; }', output: 'class C { static #_ = f(); static x = class { static #_ = g(); }; static y = 1; }', numbers: { 4: 40, 5: 41, 12: 42, 13: 43 } },
     q => { const y = q.body[0].body.body[2]; y.value = fresh(q, tree('class C { #_; m() { C.#_; } }').body[0].body.body[1].value.body.body[0].expression); }, [{ name: '_', kind: 'Private', number: 1 }, { name: '_', kind: 'Private', number: 10 }]),
+  // code that becomes strict, a name that is given behind a field, a declaration out of its block
+  clause('function_in_a_class', 'a function that is not strict, given in a class', { options: ['--class-properties'], source: 'f(class { x = 1; [k()]() {} }, function() { return this; });', output: 'f(class { constructor() { B.defineProperty(this, "x", 1); } [k()]() {} }, function() { return this; });' },
+    q => { const f = q.body[0].expression, m = f.arguments[0].body.body[1]; m.key = sequence(q, giving(q, '_t', f.arguments[1]), m.key); f.arguments[1] = fresh(q, expression('_t')); q.body.unshift(statement(q, 'var _t;')); }, [temporary]),
+  clause('name_given_behind_a_field', 'a class that is named behind a static field, whose value may name it', { options: ['--static-block'], source: 'f(class { static a = d(this); static { g(); } static b = 1; });', output: 'f(class { static a = d(this); static b = (g(), 1); });' },
+    q => { const b = found(q, n => n.type === 'ClassBody').body[1]; b.value.expressions.unshift(fresh(q, expression('B.setFunctionName(this, "z")'))); }),
+  clause('let_out_of_its_block', 'a `let` of a lowered class out of its block, through which a `var` is hoisted', { options: ['--class-properties'], source: '{ { let C = class { y = 1; }; f(C); } { var C; } }', output: '{ { let C = class { constructor() { B.defineProperty(this, "y", 1); } }; f(C); } { var C; } }' },
+    q => { const outer = q.body[0].body; outer.unshift(outer[0].body.shift()); }),
 ];
 
 // a row that `match.js` has no reading of; `numbers` are those that differ from the place in preorder

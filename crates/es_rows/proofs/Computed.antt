@@ -15,7 +15,7 @@ use Rattle.es_steps.specs.OwnNames.{own_names_stay}
 use Rattle.es_steps.specs.Printable.{is_printable}
 use Rattle.es_steps.specs.PrivateNames.{private_members}
 use Rattle.es_steps.specs.References.{has_number}
-use Rattle.es_steps.specs.Strict.{strict_numbers, all_stay_strict}
+use Rattle.es_steps.specs.Strict.{none_becomes_strict}
 use Rattle.es_steps.specs.Temporaries.{temporaries_steady}
 use Rattle.es_steps.specs.Timely.{names_timely}
 use Rattle.es_steps.specs.declared.options.Options.{Options}
@@ -39,7 +39,7 @@ clauses o ledger p q =
     ∷ names_declared (nodes p) ledger q
     ∷ declarations_accounted (nodes p) ledger p q
     ∷ own_names_stay p q
-    ∷ all_stay_strict (nodes p) (strict_numbers false p) (preorder q)
+    ∷ none_becomes_strict (nodes p) p q
     ∷ initializations_stand (nodes p) ledger (private_members p) q ledger
     ∷ names_timely (nodes p) ledger (private_members p) q
     ∷ temporaries_steady (nodes p) ledger q

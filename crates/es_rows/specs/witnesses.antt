@@ -69,6 +69,7 @@ pub mod FieldsExchanged
 pub mod FieldsOfAWrittenClassExchanged
 pub mod FreeName
 pub mod FunctionInABlockOfAnotherName
+pub mod FunctionInAClass
 pub mod FunctionOfABlock
 pub mod FunctionOfABlockOverAVar
 pub mod FunctionOfABranch
@@ -105,6 +106,7 @@ pub mod LetOfAHead
 pub mod LetOfAnotherCase
 pub mod LetOutOfAHead
 pub mod LetOutOfALoop
+pub mod LetOutOfItsBlock
 pub mod LoopHeadsExchanged
 pub mod LooseMemberReadOnce
 pub mod MapMadeInABranch
@@ -115,6 +117,7 @@ pub mod MemberOfAnObject
 pub mod MethodAssignedInAnotherFunction
 pub mod MethodGivenBehindItsCalls
 pub mod MethodWithoutBrand
+pub mod NameGivenBehindAField
 pub mod NameGivenInAClosure
 pub mod NameOfAClassWithABlock
 pub mod NameOfANamedClass

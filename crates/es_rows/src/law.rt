@@ -13,7 +13,7 @@ ghost use Rattle.es_steps.specs.Meaning.{source_means};
 ghost use Rattle.es_steps.specs.OwnNames.{own_names_stay};
 ghost use Rattle.es_steps.specs.Printable.{is_printable};
 ghost use Rattle.es_steps.specs.PrivateNames.{private_members};
-ghost use Rattle.es_steps.specs.Strict.{strict_numbers, all_stay_strict};
+ghost use Rattle.es_steps.specs.Strict.{none_becomes_strict};
 ghost use Rattle.es_steps.specs.Temporaries.{temporaries_steady};
 ghost use Rattle.es_steps.specs.Timely.{names_timely};
 ghost use Rattle.es_rows.specs.rows.InstanceField.{source_instance_field, output_instance_field, generated_instance_field, options_instance_field, outside_instance_field};
@@ -168,6 +168,7 @@ ghost use Rattle.es_rows.specs.witnesses.FieldsBehindParametersExchanged.{source
 ghost use Rattle.es_rows.specs.witnesses.FieldsExchanged.{source_fields_exchanged, output_fields_exchanged, generated_fields_exchanged, options_fields_exchanged};
 ghost use Rattle.es_rows.specs.witnesses.FieldsOfAWrittenClassExchanged.{source_fields_of_a_written_class_exchanged, output_fields_of_a_written_class_exchanged, generated_fields_of_a_written_class_exchanged, options_fields_of_a_written_class_exchanged};
 ghost use Rattle.es_rows.specs.witnesses.FunctionInABlockOfAnotherName.{first_function_in_a_block_of_another_name, second_function_in_a_block_of_another_name, options_function_in_a_block_of_another_name};
+ghost use Rattle.es_rows.specs.witnesses.FunctionInAClass.{source_function_in_a_class, output_function_in_a_class, generated_function_in_a_class, options_function_in_a_class};
 ghost use Rattle.es_rows.specs.witnesses.FunctionOfABlock.{first_function_of_a_block, second_function_of_a_block, options_function_of_a_block};
 ghost use Rattle.es_rows.specs.witnesses.FunctionOfABlockOverAVar.{first_function_of_a_block_over_a_var, second_function_of_a_block_over_a_var, options_function_of_a_block_over_a_var};
 ghost use Rattle.es_rows.specs.witnesses.FunctionOfABranch.{first_function_of_a_branch, second_function_of_a_branch, options_function_of_a_branch};
@@ -204,6 +205,7 @@ ghost use Rattle.es_rows.specs.witnesses.LetOfAHead.{first_let_of_a_head, second
 ghost use Rattle.es_rows.specs.witnesses.LetOfAnotherCase.{source_let_of_another_case, output_let_of_another_case, generated_let_of_another_case, options_let_of_another_case};
 ghost use Rattle.es_rows.specs.witnesses.LetOutOfAHead.{source_let_out_of_a_head, output_let_out_of_a_head, generated_let_out_of_a_head, options_let_out_of_a_head};
 ghost use Rattle.es_rows.specs.witnesses.LetOutOfALoop.{first_let_out_of_a_loop, second_let_out_of_a_loop, options_let_out_of_a_loop};
+ghost use Rattle.es_rows.specs.witnesses.LetOutOfItsBlock.{source_let_out_of_its_block, output_let_out_of_its_block, generated_let_out_of_its_block, options_let_out_of_its_block};
 ghost use Rattle.es_rows.specs.witnesses.LoopHeadsExchanged.{first_loop_heads_exchanged, second_loop_heads_exchanged, options_loop_heads_exchanged};
 ghost use Rattle.es_rows.specs.witnesses.LooseMemberReadOnce.{first_loose_member_read_once, second_loose_member_read_once, options_loose_member_read_once};
 ghost use Rattle.es_rows.specs.witnesses.MapMadeInABranch.{source_map_made_in_a_branch, output_map_made_in_a_branch, generated_map_made_in_a_branch, options_map_made_in_a_branch};
@@ -214,6 +216,7 @@ ghost use Rattle.es_rows.specs.witnesses.MemberOfAnObject.{source_member_of_an_o
 ghost use Rattle.es_rows.specs.witnesses.MethodAssignedInAnotherFunction.{source_method_assigned_in_another_function, output_method_assigned_in_another_function, generated_method_assigned_in_another_function, options_method_assigned_in_another_function};
 ghost use Rattle.es_rows.specs.witnesses.MethodGivenBehindItsCalls.{source_method_given_behind_its_calls, output_method_given_behind_its_calls, generated_method_given_behind_its_calls, options_method_given_behind_its_calls};
 ghost use Rattle.es_rows.specs.witnesses.MethodWithoutBrand.{source_method_without_brand, output_method_without_brand, generated_method_without_brand, options_method_without_brand};
+ghost use Rattle.es_rows.specs.witnesses.NameGivenBehindAField.{source_name_given_behind_a_field, output_name_given_behind_a_field, generated_name_given_behind_a_field, options_name_given_behind_a_field};
 ghost use Rattle.es_rows.specs.witnesses.NameGivenInAClosure.{source_name_given_in_a_closure, output_name_given_in_a_closure, generated_name_given_in_a_closure, options_name_given_in_a_closure};
 ghost use Rattle.es_rows.specs.witnesses.NameOfAClassWithABlock.{source_name_of_a_class_with_a_block, output_name_of_a_class_with_a_block, generated_name_of_a_class_with_a_block, options_name_of_a_class_with_a_block};
 ghost use Rattle.es_rows.specs.witnesses.NameOfANamedClass.{source_name_of_a_named_class, output_name_of_a_named_class, generated_name_of_a_named_class, options_name_of_a_named_class};
@@ -587,15 +590,18 @@ pub fn clauses_are_not_met()
     ensures field_of_a_written_class_doubled { definitions_stand (nodes source_field_of_a_written_class_doubled) options_field_of_a_written_class_doubled generated_field_of_a_written_class_doubled (private_members source_field_of_a_written_class_doubled) source_field_of_a_written_class_doubled output_field_of_a_written_class_doubled ≡ false }
     ensures field_of_a_written_class_dropped { definitions_stand (nodes source_field_of_a_written_class_dropped) options_field_of_a_written_class_dropped generated_field_of_a_written_class_dropped (private_members source_field_of_a_written_class_dropped) source_field_of_a_written_class_dropped output_field_of_a_written_class_dropped ≡ false }
     ensures fields_of_a_written_class_exchanged { definitions_stand (nodes source_fields_of_a_written_class_exchanged) options_fields_of_a_written_class_exchanged generated_fields_of_a_written_class_exchanged (private_members source_fields_of_a_written_class_exchanged) source_fields_of_a_written_class_exchanged output_fields_of_a_written_class_exchanged ≡ false }
+    ensures function_in_a_class { none_becomes_strict (nodes source_function_in_a_class) source_function_in_a_class output_function_in_a_class ≡ false }
     ensures function_out_of_its_block { lists_kept options_function_out_of_its_block source_function_out_of_its_block output_function_out_of_its_block ≡ false }
     ensures hidden_body { conforms Place.Program output_hidden_body ≡ false }
     ensures key_given_again { initializations_stand (nodes source_key_given_again) generated_key_given_again (private_members source_key_given_again) output_key_given_again generated_key_given_again ≡ false }
     ensures let_of_another_case { names_timely (nodes source_let_of_another_case) generated_let_of_another_case (private_members source_let_of_another_case) output_let_of_another_case ≡ false }
+    ensures let_out_of_its_block { lists_kept options_let_out_of_its_block source_let_out_of_its_block output_let_out_of_its_block ≡ false }
     ensures map_made_in_a_branch { names_timely (nodes source_map_made_in_a_branch) generated_map_made_in_a_branch (private_members source_map_made_in_a_branch) output_map_made_in_a_branch ≡ false }
     ensures map_made_in_a_called_arrow { names_timely (nodes source_map_made_in_a_called_arrow) generated_map_made_in_a_called_arrow (private_members source_map_made_in_a_called_arrow) output_map_made_in_a_called_arrow ≡ false }
     ensures map_made_in_a_pattern { names_timely (nodes source_map_made_in_a_pattern) generated_map_made_in_a_pattern (private_members source_map_made_in_a_pattern) output_map_made_in_a_pattern ≡ false }
     ensures method_assigned_in_another_function { names_timely (nodes source_method_assigned_in_another_function) generated_method_assigned_in_another_function (private_members source_method_assigned_in_another_function) output_method_assigned_in_another_function ≡ false }
     ensures method_given_behind_its_calls { initializations_stand (nodes source_method_given_behind_its_calls) generated_method_given_behind_its_calls (private_members source_method_given_behind_its_calls) output_method_given_behind_its_calls generated_method_given_behind_its_calls ≡ false }
+    ensures name_given_behind_a_field { helper_calls_fit (nodes source_name_given_behind_a_field) generated_name_given_behind_a_field (computed_keys (preorder source_name_given_behind_a_field)) output_name_given_behind_a_field ≡ false }
     ensures name_given_in_a_closure { helper_calls_fit (nodes source_name_given_in_a_closure) generated_name_given_in_a_closure (computed_keys (preorder source_name_given_in_a_closure)) output_name_given_in_a_closure ≡ false }
     ensures name_of_a_class_with_a_block { helper_calls_fit (nodes source_name_of_a_class_with_a_block) generated_name_of_a_class_with_a_block (computed_keys (preorder source_name_of_a_class_with_a_block)) output_name_of_a_class_with_a_block ≡ false }
     ensures name_of_a_named_class { helper_calls_fit (nodes source_name_of_a_named_class) generated_name_of_a_named_class (computed_keys (preorder source_name_of_a_named_class)) output_name_of_a_named_class ≡ false }
@@ -606,7 +612,7 @@ pub fn clauses_are_not_met()
     ensures parameter_read_later { temporaries_steady (nodes source_parameter_read_later) generated_parameter_read_later output_parameter_read_later ≡ false }
     ensures parameter_renamed { homes_kept (nodes source_parameter_renamed) options_parameter_renamed source_parameter_renamed output_parameter_renamed ≡ false }
     ensures private_name_twice { names_declared (nodes source_private_name_twice) generated_private_name_twice output_private_name_twice ≡ false }
-    ensures strict_arrow { all_stay_strict (nodes source_strict_arrow) (strict_numbers false source_strict_arrow) (preorder output_strict_arrow) ≡ false }
+    ensures strict_arrow { none_becomes_strict (nodes source_strict_arrow) source_strict_arrow output_strict_arrow ≡ false }
     ensures strict_rest { is_printable output_strict_rest ≡ false }
     ensures super_function_behind_a_call { names_timely (nodes source_super_function_behind_a_call) generated_super_function_behind_a_call (private_members source_super_function_behind_a_call) output_super_function_behind_a_call ≡ false }
     ensures super_function_behind_its_calls { names_timely (nodes source_super_function_behind_its_calls) generated_super_function_behind_its_calls (private_members source_super_function_behind_its_calls) output_super_function_behind_its_calls ≡ false }

@@ -1,5 +1,5 @@
 -- What a lowered program owes is kept where its new numbers are given anew.
-use Rattle.std.specs.Prelude.{◌≡◌, ℕ, List, map, Bool, true, not, ◌||◌, None, false}
+use Rattle.std.specs.Prelude.{◌≡◌, ℕ, List, map, Bool, true, not, ◌||◌, None}
 use Rattle.std.proofs.Common.{refl, sym, ap, ap₂, ◌∙◌}
 use Rattle.std.proofs.lemmas.Bool.{and_parts}
 use Rattle.std.proofs.lemmas.List.{map-append}
@@ -17,10 +17,10 @@ use Rattle.es_steps.specs.OwnNames.{own_names_stay}
 use Rattle.es_steps.specs.Printable.{is_printable}
 use Rattle.es_steps.specs.PrivateNames.{PrivateMember, members_of_all, private_members}
 use Rattle.es_steps.specs.Standing.{all_numbers, ledger_numbers, all_pass, all_old}
-use Rattle.es_steps.specs.Strict.{strict_numbers, all_stay_strict}
+use Rattle.es_steps.specs.Strict.{none_becomes_strict}
 use Rattle.es_steps.specs.Temporaries.{temporaries_steady}
 use Rattle.es_steps.specs.Timely.{names_timely}
-use Rattle.es_steps.proofs.StrictMapped.{all_stay_strict-mapped}
+use Rattle.es_steps.proofs.StrictMapped.{none_becomes_strict-mapped}
 use Rattle.es_steps.proofs.TemporariesMapped.{temporaries_steady-mapped}
 use Rattle.es_steps.proofs.TimelyMapped.{names_timely-mapped}
 use Rattle.es_steps.specs.declared.options.Options.{Options}
@@ -124,7 +124,7 @@ clauses_law first o ledger p q once old generated met = record {
     declared = kept first ledger p q once old generated (λ l p q. names_declared first l q) (λ f r l p q. names_declared-mapped r l q) met.declared;
     accounted = kept first ledger p q once old generated (declarations_accounted first) (λ f r l p q. declarations_accounted-mapped r l p q) met.accounted;
     names = kept first ledger p q once old generated (λ l p q. own_names_stay p q) (λ f r l p q. own_names_stay-mapped r p q) met.names;
-    strict = kept first ledger p q once old generated (λ l p q. all_stay_strict first (strict_numbers false p) (preorder q)) (λ f r l p q. all_stay_strict-mapped r p q) met.strict;
+    strict = kept first ledger p q once old generated (λ l p q. none_becomes_strict first p q) (λ f r l p q. none_becomes_strict-mapped r p q) met.strict;
     initialized = kept first ledger p q once old generated (λ l p q. initializations_stand first l (private_members p) q l) (initialized-unchanging first o) met.initialized;
     timely = kept first ledger p q once old generated (λ l p q. names_timely first l (private_members p) q) (timely-unchanging first o) met.timely;
     temporaries = kept first ledger p q once old generated (λ l p q. temporaries_steady first l q) (λ f r l p q. temporaries_steady-mapped r l q) met.temporaries;

@@ -16,7 +16,7 @@ use Rattle.es_steps.specs.Values.{String}
 use Rattle.es_steps.proofs.ContextMapped.{generated_as-mapped}
 use Rattle.es_steps.proofs.DefinitionsMapped.{spelling-mapped}
 use Rattle.es_steps.proofs.Mapped.{Renames, mapped, mapped_part, mapped_parts, mapped_option, mapped_generated, mapped_ledger}
-use Rattle.es_steps.proofs.PartsMapped.{cond-mapped, append-mapped, at-mapped, items_at-mapped, string_at-mapped, is_true_at-mapped, number_of-mapped, preorder-mapped, preorder_of-mapped}
+use Rattle.es_steps.proofs.PartsMapped.{cond-mapped, append-mapped, at-mapped, items_at-mapped, string_at-mapped, is_true_at-mapped, is_present_at-mapped, number_of-mapped, preorder-mapped, preorder_of-mapped}
 use Rattle.es_steps.proofs.PrintableMapped.{is_spelled-mapped}
 use Rattle.es_steps.proofs.ReferencesMapped.{has_number-mapped}
 
@@ -67,7 +67,8 @@ module _ (f : ℕ → ℕ) where
   method_key-mapped p = refl
 
   field_key-mapped : (p : Part) → field_key (mapped_part f p) ≡ field_key p
-  field_key-mapped (child (Node Kind.PropertyDefinition m span semantic_id ps)) = element_key-mapped 3 2 ps
+  field_key-mapped (child (Node Kind.PropertyDefinition m span semantic_id ps)) =
+      ap₂ (λ a b. a ++ cond b (is_name ∷ []) []) (element_key-mapped 3 2 ps) (ap₂ (λ a b. a && b) (is_true_at-mapped f 3 ps) (is_present_at-mapped f 1 ps))
   field_key-mapped (child (Node Kind.StaticBlock m span semantic_id ps)) = refl
   field_key-mapped p = refl
 

@@ -6,7 +6,7 @@ use Rattle.es_base.specs.Table.{is_statement}
 use Rattle.es_base.specs.Tree.{Tree, Part, Parts, Node, end, more, child, absent, list, string, no_string, boolean, literal}
 use Rattle.es_base.specs.declared.kind.Kind.{Kind}
 use Rattle.es_steps.specs.Context.{is_constructor}
-use Rattle.es_steps.specs.KeptNodes.{NodeSort, sort_of, is_kept_sort, same_sort, stands_as, all_stand, nodes_kept, is_free_statement, free_statements, free_at, free_in, stands_equal, all_equal, statements_kept, statement_list, declared_classes, class_or_none, given_classes, carried_classes, is_static_block, item_number, item_numbers, is_function_declaration, free_number, free_numbers, free_lists, free_lists_at, free_lists_in, list_of, is_within, all_within, lists_kept, Homed, HomeHere, function_around, is_constructor_part, home_in, has_home, name_of, homed, homes, homes_in, homes_at, homes_of, all_homes, block_numbers, lowered_blocks, home_fits, name_fits, stands_at_home, stands_nowhere, all_at_home, homes_kept}
+use Rattle.es_steps.specs.KeptNodes.{stays_in_list, NodeSort, sort_of, is_kept_sort, same_sort, stands_as, all_stand, nodes_kept, is_free_statement, free_statements, free_at, free_in, stands_equal, all_equal, statements_kept, statement_list, declared_classes, class_or_none, given_classes, carried_classes, is_static_block, item_number, item_numbers, is_function_declaration, free_number, free_numbers, free_lists, free_lists_at, free_lists_in, list_of, is_within, all_within, lists_kept, Homed, HomeHere, function_around, is_constructor_part, home_in, has_home, name_of, homed, homes, homes_in, homes_at, homes_of, all_homes, block_numbers, lowered_blocks, home_fits, name_fits, stands_at_home, stands_nowhere, all_at_home, homes_kept}
 use Rattle.es_steps.specs.LoweredClasses.{Element, is_private_key, element_of, elements_in, body_elements, elements_of, is_lowered_element, any_element, is_lowered_class, holds_lowered, has_lowered_class, constructor_function, constructor_in, referent_of, is_fixed, has_no_items, needs_temporary, is_left_out}
 use Rattle.es_steps.specs.Options.{lowers_blocks}
 use Rattle.es_steps.specs.Parts.{at, items, string_of}
@@ -151,11 +151,15 @@ module _ (f : ℕ → ℕ) where
   is_function_declaration-mapped (Node Kind.FunctionDeclaration m span semantic_id ps) = refl
   is_function_declaration-mapped t = refl
 
+  stays_in_list-mapped : (t : Tree) → stays_in_list (mapped f t) ≡ stays_in_list t
+  stays_in_list-mapped (Node Kind.VariableDeclaration m span semantic_id ps) = refl
+  stays_in_list-mapped t = is_function_declaration-mapped t
+
   free_number-mapped : (o : Options) (p : Part) → free_number o (mapped_part f p) ≡ map f (free_number o p)
   free_number-mapped o (child t) = append-mapped f _ _ (own o t) (declared_classes-mapped (child t))
     where
-      own : (o : Options) (t : Tree) → cond (is_free_statement o (mapped f t) || is_function_declaration (mapped f t)) (number_of (mapped f t) ∷ []) [] ≡ map f (cond (is_free_statement o t || is_function_declaration t) (number_of t ∷ []) [])
-      own o t = rw (is_free_statement-mapped o t, is_function_declaration-mapped t, number_of-mapped f t) (cond-mapped (map f) (is_free_statement o t || is_function_declaration t) (number_of t ∷ []) [] refl refl)
+      own : (o : Options) (t : Tree) → cond (is_free_statement o (mapped f t) || stays_in_list (mapped f t)) (number_of (mapped f t) ∷ []) [] ≡ map f (cond (is_free_statement o t || stays_in_list t) (number_of t ∷ []) [])
+      own o t = rw (is_free_statement-mapped o t, stays_in_list-mapped t, number_of-mapped f t) (cond-mapped (map f) (is_free_statement o t || stays_in_list t) (number_of t ∷ []) [] refl refl)
   free_number-mapped o p = refl
 
   free_numbers-mapped : (o : Options) (ps : Parts) → free_numbers o (mapped_parts f ps) ≡ map f (free_numbers o ps)

@@ -6,7 +6,7 @@ use Rattle.es_base.specs.Preorder.{number_of, preorder, preorder_of}
 use Rattle.es_base.specs.Tree.{Tree, Part, Parts, Node, end, more, child, list}
 use Rattle.es_base.specs.declared.kind.Kind.{Kind}
 use Rattle.es_steps.specs.Parts.{at, items}
-use Rattle.es_steps.specs.Strict.{is_use_strict, has_use_strict, directives, makes_strict, if_strict, strict_numbers, strict_in, strict_at, prologue, is_new_part, has_new_use_strict, were_strict, stays_strict, all_stay_strict}
+use Rattle.es_steps.specs.Strict.{is_use_strict, has_use_strict, directives, makes_strict, if_strict, strict_numbers, strict_in, strict_at, were_strict, none_becomes_strict}
 use Rattle.es_steps.proofs.Mapped.{Renames, mapped, mapped_part, mapped_parts}
 use Rattle.es_steps.proofs.PartsMapped.{append-mapped, at-mapped, items_at-mapped, string_at-mapped, number_of-mapped, preorder-mapped, preorder_of-mapped}
 use Rattle.es_steps.proofs.ReferencesMapped.{has_number-mapped}
@@ -59,33 +59,10 @@ module _ (f : ℕ → ℕ) where
     strict_at-mapped strict (list ps) = strict_in-mapped strict ps
     strict_at-mapped strict p = refl
 
-  prologue-mapped : (kind : Kind) (ps : Parts) → prologue kind (mapped_parts f ps) ≡ mapped_parts f (prologue kind ps)
-  prologue-mapped Kind.Program ps = items_at-mapped f 1 ps
-  prologue-mapped Kind.FunctionDeclaration ps = directives_at-mapped 2 ps
-  prologue-mapped Kind.FunctionExpression ps = directives_at-mapped 2 ps
-  prologue-mapped Kind.ArrowFunctionExpression ps = directives_at-mapped 1 ps
-  prologue-mapped kind ps = refl
-
 module _ {first : ℕ} {f : ℕ → ℕ} (r : Renames first f) where
-  is_new_part-mapped : (p : Part) → is_new_part first (mapped_part f p) ≡ is_new_part first p
-  is_new_part-mapped (child (Node kind m span semantic_id ps)) = r.new m
-  is_new_part-mapped p = refl
-
-  has_new_use_strict-mapped : (ps : Parts) → has_new_use_strict first (mapped_parts f ps) ≡ has_new_use_strict first ps
-  has_new_use_strict-mapped end = refl
-  has_new_use_strict-mapped (more p ps) = rw (is_new_part-mapped p, is_use_strict-mapped f p, has_new_use_strict-mapped ps) refl
-
-  were_strict-mapped : (strict : List ℕ) (ts : List Tree) → were_strict first (map f strict) (map (mapped f) ts) ≡ were_strict first strict ts
+  were_strict-mapped : (strict ns : List ℕ) → were_strict first (map f strict) (map f ns) ≡ were_strict first strict ns
   were_strict-mapped strict [] = refl
-  were_strict-mapped strict (t ∷ ts) = rw (number_of-mapped f t, r.new (number_of t), has_number-mapped r (number_of t) strict, were_strict-mapped strict ts) refl
+  were_strict-mapped strict (n ∷ ns) = rw (r.new n, has_number-mapped r n strict, were_strict-mapped strict ns) refl
 
-  stays_strict-mapped : (strict : List ℕ) (t : Tree) → stays_strict first (map f strict) (mapped f t) ≡ stays_strict first strict t
-  stays_strict-mapped strict (Node kind m span semantic_id ps) =
-      rw (prologue-mapped f kind ps, has_new_use_strict-mapped (prologue kind ps), preorder_of-mapped f ps, were_strict-mapped strict (preorder_of ps)) refl
-
-  all_strict-mapped : (strict : List ℕ) (ts : List Tree) → all_stay_strict first (map f strict) (map (mapped f) ts) ≡ all_stay_strict first strict ts
-  all_strict-mapped strict [] = refl
-  all_strict-mapped strict (t ∷ ts) = ap₂ (λ a b. a && b) (stays_strict-mapped strict t) (all_strict-mapped strict ts)
-
-  pub all_stay_strict-mapped : (p q : Tree) → all_stay_strict first (strict_numbers false (mapped f p)) (preorder (mapped f q)) ≡ all_stay_strict first (strict_numbers false p) (preorder q)
-  all_stay_strict-mapped p q = rw (strict_numbers-mapped f false p, preorder-mapped f q) (all_strict-mapped (strict_numbers false p) (preorder q))
+  pub none_becomes_strict-mapped : (p q : Tree) → none_becomes_strict first (mapped f p) (mapped f q) ≡ none_becomes_strict first p q
+  none_becomes_strict-mapped p q = rw (strict_numbers-mapped f false p, strict_numbers-mapped f false q) (were_strict-mapped (strict_numbers false p) (strict_numbers false q))

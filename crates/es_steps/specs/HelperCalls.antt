@@ -10,7 +10,7 @@ use Rattle.es_base.specs.declared.ledger.LedgerEntry.{LedgerEntry}
 use Rattle.es_base.specs.declared.literal.LiteralValue.TheVariants as literal_value
 use Rattle.es_steps.specs.Context.{generated_as, is_function}
 use Rattle.es_steps.specs.Definitions.{spelling}
-use Rattle.es_steps.specs.Parts.{at, items, string_of, is_true}
+use Rattle.es_steps.specs.Parts.{at, items, string_of, is_true, is_present}
 use Rattle.es_steps.specs.Printable.{is_spelled}
 use Rattle.es_steps.specs.References.{has_number}
 use Rattle.es_steps.specs.Repeated.{is_arrow}
@@ -63,8 +63,8 @@ method_key (child (Node Kind.MethodDefinition m span semantic_id ps)) = static_k
 method_key p = []
 
 abbrev pub field_key : Part → List StaticKey
-field_key (child (Node Kind.PropertyDefinition m span semantic_id ps)) = static_key (is_true (at 3 ps)) (is_true (at 2 ps)) (at 0 ps)
--- what a static block does may give one
+-- what a static field is given, and what a static block does, may give one
+field_key (child (Node Kind.PropertyDefinition m span semantic_id ps)) = static_key (is_true (at 3 ps)) (is_true (at 2 ps)) (at 0 ps) ++ cond (is_true (at 3 ps) && is_present (at 1 ps)) (is_name ∷ []) []
 field_key (child (Node Kind.StaticBlock m span semantic_id ps)) = is_name ∷ []
 field_key p = []
 

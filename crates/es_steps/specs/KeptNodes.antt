@@ -131,8 +131,13 @@ abbrev pub is_function_declaration : Tree → Bool
 is_function_declaration (Node Kind.FunctionDeclaration m span semantic_id ps) = true
 is_function_declaration t = false
 
+-- .. and one of variables, past whose scope a `var` of its names may be hoisted
+abbrev pub stays_in_list : Tree → Bool
+stays_in_list (Node Kind.VariableDeclaration m span semantic_id ps) = true
+stays_in_list t = is_function_declaration t
+
 abbrev pub free_number : Options → Part → List ℕ
-free_number o (child t) = cond (is_free_statement o t || is_function_declaration t) (number_of t ∷ []) [] ++ declared_classes (child t)
+free_number o (child t) = cond (is_free_statement o t || stays_in_list t) (number_of t ∷ []) [] ++ declared_classes (child t)
 free_number o p = []
 
 abbrev pub free_numbers : Options → Parts → List ℕ

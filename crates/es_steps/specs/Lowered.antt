@@ -22,7 +22,7 @@ use Rattle.es_steps.specs.Printable.{is_printable}
 use Rattle.es_steps.specs.PrivateNames.{PrivateMember, private_members, member_at, is_a_field}
 use Rattle.es_steps.specs.References.{Reference, resolve, has_number}
 use Rattle.es_steps.specs.Scopes.{is_binding_identifier, class_in}
-use Rattle.es_steps.specs.Strict.{strict_numbers, all_stay_strict}
+use Rattle.es_steps.specs.Strict.{none_becomes_strict}
 use Rattle.es_steps.specs.Temporaries.{temporaries_steady}
 use Rattle.es_steps.specs.Timely.{names_timely}
 use Rattle.es_steps.specs.Values.{String, Referent, Bound}
@@ -330,7 +330,7 @@ pub record MeetsClauses (first : ℕ) (o : Options) (ledger : List LedgerEntry) 
   pub declared : names_declared first ledger q ≡ true
   pub accounted : declarations_accounted first ledger p q ≡ true
   pub names : own_names_stay p q ≡ true
-  pub strict : all_stay_strict first (strict_numbers false p) (preorder q) ≡ true
+  pub strict : none_becomes_strict first p q ≡ true
   pub initialized : initializations_stand first ledger (private_members p) q ledger ≡ true
   pub timely : names_timely first ledger (private_members p) q ≡ true
   pub temporaries : temporaries_steady first ledger q ≡ true

@@ -1,7 +1,6 @@
--- Strict code (ECMA-262, 11.2.2), and what a new `"use strict"` may stand in. (That no code becomes strict is our own.)
-use Rattle.std.specs.Prelude.{ℕ, List, [], ◌∷◌, ◌++◌, Bool, true, false, cond, not, ◌&&◌, ◌||◌, bytes_eq, codes}
+-- Strict code (ECMA-262, 11.2.2). (That none becomes strict is our own.)
+use Rattle.std.specs.Prelude.{ℕ, List, [], ◌∷◌, ◌++◌, Bool, true, false, ◌&&◌, ◌||◌, bytes_eq, codes}
 use Rattle.es_base.specs.Numbered.{is_new}
-use Rattle.es_base.specs.Preorder.{number_of, preorder_of}
 use Rattle.es_base.specs.Tree.{Tree, Part, Parts, Node, end, more, child, list}
 use Rattle.es_base.specs.declared.kind.Kind.{Kind}
 use Rattle.es_steps.specs.Parts.{at, items, string_of}
@@ -50,31 +49,12 @@ abbrev mutual
   strict_at strict (list ps) = strict_in strict ps
   strict_at strict p = []
 
--- ---- a new `"use strict"` makes no code strict that was not
+-- ---- no code becomes strict
 
-abbrev pub prologue : Kind → Parts → Parts
-prologue Kind.Program ps = items (at 1 ps)
-prologue Kind.FunctionDeclaration ps = directives (at 2 ps)
-prologue Kind.FunctionExpression ps = directives (at 2 ps)
-prologue Kind.ArrowFunctionExpression ps = directives (at 1 ps)
-prologue kind ps = end
-
-abbrev pub is_new_part : ℕ → Part → Bool
-is_new_part first (child (Node kind m span semantic_id ps)) = is_new first m
-is_new_part first p = false
-
-abbrev pub has_new_use_strict : ℕ → Parts → Bool
-has_new_use_strict first end = false
-has_new_use_strict first (more p ps) = (is_new_part first p && is_use_strict p) || has_new_use_strict first ps
-
--- the old nodes among these were strict
-abbrev pub were_strict : ℕ → List ℕ → List Tree → Bool
+-- the nodes of these numbers are new, or were strict
+abbrev pub were_strict : ℕ → List ℕ → List ℕ → Bool
 were_strict first strict [] = true
-were_strict first strict (t ∷ ts) = (is_new first (number_of t) || has_number (number_of t) strict) && were_strict first strict ts
+were_strict first strict (n ∷ ns) = (is_new first n || has_number n strict) && were_strict first strict ns
 
-abbrev pub stays_strict : ℕ → List ℕ → Tree → Bool
-stays_strict first strict (Node kind m span semantic_id ps) = not (has_new_use_strict first (prologue kind ps)) || were_strict first strict (preorder_of ps)
-
-abbrev pub all_stay_strict : ℕ → List ℕ → List Tree → Bool
-all_stay_strict first strict [] = true
-all_stay_strict first strict (t ∷ ts) = stays_strict first strict t && all_stay_strict first strict ts
+abbrev pub none_becomes_strict : ℕ → Tree → Tree → Bool
+none_becomes_strict first p q = were_strict first (strict_numbers false p) (strict_numbers false q)

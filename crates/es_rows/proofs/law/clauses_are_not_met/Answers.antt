@@ -67,6 +67,9 @@ returns-clause-field_of_a_written_class_dropped c = refl
 pub returns-clause-fields_of_a_written_class_exchanged : goal.returns-clause-fields_of_a_written_class_exchanged
 returns-clause-fields_of_a_written_class_exchanged c = refl
 
+pub returns-clause-function_in_a_class : goal.returns-clause-function_in_a_class
+returns-clause-function_in_a_class c = refl
+
 pub returns-clause-function_out_of_its_block : goal.returns-clause-function_out_of_its_block
 returns-clause-function_out_of_its_block c = refl
 
@@ -78,6 +81,9 @@ returns-clause-key_given_again c = refl
 
 pub returns-clause-let_of_another_case : goal.returns-clause-let_of_another_case
 returns-clause-let_of_another_case c = refl
+
+pub returns-clause-let_out_of_its_block : goal.returns-clause-let_out_of_its_block
+returns-clause-let_out_of_its_block c = refl
 
 pub returns-clause-map_made_in_a_branch : goal.returns-clause-map_made_in_a_branch
 returns-clause-map_made_in_a_branch c = refl
@@ -93,6 +99,9 @@ returns-clause-method_assigned_in_another_function c = refl
 
 pub returns-clause-method_given_behind_its_calls : goal.returns-clause-method_given_behind_its_calls
 returns-clause-method_given_behind_its_calls c = refl
+
+pub returns-clause-name_given_behind_a_field : goal.returns-clause-name_given_behind_a_field
+returns-clause-name_given_behind_a_field c = refl
 
 pub returns-clause-name_given_in_a_closure : goal.returns-clause-name_given_in_a_closure
 returns-clause-name_given_in_a_closure c = refl
