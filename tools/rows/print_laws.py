@@ -87,6 +87,7 @@ STEADY = 'temporaries_steady (nodes source_{n}) generated_{n} output_{n}'
 INITIALIZED = 'initializations_stand (nodes source_{n}) generated_{n} (private_members source_{n}) output_{n} generated_{n}'
 ACCOUNTED = 'declarations_accounted (nodes source_{n}) generated_{n} source_{n} output_{n}'
 STRICT = 'none_becomes_strict (nodes source_{n}) source_{n} output_{n}'
+TEXTS = 'texts_stay (nodes source_{n}) source_{n} output_{n}'
 NOT_MET = {
     'temporary_given_again': STEADY,
     'temporary_given_again_in_a_loop': STEADY,
@@ -145,12 +146,14 @@ NOT_MET = {
     'declaration_without_its_name': 'own_names_stay source_{n} output_{n}',
     'name_of_a_class_with_a_block': CALLS,
     'strict_arrow': STRICT,
+    'raw_of_a_template': TEXTS,
+    'raw_of_a_string': TEXTS,
     'function_in_a_class': STRICT,
     'name_given_behind_a_field': CALLS,
     'let_out_of_its_block': LISTS,
 }
 # the shapes of the two programs
-SHAPES = {'loose_member_read_once': ('[]', '4 ∷ []'), 'super_key_that_stays': ('[]', '4 ∷ []'), 'suspended_class_written': ('6 ∷ []', '[]'), 'imported_object': ('4 ∷ []', '[]'), 'imported_key': ('4 ∷ []', '[]'), 'imported_key_of_a_method': ('4 ∷ []', '[]'), 'key_that_a_function_in_a_block_gives': ('4 ∷ []', '[]'), 'caught_key': ('4 ∷ []', '[]')}
+SHAPES = {'loose_member_read_once': ('[]', '4 ∷ []'), 'super_key_that_stays': ('[]', '4 ∷ []'), 'suspended_class_written': ('6 ∷ []', '[]'), 'imported_object': ('4 ∷ []', '[]'), 'imported_key': ('4 ∷ []', '[]'), 'imported_key_of_a_method': ('4 ∷ []', '[]'), 'key_that_a_function_in_a_block_gives': ('4 ∷ []', '[]'), 'caught_key': ('4 ∷ []', '[]'), 'key_that_a_branch_gives': ('4 ∷ []', '[]'), 'key_that_a_catch_gives': ('4 ∷ []', '[]')}
 # outputs that mean what their sources mean
 RIGHT = ('private_name_beside_a_name', 'branch_of_a_key', 'class_in_a_case', 'key_of_a_binding_for_a_name')
 # outputs that owe nothing either
@@ -221,6 +224,7 @@ ghost use Rattle.es_steps.specs.Printable.{is_printable};
 ghost use Rattle.es_steps.specs.PrivateNames.{private_members};
 ghost use Rattle.es_steps.specs.Strict.{none_becomes_strict};
 ghost use Rattle.es_steps.specs.Temporaries.{temporaries_steady};
+ghost use Rattle.es_steps.specs.Texts.{texts_stay};
 ghost use Rattle.es_steps.specs.Timely.{names_timely};
 ''' + '\n'.join(uses) + '\n\n' + '\n'.join(functions)
 write(f'{CRATE}/src/law.rt', text)

@@ -16,10 +16,13 @@ function numbered(t, change = {}) {
   return t;
 }
 const byNumber = (t, num) => preorder(t).find(n => n.num === num);
-// new nodes get the numbers behind those that stand
+// new nodes get the numbers behind those that stand, and a string among them has no raw text
 function fresh(t, n) {
   let next = Math.max(...preorder(t).map(x => x.num ?? 0)) + 1;
-  for (const x of preorder(n)) x.num = next++;
+  for (const x of preorder(n)) {
+    x.num = next++;
+    if (x.literal && x.literal.tag === 'String') x.literal.raw = null;
+  }
   return n;
 }
 // the numbers from `first` on in preorder
@@ -448,11 +451,20 @@ const witnesses = [
     q => { const b = found(q, n => n.type === 'ClassBody').body[1]; b.value.expressions.unshift(fresh(q, expression('B.setFunctionName(this, "z")'))); }),
   clause('let_out_of_its_block', 'a `let` of a lowered class out of its block, through which a `var` is hoisted', { options: ['--class-properties'], source: '{ { let C = class { y = 1; }; f(C); } { var C; } }', output: '{ { let C = class { constructor() { B.defineProperty(this, "y", 1); } }; f(C); } { var C; } }' },
     q => { const outer = q.body[0].body; outer.unshift(outer[0].body.shift()); }),
+  // functions in a branch of an `if` in a block, and in a catch
+  pair('function_in_a_branch_of_a_block', 'a function in a branch in a block, of the name of a `var` around or of another one', 'var g = 1; { if (a) function g() {} } f(g);', 'var g = 1; { if (a) function h() {} } f(g);', {}),
+  pair('key_that_a_branch_gives', 'a key that a function in a branch in a block gives a value', 'var g = "a"; class A { [g] = 1; } { if (t) function g() {} }', 'var g = "a"; class A { [g] = 1; } { if (t) function h() {} }', {}, { options: ['--class-properties'] }),
+  pair('function_in_a_catch', 'a function in a block in a catch of its name, which gives a `var` around a value', 'var g = 1; try { t(); } catch (g) { { function g() {} } } f(g);', 'var g = 1; try { t(); } catch (h) { { function h() {} } } f(g);', {}),
+  pair('key_that_a_catch_gives', 'a key that a function in a block in a catch gives a value', 'var g = "a"; class A { [g] = 1; } try { t(); } catch (g) { { function g() {} } }', 'var g = "a"; class A { [g] = 1; } try { t(); } catch (h) { { function h() {} } }', {}, { options: ['--class-properties'] }),
+  // source texts
+  clause('raw_of_a_template', 'a template whose raw text is another one', inMethod('return `w`;', 'return `w`;'), q => { found(q, n => n.type === 'TemplateElement').raw = 'z'; }),
+  clause('raw_of_a_string', 'a string whose raw text is another one', inMethod('return "w";', 'return "w";'), q => { found(q, n => n.literal && n.literal.value === 'w').literal.raw = '"z"'; }),
 ];
 
 // a row that `match.js` has no reading of; `numbers` are those that differ from the place in preorder
 function numberedByHand(told) {
-  const source = numbered(tree(told.source, told.type)), output = numbered(tree(told.output, told.type), told.numbers);
+  const source = numbered(tree(told.source, told.type)), output = numbered(tree(told.output, told.type), told.numbers), first = preorder(source).length;
+  for (const n of preorder(output)) if (n.num >= first && n.literal && n.literal.tag === 'String') n.literal.raw = null;
   return { source, output, ledger: [], options: optionsOf(told.options) };
 }
 

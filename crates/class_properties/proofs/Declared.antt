@@ -11,7 +11,7 @@ use Rattle.es_steps.specs.Evaluation.{Environment}
 use Rattle.es_steps.specs.Meaning.{DeclarationKind, ClassDeclared, declared_as, declaring, declaring_items, declared_function, declared_functions, body_of, globals}
 use Rattle.es_steps.specs.Modules.{links_in, exports_in}
 use Rattle.es_steps.specs.PrivateNames.{private_members, members_of_all, elements_members}
-use Rattle.es_steps.specs.References.{Reference, if_bound, is_free, assigned, item_references, resolve, written_by, written_by_all, written, imported_by, imported_by_all, varying, writes_free}
+use Rattle.es_steps.specs.References.{Reference, if_bound, is_free, assigned, item_references, resolve, written_by, written_by_all, written, imported_by, imported_by_all, varying, writes_free, caught_again, caught_again_in, given_of}
 use Rattle.es_steps.specs.Repeated.{Surroundings, places_of, all_places}
 use Rattle.es_steps.specs.Shared.{shared, shared_of}
 use Rattle.es_steps.specs.Scopes.{Declaration, lexical_part, lexical_items, var_part, body_names}
@@ -71,28 +71,41 @@ two_ends (x ∷ xs) ys = ap (λ zs. x ∷ zs) (two_ends xs ys)
 
 -- ---- in these lists nothing is written or imported, and no function and no private member is declared
 
+caught_again_in-append : (xs ys : List Tree) → caught_again_in (xs ++ ys) ≡ caught_again_in xs ++ caught_again_in ys
+caught_again_in-append [] ys = refl
+caught_again_in-append (x ∷ xs) ys = rw (caught_again_in-append xs ys) (sym (append_assoc (caught_again x) (caught_again_in xs) (caught_again_in ys)))
+
+-- what is empty, with nothing behind
+four-none : {xs : List ℕ} → xs ≡ [] → (((xs ++ []) ++ []) ++ []) ++ [] ≡ []
+four-none e = rw e refl
+
+two-none : {xs ys : List ℕ} → xs ≡ [] → ys ≡ [] → ((xs ++ []) ++ []) ++ ys ≡ []
+two-none e f = rw (e, f) refl
+
 pub record Unwritten (ps : Parts) : Type 0 where
   pub assigned : (names : List Declaration) → assigned (item_references names false ps) ≡ []
   pub free : (names : List Declaration) → writes_free (codes "arguments") (item_references names false ps) ≡ false
   pub repeated : written_by_all (preorder_of ps) ≡ []
   pub imported : imported_by_all (preorder_of ps) ≡ []
+  pub caught : caught_again_in (preorder_of ps) ≡ []
+  pub given : (names : List Declaration) → given_of names ps ≡ []
   pub functions : declared_functions [] (preorder_of ps) ≡ []
   pub members : members_of_all (preorder_of ps) ≡ []
 
 unwritten-end : Unwritten end
-unwritten-end = record { assigned = λ names. refl; free = λ names. refl; repeated = refl; imported = refl; functions = refl; members = refl }
+unwritten-end = record { assigned = λ names. refl; free = λ names. refl; repeated = refl; imported = refl; caught = refl; given = λ names. refl; functions = refl; members = refl }
 
 fields-unwritten : (es : Parts) → AreFields es → Unwritten es
 fields-unwritten end h = unwritten-end
-fields-unwritten (more p es) (a_field m span semantic_id key v (a_key i ispan i_semantic_id s) no_value, h) = let u : Unwritten es = fields-unwritten es h in record { assigned = u.assigned; free = u.free; repeated = u.repeated; imported = u.imported; functions = u.functions; members = u.members }
-fields-unwritten (more p es) (a_field m span semantic_id key v (a_key i ispan i_semantic_id s) (a_literal l lspan l_semantic_id w), h) = let u : Unwritten es = fields-unwritten es h in record { assigned = u.assigned; free = u.free; repeated = u.repeated; imported = u.imported; functions = u.functions; members = u.members }
-fields-unwritten (more p es) (a_field m span semantic_id key v (a_key i ispan i_semantic_id s) (a_reference r rspan r_semantic_id x), h) = let u : Unwritten es = fields-unwritten es h in record { assigned = u.assigned; free = u.free; repeated = u.repeated; imported = u.imported; functions = u.functions; members = u.members }
+fields-unwritten (more p es) (a_field m span semantic_id key v (a_key i ispan i_semantic_id s) no_value, h) = let u : Unwritten es = fields-unwritten es h in record { assigned = u.assigned; free = u.free; repeated = u.repeated; imported = u.imported; caught = u.caught; given = u.given; functions = u.functions; members = u.members }
+fields-unwritten (more p es) (a_field m span semantic_id key v (a_key i ispan i_semantic_id s) (a_literal l lspan l_semantic_id w), h) = let u : Unwritten es = fields-unwritten es h in record { assigned = u.assigned; free = u.free; repeated = u.repeated; imported = u.imported; caught = u.caught; given = u.given; functions = u.functions; members = u.members }
+fields-unwritten (more p es) (a_field m span semantic_id key v (a_key i ispan i_semantic_id s) (a_reference r rspan r_semantic_id x), h) = let u : Unwritten es = fields-unwritten es h in record { assigned = u.assigned; free = u.free; repeated = u.repeated; imported = u.imported; caught = u.caught; given = u.given; functions = u.functions; members = u.members }
 
 definitions-unwritten : (es : Parts) → AreFields es → (k : ℕ) → Unwritten (trees (definitions_from k es))
 definitions-unwritten end h k = unwritten-end
-definitions-unwritten (more p es) (a_field m span semantic_id key v hk no_value, h) k = let u : Unwritten (trees (definitions_from (k + 9) es)) = definitions-unwritten es h (k + 9) in record { assigned = u.assigned; free = u.free; repeated = u.repeated; imported = u.imported; functions = u.functions; members = u.members }
-definitions-unwritten (more p es) (a_field m span semantic_id key v hk (a_literal l lspan l_semantic_id w), h) k = let u : Unwritten (trees (definitions_from (k + 7) es)) = definitions-unwritten es h (k + 7) in record { assigned = u.assigned; free = u.free; repeated = u.repeated; imported = u.imported; functions = u.functions; members = u.members }
-definitions-unwritten (more p es) (a_field m span semantic_id key v hk (a_reference r rspan r_semantic_id x), h) k = let u : Unwritten (trees (definitions_from (k + 7) es)) = definitions-unwritten es h (k + 7) in record { assigned = u.assigned; free = u.free; repeated = u.repeated; imported = u.imported; functions = u.functions; members = u.members }
+definitions-unwritten (more p es) (a_field m span semantic_id key v hk no_value, h) k = let u : Unwritten (trees (definitions_from (k + 9) es)) = definitions-unwritten es h (k + 9) in record { assigned = u.assigned; free = u.free; repeated = u.repeated; imported = u.imported; caught = u.caught; given = u.given; functions = u.functions; members = u.members }
+definitions-unwritten (more p es) (a_field m span semantic_id key v hk (a_literal l lspan l_semantic_id w), h) k = let u : Unwritten (trees (definitions_from (k + 7) es)) = definitions-unwritten es h (k + 7) in record { assigned = u.assigned; free = u.free; repeated = u.repeated; imported = u.imported; caught = u.caught; given = u.given; functions = u.functions; members = u.members }
+definitions-unwritten (more p es) (a_field m span semantic_id key v hk (a_reference r rspan r_semantic_id x), h) k = let u : Unwritten (trees (definitions_from (k + 7) es)) = definitions-unwritten es h (k + 7) in record { assigned = u.assigned; free = u.free; repeated = u.repeated; imported = u.imported; caught = u.caught; given = u.given; functions = u.functions; members = u.members }
 
 elements-unwritten : (es : Parts) → AreFields es → (k : ℕ) → Unwritten (lowered_elements k es)
 elements-unwritten end h k = unwritten-end
@@ -103,6 +116,8 @@ elements-unwritten (more p es) h k =
       free = λ names. rw (names-definitions (more p es) h (k + 4), four_ends (item_references names false ts)) (u.free names);
       repeated = rw (names-definitions (more p es) h (k + 4), lexical-definitions (more p es) h (k + 4), four_ends (preorder_of ts)) u.repeated;
       imported = rw (four_ends (preorder_of ts)) u.imported;
+      caught = rw (names-definitions (more p es) h (k + 4), four_ends (preorder_of ts)) u.caught;
+      given = λ names. four-none (u.given _);
       functions = rw (four_ends (preorder_of ts)) u.functions;
       members = rw (four_ends (preorder_of ts)) u.members;
     }
@@ -122,6 +137,7 @@ record ClassUnwritten (n : ℕ) (es ps : Parts) : Type 0 where
   free : (names : List Declaration) → writes_free (codes "arguments") (item_references names false es ++ [] ++ [] ++ item_references names false ps) ≡ false
   repeated : written_by_all (preorder_of es ++ [] ++ [] ++ preorder_of ps) ≡ []
   imported : imported_by_all (preorder_of es ++ [] ++ [] ++ preorder_of ps) ≡ []
+  caught : caught_again_in (preorder_of es ++ [] ++ [] ++ preorder_of ps) ≡ []
   functions : declared_functions [] (preorder_of es ++ [] ++ [] ++ preorder_of ps) ≡ []
   members : elements_members n es ++ members_of_all (preorder_of es ++ [] ++ [] ++ preorder_of ps) ≡ []
 
@@ -133,6 +149,7 @@ class-unwritten n es ps a b none =
       free = λ names. rw (two_ends (item_references names false es) (item_references names false ps), writes_free-append (codes "arguments") (item_references names false es) (item_references names false ps), a.free names) (b.free names);
       repeated = rw (two_ends xs ys, written_by_all-append xs ys, a.repeated) b.repeated;
       imported = rw (two_ends xs ys, imported_by_all-append xs ys, a.imported) b.imported;
+      caught = rw (two_ends xs ys, caught_again_in-append xs ys, a.caught) b.caught;
       functions = rw (two_ends xs ys, declared_functions-append xs ys, a.functions) b.functions;
       members = rw (none, two_ends xs ys, members_of_all-append xs ys, a.members) b.members;
     }
@@ -140,15 +157,17 @@ class-unwritten n es ps a b none =
 classes-unwritten : (ps : Parts) → AreClasses ps → Unwritten ps
 classes-unwritten end h = unwritten-end
 classes-unwritten (more p ps) (a_class n span semantic_id id body (a_name i ispan i_semantic_id s free) (a_body m bspan b_semantic_id es he), h) =
-    let u : ClassUnwritten n es ps = class-unwritten n es ps (fields-unwritten es he) (classes-unwritten ps h) (fields-no_members n es he) in
-    record { assigned = u.assigned; free = u.free; repeated = u.repeated; imported = u.imported; functions = u.functions; members = u.members }
+    let rest : Unwritten ps = classes-unwritten ps h in
+    let u : ClassUnwritten n es ps = class-unwritten n es ps (fields-unwritten es he) rest (fields-no_members n es he) in
+    record { assigned = u.assigned; free = u.free; repeated = u.repeated; imported = u.imported; caught = u.caught; given = λ names. two-none ((fields-unwritten es he).given _) (rest.given names); functions = u.functions; members = u.members }
 
 lowered-unwritten : (ps : Parts) → AreClasses ps → (k : ℕ) → Unwritten (lowered_statements k ps)
 lowered-unwritten end h k = unwritten-end
 lowered-unwritten (more p ps) (a_class n span semantic_id id body (a_name i ispan i_semantic_id s free) (a_body m bspan b_semantic_id es he), h) k =
     let next : ℕ = k + statement_size p in
-    let u : ClassUnwritten n (lowered_elements k es) (lowered_statements next ps) = class-unwritten n (lowered_elements k es) (lowered_statements next ps) (elements-unwritten es he k) (lowered-unwritten ps h next) (lowered-no_members n k es) in
-    record { assigned = u.assigned; free = u.free; repeated = u.repeated; imported = u.imported; functions = u.functions; members = u.members }
+    let rest : Unwritten (lowered_statements next ps) = lowered-unwritten ps h next in
+    let u : ClassUnwritten n (lowered_elements k es) (lowered_statements next ps) = class-unwritten n (lowered_elements k es) (lowered_statements next ps) (elements-unwritten es he k) rest (lowered-no_members n k es) in
+    record { assigned = u.assigned; free = u.free; repeated = u.repeated; imported = u.imported; caught = u.caught; given = λ names. two-none ((elements-unwritten es he k).given _) (rest.given names); functions = u.functions; members = u.members }
 
 -- ---- declaring identifiers: those of the classes
 
@@ -275,7 +294,9 @@ written-lowered k t (a_program m span semantic_id s all h) =
 pub varying-lowered : (k : ℕ) (t : Tree) → IsProgram t → varying (lowered_from k t) ≡ varying t
 varying-lowered k t (a_program m span semantic_id s all h) =
     let ps : Parts = lowered_statements k all in
-    rw (written-lowered k t (a_program m span semantic_id s all h), append-nil (preorder_of all), append-nil (preorder_of ps), (classes-unwritten all h).imported, (lowered-unwritten all h k).imported) refl
+    let here : Unwritten all = classes-unwritten all h in
+    let there : Unwritten ps = lowered-unwritten all h k in
+    rw (written-lowered k t (a_program m span semantic_id s all h), append-nil (preorder_of all), append-nil (preorder_of ps), here.imported, there.imported, here.caught, there.caught, here.given (body_names all ++ []), there.given (body_names all ++ [])) refl
 
 pub declaring-lowered : (first k : ℕ) (t : Tree) → IsProgram t → declaring first ClassDeclared (lowered_from k t) ≡ declaring first ClassDeclared t
 declaring-lowered first k t (a_program m span semantic_id s all h) = ap (λ ds. ds ++ []) (classes-declare first all h k ClassDeclared)

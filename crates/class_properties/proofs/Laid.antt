@@ -10,7 +10,9 @@ use Rattle.es_base.specs.Tree.{Tree, Node}
 use Rattle.es_base.specs.declared.kind.Kind.{Kind}
 use Rattle.es_steps.specs.Lowered.{is_lowered_kind, kind_of, none_lowered, is_new_const, all_accounted}
 use Rattle.es_steps.specs.Options.{class_properties_alone}
-use Rattle.es_steps.specs.Scopes.{is_binding_identifier}
+use Rattle.es_steps.specs.OwnNames.{loses_name, none_loses_name}
+use Rattle.es_steps.specs.References.{Reference}
+use Rattle.es_steps.specs.Scopes.{is_binding_identifier, is_class_expression}
 use Rattle.es_unchanged.proofs.Unchanged.{old-no_const}
 
 -- kinds of nodes that declare names, kinds that stay, and kinds of new nodes
@@ -19,7 +21,7 @@ declares_names Kind.VariableDeclaration = true
 declares_names kind = is_binding_identifier kind
 
 abbrev pub stays : Kind → Bool
-stays kind = not (is_lowered_kind class_properties_alone kind)
+stays kind = not (is_lowered_kind class_properties_alone kind) && not (is_class_expression kind)
 
 abbrev pub may_be_new : Kind → Bool
 may_be_new kind = stays kind && not (declares_names kind)
@@ -82,10 +84,16 @@ laid-once {ts = t ∷ ts} l (generated e s rest) = (laid-apart (number_of t) (om
 
 -- ---- nothing is left, and no new node declares a name
 
+stays-parts : (kind : Kind) → stays kind ≡ true → (not (is_lowered_kind class_properties_alone kind) ≡ true) × (not (is_class_expression kind) ≡ true)
+stays-parts kind s = and_parts (not (is_lowered_kind class_properties_alone kind)) (not (is_class_expression kind)) s
+
+stays-no_expression : (kind : Kind) → stays kind ≡ true → is_class_expression kind ≡ false
+stays-no_expression kind s = not-true (is_class_expression kind) (stays-parts kind s).1
+
 pub laid-left : {first hi m lo n : ℕ} {ts : List Tree} → Laid first hi m lo n ts → none_lowered class_properties_alone ts ≡ true
 laid-left (none lh e) = refl
-laid-left (kept a b s rest) = rw (s, laid-left rest) refl
-laid-left {ts = t ∷ ts} (generated e s rest) = rw ((and_parts (stays (kind_of t)) (not (declares_names (kind_of t))) s).0, laid-left rest) refl
+laid-left {ts = t ∷ ts} (kept a b s rest) = rw ((stays-parts (kind_of t) s).0, laid-left rest) refl
+laid-left {ts = t ∷ ts} (generated e s rest) = rw ((stays-parts (kind_of t) (and_parts (stays (kind_of t)) (not (declares_names (kind_of t))) s).0).0, laid-left rest) refl
 
 -- a node that declares no name is no new constant either
 fresh-no_const : (first : ℕ) (t : Tree) → declares_names (kind_of t) ≡ false → is_new_const first t ≡ false
@@ -103,3 +111,13 @@ laid-accounted {first = first} {ts = Node kind b span semantic_id ps ∷ ts} own
 laid-accounted {first = first} {ts = Node kind b span semantic_id ps ∷ ts} own (generated e s rest) =
     let fresh : declares_names kind ≡ false = not-true (declares_names kind) (and_parts (stays kind) (not (declares_names kind)) s).1 in
     rw (fresh-no_const first (Node kind b span semantic_id ps) fresh, fresh-no_binding kind fresh) (laid-accounted own rest)
+
+-- no class is an expression
+not-expression : (ps : List Tree) (rs : List Reference) (t : Tree) → is_class_expression (kind_of t) ≡ false → loses_name ps rs t ≡ false
+not-expression ps rs (Node Kind.ClassExpression n span semantic_id qs) e = absurd (true≢false e)
+not-expression ps rs t e = refl
+
+pub laid-named : {first hi m lo n : ℕ} {ts : List Tree} (ps : List Tree) (rs : List Reference) → Laid first hi m lo n ts → none_loses_name ps rs ts ≡ true
+laid-named ps rs (none lh e) = refl
+laid-named {ts = t ∷ ts} ps rs (kept a b s rest) = rw (not-expression ps rs t (stays-no_expression (kind_of t) s)) (laid-named ps rs rest)
+laid-named {ts = t ∷ ts} ps rs (generated e s rest) = rw (not-expression ps rs t (stays-no_expression (kind_of t) (and_parts (stays (kind_of t)) (not (declares_names (kind_of t))) s).0)) (laid-named ps rs rest)

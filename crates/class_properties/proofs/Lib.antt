@@ -19,3 +19,5 @@ pub mod Shaped
 pub mod Shapeless
 pub mod Small
 pub mod Steps
+pub mod Strictness
+pub mod Written

@@ -1,24 +1,30 @@
 -- A lowered program of the first form owes nothing: its numbers, what is left of it, and its names.
-use Rattle.std.proofs.Common.{◌≡◌, refl, sym, subst, ℕ, ◌+◌, ◌≤◌, List, [], ◌++◌, true, arith}
+use Rattle.std.proofs.Common.{◌≡◌, refl, sym, subst, ℕ, ◌+◌, ◌≤◌, List, [], ◌++◌, true, false, arith}
+use Rattle.std.specs.Prelude.{◌||◌, bytes_eq, codes}
 use Rattle.es_base.specs.Conforms.{conforms}
 use Rattle.es_base.specs.Preorder.{nodes, nodes_of, nodes_of_part, preorder, preorder_of, preorder_of_part, numbered_from, numbered_part, numbered_parts}
 use Rattle.es_base.specs.Tree.{Tree, Part, Parts, end, more, absent, trees}
 use Rattle.es_base.specs.declared.table.Place.{Place}
 use Rattle.es_steps.specs.FirstForm.{is_first_form}
 use Rattle.es_steps.specs.HelperCalls.{computed_keys}
-use Rattle.es_steps.specs.Lowered.{IsLowered, own_name_numbers}
+use Rattle.es_steps.specs.Lowered.{IsLowered}
 use Rattle.es_steps.specs.Generated.{constructor_at, define_at, void_at}
 use Rattle.es_steps.specs.Options.{class_properties_alone}
+use Rattle.es_steps.specs.OwnNames.{own_name_numbers}
 use Rattle.es_steps.specs.PrivateNames.{private_members}
+use Rattle.es_steps.specs.References.{resolve}
+use Rattle.es_steps.specs.Strict.{none_becomes_strict}
 use Rattle.es_steps.specs.Values.{String}
 use Rattle.class_properties.proofs.Fitting.{definitions-fit}
-use Rattle.class_properties.proofs.Laid.{Laid, none, kept, generated, laid-below, laid-append, laid-upto, laid-from, laid-consecutive, laid-once, laid-left, laid-accounted}
+use Rattle.class_properties.proofs.Laid.{Laid, none, kept, generated, laid-below, laid-append, laid-upto, laid-from, laid-consecutive, laid-once, laid-left, laid-accounted, laid-named}
 use Rattle.class_properties.proofs.Shaped.{no_value, a_literal, a_reference, a_key, IsField, a_field, AreFields, a_name, IsBody, a_body, IsClass, a_class, AreClasses, IsProgram, a_program, first_form-shaped}
 use Rattle.class_properties.proofs.Numbered.{definitions_from, fields_size, lowered_elements, elements_size, lowered_body, body_size, lowered_statement, statement_size, lowered_statements, lowered_from}
 use Rattle.class_properties.proofs.Numbered as numbered
 use Rattle.class_properties.proofs.Renumbered.{lowered-numbered}
 use Rattle.class_properties.proofs.Printed.{printable-lowered}
 use Rattle.class_properties.proofs.Remaining.{Remains, remains}
+use Rattle.class_properties.proofs.Strictness.{no-directive, no-lowered_directive, program-strict}
+use Rattle.class_properties.proofs.Written.{texts-stay}
 use Rattle.es_unchanged.proofs.Standing.{temporaries-none}
 use Rattle.es_unchanged.proofs.Unmarked.{names-timely}
 use Rattle.class_properties.specs.Lowering.{lowered}
@@ -90,6 +96,14 @@ program-laid first n t (a_program m span semantic_id s all h) l =
     let rest = statements-laid first 1 n all h (omega (arith, l)) in
     (rest.0, kept (omega arith) (omega (arith, l)) refl (laid-upto _ _ (omega arith) refl (laid-no_more rest.1)))
 
+program-strictness : (first n : ℕ) (t : Tree) → IsProgram t → nodes t ≡ first → first ≤ n → none_becomes_strict first (numbered_from 0 t) (lowered_from n (numbered_from 0 t)) ≡ true
+program-strictness first n t (a_program m span semantic_id s all h) e l =
+    rw (no-directive all h 1, no-lowered_directive n all h 1)
+    (program-strict first n (bytes_eq s (codes "module") || false) all h (omega (arith, e)) l (statements-laid first 1 n all h (omega (arith, e))).1)
+
+numbered-strict : (t : Tree) → IsProgram t → t ≡ numbered_from 0 t → none_becomes_strict (nodes t) t (numbered.lowered t) ≡ true
+numbered-strict t p e = subst (λ u. none_becomes_strict (nodes t) u (lowered_from (nodes t) u) ≡ true) (sym e) (program-strictness (nodes t) (nodes t) t p refl (omega arith))
+
 numbered-laid : (t : Tree) → IsProgram t → t ≡ numbered_from 0 t → (m : ℕ) × Laid (nodes t) (nodes t) m 0 (nodes t) (preorder (numbered.lowered t))
 numbered-laid t p e =
     let whole = program-laid (nodes t) (nodes t) t p (omega arith) in
@@ -106,7 +120,10 @@ numbered-owes t p e =
       clauses = record {
         left = laid-left laid;
         declared = refl;
-        accounted = laid-accounted (own_name_numbers t (preorder q)) laid;
+        accounted = laid-accounted (own_name_numbers t (resolve q) (preorder q)) laid;
+        names = laid-named (preorder t) (resolve q) laid;
+        strict = numbered-strict t p e;
+        texts = texts-stay t p e;
         initialized = refl;
         timely = names-timely first (private_members t) q;
         temporaries = refl;

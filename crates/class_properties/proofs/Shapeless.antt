@@ -18,7 +18,7 @@ use Rattle.es_steps.specs.Options.{lowers_fields, lowers_blocks}
 use Rattle.es_steps.specs.Parts.{at}
 use Rattle.es_steps.specs.PrivateNames.{PrivateMember, elements_members}
 use Rattle.es_steps.specs.Reading.{read}
-use Rattle.es_steps.specs.References.{Reference, item_references, resolve, written, imported, varying}
+use Rattle.es_steps.specs.References.{Reference, item_references, resolve, written, changed_otherwise, varying}
 use Rattle.es_steps.specs.Scopes.{Declaration, body_names}
 use Rattle.es_steps.specs.Shapes.{ClassAt, class_at, lowered_classes, any_class, heritage_by, heritage_at, heritage_has_events, moves_before_heritage, has_shape_1, initializes_instances, is_late_class, has_shape_2, keeps_block, has_shape_3, reads_twice, reads_twice_of, is_imported_key, has_imported_key, has_shape_4, has_unwritable, unwritable_items, has_shape_5, class_names, refers_to, writes_any, has_shape_6, named_in_keys, names_stand_at, id_number, suspended_names, has_shape_7, private_behind_part, private_chains, has_shape_8, if_has, shapes_of, shapes}
 use Rattle.es_steps.specs.declared.options.Options.{Options}
@@ -201,7 +201,7 @@ program-shapes o t c p =
     (rw moves (and-false (lowers_fields o)))
     (rw (no_class is_late_class late-none ks plain) (and-false (lowers_fields o)))
     (rw (no_class keeps_block block-none ks plain, and-false (not (lowers_blocks o))) (and-false (lowers_fields o)))
-    (rw (q.twice o (varying t) (resolve t), no_class (has_imported_key (written t) (imported t) (resolve t)) (imports-none (written t) (imported t) (resolve t)) ks plain) (and-false (lowers_fields o)))
+    (rw (q.twice o (varying t) (resolve t), no_class (has_imported_key (written t) (changed_otherwise t) (resolve t)) (imports-none (written t) (changed_otherwise t) (resolve t)) ks plain) (and-false (lowers_fields o)))
     (rw q.unwritable (and-false (lowers_fields o)))
     (q.writes (class_names ks ++ suspended_names o (preorder t)))
     named

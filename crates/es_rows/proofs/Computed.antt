@@ -17,6 +17,7 @@ use Rattle.es_steps.specs.PrivateNames.{private_members}
 use Rattle.es_steps.specs.References.{has_number}
 use Rattle.es_steps.specs.Strict.{none_becomes_strict}
 use Rattle.es_steps.specs.Temporaries.{temporaries_steady}
+use Rattle.es_steps.specs.Texts.{texts_stay}
 use Rattle.es_steps.specs.Timely.{names_timely}
 use Rattle.es_steps.specs.declared.options.Options.{Options}
 
@@ -40,6 +41,7 @@ clauses o ledger p q =
     ∷ declarations_accounted (nodes p) ledger p q
     ∷ own_names_stay p q
     ∷ none_becomes_strict (nodes p) p q
+    ∷ texts_stay (nodes p) p q
     ∷ initializations_stand (nodes p) ledger (private_members p) q ledger
     ∷ names_timely (nodes p) ledger (private_members p) q
     ∷ temporaries_steady (nodes p) ledger q
@@ -55,7 +57,7 @@ clauses o ledger p q =
     ∷ []
 
 abbrev all_met : List Bool
-all_met = true ∷ true ∷ true ∷ true ∷ true ∷ true ∷ true ∷ true ∷ true ∷ true ∷ true ∷ true ∷ true ∷ true ∷ true ∷ true ∷ true ∷ true ∷ []
+all_met = true ∷ true ∷ true ∷ true ∷ true ∷ true ∷ true ∷ true ∷ true ∷ true ∷ true ∷ true ∷ true ∷ true ∷ true ∷ true ∷ true ∷ true ∷ true ∷ []
 
 -- ---- numbers
 
@@ -115,6 +117,7 @@ lowered {p = p} {q = q} e0 =
     let e15 = rest_of _ _ _ _ e14 in
     let e16 = rest_of _ _ _ _ e15 in
     let e17 = rest_of _ _ _ _ e16 in
+    let e18 = rest_of _ _ _ _ e17 in
     record {
       numbered = numbered (nodes p) q (first_of _ _ _ _ e0);
       clauses = record {
@@ -123,17 +126,18 @@ lowered {p = p} {q = q} e0 =
         accounted = first_of _ _ _ _ e3;
         names = first_of _ _ _ _ e4;
         strict = first_of _ _ _ _ e5;
-        initialized = first_of _ _ _ _ e6;
-        timely = first_of _ _ _ _ e7;
-        temporaries = first_of _ _ _ _ e8;
-        keys = first_of _ _ _ _ e9;
-        nodes = first_of _ _ _ _ e10;
-        statements = first_of _ _ _ _ e11;
-        lists = first_of _ _ _ _ e12;
-        homes = first_of _ _ _ _ e13;
-        definitions = first_of _ _ _ _ e14;
-        elements = first_of _ _ _ _ e15;
-        calls = first_of _ _ _ _ e16;
-        printable = first_of _ _ _ _ e17;
+        texts = first_of _ _ _ _ e6;
+        initialized = first_of _ _ _ _ e7;
+        timely = first_of _ _ _ _ e8;
+        temporaries = first_of _ _ _ _ e9;
+        keys = first_of _ _ _ _ e10;
+        nodes = first_of _ _ _ _ e11;
+        statements = first_of _ _ _ _ e12;
+        lists = first_of _ _ _ _ e13;
+        homes = first_of _ _ _ _ e14;
+        definitions = first_of _ _ _ _ e15;
+        elements = first_of _ _ _ _ e16;
+        calls = first_of _ _ _ _ e17;
+        printable = first_of _ _ _ _ e18;
       };
     }

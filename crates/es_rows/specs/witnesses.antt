@@ -69,6 +69,8 @@ pub mod FieldsExchanged
 pub mod FieldsOfAWrittenClassExchanged
 pub mod FreeName
 pub mod FunctionInABlockOfAnotherName
+pub mod FunctionInABranchOfABlock
+pub mod FunctionInACatch
 pub mod FunctionInAClass
 pub mod FunctionOfABlock
 pub mod FunctionOfABlockOverAVar
@@ -99,6 +101,8 @@ pub mod KeyOfABindingInATemporary
 pub mod KeyOfAMethod
 pub mod KeyReadLate
 pub mod KeyReadTwice
+pub mod KeyThatABranchGives
+pub mod KeyThatACatchGives
 pub mod KeyThatAFunctionInABlockGives
 pub mod LabelledFunctionInABlock
 pub mod LetBesideACaughtName
@@ -151,6 +155,8 @@ pub mod PrivateNameBesideAName
 pub mod PrivateNameOfAnotherClass
 pub mod PrivateNameOfTheOuterClass
 pub mod PrivateNameTwice
+pub mod RawOfAString
+pub mod RawOfATemplate
 pub mod ReadBehindAFunctionInABlock
 pub mod ReadInFrontOfABlock
 pub mod ReadMoved

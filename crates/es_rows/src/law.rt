@@ -15,6 +15,7 @@ ghost use Rattle.es_steps.specs.Printable.{is_printable};
 ghost use Rattle.es_steps.specs.PrivateNames.{private_members};
 ghost use Rattle.es_steps.specs.Strict.{none_becomes_strict};
 ghost use Rattle.es_steps.specs.Temporaries.{temporaries_steady};
+ghost use Rattle.es_steps.specs.Texts.{texts_stay};
 ghost use Rattle.es_steps.specs.Timely.{names_timely};
 ghost use Rattle.es_rows.specs.rows.InstanceField.{source_instance_field, output_instance_field, generated_instance_field, options_instance_field, outside_instance_field};
 ghost use Rattle.es_rows.specs.rows.SetField.{source_set_field, output_set_field, generated_set_field, options_set_field, outside_set_field};
@@ -168,6 +169,8 @@ ghost use Rattle.es_rows.specs.witnesses.FieldsBehindParametersExchanged.{source
 ghost use Rattle.es_rows.specs.witnesses.FieldsExchanged.{source_fields_exchanged, output_fields_exchanged, generated_fields_exchanged, options_fields_exchanged};
 ghost use Rattle.es_rows.specs.witnesses.FieldsOfAWrittenClassExchanged.{source_fields_of_a_written_class_exchanged, output_fields_of_a_written_class_exchanged, generated_fields_of_a_written_class_exchanged, options_fields_of_a_written_class_exchanged};
 ghost use Rattle.es_rows.specs.witnesses.FunctionInABlockOfAnotherName.{first_function_in_a_block_of_another_name, second_function_in_a_block_of_another_name, options_function_in_a_block_of_another_name};
+ghost use Rattle.es_rows.specs.witnesses.FunctionInABranchOfABlock.{first_function_in_a_branch_of_a_block, second_function_in_a_branch_of_a_block, options_function_in_a_branch_of_a_block};
+ghost use Rattle.es_rows.specs.witnesses.FunctionInACatch.{first_function_in_a_catch, second_function_in_a_catch, options_function_in_a_catch};
 ghost use Rattle.es_rows.specs.witnesses.FunctionInAClass.{source_function_in_a_class, output_function_in_a_class, generated_function_in_a_class, options_function_in_a_class};
 ghost use Rattle.es_rows.specs.witnesses.FunctionOfABlock.{first_function_of_a_block, second_function_of_a_block, options_function_of_a_block};
 ghost use Rattle.es_rows.specs.witnesses.FunctionOfABlockOverAVar.{first_function_of_a_block_over_a_var, second_function_of_a_block_over_a_var, options_function_of_a_block_over_a_var};
@@ -198,6 +201,8 @@ ghost use Rattle.es_rows.specs.witnesses.KeyOfABindingInATemporary.{source_key_o
 ghost use Rattle.es_rows.specs.witnesses.KeyOfAMethod.{first_key_of_a_method, second_key_of_a_method, options_key_of_a_method};
 ghost use Rattle.es_rows.specs.witnesses.KeyReadLate.{source_key_read_late, output_key_read_late, generated_key_read_late, options_key_read_late};
 ghost use Rattle.es_rows.specs.witnesses.KeyReadTwice.{source_key_read_twice, output_key_read_twice, generated_key_read_twice, options_key_read_twice};
+ghost use Rattle.es_rows.specs.witnesses.KeyThatABranchGives.{first_key_that_a_branch_gives, second_key_that_a_branch_gives, options_key_that_a_branch_gives};
+ghost use Rattle.es_rows.specs.witnesses.KeyThatACatchGives.{first_key_that_a_catch_gives, second_key_that_a_catch_gives, options_key_that_a_catch_gives};
 ghost use Rattle.es_rows.specs.witnesses.KeyThatAFunctionInABlockGives.{first_key_that_a_function_in_a_block_gives, second_key_that_a_function_in_a_block_gives, options_key_that_a_function_in_a_block_gives};
 ghost use Rattle.es_rows.specs.witnesses.LabelledFunctionInABlock.{first_labelled_function_in_a_block, second_labelled_function_in_a_block, options_labelled_function_in_a_block};
 ghost use Rattle.es_rows.specs.witnesses.LetBesideACaughtName.{source_let_beside_a_caught_name, output_let_beside_a_caught_name, generated_let_beside_a_caught_name, options_let_beside_a_caught_name};
@@ -249,6 +254,8 @@ ghost use Rattle.es_rows.specs.witnesses.PrivateNameBesideAName.{source_private_
 ghost use Rattle.es_rows.specs.witnesses.PrivateNameOfAnotherClass.{source_private_name_of_another_class, output_private_name_of_another_class, generated_private_name_of_another_class, options_private_name_of_another_class};
 ghost use Rattle.es_rows.specs.witnesses.PrivateNameOfTheOuterClass.{source_private_name_of_the_outer_class, output_private_name_of_the_outer_class, generated_private_name_of_the_outer_class, options_private_name_of_the_outer_class};
 ghost use Rattle.es_rows.specs.witnesses.PrivateNameTwice.{source_private_name_twice, output_private_name_twice, generated_private_name_twice, options_private_name_twice};
+ghost use Rattle.es_rows.specs.witnesses.RawOfAString.{source_raw_of_a_string, output_raw_of_a_string, generated_raw_of_a_string, options_raw_of_a_string};
+ghost use Rattle.es_rows.specs.witnesses.RawOfATemplate.{source_raw_of_a_template, output_raw_of_a_template, generated_raw_of_a_template, options_raw_of_a_template};
 ghost use Rattle.es_rows.specs.witnesses.ReadBehindAFunctionInABlock.{first_read_behind_a_function_in_a_block, second_read_behind_a_function_in_a_block, options_read_behind_a_function_in_a_block};
 ghost use Rattle.es_rows.specs.witnesses.ReadInFrontOfABlock.{first_read_in_front_of_a_block, second_read_in_front_of_a_block, options_read_in_front_of_a_block};
 ghost use Rattle.es_rows.specs.witnesses.ReadMoved.{source_read_moved, output_read_moved, generated_read_moved, options_read_moved};
@@ -424,6 +431,8 @@ pub fn programs_are_told_apart()
     ensures default_function { TellsApart options_default_function first_default_function second_default_function }
     ensures delete_of_a_name { TellsApart options_delete_of_a_name first_delete_of_a_name second_delete_of_a_name }
     ensures function_in_a_block_of_another_name { TellsApart options_function_in_a_block_of_another_name first_function_in_a_block_of_another_name second_function_in_a_block_of_another_name }
+    ensures function_in_a_branch_of_a_block { TellsApart options_function_in_a_branch_of_a_block first_function_in_a_branch_of_a_block second_function_in_a_branch_of_a_block }
+    ensures function_in_a_catch { TellsApart options_function_in_a_catch first_function_in_a_catch second_function_in_a_catch }
     ensures function_of_a_block { TellsApart options_function_of_a_block first_function_of_a_block second_function_of_a_block }
     ensures function_of_a_block_over_a_var { TellsApart options_function_of_a_block_over_a_var first_function_of_a_block_over_a_var second_function_of_a_block_over_a_var }
     ensures function_of_a_branch { TellsApart options_function_of_a_branch first_function_of_a_branch second_function_of_a_branch }
@@ -612,6 +621,8 @@ pub fn clauses_are_not_met()
     ensures parameter_read_later { temporaries_steady (nodes source_parameter_read_later) generated_parameter_read_later output_parameter_read_later ≡ false }
     ensures parameter_renamed { homes_kept (nodes source_parameter_renamed) options_parameter_renamed source_parameter_renamed output_parameter_renamed ≡ false }
     ensures private_name_twice { names_declared (nodes source_private_name_twice) generated_private_name_twice output_private_name_twice ≡ false }
+    ensures raw_of_a_string { texts_stay (nodes source_raw_of_a_string) source_raw_of_a_string output_raw_of_a_string ≡ false }
+    ensures raw_of_a_template { texts_stay (nodes source_raw_of_a_template) source_raw_of_a_template output_raw_of_a_template ≡ false }
     ensures strict_arrow { none_becomes_strict (nodes source_strict_arrow) source_strict_arrow output_strict_arrow ≡ false }
     ensures strict_rest { is_printable output_strict_rest ≡ false }
     ensures super_function_behind_a_call { names_timely (nodes source_super_function_behind_a_call) generated_super_function_behind_a_call (private_members source_super_function_behind_a_call) output_super_function_behind_a_call ≡ false }
@@ -653,6 +664,8 @@ pub fn shapes_are_told()
     ensures imported_key { HaveShapes options_imported_key first_imported_key (4 ∷ []) second_imported_key ([]) }
     ensures imported_key_of_a_method { HaveShapes options_imported_key_of_a_method first_imported_key_of_a_method (4 ∷ []) second_imported_key_of_a_method ([]) }
     ensures imported_object { HaveShapes options_imported_object first_imported_object (4 ∷ []) second_imported_object ([]) }
+    ensures key_that_a_branch_gives { HaveShapes options_key_that_a_branch_gives first_key_that_a_branch_gives (4 ∷ []) second_key_that_a_branch_gives ([]) }
+    ensures key_that_a_catch_gives { HaveShapes options_key_that_a_catch_gives first_key_that_a_catch_gives (4 ∷ []) second_key_that_a_catch_gives ([]) }
     ensures key_that_a_function_in_a_block_gives { HaveShapes options_key_that_a_function_in_a_block_gives first_key_that_a_function_in_a_block_gives (4 ∷ []) second_key_that_a_function_in_a_block_gives ([]) }
     ensures loose_member_read_once { HaveShapes options_loose_member_read_once first_loose_member_read_once ([]) second_loose_member_read_once (4 ∷ []) }
     ensures super_key_that_stays { HaveShapes options_super_key_that_stays first_super_key_that_stays ([]) second_super_key_that_stays (4 ∷ []) }

@@ -19,9 +19,11 @@ use Rattle.es_steps.specs.PrivateNames.{PrivateMember, members_of_all, private_m
 use Rattle.es_steps.specs.Standing.{all_numbers, ledger_numbers, all_pass, all_old}
 use Rattle.es_steps.specs.Strict.{none_becomes_strict}
 use Rattle.es_steps.specs.Temporaries.{temporaries_steady}
+use Rattle.es_steps.specs.Texts.{texts_stay}
 use Rattle.es_steps.specs.Timely.{names_timely}
 use Rattle.es_steps.proofs.StrictMapped.{none_becomes_strict-mapped}
 use Rattle.es_steps.proofs.TemporariesMapped.{temporaries_steady-mapped}
+use Rattle.es_steps.proofs.TextsMapped.{texts_stay-mapped}
 use Rattle.es_steps.proofs.TimelyMapped.{names_timely-mapped}
 use Rattle.es_steps.specs.declared.options.Options.{Options}
 use Rattle.es_steps.proofs.DefinitionsMapped.{definitions_stand-mapped, all_temporaries-mapped, elements_kept-mapped}
@@ -125,6 +127,7 @@ clauses_law first o ledger p q once old generated met = record {
     accounted = kept first ledger p q once old generated (declarations_accounted first) (λ f r l p q. declarations_accounted-mapped r l p q) met.accounted;
     names = kept first ledger p q once old generated (λ l p q. own_names_stay p q) (λ f r l p q. own_names_stay-mapped r p q) met.names;
     strict = kept first ledger p q once old generated (λ l p q. none_becomes_strict first p q) (λ f r l p q. none_becomes_strict-mapped r p q) met.strict;
+    texts = kept first ledger p q once old generated (λ l p q. texts_stay first p q) (λ f r l p q. texts_stay-mapped r p q) met.texts;
     initialized = kept first ledger p q once old generated (λ l p q. initializations_stand first l (private_members p) q l) (initialized-unchanging first o) met.initialized;
     timely = kept first ledger p q once old generated (λ l p q. names_timely first l (private_members p) q) (timely-unchanging first o) met.timely;
     temporaries = kept first ledger p q once old generated (λ l p q. temporaries_steady first l q) (λ f r l p q. temporaries_steady-mapped r l q) met.temporaries;

@@ -6,17 +6,17 @@ use Rattle.es_base.specs.Tree.{Tree, Part, Parts, Node, end, more, child, list}
 use Rattle.es_base.specs.declared.kind.Kind.{Kind}
 use Rattle.es_base.specs.declared.ledger.GeneratedKind.{GeneratedKind}
 use Rattle.es_base.specs.declared.ledger.LedgerEntry.{LedgerEntry}
-use Rattle.es_steps.specs.Context.{NameKind, Fixed, Changing, MeansClass, FunctionRole, a_function, constructor_of, method_on, super_function_of, Context, is_private_entry, generated_as, is_private_for, is_generated_private, is_private_elsewhere, is_generated_elsewhere, around_inside, unless_varying, declared_kind, found_kind, generated_or, name_kind, is_super_call, holds_super, part_holds_super, parts_hold_super, rest_among, super_statement, first_super, initializing_call, Frame, function_frame, arrow_frame, class_frame, field_frame, method_frame, static_block_frame, object_frame, property_frame, assignment_frame, declarator_frame, same_frame, frame_of, in_function, in_element, is_constructor, method_role, property_role, role_of_generated, name_in, let_class_of, framed, role_in, inner_name, inside}
+use Rattle.es_steps.specs.Context.{NameKind, Fixed, Changing, MeansClass, FunctionRole, a_function, constructor_of, method_on, super_function_of, Context, is_private_entry, generated_as, is_private_for, is_generated_private, is_private_elsewhere, is_generated_elsewhere, if_around, around_inside, unless_varying, declared_kind, found_kind, generated_or, name_kind, is_super_call, holds_super, part_holds_super, parts_hold_super, rest_among, super_statement, first_super, initializing_call, Frame, function_frame, arrow_frame, class_frame, field_frame, method_frame, static_block_frame, object_frame, property_frame, assignment_frame, declarator_frame, same_frame, frame_of, in_function, in_element, is_constructor, method_role, property_role, role_of_generated, name_in, let_class_of, framed, role_in, inner_name, inside}
 use Rattle.es_steps.specs.Meaning.{Terms, start}
 use Rattle.es_steps.specs.Parts.{at, items, block_items, string_of, is_true, is_present}
 use Rattle.es_steps.specs.PrivateNames.{seen_members}
-use Rattle.es_steps.specs.References.{declared, has_number, resolve}
+use Rattle.es_steps.specs.References.{declared, has_number, resolve, names_around}
 use Rattle.es_steps.specs.Scopes.{ClassName, no_class, declares, own_name, let_names, Declaration, bound_part, names_at, class_in}
 use Rattle.es_steps.specs.Values.{String, Bound, Home, OfClass, OfPrototype}
 use Rattle.es_steps.proofs.Mapped.{mapped, mapped_part, mapped_parts, mapped_class_name, mapped_declaration, mapped_declarations, mapped_option, mapped_generated, mapped_ledger, mapped_name_kind, mapped_private, mapped_home, mapped_role, mapped_pair, mapped_context, mapped_terms, Renames}
 use Rattle.es_steps.proofs.PartsMapped.{cond-mapped, append-mapped, at-mapped, items_at-mapped, block_items_at-mapped, string_at-mapped, is_true_at-mapped, is_present_at-mapped, number_of-mapped}
 use Rattle.es_steps.proofs.PrivatesMapped.{seen_members-mapped}
-use Rattle.es_steps.proofs.ReferencesMapped.{declared-mapped, has_number-mapped, resolve-mapped, writes_free-mapped, varying-mapped}
+use Rattle.es_steps.proofs.ReferencesMapped.{declared-mapped, has_number-mapped, resolve-mapped, writes_free-mapped, varying-mapped, names_around-mapped}
 use Rattle.es_steps.proofs.ScopesMapped.{bound_at-mapped, names_at-mapped, class_in-mapped}
 
 -- ---- the ledger
@@ -192,17 +192,21 @@ module _ {first : ℕ} {f : ℕ → ℕ} (r : Renames first f) where
       (append-mapped (mapped_declaration f) (inner_name kind m ps i) (names_at c.is_body kind m ps i) (inner_name-mapped kind m ps i) (names_at-mapped f c.is_body kind m ps i))
       refl
 
+  if_around-mapped : (around : Option (List Declaration)) (names : List Declaration) → if_around (mapped_option (mapped_declarations f) around) (mapped_declarations f names) ≡ mapped_declarations f (if_around around names)
+  if_around-mapped (Some around) names = refl
+  if_around-mapped None names = refl
+
   around_inside-mapped : (c : Context) (kind : Kind) → around_inside (mapped_context f c) kind ≡ mapped_option (mapped_declarations f) (around_inside c kind)
-  around_inside-mapped c Kind.BlockStatement = cond-mapped (mapped_option (mapped_declarations f)) c.is_body None (Some c.names) refl refl
+  around_inside-mapped c Kind.BlockStatement = cond-mapped (mapped_option (mapped_declarations f)) c.is_body None (Some c.uncaught) refl refl
   around_inside-mapped c Kind.SwitchStatement = refl
   around_inside-mapped c Kind.SwitchCase = refl
   around_inside-mapped c Kind.LabeledStatement = refl
-  around_inside-mapped c Kind.IfStatement = refl
+  around_inside-mapped c Kind.IfStatement = ap Some (if_around-mapped c.around c.uncaught)
   around_inside-mapped c kind = refl
 
   pub inside-mapped : (c : Context) → c.first_new ≡ first → (kind : Kind) (m : ℕ) (ps : Parts) (i : ℕ) → inside (mapped_context f c) kind (f m) (mapped_parts f ps) i ≡ mapped_context f (inside c kind m ps i)
   inside-mapped c e kind m ps i =
-      rw (framed-mapped (frame_of kind) m ps i c e, seen_names-mapped c kind m ps i, append-mapped (mapped_private f) (seen_members kind m ps i) c.privates (seen_members-mapped f kind m ps i) refl, role_in-mapped f (frame_of kind) ps i c, around_inside-mapped c kind)
+      rw (framed-mapped (frame_of kind) m ps i c e, seen_names-mapped c kind m ps i, append-mapped (mapped_private f) (seen_members kind m ps i) c.privates (seen_members-mapped f kind m ps i) refl, role_in-mapped f (frame_of kind) ps i c, around_inside-mapped c kind, append-mapped (mapped_declaration f) (names_around c.is_body kind m ps i) c.uncaught (names_around-mapped f c.is_body kind m ps i) refl)
       refl
 
   -- ---- the start

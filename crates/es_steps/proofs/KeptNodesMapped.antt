@@ -288,7 +288,7 @@ module _ {first : ℕ} {f : ℕ → ℕ} (r : Renames first f) where
     same_part-mapped (literal v) (literal w) = refl
     same_part-mapped p q = refl
 
-    same_parts-mapped : (ps qs : Parts) → same_parts (mapped_parts f ps) (mapped_parts f qs) ≡ same_parts ps qs
+    pub same_parts-mapped : (ps qs : Parts) → same_parts (mapped_parts f ps) (mapped_parts f qs) ≡ same_parts ps qs
     same_parts-mapped end end = refl
     same_parts-mapped (more p ps) (more q qs) = ap₂ (λ a b. a && b) (same_part-mapped p q) (same_parts-mapped ps qs)
     same_parts-mapped ps qs = refl

@@ -31,5 +31,6 @@ pub mod HelperCallsMapped
 pub mod OwnNamesMapped
 pub mod LoweredMapped
 pub mod TemporariesMapped
+pub mod TextsMapped
 pub mod TimelyMapped
 pub mod Clauses

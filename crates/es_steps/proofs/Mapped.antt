@@ -218,6 +218,7 @@ module _ (f : ℕ → ℕ) where
     role = mapped_role c.role;
     let_class = mapped_option mapped_pair c.let_class;
     is_body = c.is_body;
+    uncaught = mapped_declarations c.uncaught;
     around = mapped_option mapped_declarations c.around;
   }
 

@@ -6,7 +6,7 @@ use Rattle.es_base.specs.Table.{Field, members_of}
 use Rattle.es_base.specs.Tree.{Tree, Part, Parts, Node, end, more, child, list}
 use Rattle.es_base.specs.declared.kind.Kind.{Kind}
 use Rattle.es_steps.specs.Parts.{at, items, string_of, is_true}
-use Rattle.es_steps.specs.References.{declared, referent, Reference, is_target, is_reference, reference, references, references_in, part_references, item_references, resolve, has_number, numbers_of, if_bound, assigned, is_declared, repeated, is_for_each, written_by, written_by_all, written, imported_by, imported_by_all, imported, caught_again, caught_again_in, bound_spelling, function_name, function_names, case_functions, inner_functions, meant, given_around, given_in, given_at, given_of, changed_otherwise, varying, is_free, writes_free}
+use Rattle.es_steps.specs.References.{declared, referent, Reference, is_target, is_reference, reference, references, references_in, part_references, item_references, resolve, has_number, numbers_of, if_bound, assigned, is_declared, repeated, is_for_each, written_by, written_by_all, written, imported_by, imported_by_all, imported, caught_again, caught_again_in, bound_spelling, function_name, function_names, case_functions, inner_functions, meant, catches_a_name, names_around, given_around, given_in, given_at, given_of, changed_otherwise, varying, is_free, writes_free}
 use Rattle.es_steps.specs.Scopes.{Declaration, no_class, bound_part, names_at, is_body_part, scope_form, scope_names, var_part}
 use Rattle.es_steps.specs.Values.{String, Referent, Bound, Free}
 use Rattle.es_steps.proofs.Mapped.{mapped, mapped_part, mapped_parts, mapped_declaration, mapped_declarations, mapped_option, mapped_reference, mapped_referent, Renames}
@@ -122,6 +122,7 @@ module _ (f : ℕ → ℕ) where
   function_name-mapped : (p : Part) → function_name (mapped_part f p) ≡ function_name p
   function_name-mapped (child (Node Kind.FunctionDeclaration m span semantic_id ps)) = rw (is_true_at-mapped f 3 ps, is_true_at-mapped f 4 ps, at-mapped f 0 ps, bound_spelling-mapped (at 0 ps)) refl
   function_name-mapped (child (Node Kind.LabeledStatement m span semantic_id (more label (more s end)))) = function_name-mapped s
+  function_name-mapped (child (Node Kind.IfStatement m span semantic_id (more test (more s (more other end))))) = ap₂ (λ a b. a ++ b) (function_name-mapped s) (function_name-mapped other)
   function_name-mapped p = refl
 
   function_names-mapped : (ps : Parts) → function_names (mapped_parts f ps) ≡ function_names ps
@@ -150,12 +151,19 @@ module _ (f : ℕ → ℕ) where
       (rw (declared-mapped s names, referent-mapped s (declared s names)) (if_bound-mapped true (referent s (declared s names))))
       (meant-mapped names ss)
 
+  catches_a_name-mapped : (kind : Kind) (ps : Parts) → catches_a_name kind (mapped_parts f ps) ≡ catches_a_name kind ps
+  catches_a_name-mapped Kind.CatchClause (more (child (Node Kind.BindingIdentifier b span semantic_id bs)) ps) = refl
+  catches_a_name-mapped kind ps = refl
+
+  pub names_around-mapped : (is_body : Bool) (kind : Kind) (m : ℕ) (ps : Parts) (i : ℕ) → names_around is_body kind (f m) (mapped_parts f ps) i ≡ mapped_declarations f (names_around is_body kind m ps i)
+  names_around-mapped is_body kind m ps i = rw (catches_a_name-mapped kind ps) (cond-mapped (mapped_declarations f) (catches_a_name kind ps) [] (names_at is_body kind m ps i) refl (names_at-mapped f is_body kind m ps i))
+
   mutual
     given_around-mapped : (names : List Declaration) (is_body : Bool) (t : Tree) → given_around (mapped_declarations f names) is_body (mapped f t) ≡ map f (given_around names is_body t)
     given_around-mapped names is_body (Node kind m span semantic_id ps) =
         append-mapped f _ _
         (rw (inner_functions-mapped is_body kind ps) (meant-mapped names (inner_functions is_body kind ps)))
-        (given_in-mapped _ (λ i. names_at is_body kind m ps i ++ names) (is_body_part kind) (λ i. append-mapped (mapped_declaration f) _ names (names_at-mapped f is_body kind m ps i) refl) ps)
+        (given_in-mapped _ (λ i. names_around is_body kind m ps i ++ names) (is_body_part kind) (λ i. append-mapped (mapped_declaration f) _ names (names_around-mapped is_body kind m ps i) refl) ps)
 
     given_in-mapped : (seen names : ℕ → List Declaration) (bodies : ℕ → Bool) → ((i : ℕ) → seen i ≡ mapped_declarations f (names i)) → (ps : Parts) → given_in seen bodies (mapped_parts f ps) ≡ map f (given_in names bodies ps)
     given_in-mapped seen names bodies same end = refl

@@ -9,7 +9,7 @@ use Rattle.es_base.specs.declared.ledger.GeneratedKind.{GeneratedKind}
 use Rattle.es_base.specs.declared.ledger.LedgerEntry.{LedgerEntry}
 use Rattle.es_steps.specs.Parts.{at, items, block_items, string_of, is_true, is_present}
 use Rattle.es_steps.specs.PrivateNames.{PrivateMember, seen_members}
-use Rattle.es_steps.specs.References.{declared, has_number}
+use Rattle.es_steps.specs.References.{declared, has_number, names_around}
 use Rattle.es_steps.specs.Scopes.{ClassName, no_class, declares, own_name, let_names, Declaration, bound_part, names_at, is_body_part, class_in}
 use Rattle.es_steps.specs.Values.{String, Value, Undefined, ClassOf, ThisOf, ArgumentsOf, NewTargetOf, Referent, Bound, Free, Home, OfClass, OfPrototype, OfObject}
 use Rattle.es_steps.specs.declared.options.Options.{Options}
@@ -67,7 +67,9 @@ pub record Context : Type 0 where
   pub let_class : Option (ℕ × ℕ)
   -- whether a block here is the body of a function
   pub is_body : Bool
-  -- what is seen around the block, the cases or the `if` that a function which is declared here stands in (B.3.2)
+  -- those of `names` that no catch declares as a name, and what of them is seen around the block, the cases or the `if` that
+  -- a function which is declared here stands in (B.3.2, B.3.4)
+  pub uncaught : List Declaration
   pub around : Option (List Declaration)
 
 abbrev pub new_here : Context → ℕ → Bool
@@ -260,14 +262,18 @@ abbrev pub inner_name : Kind → ℕ → Parts → ℕ → List Declaration
 inner_name Kind.ClassDeclaration m ps i = cond (nat_eq i 0) [] (bound_part (own_name m) (at 0 ps))
 inner_name kind m ps i = []
 
+abbrev pub if_around : Option (List Declaration) → List Declaration → List Declaration
+if_around (Some around) names = around
+if_around None names = names
+
 abbrev pub around_inside : Context → Kind → Option (List Declaration)
-around_inside c Kind.BlockStatement = cond c.is_body None (Some c.names)
-around_inside c Kind.SwitchStatement = Some c.names
+around_inside c Kind.BlockStatement = cond c.is_body None (Some c.uncaught)
+around_inside c Kind.SwitchStatement = Some c.uncaught
 around_inside c Kind.SwitchCase = c.around
 around_inside c Kind.LabeledStatement = c.around
-around_inside c Kind.IfStatement = Some c.names
+around_inside c Kind.IfStatement = Some (if_around c.around c.uncaught)
 around_inside c kind = None
 
 -- the context of the i-th part of a node
 abbrev pub inside : Context → Kind → ℕ → Parts → ℕ → Context
-inside c kind m ps i = record (framed (frame_of kind) m ps i c) { names = inner_name kind m ps i ++ names_at c.is_body kind m ps i ++ c.names; privates = seen_members kind m ps i ++ c.privates; role = role_in (frame_of kind) ps i c; is_body = is_body_part kind i; around = around_inside c kind }
+inside c kind m ps i = record (framed (frame_of kind) m ps i c) { names = inner_name kind m ps i ++ names_at c.is_body kind m ps i ++ c.names; privates = seen_members kind m ps i ++ c.privates; role = role_in (frame_of kind) ps i c; is_body = is_body_part kind i; uncaught = names_around c.is_body kind m ps i ++ c.uncaught; around = around_inside c kind }

@@ -37,6 +37,7 @@ pub mod Statements
 pub mod Standing
 pub mod Strict
 pub mod Temporaries
+pub mod Texts
 pub mod Timely
 pub mod Told
 pub mod Values

@@ -24,6 +24,7 @@ use Rattle.es_steps.specs.References.{Reference, resolve, has_number}
 use Rattle.es_steps.specs.Scopes.{is_binding_identifier, class_in}
 use Rattle.es_steps.specs.Strict.{none_becomes_strict}
 use Rattle.es_steps.specs.Temporaries.{temporaries_steady}
+use Rattle.es_steps.specs.Texts.{texts_stay}
 use Rattle.es_steps.specs.Timely.{names_timely}
 use Rattle.es_steps.specs.Values.{String, Referent, Bound}
 use Rattle.es_steps.specs.declared.options.Options.{Options}
@@ -331,6 +332,7 @@ pub record MeetsClauses (first : ℕ) (o : Options) (ledger : List LedgerEntry) 
   pub accounted : declarations_accounted first ledger p q ≡ true
   pub names : own_names_stay p q ≡ true
   pub strict : none_becomes_strict first p q ≡ true
+  pub texts : texts_stay first p q ≡ true
   pub initialized : initializations_stand first ledger (private_members p) q ledger ≡ true
   pub timely : names_timely first ledger (private_members p) q ≡ true
   pub temporaries : temporaries_steady first ledger q ≡ true

@@ -223,6 +223,7 @@ start o t = record {
   role = a_function;
   let_class = None;
   is_body = false;
+  uncaught = [];
   around = None;
 }
 

@@ -131,6 +131,7 @@ bound_spelling p = []
 abbrev pub function_name : Part → List String
 function_name (child (Node Kind.FunctionDeclaration m span semantic_id ps)) = cond (is_true (at 3 ps) || is_true (at 4 ps)) [] (bound_spelling (at 0 ps))
 function_name (child (Node Kind.LabeledStatement m span semantic_id (more label (more s end)))) = function_name s
+function_name (child (Node Kind.IfStatement m span semantic_id (more test (more s (more other end))))) = function_name s ++ function_name other
 function_name p = []
 
 abbrev pub function_names : Parts → List String
@@ -152,9 +153,17 @@ abbrev pub meant : List Declaration → List String → List ℕ
 meant names [] = []
 meant names (s ∷ ss) = if_bound true (referent s (declared s names)) ++ meant names ss
 
+-- the `var` of such a function passes a name that is caught (B.3.4)
+abbrev pub catches_a_name : Kind → Parts → Bool
+catches_a_name Kind.CatchClause (more (child (Node Kind.BindingIdentifier b span semantic_id bs)) ps) = true
+catches_a_name kind ps = false
+
+abbrev pub names_around : Bool → Kind → ℕ → Parts → ℕ → List Declaration
+names_around is_body kind m ps i = cond (catches_a_name kind ps) [] (names_at is_body kind m ps i)
+
 abbrev mutual
   pub given_around : List Declaration → Bool → Tree → List ℕ
-  given_around names is_body (Node kind m span semantic_id ps) = meant names (inner_functions is_body kind ps) ++ given_in (λ i. names_at is_body kind m ps i ++ names) (is_body_part kind) ps
+  given_around names is_body (Node kind m span semantic_id ps) = meant names (inner_functions is_body kind ps) ++ given_in (λ i. names_around is_body kind m ps i ++ names) (is_body_part kind) ps
 
   pub given_in : (ℕ → List Declaration) → (ℕ → Bool) → Parts → List ℕ
   given_in names bodies end = []

@@ -14,22 +14,25 @@ use Rattle.es_steps.proofs.Reflexive.{number-same}
 use Rattle.es_steps.specs.Context.{is_constructor}
 use Rattle.es_steps.specs.Definitions.{FieldDefinition, chosen, element_numbers, body_numbers, elements_kept, call_definition, definition_at, definitions_in, definitions_at, definitions_of, function_definitions, super_definitions, constructor_definitions, all_definitions, instance_definitions, static_definitions, is_instance_method, any_of, defined_fields, class_fits, classes_fit, definitions_stand}
 use Rattle.es_steps.specs.HelperCalls.{is_helper_callee, computed_keys, StaticKey, Naming, naming_in, naming_of_element, is_class_body, field_key, method_keys, field_keys, call_fits, calls_fit, calls_in, calls_at, calls_of, calls_of_body}
-use Rattle.es_steps.specs.KeptNodes.{statement_list, declared_classes, carried_classes, item_number, item_numbers, free_number, free_numbers, is_static_block, free_lists, free_lists_at, free_lists_in, list_of, is_within, all_within, is_free_statement, is_function_declaration, free_statements, free_at, free_in, all_homes, lowered_blocks}
-use Rattle.es_steps.specs.Lowered.{IsLowered, nothing_left, own_name_numbers, is_new_const, all_accounted}
+use Rattle.es_steps.specs.KeptNodes.{statement_list, declared_classes, carried_classes, item_number, item_numbers, free_number, free_numbers, is_static_block, free_lists, free_lists_at, free_lists_in, list_of, is_within, all_within, is_free_statement, stays_in_list, free_statements, free_at, free_in, all_homes, lowered_blocks}
+use Rattle.es_steps.specs.Lowered.{IsLowered, nothing_left, is_new_const, all_accounted}
 use Rattle.es_steps.specs.LoweredClasses.{Element, elements_of, is_lowered_element, any_element, is_lowered_class, holds_lowered, has_lowered_class, constructor_function, constructor_in}
 use Rattle.es_steps.specs.Options.{lowers_fields, lowers_blocks}
+use Rattle.es_steps.specs.OwnNames.{own_name_numbers}
 use Rattle.es_steps.specs.Parts.{at, items, string_of}
 use Rattle.es_steps.specs.Printable.{is_printable}
 use Rattle.es_steps.specs.PrivateNames.{private_members, is_class}
+use Rattle.es_steps.specs.References.{resolve}
 use Rattle.es_steps.specs.Scopes.{is_binding_identifier}
 use Rattle.es_steps.specs.Values.{String}
 use Rattle.es_steps.specs.declared.options.Options.{Options}
+use Rattle.es_unchanged.proofs.Names.{number-apart, names-stay, strict-stays}
 use Rattle.es_unchanged.proofs.Standing.{both, none_of, In, here, later, in-left, in-right, Among, among-append, all-equal, all-stand, within-more, within-both, within-same, within-append, all_within-append, apart-sym, home-same, temporaries-none}
 use Rattle.es_unchanged.proofs.Unmarked.{names-timely}
 
 -- ---- no number is new
 
-abbrev Below : ℕ → List Tree → Type 0
+abbrev pub Below : ℕ → List Tree → Type 0
 Below first [] = Unit
 Below first (t ∷ ts) = (number_of t < first) × Below first ts
 
@@ -39,7 +42,7 @@ below-append first (t ∷ ts) us a b = (a.0, below-append first ts us a.1 b)
 
 -- the numbers n, n + 1, .. of a tree, where they end by `first`
 mutual
-  numbered-below : (first n : ℕ) (t : Tree) → n + nodes t ≤ first → Below first (preorder (numbered_from n t))
+  pub numbered-below : (first n : ℕ) (t : Tree) → n + nodes t ≤ first → Below first (preorder (numbered_from n t))
   numbered-below first n (Node kind id span semantic_id parts) l = (omega (arith, l), numbered_parts-below first (n + 1) parts (omega (arith, l)))
 
   numbered_part-below : (first n : ℕ) (p : Part) → n + nodes_of_part p ≤ first → Below first (preorder_of_part (numbered_part n p))
@@ -324,7 +327,7 @@ declared-carried (Node Kind.ExportDefaultDeclaration m span semantic_id (more (c
 declared-carried t = refl
 
 free_number-within : (o : Options) (t : Tree) → is_within (free_number o (child t)) (item_number (child t)) ≡ true
-free_number-within o t = either (is_free_statement o t || is_function_declaration t)
+free_number-within o t = either (is_free_statement o t || stays_in_list t)
   where
     either : (b : Bool) → is_within (cond b (number_of t ∷ []) [] ++ declared_classes (child t)) (number_of t ∷ carried_classes (child t)) ≡ true
     either true = within-both (number_of t) (declared_classes (child t)) (carried_classes (child t)) (declared-carried t)
@@ -341,11 +344,6 @@ free_numbers-within o (more (boolean b) ps) = free_numbers-within o ps
 free_numbers-within o (more (literal v) ps) = free_numbers-within o ps
 
 -- ---- the statements of a list and the elements of a class stand in it
-
-number-apart : (k : ℕ) (t : Tree) (ts : List Tree) → AllByRecursion (λ y. nat_eq k y ≡ false) (map number_of ts) → In t ts → nat_eq k (number_of t) ≡ false
-number-apart k t [] a h = elim h [ ]
-number-apart k t (u ∷ ts) a here = a.0
-number-apart k t (u ∷ ts) a (later i) = number-apart k t ts a.1 i
 
 -- the statements of a node
 node-list : (kind : Kind) (n : ℕ) (span : Option (ℕ × ℕ)) (semantic_id : Option ℕ) (ps : Parts) (qs : List Tree) → EachOnce (map number_of qs) → In (Node kind n span semantic_id ps) qs → list_of n qs ≡ item_numbers (statement_list kind ps)
@@ -455,7 +453,9 @@ unchanged-owes o t e h left =
       clauses = record {
         left = left;
         declared = refl;
-        accounted = below-accounted (nodes t) (own_name_numbers t (preorder t)) (preorder t) turn.below;
+        accounted = below-accounted (nodes t) (own_name_numbers t (resolve t) (preorder t)) (preorder t) turn.below;
+        names = names-stay t turn.once;
+        strict = strict-stays (nodes t) t;
         initialized = refl;
         timely = names-timely (nodes t) (private_members t) t;
         temporaries = refl;

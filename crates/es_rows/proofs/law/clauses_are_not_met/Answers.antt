@@ -133,6 +133,12 @@ returns-clause-parameter_renamed c = refl
 pub returns-clause-private_name_twice : goal.returns-clause-private_name_twice
 returns-clause-private_name_twice c = refl
 
+pub returns-clause-raw_of_a_string : goal.returns-clause-raw_of_a_string
+returns-clause-raw_of_a_string c = refl
+
+pub returns-clause-raw_of_a_template : goal.returns-clause-raw_of_a_template
+returns-clause-raw_of_a_template c = refl
+
 pub returns-clause-strict_arrow : goal.returns-clause-strict_arrow
 returns-clause-strict_arrow c = refl
 

@@ -19,6 +19,12 @@ returns-clause-delete_of_a_name c = (refl, refl, refl)
 pub returns-clause-function_in_a_block_of_another_name : goal.returns-clause-function_in_a_block_of_another_name
 returns-clause-function_in_a_block_of_another_name c = (refl, refl, refl)
 
+pub returns-clause-function_in_a_branch_of_a_block : goal.returns-clause-function_in_a_branch_of_a_block
+returns-clause-function_in_a_branch_of_a_block c = (refl, refl, refl)
+
+pub returns-clause-function_in_a_catch : goal.returns-clause-function_in_a_catch
+returns-clause-function_in_a_catch c = (refl, refl, refl)
+
 pub returns-clause-function_of_a_block : goal.returns-clause-function_of_a_block
 returns-clause-function_of_a_block c = (refl, refl, refl)
 

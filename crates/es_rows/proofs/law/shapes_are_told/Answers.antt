@@ -13,6 +13,12 @@ returns-clause-imported_key_of_a_method c = (refl, refl)
 pub returns-clause-imported_object : goal.returns-clause-imported_object
 returns-clause-imported_object c = (refl, refl)
 
+pub returns-clause-key_that_a_branch_gives : goal.returns-clause-key_that_a_branch_gives
+returns-clause-key_that_a_branch_gives c = (refl, refl)
+
+pub returns-clause-key_that_a_catch_gives : goal.returns-clause-key_that_a_catch_gives
+returns-clause-key_that_a_catch_gives c = (refl, refl)
+
 pub returns-clause-key_that_a_function_in_a_block_gives : goal.returns-clause-key_that_a_function_in_a_block_gives
 returns-clause-key_that_a_function_in_a_block_gives c = (refl, refl)
 

@@ -1,0 +1,78 @@
+-- In a program that is left as it is no class loses its name, and no code becomes strict.
+use Rattle.std.specs.Prelude.{◌≡◌, ℕ, List, [], ◌∷◌, ◌++◌, map, Bool, true, false, ◌&&◌, ◌||◌, nat_eq}
+use Rattle.std.specs.List.{IsDistinct, AllByRecursion}
+use Rattle.std.proofs.Common.{refl}
+use Rattle.std.proofs.Math.Bool.{and-false}
+use Rattle.es_base.specs.Numbered.{is_new, EachOnce}
+use Rattle.es_base.specs.Preorder.{number_of, preorder, preorder_of_part}
+use Rattle.es_base.specs.Tree.{Tree, Part, Node, more, child, absent}
+use Rattle.es_base.specs.declared.kind.Kind.{Kind}
+use Rattle.es_steps.proofs.Reflexive.{number-same}
+use Rattle.es_steps.specs.HelperCalls.{body_runs}
+use Rattle.es_steps.specs.OwnNames.{is_bound_among, references_to, identifier_at, identifiers_at, any_stands, loses_name, none_loses_name, own_names_stay}
+use Rattle.es_steps.specs.References.{Reference, resolve, has_number}
+use Rattle.es_steps.specs.Strict.{strict_numbers, were_strict, none_becomes_strict}
+use Rattle.es_steps.specs.Values.{Referent, Bound}
+use Rattle.es_unchanged.proofs.Standing.{In, here, later, Among, apart-sym}
+
+-- ---- own names
+
+identifier-apart : (n : ℕ) (t : Tree) → nat_eq n (number_of t) ≡ false → identifier_at n t ≡ []
+identifier-apart n (Node Kind.ClassDeclaration m span semantic_id (more (child (Node kind b bspan b_semantic_id bs)) ps)) e = rw e refl
+identifier-apart n t e = refl
+
+identifiers-apart : (n : ℕ) (ts : List Tree) → AllByRecursion (λ y. nat_eq n y ≡ false) (map number_of ts) → identifiers_at n ts ≡ []
+identifiers-apart n [] a = refl
+identifiers-apart n (t ∷ ts) a = rw (identifier-apart n t a.0, identifiers-apart n ts a.1) refl
+
+pub number-apart : (k : ℕ) (t : Tree) (ts : List Tree) → AllByRecursion (λ y. nat_eq k y ≡ false) (map number_of ts) → In t ts → nat_eq k (number_of t) ≡ false
+number-apart k t [] a h = elim h [ ]
+number-apart k t (u ∷ ts) a here = a.0
+number-apart k t (u ∷ ts) a (later i) = number-apart k t ts a.1 i
+
+-- no declaration has the number of a tree that is none
+identifiers-none : (t : Tree) (ts : List Tree) → EachOnce (map number_of ts) → In t ts → identifier_at (number_of t) t ≡ [] → identifiers_at (number_of t) ts ≡ []
+unfolding IsDistinct
+identifiers-none t [] once h e = elim h [ ]
+identifiers-none t (u ∷ ts) once here e = rw (e, identifiers-apart (number_of t) ts once.0) refl
+identifiers-none t (u ∷ ts) once (later i) e =
+    rw (identifier-apart (number_of t) u (apart-sym (number_of u) (number_of t) (number-apart (number_of u) t ts once.0 i)), identifiers-none t ts once.1 i e) refl
+
+bound-none : (r : Referent) → is_bound_among [] r ≡ false
+bound-none (Bound b) = refl
+bound-none r = refl
+
+references-none : (rs : List Reference) → references_to [] rs ≡ []
+references-none [] = refl
+references-none (r ∷ rs) = rw (bound-none r.to, references-none rs) refl
+
+stands-none : (ts : List Tree) → any_stands [] ts ≡ false
+stands-none [] = refl
+stands-none (t ∷ ts) = stands-none ts
+
+loses-none : (t : Tree) (ts : List Tree) (rs : List Reference) → EachOnce (map number_of ts) → In t ts → loses_name ts rs t ≡ false
+loses-none (Node Kind.ClassExpression n span semantic_id (more absent (more heritage (more body rest)))) ts rs once h =
+    rw (identifiers-none (Node Kind.ClassExpression n span semantic_id (more absent (more heritage (more body rest)))) ts once h refl, references-none rs, stands-none (preorder_of_part body)) (and-false (body_runs body))
+loses-none t ts rs once h = refl
+
+none-loses : (ts us : List Tree) (rs : List Reference) → EachOnce (map number_of us) → Among ts us → none_loses_name us rs ts ≡ true
+none-loses [] us rs once h = refl
+none-loses (t ∷ ts) us rs once h = rw (loses-none t us rs once (h t here)) (none-loses ts us rs once (λ u i. h u (later i)))
+
+pub names-stay : (t : Tree) → EachOnce (map number_of (preorder t)) → own_names_stay t t ≡ true
+names-stay t once = none-loses (preorder t) (preorder t) (resolve t) once (λ u i. i)
+
+-- ---- strict code
+
+or-true : (a b : Bool) → b ≡ true → (a || b) ≡ true
+or-true true b h = refl
+or-true false b h = h
+
+were-among : (first : ℕ) (strict ns : List ℕ) → ((k : ℕ) → has_number k ns ≡ true → has_number k strict ≡ true) → were_strict first strict ns ≡ true
+were-among first strict [] h = refl
+were-among first strict (n ∷ ns) h =
+    rw (or-true (is_new first n) (has_number n strict) (h n (rw (number-same n) refl)))
+    (were-among first strict ns (λ k i. h k (or-true (nat_eq k n) (has_number k ns) i)))
+
+pub strict-stays : (first : ℕ) (t : Tree) → none_becomes_strict first t t ≡ true
+strict-stays first t = were-among first (strict_numbers false t) (strict_numbers false t) (λ k i. i)
