@@ -146,6 +146,8 @@ NOT_MET = {
     'declaration_without_its_name': 'own_names_stay source_{n} output_{n}',
     'name_of_a_class_with_a_block': CALLS,
     'strict_arrow': STRICT,
+    'declarator_in_a_const': ACCOUNTED,
+    'name_in_a_static_block': 'classes_kept (nodes source_{n}) source_{n} output_{n}',
     'raw_of_a_template': TEXTS,
     'raw_of_a_string': TEXTS,
     'function_in_a_class': STRICT,
@@ -216,7 +218,7 @@ ghost use Rattle.es_base.specs.Conforms.{conforms};
 ghost use Rattle.es_base.specs.Preorder.{nodes, preorder};
 ghost use Rattle.es_base.specs.declared.table.Place.{Place};
 ghost use Rattle.es_steps.specs.HelperCalls.{computed_keys, helper_calls_fit};
-ghost use Rattle.es_steps.specs.KeptNodes.{lists_kept, homes_kept};
+ghost use Rattle.es_steps.specs.KeptNodes.{classes_kept, lists_kept, homes_kept};
 ghost use Rattle.es_steps.specs.Lowered.{names_declared, declarations_accounted, initializations_stand};
 ghost use Rattle.es_steps.specs.Meaning.{source_means};
 ghost use Rattle.es_steps.specs.OwnNames.{own_names_stay};

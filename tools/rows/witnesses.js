@@ -459,6 +459,16 @@ const witnesses = [
   // source texts
   clause('raw_of_a_template', 'a template whose raw text is another one', inMethod('return `w`;', 'return `w`;'), q => { found(q, n => n.type === 'TemplateElement').raw = 'z'; }),
   clause('raw_of_a_string', 'a string whose raw text is another one', inMethod('return "w";', 'return "w";'), q => { found(q, n => n.literal && n.literal.value === 'w').literal.raw = '"z"'; }),
+  // what cannot be printed, or is another name
+  clause('declarator_in_a_const', 'a new declarator in a `const` of the source', { options: ['--class-properties'], source: 'const a = 1, C = class { [k()] = 1 };', output: 'var _k; const a = 1, C = (_k = B.toPropertyKey(k()), class { constructor() { B.defineProperty(this, _k, 1); } });' },
+    q => { const [made, old] = q.body; old.declarations.splice(1, 0, made.declarations[0]); q.body.shift(); }),
+  clause('name_in_a_static_block', 'a name `await` in a static block', { type: 'script', options: ['--class-properties'], source: '"use strict"; f(class { x = 1; static { g(); } }, await);', output: '"use strict"; f(class { constructor() { B.defineProperty(this, "x", 1); } static { g(); } }, await);' },
+    q => { const f = q.body[1].expression, block = found(q, n => n.type === 'StaticBlock'), s = statement(q, '_t = 1;'); s.expression.right = f.arguments[1]; f.arguments[1] = fresh(q, expression('_t')); block.body.push(s); q.body.splice(1, 0, statement(q, 'var _t;')); }, [temporary]),
+  wrong('declarator_out_of_its_block', 'a declarator out of its block, through which a `var` is hoisted', { options: ['--class-properties'], source: '{ { let a = 1, C = class { y = 1; }; f(C, a); } { var a; } }', output: '{ { let a = 1, C = class { constructor() { B.defineProperty(this, "y", 1); } }; f(C, a); } { var a; } }' },
+    q => { const outer = q.body[0].body, inner = outer[0].body[0], s = statement(q, 'let a = 1;'); s.declarations = [inner.declarations.shift()]; outer.unshift(s); }),
+  wrong('names_of_a_constructor', 'two names of a constructor renamed to one, of which one is hoisted past the other', { options: ['--class-properties'], source: 'class A extends P { x = 1; constructor() { super(); { let a = f(); g(a); { var b; } } } }', output: 'class A extends P { constructor() { super(); B.defineProperty(this, "x", 1); { let a = f(); g(a); { var b; } } } }' },
+    q => { for (const n of preorder(q)) if (n.name === 'a' || n.name === 'b') n.name = '_a'; }),
+  pair('arguments_of_a_block', '`arguments` behind a function of that name in a block', 'function f() { g(arguments); { function arguments() {} } }', 'function f() { { function arguments() {} } g(arguments); }', { 4: 8, 5: 9, 6: 10, 7: 11, 8: 4, 9: 5, 10: 6, 11: 7 }),
 ];
 
 // a row that `match.js` has no reading of; `numbers` are those that differ from the place in preorder

@@ -1,6 +1,6 @@
 -- A program of the first form and what it is lowered to declare the same, and nothing of them is written.
-use Rattle.std.specs.Prelude.{◌≡◌, ℕ, ◌+◌, List, [], ◌∷◌, ◌++◌, Bool, true, false, ◌||◌, ◌&&◌, nat_le, codes}
-use Rattle.std.proofs.Common.{refl, sym, ap, ◌∙◌, append_assoc, ◌≤◌, arith}
+use Rattle.std.specs.Prelude.{◌≡◌, ℕ, ◌+◌, List, [], ◌∷◌, ◌++◌, Bool, true, false, ◌||◌, ◌&&◌, nat_le, codes, Option}
+use Rattle.std.proofs.Common.{refl, sym, ap, ap₂, ◌∙◌, append_assoc, ◌≤◌, arith}
 use Rattle.std.proofs.lemmas.Bool.{le-leb}
 use Rattle.std.proofs.lemmas.List.{append-nil}
 use Rattle.es_base.specs.Preorder.{preorder, preorder_of}
@@ -11,7 +11,7 @@ use Rattle.es_steps.specs.Evaluation.{Environment}
 use Rattle.es_steps.specs.Meaning.{DeclarationKind, ClassDeclared, declared_as, declaring, declaring_items, declared_function, declared_functions, body_of, globals}
 use Rattle.es_steps.specs.Modules.{links_in, exports_in}
 use Rattle.es_steps.specs.PrivateNames.{private_members, members_of_all, elements_members}
-use Rattle.es_steps.specs.References.{Reference, if_bound, is_free, assigned, item_references, resolve, written_by, written_by_all, written, imported_by, imported_by_all, varying, writes_free, caught_again, caught_again_in, given_of}
+use Rattle.es_steps.specs.References.{Reference, if_bound, is_free, assigned, item_references, resolve, written_by, written_by_all, written, imported_by, imported_by_all, varying, writes_free, caught_again, caught_again_in, given_of, changed_otherwise}
 use Rattle.es_steps.specs.Repeated.{Surroundings, places_of, all_places}
 use Rattle.es_steps.specs.Shared.{shared, shared_of}
 use Rattle.es_steps.specs.Scopes.{Declaration, lexical_part, lexical_items, var_part, body_names}
@@ -76,6 +76,12 @@ caught_again_in-append [] ys = refl
 caught_again_in-append (x ∷ xs) ys = rw (caught_again_in-append xs ys) (sym (append_assoc (caught_again x) (caught_again_in xs) (caught_again_in ys)))
 
 -- what is empty, with nothing behind
+one-none : {xs : List ℕ} → xs ≡ [] → xs ++ [] ≡ []
+one-none e = rw e refl
+
+three-none : {xs ys zs : List ℕ} → xs ≡ [] → ys ≡ [] → zs ≡ [] → xs ++ (ys ++ zs) ≡ []
+three-none e f g = rw (e, f, g) refl
+
 four-none : {xs : List ℕ} → xs ≡ [] → (((xs ++ []) ++ []) ++ []) ++ [] ≡ []
 four-none e = rw e refl
 
@@ -116,7 +122,7 @@ elements-unwritten (more p es) h k =
       free = λ names. rw (names-definitions (more p es) h (k + 4), four_ends (item_references names false ts)) (u.free names);
       repeated = rw (names-definitions (more p es) h (k + 4), lexical-definitions (more p es) h (k + 4), four_ends (preorder_of ts)) u.repeated;
       imported = rw (four_ends (preorder_of ts)) u.imported;
-      caught = rw (names-definitions (more p es) h (k + 4), four_ends (preorder_of ts)) u.caught;
+      caught = rw (four_ends (preorder_of ts)) u.caught;
       given = λ names. four-none (u.given _);
       functions = rw (four_ends (preorder_of ts)) u.functions;
       members = rw (four_ends (preorder_of ts)) u.members;
@@ -291,12 +297,14 @@ written-lowered k t (a_program m span semantic_id s all h) =
     let there : Unwritten ps = lowered-unwritten all h k in
     rw (names-lowered all h k, append-nil (item_references (body_names all ++ []) false all), append-nil (item_references (body_names all ++ []) false ps), append-nil (preorder_of all), append-nil (preorder_of ps), here.assigned (body_names all ++ []), there.assigned (body_names all ++ []), here.repeated, there.repeated) refl
 
+-- nothing changes without a write
+changed-none : (m : ℕ) (span : Option (ℕ × ℕ)) (semantic_id : Option ℕ) (s : String) (ps : Parts) → Unwritten ps → changed_otherwise (Node Kind.Program m span semantic_id (more (string s) (more (list ps) end))) ≡ []
+changed-none m span semantic_id s ps u = three-none (rw (append-nil (preorder_of ps)) u.imported) (rw (append-nil (preorder_of ps)) u.caught) (one-none (u.given _))
+
 pub varying-lowered : (k : ℕ) (t : Tree) → IsProgram t → varying (lowered_from k t) ≡ varying t
 varying-lowered k t (a_program m span semantic_id s all h) =
-    let ps : Parts = lowered_statements k all in
-    let here : Unwritten all = classes-unwritten all h in
-    let there : Unwritten ps = lowered-unwritten all h k in
-    rw (written-lowered k t (a_program m span semantic_id s all h), append-nil (preorder_of all), append-nil (preorder_of ps), here.imported, there.imported, here.caught, there.caught, here.given (body_names all ++ []), there.given (body_names all ++ [])) refl
+    ap₂ (λ xs ys. xs ++ ys) (written-lowered k t (a_program m span semantic_id s all h))
+    (changed-none m span semantic_id s (lowered_statements k all) (lowered-unwritten all h k) ∙ sym (changed-none m span semantic_id s all (classes-unwritten all h)))
 
 pub declaring-lowered : (first k : ℕ) (t : Tree) → IsProgram t → declaring first ClassDeclared (lowered_from k t) ≡ declaring first ClassDeclared t
 declaring-lowered first k t (a_program m span semantic_id s all h) = ap (λ ds. ds ++ []) (classes-declare first all h k ClassDeclared)

@@ -9,7 +9,7 @@ use Rattle.es_base.specs.Tree.{Tree}
 use Rattle.es_base.specs.declared.ledger.LedgerEntry.{LedgerEntry}
 use Rattle.es_steps.specs.Definitions.{definitions_stand, all_temporaries, elements_kept}
 use Rattle.es_steps.specs.HelperCalls.{computed_keys, helper_calls_fit}
-use Rattle.es_steps.specs.KeptNodes.{nodes_kept, statements_kept, lists_kept, homes_kept}
+use Rattle.es_steps.specs.KeptNodes.{nodes_kept, classes_kept, statements_kept, lists_kept, homes_kept}
 use Rattle.es_steps.specs.Lowered.{nothing_left, names_declared, declarations_accounted, initializations_stand, keys_stand, IsLowered}
 use Rattle.es_steps.specs.OwnNames.{own_names_stay}
 use Rattle.es_steps.specs.Printable.{is_printable}
@@ -47,6 +47,7 @@ clauses o ledger p q =
     ∷ temporaries_steady (nodes p) ledger q
     ∷ keys_stand (nodes p) o ledger (private_members p) q (all_temporaries (nodes p) o ledger (private_members p) q (preorder q))
     ∷ nodes_kept p q
+    ∷ classes_kept (nodes p) p q
     ∷ statements_kept o p q
     ∷ lists_kept o p q
     ∷ homes_kept (nodes p) o p q
@@ -57,7 +58,7 @@ clauses o ledger p q =
     ∷ []
 
 abbrev all_met : List Bool
-all_met = true ∷ true ∷ true ∷ true ∷ true ∷ true ∷ true ∷ true ∷ true ∷ true ∷ true ∷ true ∷ true ∷ true ∷ true ∷ true ∷ true ∷ true ∷ true ∷ []
+all_met = true ∷ true ∷ true ∷ true ∷ true ∷ true ∷ true ∷ true ∷ true ∷ true ∷ true ∷ true ∷ true ∷ true ∷ true ∷ true ∷ true ∷ true ∷ true ∷ true ∷ []
 
 -- ---- numbers
 
@@ -118,6 +119,7 @@ lowered {p = p} {q = q} e0 =
     let e16 = rest_of _ _ _ _ e15 in
     let e17 = rest_of _ _ _ _ e16 in
     let e18 = rest_of _ _ _ _ e17 in
+    let e19 = rest_of _ _ _ _ e18 in
     record {
       numbered = numbered (nodes p) q (first_of _ _ _ _ e0);
       clauses = record {
@@ -132,12 +134,13 @@ lowered {p = p} {q = q} e0 =
         temporaries = first_of _ _ _ _ e9;
         keys = first_of _ _ _ _ e10;
         nodes = first_of _ _ _ _ e11;
-        statements = first_of _ _ _ _ e12;
-        lists = first_of _ _ _ _ e13;
-        homes = first_of _ _ _ _ e14;
-        definitions = first_of _ _ _ _ e15;
-        elements = first_of _ _ _ _ e16;
-        calls = first_of _ _ _ _ e17;
-        printable = first_of _ _ _ _ e18;
+        classes = first_of _ _ _ _ e12;
+        statements = first_of _ _ _ _ e13;
+        lists = first_of _ _ _ _ e14;
+        homes = first_of _ _ _ _ e15;
+        definitions = first_of _ _ _ _ e16;
+        elements = first_of _ _ _ _ e17;
+        calls = first_of _ _ _ _ e18;
+        printable = first_of _ _ _ _ e19;
       };
     }

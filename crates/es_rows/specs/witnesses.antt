@@ -2,6 +2,7 @@ pub mod AnotherLiteral
 pub mod AnotherLiteralBehindParameters
 pub mod AnotherLiteralOfAWrittenClass
 pub mod ArgumentsBehindAWrite
+pub mod ArgumentsOfABlock
 pub mod ArgumentsOfAProgram
 pub mod ArgumentsOfAnother
 pub mod ArrowMovedIntoParameters
@@ -47,6 +48,8 @@ pub mod ConversionOfNoKey
 pub mod ConversionsOfATemplate
 pub mod DeadTemporary
 pub mod DeclarationWithoutItsName
+pub mod DeclaratorInAConst
+pub mod DeclaratorOutOfItsBlock
 pub mod DefaultExports
 pub mod DefaultFunction
 pub mod DefaultFunctionExpression
@@ -123,12 +126,14 @@ pub mod MethodGivenBehindItsCalls
 pub mod MethodWithoutBrand
 pub mod NameGivenBehindAField
 pub mod NameGivenInAClosure
+pub mod NameInAStaticBlock
 pub mod NameOfAClassWithABlock
 pub mod NameOfANamedClass
 pub mod NameOfNoMember
 pub mod NameTwice
 pub mod NameWithoutASign
 pub mod NamedValue
+pub mod NamesOfAConstructor
 pub mod NestedClasses
 pub mod NewImport
 pub mod ObjectEvaluatedTwice

@@ -7,7 +7,7 @@ ghost use Rattle.es_base.specs.Conforms.{conforms};
 ghost use Rattle.es_base.specs.Preorder.{nodes, preorder};
 ghost use Rattle.es_base.specs.declared.table.Place.{Place};
 ghost use Rattle.es_steps.specs.HelperCalls.{computed_keys, helper_calls_fit};
-ghost use Rattle.es_steps.specs.KeptNodes.{lists_kept, homes_kept};
+ghost use Rattle.es_steps.specs.KeptNodes.{classes_kept, lists_kept, homes_kept};
 ghost use Rattle.es_steps.specs.Lowered.{names_declared, declarations_accounted, initializations_stand};
 ghost use Rattle.es_steps.specs.Meaning.{source_means};
 ghost use Rattle.es_steps.specs.OwnNames.{own_names_stay};
@@ -105,6 +105,7 @@ ghost use Rattle.es_rows.specs.witnesses.AnotherLiteral.{source_another_literal,
 ghost use Rattle.es_rows.specs.witnesses.AnotherLiteralBehindParameters.{source_another_literal_behind_parameters, output_another_literal_behind_parameters, generated_another_literal_behind_parameters, options_another_literal_behind_parameters};
 ghost use Rattle.es_rows.specs.witnesses.AnotherLiteralOfAWrittenClass.{source_another_literal_of_a_written_class, output_another_literal_of_a_written_class, generated_another_literal_of_a_written_class, options_another_literal_of_a_written_class};
 ghost use Rattle.es_rows.specs.witnesses.ArgumentsBehindAWrite.{first_arguments_behind_a_write, second_arguments_behind_a_write, options_arguments_behind_a_write};
+ghost use Rattle.es_rows.specs.witnesses.ArgumentsOfABlock.{first_arguments_of_a_block, second_arguments_of_a_block, options_arguments_of_a_block};
 ghost use Rattle.es_rows.specs.witnesses.ArgumentsOfAnother.{source_arguments_of_another, output_arguments_of_another, generated_arguments_of_another, options_arguments_of_another};
 ghost use Rattle.es_rows.specs.witnesses.ArrowMovedIntoParameters.{source_arrow_moved_into_parameters, output_arrow_moved_into_parameters, generated_arrow_moved_into_parameters, options_arrow_moved_into_parameters};
 ghost use Rattle.es_rows.specs.witnesses.ArrowOutOfALoop.{source_arrow_out_of_a_loop, output_arrow_out_of_a_loop, generated_arrow_out_of_a_loop, options_arrow_out_of_a_loop};
@@ -148,6 +149,8 @@ ghost use Rattle.es_rows.specs.witnesses.ConversionOfNoKey.{source_conversion_of
 ghost use Rattle.es_rows.specs.witnesses.ConversionsOfATemplate.{source_conversions_of_a_template, output_conversions_of_a_template, generated_conversions_of_a_template, options_conversions_of_a_template};
 ghost use Rattle.es_rows.specs.witnesses.DeadTemporary.{source_dead_temporary, output_dead_temporary, generated_dead_temporary, options_dead_temporary};
 ghost use Rattle.es_rows.specs.witnesses.DeclarationWithoutItsName.{source_declaration_without_its_name, output_declaration_without_its_name, generated_declaration_without_its_name, options_declaration_without_its_name};
+ghost use Rattle.es_rows.specs.witnesses.DeclaratorInAConst.{source_declarator_in_a_const, output_declarator_in_a_const, generated_declarator_in_a_const, options_declarator_in_a_const};
+ghost use Rattle.es_rows.specs.witnesses.DeclaratorOutOfItsBlock.{source_declarator_out_of_its_block, output_declarator_out_of_its_block, generated_declarator_out_of_its_block, options_declarator_out_of_its_block};
 ghost use Rattle.es_rows.specs.witnesses.DefaultExports.{first_default_exports, second_default_exports, options_default_exports};
 ghost use Rattle.es_rows.specs.witnesses.DefaultFunction.{first_default_function, second_default_function, options_default_function};
 ghost use Rattle.es_rows.specs.witnesses.DefaultFunctionExpression.{source_default_function_expression, output_default_function_expression, generated_default_function_expression, options_default_function_expression};
@@ -223,12 +226,14 @@ ghost use Rattle.es_rows.specs.witnesses.MethodGivenBehindItsCalls.{source_metho
 ghost use Rattle.es_rows.specs.witnesses.MethodWithoutBrand.{source_method_without_brand, output_method_without_brand, generated_method_without_brand, options_method_without_brand};
 ghost use Rattle.es_rows.specs.witnesses.NameGivenBehindAField.{source_name_given_behind_a_field, output_name_given_behind_a_field, generated_name_given_behind_a_field, options_name_given_behind_a_field};
 ghost use Rattle.es_rows.specs.witnesses.NameGivenInAClosure.{source_name_given_in_a_closure, output_name_given_in_a_closure, generated_name_given_in_a_closure, options_name_given_in_a_closure};
+ghost use Rattle.es_rows.specs.witnesses.NameInAStaticBlock.{source_name_in_a_static_block, output_name_in_a_static_block, generated_name_in_a_static_block, options_name_in_a_static_block};
 ghost use Rattle.es_rows.specs.witnesses.NameOfAClassWithABlock.{source_name_of_a_class_with_a_block, output_name_of_a_class_with_a_block, generated_name_of_a_class_with_a_block, options_name_of_a_class_with_a_block};
 ghost use Rattle.es_rows.specs.witnesses.NameOfANamedClass.{source_name_of_a_named_class, output_name_of_a_named_class, generated_name_of_a_named_class, options_name_of_a_named_class};
 ghost use Rattle.es_rows.specs.witnesses.NameOfNoMember.{source_name_of_no_member, output_name_of_no_member, generated_name_of_no_member, options_name_of_no_member};
 ghost use Rattle.es_rows.specs.witnesses.NameTwice.{source_name_twice, output_name_twice, generated_name_twice, options_name_twice};
 ghost use Rattle.es_rows.specs.witnesses.NameWithoutASign.{source_name_without_a_sign, output_name_without_a_sign, generated_name_without_a_sign, options_name_without_a_sign};
 ghost use Rattle.es_rows.specs.witnesses.NamedValue.{source_named_value, output_named_value, generated_named_value, options_named_value};
+ghost use Rattle.es_rows.specs.witnesses.NamesOfAConstructor.{source_names_of_a_constructor, output_names_of_a_constructor, generated_names_of_a_constructor, options_names_of_a_constructor};
 ghost use Rattle.es_rows.specs.witnesses.NewImport.{source_new_import, output_new_import, generated_new_import, options_new_import};
 ghost use Rattle.es_rows.specs.witnesses.ObjectEvaluatedTwice.{source_object_evaluated_twice, output_object_evaluated_twice, generated_object_evaluated_twice, options_object_evaluated_twice};
 ghost use Rattle.es_rows.specs.witnesses.OddConstructor.{source_odd_constructor, output_odd_constructor, generated_odd_constructor, options_odd_constructor};
@@ -426,6 +431,7 @@ pub fn static_blocks_alone_keep_their_meaning()
 /// Pairs of programs that share their numbers and behave differently have meanings that differ.
 pub fn programs_are_told_apart()
     ensures arguments_behind_a_write { TellsApart options_arguments_behind_a_write first_arguments_behind_a_write second_arguments_behind_a_write }
+    ensures arguments_of_a_block { TellsApart options_arguments_of_a_block first_arguments_of_a_block second_arguments_of_a_block }
     ensures caught_names_exchanged { TellsApart options_caught_names_exchanged first_caught_names_exchanged second_caught_names_exchanged }
     ensures default_exports { TellsApart options_default_exports first_default_exports second_default_exports }
     ensures default_function { TellsApart options_default_function first_default_function second_default_function }
@@ -489,6 +495,7 @@ pub fn wrong_outputs_are_told_apart()
     ensures class_in_front_of_its_use { Refused options_class_in_front_of_its_use generated_class_in_front_of_its_use source_class_in_front_of_its_use output_class_in_front_of_its_use }
     ensures class_renamed { Refused options_class_renamed generated_class_renamed source_class_renamed output_class_renamed }
     ensures constructor_of_another_key { Refused options_constructor_of_another_key generated_constructor_of_another_key source_constructor_of_another_key output_constructor_of_another_key }
+    ensures declarator_out_of_its_block { Refused options_declarator_out_of_its_block generated_declarator_out_of_its_block source_declarator_out_of_its_block output_declarator_out_of_its_block }
     ensures definitions_nested { Refused options_definitions_nested generated_definitions_nested source_definitions_nested output_definitions_nested }
     ensures deleted_key { Refused options_deleted_key generated_deleted_key source_deleted_key output_deleted_key }
     ensures elements_of_a_written_class_dropped { Refused options_elements_of_a_written_class_dropped generated_elements_of_a_written_class_dropped source_elements_of_a_written_class_dropped output_elements_of_a_written_class_dropped }
@@ -512,6 +519,7 @@ pub fn wrong_outputs_are_told_apart()
     ensures member_of_an_object { Refused options_member_of_an_object generated_member_of_an_object source_member_of_an_object output_member_of_an_object }
     ensures method_without_brand { Refused options_method_without_brand generated_method_without_brand source_method_without_brand output_method_without_brand }
     ensures named_value { Refused options_named_value generated_named_value source_named_value output_named_value }
+    ensures names_of_a_constructor { Refused options_names_of_a_constructor generated_names_of_a_constructor source_names_of_a_constructor output_names_of_a_constructor }
     ensures new_import { Refused options_new_import generated_new_import source_new_import output_new_import }
     ensures object_evaluated_twice { Refused options_object_evaluated_twice generated_object_evaluated_twice source_object_evaluated_twice output_object_evaluated_twice }
     ensures odd_constructor { Refused options_odd_constructor generated_odd_constructor source_odd_constructor output_odd_constructor }
@@ -594,6 +602,7 @@ pub fn clauses_are_not_met()
     ensures conversion_of_no_key { helper_calls_fit (nodes source_conversion_of_no_key) generated_conversion_of_no_key (computed_keys (preorder source_conversion_of_no_key)) output_conversion_of_no_key ≡ false }
     ensures dead_temporary { names_timely (nodes source_dead_temporary) generated_dead_temporary (private_members source_dead_temporary) output_dead_temporary ≡ false }
     ensures declaration_without_its_name { own_names_stay source_declaration_without_its_name output_declaration_without_its_name ≡ false }
+    ensures declarator_in_a_const { declarations_accounted (nodes source_declarator_in_a_const) generated_declarator_in_a_const source_declarator_in_a_const output_declarator_in_a_const ≡ false }
     ensures directive_behind_a_name { is_printable output_directive_behind_a_name ≡ false }
     ensures elements_of_a_written_class_dropped { definitions_stand (nodes source_elements_of_a_written_class_dropped) options_elements_of_a_written_class_dropped generated_elements_of_a_written_class_dropped (private_members source_elements_of_a_written_class_dropped) source_elements_of_a_written_class_dropped output_elements_of_a_written_class_dropped ≡ false }
     ensures field_of_a_written_class_doubled { definitions_stand (nodes source_field_of_a_written_class_doubled) options_field_of_a_written_class_doubled generated_field_of_a_written_class_doubled (private_members source_field_of_a_written_class_doubled) source_field_of_a_written_class_doubled output_field_of_a_written_class_doubled ≡ false }
@@ -612,6 +621,7 @@ pub fn clauses_are_not_met()
     ensures method_given_behind_its_calls { initializations_stand (nodes source_method_given_behind_its_calls) generated_method_given_behind_its_calls (private_members source_method_given_behind_its_calls) output_method_given_behind_its_calls generated_method_given_behind_its_calls ≡ false }
     ensures name_given_behind_a_field { helper_calls_fit (nodes source_name_given_behind_a_field) generated_name_given_behind_a_field (computed_keys (preorder source_name_given_behind_a_field)) output_name_given_behind_a_field ≡ false }
     ensures name_given_in_a_closure { helper_calls_fit (nodes source_name_given_in_a_closure) generated_name_given_in_a_closure (computed_keys (preorder source_name_given_in_a_closure)) output_name_given_in_a_closure ≡ false }
+    ensures name_in_a_static_block { classes_kept (nodes source_name_in_a_static_block) source_name_in_a_static_block output_name_in_a_static_block ≡ false }
     ensures name_of_a_class_with_a_block { helper_calls_fit (nodes source_name_of_a_class_with_a_block) generated_name_of_a_class_with_a_block (computed_keys (preorder source_name_of_a_class_with_a_block)) output_name_of_a_class_with_a_block ≡ false }
     ensures name_of_a_named_class { helper_calls_fit (nodes source_name_of_a_named_class) generated_name_of_a_named_class (computed_keys (preorder source_name_of_a_named_class)) output_name_of_a_named_class ≡ false }
     ensures name_of_no_member { initializations_stand (nodes source_name_of_no_member) generated_name_of_no_member (private_members source_name_of_no_member) output_name_of_no_member generated_name_of_no_member ≡ false }

@@ -1,5 +1,5 @@
 -- The codes of expressions. (ECMA-262, 13. Each rule reads the members of its kind in the order of the table.)
-use Rattle.std.specs.Prelude.{ℕ, List, [], ◌∷◌, ◌++◌, Bool, true, false, cond, not, ◌&&◌, ◌||◌, codes, bytes_eq, Option, Some, None}
+use Rattle.std.specs.Prelude.{ℕ, List, [], ◌∷◌, ◌++◌, Bool, true, false, cond, not, nat_eq, ◌&&◌, ◌||◌, codes, bytes_eq, Option, Some, None}
 use Rattle.es_base.specs.declared.kind.Kind.{Kind}
 use Rattle.es_base.specs.declared.ledger.GeneratedKind.{GeneratedKind}
 use Rattle.es_base.specs.declared.literal.LiteralValue.{LiteralValue}
@@ -117,7 +117,7 @@ is_made_private c s r = is_generated_private s r.class c.ledger
 
 abbrev pub names_class : PrivateReference → Option ℕ → Bool
 names_class r None = false
-names_class r (Some n) = true
+names_class r (Some n) = nat_eq r.class n
 
 abbrev pub private_on : Context → ℕ → String → Option PrivateReference → Code → Code → Code
 private_on c m s None o checked_o = no_rule

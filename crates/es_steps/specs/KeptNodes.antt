@@ -1,7 +1,7 @@
 -- Which nodes of the source stand in a lowered program. (Our own.)
-use Rattle.std.specs.Prelude.{ℕ, suc, List, [], ◌∷◌, ◌++◌, Bool, true, false, cond, not, ◌&&◌, ◌||◌, nat_eq, bytes_eq, Option, Some, None}
+use Rattle.std.specs.Prelude.{ℕ, suc, List, map, [], ◌∷◌, ◌++◌, Bool, true, false, cond, not, ◌&&◌, ◌||◌, nat_eq, bytes_eq, Option, Some, None}
 use Rattle.es_base.specs.Numbered.{is_new}
-use Rattle.es_base.specs.Preorder.{preorder, number_of}
+use Rattle.es_base.specs.Preorder.{preorder, preorder_of_part, number_of}
 use Rattle.es_base.specs.Table.{is_statement}
 use Rattle.es_base.specs.Tree.{Tree, Part, Parts, Node, end, more, child, list}
 use Rattle.es_base.specs.declared.kind.Kind.{Kind}
@@ -9,6 +9,7 @@ use Rattle.es_steps.specs.Context.{is_constructor}
 use Rattle.es_steps.specs.LoweredClasses.{is_lowered_class, has_lowered_class}
 use Rattle.es_steps.specs.Options.{lowers_blocks}
 use Rattle.es_steps.specs.Parts.{at, items, string_of}
+use Rattle.es_steps.specs.PrivateNames.{is_class}
 use Rattle.es_steps.specs.References.{has_number}
 use Rattle.es_steps.specs.SameTrees.{same_tree}
 use Rattle.es_steps.specs.Scopes.{class_in}
@@ -55,6 +56,24 @@ all_stand (Node kind m span semantic_id ps ∷ ts) qs = (not (is_kept_sort (sort
 
 abbrev pub nodes_kept : Tree → Tree → Bool
 nodes_kept p q = all_stand (preorder p) (preorder q)
+
+-- ---- no node gets into the body of a class
+
+abbrev pub are_new_or_among : ℕ → List ℕ → List ℕ → Bool
+are_new_or_among first there [] = true
+are_new_or_among first there (n ∷ ns) = (is_new first n || has_number n there) && are_new_or_among first there ns
+
+abbrev pub numbers_in_class : ℕ → List Tree → List ℕ
+numbers_in_class n [] = []
+numbers_in_class n (Node kind m span semantic_id ps ∷ ts) = cond (is_class kind && nat_eq n m) (map number_of (preorder_of_part (at 2 ps))) (numbers_in_class n ts)
+
+-- ps are the nodes of the source
+abbrev pub none_enters : ℕ → List Tree → List Tree → Bool
+none_enters first ps [] = true
+none_enters first ps (Node kind n span semantic_id qs ∷ ts) = (not (is_class kind) || are_new_or_among first (numbers_in_class n ps) (map number_of (preorder_of_part (at 2 qs)))) && none_enters first ps ts
+
+abbrev pub classes_kept : ℕ → Tree → Tree → Bool
+classes_kept first p q = none_enters first (preorder p) (preorder q)
 
 -- ---- statements that are no lowered class, hold none and stand in none stand as they are
 

@@ -13,7 +13,7 @@ use Rattle.es_steps.specs.Context.{generated_as}
 use Rattle.es_steps.specs.Definitions.{spelling, field_part, names_class, class_identifiers, definitions_stand, all_temporaries, all_different, elements_kept}
 use Rattle.es_steps.specs.GeneratedForms.{if_member, is_instance_field, is_static_field, is_function_member}
 use Rattle.es_steps.specs.HelperCalls.{is_helper_callee, computed_keys, helper_calls_fit}
-use Rattle.es_steps.specs.KeptNodes.{statement_list, is_function_declaration, is_underscored, nodes_kept, statements_kept, lists_kept, homes_kept}
+use Rattle.es_steps.specs.KeptNodes.{statement_list, is_function_declaration, is_underscored, nodes_kept, classes_kept, statements_kept, lists_kept, homes_kept}
 use Rattle.es_steps.specs.LoweredClasses.{has_lowered_class}
 use Rattle.es_steps.specs.Options.{lowers_fields, lowers_blocks}
 use Rattle.es_steps.specs.OwnNames.{own_name_numbers, own_names_stay}
@@ -143,9 +143,14 @@ is_generated (Some g) = true
 abbrev pub is_accounted : ℕ → List LedgerEntry → List ℕ → Tree → Bool
 is_accounted first ledger own (Node kind b span semantic_id ps) = not (is_binding_identifier kind && is_new first b) || (is_generated (generated_as (string_of (at 0 ps)) ledger) || has_number b own)
 
--- a new declaration is a `var` or a `let`
+-- a new declaration, and one with a new declarator, is a `var` or a `let`
+abbrev pub has_new_declarator : ℕ → Parts → Bool
+has_new_declarator first end = false
+has_new_declarator first (more (child t) ps) = is_new first (number_of t) || has_new_declarator first ps
+has_new_declarator first (more p ps) = has_new_declarator first ps
+
 abbrev pub is_new_const : ℕ → Tree → Bool
-is_new_const first (Node Kind.VariableDeclaration m span semantic_id ps) = is_new first m && bytes_eq (string_of (at 0 ps)) (codes "const")
+is_new_const first (Node Kind.VariableDeclaration m span semantic_id ps) = (is_new first m || has_new_declarator first (items (at 1 ps))) && bytes_eq (string_of (at 0 ps)) (codes "const")
 is_new_const first t = false
 
 abbrev pub all_accounted : ℕ → List LedgerEntry → List ℕ → List Tree → Bool
@@ -338,6 +343,7 @@ pub record MeetsClauses (first : ℕ) (o : Options) (ledger : List LedgerEntry) 
   pub temporaries : temporaries_steady first ledger q ≡ true
   pub keys : keys_stand first o ledger (private_members p) q (all_temporaries first o ledger (private_members p) q (preorder q)) ≡ true
   pub nodes : nodes_kept p q ≡ true
+  pub classes : classes_kept first p q ≡ true
   pub statements : statements_kept o p q ≡ true
   pub lists : lists_kept o p q ≡ true
   pub homes : homes_kept first o p q ≡ true

@@ -3,7 +3,7 @@
 use Rattle.std.specs.Prelude.{ℕ, suc, List, [], ◌∷◌, ◌++◌, map, Bool, true, false, cond, ◌||◌, ◌&&◌, nat_eq, bytes_eq, Option, Some, None}
 use Rattle.es_base.specs.Tree.{Tree, Part, Parts, Node, end, more, child, list}
 use Rattle.es_base.specs.Table.{Field, members_of}
-use Rattle.es_base.specs.Conforms.{is_target_place}
+use Rattle.es_base.specs.Conforms.{is_target_place, is_among}
 use Rattle.es_base.specs.Preorder.{preorder}
 use Rattle.es_base.specs.declared.kind.Kind.{Kind}
 use Rattle.es_base.specs.declared.table.Sort.{Sort}
@@ -197,7 +197,15 @@ changed_otherwise t = imported t ++ (caught_again_in (preorder t) ++ given_aroun
 abbrev pub varying : Tree → List ℕ
 varying t = written t ++ changed_otherwise t
 
+-- whether a function in a block gives a name of this spelling a value
+abbrev pub gives_inside : String → List Tree → Bool
+gives_inside s [] = false
+gives_inside s (Node kind m span semantic_id ps ∷ ts) = is_among s (inner_functions false kind ps) || gives_inside s ts
+
 -- whether a free name of this spelling is written
 abbrev pub writes_free : String → List Reference → Bool
 writes_free s [] = false
 writes_free s (r ∷ rs) = (r.writes && is_free s r.to) || writes_free s rs
+
+abbrev pub changes_free : String → Tree → Bool
+changes_free s t = writes_free s (resolve t) || gives_inside s (preorder t)

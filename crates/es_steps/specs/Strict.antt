@@ -1,10 +1,9 @@
 -- Strict code (ECMA-262, 11.2.2). (That none becomes strict is our own.)
-use Rattle.std.specs.Prelude.{ℕ, List, [], ◌∷◌, ◌++◌, Bool, true, false, ◌&&◌, ◌||◌, bytes_eq, codes}
-use Rattle.es_base.specs.Numbered.{is_new}
+use Rattle.std.specs.Prelude.{ℕ, List, [], ◌∷◌, ◌++◌, Bool, true, false, ◌||◌, bytes_eq, codes}
 use Rattle.es_base.specs.Tree.{Tree, Part, Parts, Node, end, more, child, list}
 use Rattle.es_base.specs.declared.kind.Kind.{Kind}
 use Rattle.es_steps.specs.Parts.{at, items, string_of}
-use Rattle.es_steps.specs.References.{has_number}
+use Rattle.es_steps.specs.KeptNodes.{are_new_or_among}
 
 -- `"use strict";` as a directive
 abbrev pub is_use_strict : Part → Bool
@@ -51,10 +50,5 @@ abbrev mutual
 
 -- ---- no code becomes strict
 
--- the nodes of these numbers are new, or were strict
-abbrev pub were_strict : ℕ → List ℕ → List ℕ → Bool
-were_strict first strict [] = true
-were_strict first strict (n ∷ ns) = (is_new first n || has_number n strict) && were_strict first strict ns
-
 abbrev pub none_becomes_strict : ℕ → Tree → Tree → Bool
-none_becomes_strict first p q = were_strict first (strict_numbers false p) (strict_numbers false q)
+none_becomes_strict first p q = are_new_or_among first (strict_numbers false p) (strict_numbers false q)

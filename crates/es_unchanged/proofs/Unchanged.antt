@@ -24,10 +24,11 @@ use Rattle.es_steps.specs.Printable.{is_printable}
 use Rattle.es_steps.specs.PrivateNames.{private_members, is_class}
 use Rattle.es_steps.specs.References.{resolve}
 use Rattle.es_steps.specs.Scopes.{is_binding_identifier}
+use Rattle.es_steps.specs.Texts.{has_its_text, all_have_their_texts}
 use Rattle.es_steps.specs.Values.{String}
 use Rattle.es_steps.specs.declared.options.Options.{Options}
 use Rattle.es_unchanged.proofs.Names.{number-apart, names-stay, strict-stays}
-use Rattle.es_unchanged.proofs.Standing.{both, none_of, In, here, later, in-left, in-right, Among, among-append, all-equal, all-stand, within-more, within-both, within-same, within-append, all_within-append, apart-sym, home-same, temporaries-none}
+use Rattle.es_unchanged.proofs.Standing.{stands-equal, both, none_of, In, here, later, in-left, in-right, Among, among-append, all-equal, all-stand, within-more, within-both, within-same, within-append, all_within-append, apart-sym, home-same, temporaries-none}
 use Rattle.es_unchanged.proofs.Unmarked.{names-timely}
 
 -- ---- no number is new
@@ -445,6 +446,16 @@ keys-stand : (b : Bool) → (not b || true) ≡ true
 keys-stand true = refl
 keys-stand false = refl
 
+-- each literal has its text
+old-text : (first : ℕ) (t : Tree) (us : List Tree) → number_of t < first → In t us → has_its_text first us t ≡ true
+old-text first (Node Kind.Literal n span semantic_id qs) us l i = rw (lt-leb first n l) (stands-equal (Node Kind.Literal n span semantic_id qs) us i)
+old-text first (Node Kind.TemplateElement n span semantic_id qs) us l i = rw (lt-leb first n l) (stands-equal (Node Kind.TemplateElement n span semantic_id qs) us i)
+old-text first t us l i = refl
+
+old-texts : (first : ℕ) (ts us : List Tree) → Below first ts → Among ts us → all_have_their_texts first us ts ≡ true
+old-texts first [] us b h = refl
+old-texts first (t ∷ ts) us b h = both (old-text first t us b.0 (h t here)) (old-texts first ts us b.1 (λ u i. h u (later i)))
+
 pub unchanged-owes : (o : Options) (t : Tree) → t ≡ numbered_from 0 t → has_lowered_class o t ≡ false → nothing_left o t ≡ true → IsLowered (nodes t) o [] t t
 unchanged-owes o t e h left =
     let turn : IsInTurn t = in-turn t e in
@@ -456,6 +467,7 @@ unchanged-owes o t e h left =
         accounted = below-accounted (nodes t) (own_name_numbers t (resolve t) (preorder t)) (preorder t) turn.below;
         names = names-stay t turn.once;
         strict = strict-stays (nodes t) t;
+        texts = old-texts (nodes t) (preorder t) (preorder t) turn.below (λ u i. i);
         initialized = refl;
         timely = names-timely (nodes t) (private_members t) t;
         temporaries = refl;

@@ -52,6 +52,9 @@ returns-clause-dead_temporary c = refl
 pub returns-clause-declaration_without_its_name : goal.returns-clause-declaration_without_its_name
 returns-clause-declaration_without_its_name c = refl
 
+pub returns-clause-declarator_in_a_const : goal.returns-clause-declarator_in_a_const
+returns-clause-declarator_in_a_const c = refl
+
 pub returns-clause-directive_behind_a_name : goal.returns-clause-directive_behind_a_name
 returns-clause-directive_behind_a_name c = refl
 
@@ -105,6 +108,9 @@ returns-clause-name_given_behind_a_field c = refl
 
 pub returns-clause-name_given_in_a_closure : goal.returns-clause-name_given_in_a_closure
 returns-clause-name_given_in_a_closure c = refl
+
+pub returns-clause-name_in_a_static_block : goal.returns-clause-name_in_a_static_block
+returns-clause-name_in_a_static_block c = refl
 
 pub returns-clause-name_of_a_class_with_a_block : goal.returns-clause-name_of_a_class_with_a_block
 returns-clause-name_of_a_class_with_a_block c = refl

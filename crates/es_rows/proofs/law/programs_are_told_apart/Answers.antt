@@ -4,6 +4,9 @@ use Rattle.es_rows.proofs.law.programs_are_told_apart.Goals as goal
 pub returns-clause-arguments_behind_a_write : goal.returns-clause-arguments_behind_a_write
 returns-clause-arguments_behind_a_write c = (refl, refl, refl)
 
+pub returns-clause-arguments_of_a_block : goal.returns-clause-arguments_of_a_block
+returns-clause-arguments_of_a_block c = (refl, refl, refl)
+
 pub returns-clause-caught_names_exchanged : goal.returns-clause-caught_names_exchanged
 returns-clause-caught_names_exchanged c = (refl, refl, refl)
 

@@ -49,6 +49,9 @@ returns-clause-class_renamed c = refl
 pub returns-clause-constructor_of_another_key : goal.returns-clause-constructor_of_another_key
 returns-clause-constructor_of_another_key c = refl
 
+pub returns-clause-declarator_out_of_its_block : goal.returns-clause-declarator_out_of_its_block
+returns-clause-declarator_out_of_its_block c = refl
+
 pub returns-clause-definitions_nested : goal.returns-clause-definitions_nested
 returns-clause-definitions_nested c = refl
 
@@ -117,6 +120,9 @@ returns-clause-method_without_brand c = refl
 
 pub returns-clause-named_value : goal.returns-clause-named_value
 returns-clause-named_value c = refl
+
+pub returns-clause-names_of_a_constructor : goal.returns-clause-names_of_a_constructor
+returns-clause-names_of_a_constructor c = refl
 
 pub returns-clause-new_import : goal.returns-clause-new_import
 returns-clause-new_import c = refl
