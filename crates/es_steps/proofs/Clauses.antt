@@ -10,7 +10,7 @@ use Rattle.es_base.specs.Tree.{Tree, Part, Parts, Node, end, more, child, list}
 use Rattle.es_base.specs.declared.ledger.LedgerEntry.{LedgerEntry}
 use Rattle.es_steps.specs.Definitions.{definitions_stand, all_temporaries, elements_kept}
 use Rattle.es_steps.specs.HelperCalls.{computed_keys, helper_calls_fit}
-use Rattle.es_steps.specs.KeptNodes.{nodes_kept, statements_kept, lists_kept, homes_kept}
+use Rattle.es_steps.specs.KeptNodes.{nodes_kept, classes_kept, statements_kept, lists_kept, homes_kept}
 use Rattle.es_steps.specs.Law.{ClausesLaw}
 use Rattle.es_steps.specs.Lowered.{nothing_left, names_declared, declarations_accounted, initializations_stand, keys_stand}
 use Rattle.es_steps.specs.OwnNames.{own_names_stay}
@@ -28,7 +28,7 @@ use Rattle.es_steps.proofs.TimelyMapped.{names_timely-mapped}
 use Rattle.es_steps.specs.declared.options.Options.{Options}
 use Rattle.es_steps.proofs.DefinitionsMapped.{definitions_stand-mapped, all_temporaries-mapped, elements_kept-mapped}
 use Rattle.es_steps.proofs.HelperCallsMapped.{all_computed_keys-mapped, helper_calls_fit-mapped}
-use Rattle.es_steps.proofs.KeptNodesMapped.{nodes_kept-mapped, statements_kept-mapped, lists_kept-mapped, homes_kept-mapped}
+use Rattle.es_steps.proofs.KeptNodesMapped.{nodes_kept-mapped, classes_kept-mapped, statements_kept-mapped, lists_kept-mapped, homes_kept-mapped}
 use Rattle.es_steps.proofs.LoweredMapped.{nothing_left-mapped, names_declared-mapped, declarations_accounted-mapped, initializations_stand-mapped, keys_stand-mapped}
 use Rattle.es_steps.proofs.Mapped.{Renames, mapped, mapped_part, mapped_parts, mapped_ledger, mapped_privates}
 use Rattle.es_steps.proofs.OwnNamesMapped.{own_names_stay-mapped}
@@ -133,6 +133,7 @@ clauses_law first o ledger p q once old generated met = record {
     temporaries = kept first ledger p q once old generated (λ l p q. temporaries_steady first l q) (λ f r l p q. temporaries_steady-mapped r l q) met.temporaries;
     keys = kept first ledger p q once old generated (λ l p q. keys_clause first o l (private_members p) q (preorder q)) (keys-unchanging first o) met.keys;
     nodes = kept first ledger p q once old generated (λ l p q. nodes_kept p q) (λ f r l p q. nodes_kept-mapped r p q) met.nodes;
+    classes = kept first ledger p q once old generated (λ l p q. classes_kept first p q) (λ f r l p q. classes_kept-mapped r p q) met.classes;
     statements = kept first ledger p q once old generated (λ l p q. statements_kept o p q) (λ f r l p q. statements_kept-mapped r o p q) met.statements;
     lists = kept first ledger p q once old generated (λ l p q. lists_kept o p q) (λ f r l p q. lists_kept-mapped r o p q) met.lists;
     homes = kept first ledger p q once old generated (λ l p q. homes_kept first o p q) (λ f r l p q. homes_kept-mapped r o p q) met.homes;

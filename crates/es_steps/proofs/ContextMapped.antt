@@ -16,7 +16,7 @@ use Rattle.es_steps.specs.Values.{String, Bound, Home, OfClass, OfPrototype}
 use Rattle.es_steps.proofs.Mapped.{mapped, mapped_part, mapped_parts, mapped_class_name, mapped_declaration, mapped_declarations, mapped_option, mapped_generated, mapped_ledger, mapped_name_kind, mapped_private, mapped_home, mapped_role, mapped_pair, mapped_context, mapped_terms, Renames}
 use Rattle.es_steps.proofs.PartsMapped.{cond-mapped, append-mapped, at-mapped, items_at-mapped, block_items_at-mapped, string_at-mapped, is_true_at-mapped, is_present_at-mapped, number_of-mapped}
 use Rattle.es_steps.proofs.PrivatesMapped.{seen_members-mapped}
-use Rattle.es_steps.proofs.ReferencesMapped.{declared-mapped, has_number-mapped, resolve-mapped, writes_free-mapped, varying-mapped, names_around-mapped}
+use Rattle.es_steps.proofs.ReferencesMapped.{declared-mapped, has_number-mapped, changes_free-mapped, varying-mapped, names_around-mapped}
 use Rattle.es_steps.proofs.ScopesMapped.{bound_at-mapped, names_at-mapped, class_in-mapped}
 
 -- ---- the ledger
@@ -212,7 +212,7 @@ module _ {first : ℕ} {f : ℕ → ℕ} (r : Renames first f) where
   -- ---- the start
 
   pub start-mapped : (o : Terms) (t : Tree) → start (mapped_terms f o) (mapped f t) ≡ mapped_context f (start o t)
-  start-mapped o t = rw (number_of-mapped f t, varying-mapped f t, resolve-mapped f t, writes_free-mapped f (codes "arguments") (resolve t)) refl
+  start-mapped o t = rw (number_of-mapped f t, varying-mapped f t, changes_free-mapped f (codes "arguments") t) refl
 
 -- where new numbers begin stays
 either-first : (b : Bool) (c d : Context) → d.first_new ≡ c.first_new → (cond b d c).first_new ≡ c.first_new

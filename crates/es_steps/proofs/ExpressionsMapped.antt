@@ -80,10 +80,6 @@ module _ (f : ℕ → ℕ) where
   checked_object-mapped true o = refl
   checked_object-mapped false o = refl
 
-  names_class-mapped : (x : PrivateReference) (n : Option ℕ) → names_class (mapped_private_reference f x) (mapped_option f n) ≡ names_class x n
-  names_class-mapped x None = refl
-  names_class-mapped x (Some n) = refl
-
   private_in_of-mapped : (m : ℕ) (k o : Code) → private_in_of (f m) (mapped_code f k) (mapped_code f o) ≡ mapped_code f (private_in_of m k o)
   private_in_of-mapped m (private_name d s (Some x)) o = ap (λ t. private_in (f m) t (mapped_code f o)) (test_of-mapped f x)
   private_in_of-mapped m k o = refl
@@ -237,11 +233,15 @@ module _ {first : ℕ} {f : ℕ → ℕ} (r : Renames first f) (c : Context) (e 
       rw (flag_at-mapped f 2 ps, flag_at-mapped f 3 ps, the_code_at-mapped f 0 ps, the_code_at-mapped f 1 ps, key_code-mapped f (flag_of (at 2 ps)) (the_code (at 1 ps)), member_on-mapped m (flag_of (at 3 ps)) (the_code (at 0 ps)) (key_code (flag_of (at 2 ps)) (the_code (at 1 ps))))
       (helper_member-mapped r c e (flag_of (at 2 ps)) (the_code (at 0 ps)) (the_code (at 1 ps)) (member_on c m (flag_of (at 3 ps)) (the_code (at 0 ps)) (key_code (flag_of (at 2 ps)) (the_code (at 1 ps)))))
 
+  names_class-mapped : (x : PrivateReference) (n : Option ℕ) → names_class (mapped_private_reference f x) (mapped_option f n) ≡ names_class x n
+  names_class-mapped x None = refl
+  names_class-mapped x (Some n) = r.apart x.class n
+
   private_on-mapped : (m : ℕ) (s : String) (x : Option PrivateReference) (o checked_o : Code) → private_on there (f m) s (mapped_option (mapped_private_reference f) x) (mapped_code f o) (mapped_code f checked_o) ≡ mapped_code f (private_on c m s x o checked_o)
   private_on-mapped m s None o checked_o = refl
   private_on-mapped m s (Some x) o checked_o =
       let is_meant : Bool = names_class x (class_named o) && not (is_generated_elsewhere s x.class c.ledger) in
-      rw (is_generated_private-mapped r s x.class c.ledger, is_generated_elsewhere-mapped r s x.class c.ledger, class_named-mapped f o, names_class-mapped f x (class_named o))
+      rw (is_generated_private-mapped r s x.class c.ledger, is_generated_elsewhere-mapped r s x.class c.ledger, class_named-mapped f o, names_class-mapped x (class_named o))
       (code-cond f (is_made_private c s x) (cond is_meant (private_value s) no_rule) (private_member m x checked_o) (cond-code f is_meant (private_value s) no_rule) refl)
 
   private_field_of-mapped : (m : ℕ) (optional : Bool) (o k : Code) → private_field_of there (f m) optional (mapped_code f o) (mapped_code f k) ≡ mapped_code f (private_field_of c m optional o k)

@@ -1,12 +1,12 @@
 -- Classes that are lowered, and nodes that are kept, under a change of numbers.
 use Rattle.std.specs.Prelude.{◌≡◌, ℕ, suc, List, [], ◌∷◌, map, false, cond, not, ◌&&◌, ◌||◌, nat_eq, Option, Some, None}
 use Rattle.std.proofs.Common.{refl, ap, ap₂, ◌∙◌}
-use Rattle.es_base.specs.Preorder.{preorder, number_of}
+use Rattle.es_base.specs.Preorder.{preorder, number_of, preorder_of_part}
 use Rattle.es_base.specs.Table.{is_statement}
 use Rattle.es_base.specs.Tree.{Tree, Part, Parts, Node, end, more, child, absent, list, string, no_string, boolean, literal}
 use Rattle.es_base.specs.declared.kind.Kind.{Kind}
 use Rattle.es_steps.specs.Context.{is_constructor}
-use Rattle.es_steps.specs.KeptNodes.{stays_in_list, NodeSort, sort_of, is_kept_sort, same_sort, stands_as, all_stand, nodes_kept, is_free_statement, free_statements, free_at, free_in, stands_equal, all_equal, statements_kept, statement_list, declared_classes, class_or_none, given_classes, carried_classes, is_static_block, item_number, item_numbers, is_function_declaration, free_number, free_numbers, free_lists, free_lists_at, free_lists_in, list_of, is_within, all_within, lists_kept, Homed, HomeHere, function_around, is_constructor_part, home_in, has_home, name_of, homed, homes, homes_in, homes_at, homes_of, all_homes, block_numbers, lowered_blocks, home_fits, name_fits, stands_at_home, stands_nowhere, all_at_home, homes_kept}
+use Rattle.es_steps.specs.KeptNodes.{are_new_or_among, numbers_in_class, none_enters, classes_kept, stays_in_list, NodeSort, sort_of, is_kept_sort, same_sort, stands_as, all_stand, nodes_kept, is_free_statement, free_statements, free_at, free_in, stands_equal, all_equal, statements_kept, statement_list, declared_classes, class_or_none, given_classes, carried_classes, is_static_block, item_number, item_numbers, is_function_declaration, free_number, free_numbers, free_lists, free_lists_at, free_lists_in, list_of, is_within, all_within, lists_kept, Homed, HomeHere, function_around, is_constructor_part, home_in, has_home, name_of, homed, homes, homes_in, homes_at, homes_of, all_homes, block_numbers, lowered_blocks, home_fits, name_fits, stands_at_home, stands_nowhere, all_at_home, homes_kept}
 use Rattle.es_steps.specs.LoweredClasses.{Element, is_private_key, element_of, elements_in, body_elements, elements_of, is_lowered_element, any_element, is_lowered_class, holds_lowered, has_lowered_class, constructor_function, constructor_in, referent_of, is_fixed, has_no_items, needs_temporary, is_left_out}
 use Rattle.es_steps.specs.Options.{lowers_blocks}
 use Rattle.es_steps.specs.Parts.{at, items, string_of}
@@ -17,7 +17,7 @@ use Rattle.es_steps.specs.Scopes.{class_in}
 use Rattle.es_steps.specs.Values.{Referent, Bound, Free}
 use Rattle.es_steps.specs.declared.options.Options.{Options}
 use Rattle.es_steps.proofs.Mapped.{Renames, mapped, mapped_part, mapped_parts, mapped_option, mapped_referent, mapped_reference}
-use Rattle.es_steps.proofs.PartsMapped.{cond-mapped, append-mapped, at-mapped, items_at-mapped, string_at-mapped, is_true_at-mapped, is_present-mapped, number_of-mapped, preorder-mapped}
+use Rattle.es_steps.proofs.PartsMapped.{cond-mapped, append-mapped, at-mapped, items_at-mapped, string_at-mapped, is_true_at-mapped, is_present-mapped, number_of-mapped, preorder-mapped, preorder_of_part-mapped}
 use Rattle.es_steps.proofs.ReferencesMapped.{has_number-mapped}
 use Rattle.es_steps.proofs.ScopesMapped.{class_in-mapped}
 
@@ -255,6 +255,34 @@ module _ (f : ℕ → ℕ) where
   lowered_blocks-mapped o p = cond-mapped (map f) (lowers_blocks o) (block_numbers (preorder p)) [] (ap block_numbers (preorder-mapped f p) ∙ block_numbers-mapped (preorder p)) refl
 
 module _ {first : ℕ} {f : ℕ → ℕ} (r : Renames first f) where
+  -- ---- nothing gets into a class
+
+  pub are_new_or_among-mapped : (there ns : List ℕ) → are_new_or_among first (map f there) (map f ns) ≡ are_new_or_among first there ns
+  are_new_or_among-mapped there [] = refl
+  are_new_or_among-mapped there (n ∷ ns) = rw (r.new n, has_number-mapped r n there, are_new_or_among-mapped there ns) refl
+
+  numbers-mapped : (ts : List Tree) → map number_of (map (mapped f) ts) ≡ map f (map number_of ts)
+  numbers-mapped [] = refl
+  numbers-mapped (t ∷ ts) = ap₂ (λ n ns. n ∷ ns) (number_of-mapped f t) (numbers-mapped ts)
+
+  body_numbers-mapped : (ps : Parts) → map number_of (preorder_of_part (at 2 (mapped_parts f ps))) ≡ map f (map number_of (preorder_of_part (at 2 ps)))
+  body_numbers-mapped ps = ap (λ p. map number_of (preorder_of_part p)) (at-mapped f 2 ps) ∙ ap (map number_of) (preorder_of_part-mapped f (at 2 ps)) ∙ numbers-mapped (preorder_of_part (at 2 ps))
+
+  numbers_in_class-mapped : (n : ℕ) (ts : List Tree) → numbers_in_class (f n) (map (mapped f) ts) ≡ map f (numbers_in_class n ts)
+  numbers_in_class-mapped n [] = refl
+  numbers_in_class-mapped n (Node kind m span semantic_id ps ∷ ts) =
+      rw (r.apart n m) (cond-mapped (map f) (is_class kind && nat_eq n m) (map number_of (preorder_of_part (at 2 ps))) (numbers_in_class n ts) (body_numbers-mapped ps) (numbers_in_class-mapped n ts))
+
+  none_enters-mapped : (ps ts : List Tree) → none_enters first (map (mapped f) ps) (map (mapped f) ts) ≡ none_enters first ps ts
+  none_enters-mapped ps [] = refl
+  none_enters-mapped ps (Node kind n span semantic_id qs ∷ ts) =
+      ap₂ (λ a b. (not (is_class kind) || a) && b)
+      (ap₂ (are_new_or_among first) (numbers_in_class-mapped n ps) (body_numbers-mapped qs) ∙ are_new_or_among-mapped (numbers_in_class n ps) (map number_of (preorder_of_part (at 2 qs))))
+      (none_enters-mapped ps ts)
+
+  pub classes_kept-mapped : (p q : Tree) → classes_kept first (mapped f p) (mapped f q) ≡ classes_kept first p q
+  classes_kept-mapped p q = rw (preorder-mapped f p, preorder-mapped f q) (none_enters-mapped (preorder p) (preorder q))
+
   -- ---- keys
 
   pub referent_of-mapped : (m : ℕ) (rs : List Reference) → referent_of (f m) (map (mapped_reference f) rs) ≡ mapped_option (mapped_referent f) (referent_of m rs)

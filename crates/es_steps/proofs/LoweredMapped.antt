@@ -10,7 +10,7 @@ use Rattle.es_base.specs.declared.ledger.LedgerEntry.{LedgerEntry}
 use Rattle.es_steps.specs.Context.{generated_as}
 use Rattle.es_steps.specs.Definitions.{spelling, field_part, names_class, class_identifiers, all_different, is_among_first}
 use Rattle.es_steps.specs.KeptNodes.{statement_list, is_underscored}
-use Rattle.es_steps.specs.Lowered.{none_lowered, nothing_left, declaring_number, declaring_numbers, is_bound_to, all_mean, is_one_new, private_key, private_keys, keys_of_body, keys_of_class, keys_in, is_one, declared_by_kind, same_space, is_named_again, same_subject, has_another_name, is_temp, is_at_most_one, names_declared, is_new_const, has_branded, belongs, is_generated, is_accounted, all_accounted, declarations_accounted, spelled_as, is_new_of, is_key_call, is_function_part, class_number_in, assignment_number, paired, pairs_behind, all_behind, has_pair, is_class_or_name, is_class_value, is_initial, is_class_kind, is_method_kind, initialization_at, initializations, comes_before, class_of_member, class_before, is_declared_function, all_before, needs_none, is_one_initialization, initialization_stands, initializations_stand, any_before, keys_before, keys_stand}
+use Rattle.es_steps.specs.Lowered.{none_lowered, nothing_left, declaring_number, declaring_numbers, is_bound_to, all_mean, is_one_new, private_key, private_keys, keys_of_body, keys_of_class, keys_in, is_one, declared_by_kind, same_space, is_named_again, same_subject, has_another_name, is_temp, is_at_most_one, names_declared, has_new_declarator, is_new_const, has_branded, belongs, is_generated, is_accounted, all_accounted, declarations_accounted, spelled_as, is_new_of, is_key_call, is_function_part, class_number_in, assignment_number, paired, pairs_behind, all_behind, has_pair, is_class_or_name, is_class_value, is_initial, is_class_kind, is_method_kind, initialization_at, initializations, comes_before, class_of_member, class_before, is_declared_function, all_before, needs_none, is_one_initialization, initialization_stands, initializations_stand, any_before, keys_before, keys_stand}
 use Rattle.es_steps.specs.Options.{lowers_fields}
 use Rattle.es_steps.specs.OwnNames.{own_name_numbers}
 use Rattle.es_steps.specs.Parts.{at, items, string_of, is_present}
@@ -207,8 +207,13 @@ module _ {first : ℕ} {f : ℕ → ℕ} (r : Renames first f) where
   is_accounted-mapped : (ledger : List LedgerEntry) (own : List ℕ) (t : Tree) → is_accounted first (mapped_ledger f ledger) (map f own) (mapped f t) ≡ is_accounted first ledger own t
   is_accounted-mapped ledger own (Node kind b span semantic_id ps) = rw (r.new b, string_at-mapped f 0 ps, generated_as-mapped f (string_of (at 0 ps)) ledger, is_generated-mapped f (generated_as (string_of (at 0 ps)) ledger), has_number-mapped r b own) refl
 
+  has_new_declarator-mapped : (ps : Parts) → has_new_declarator first (mapped_parts f ps) ≡ has_new_declarator first ps
+  has_new_declarator-mapped end = refl
+  has_new_declarator-mapped (more (child t) ps) = rw (number_of-mapped f t, r.new (number_of t), has_new_declarator-mapped ps) refl
+  has_new_declarator-mapped (more p ps) = has_new_declarator-mapped ps
+
   is_new_const-mapped : (t : Tree) → is_new_const first (mapped f t) ≡ is_new_const first t
-  is_new_const-mapped (Node Kind.VariableDeclaration m span semantic_id ps) = rw (r.new m, string_at-mapped f 0 ps) refl
+  is_new_const-mapped (Node Kind.VariableDeclaration m span semantic_id ps) = rw (r.new m, string_at-mapped f 0 ps, items_at-mapped f 1 ps, has_new_declarator-mapped (items (at 1 ps))) refl
   is_new_const-mapped t = refl
 
   all_accounted-mapped : (ledger : List LedgerEntry) (own : List ℕ) (ts : List Tree) → all_accounted first (mapped_ledger f ledger) (map f own) (map (mapped f) ts) ≡ all_accounted first ledger own ts

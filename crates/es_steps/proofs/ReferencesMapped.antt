@@ -1,12 +1,13 @@
 -- What references refer to, and which bindings are written, follow a change of numbers.
 use Rattle.std.specs.Prelude.{◌≡◌, ℕ, suc, List, [], ◌∷◌, ◌++◌, ◌||◌, map, Bool, true, false, bytes_eq, Option, Some, None}
 use Rattle.std.proofs.Common.{refl, ap, ap₂, ◌∙◌}
+use Rattle.es_base.specs.Conforms.{is_among}
 use Rattle.es_base.specs.Preorder.{preorder}
 use Rattle.es_base.specs.Table.{Field, members_of}
 use Rattle.es_base.specs.Tree.{Tree, Part, Parts, Node, end, more, child, list}
 use Rattle.es_base.specs.declared.kind.Kind.{Kind}
 use Rattle.es_steps.specs.Parts.{at, items, string_of, is_true}
-use Rattle.es_steps.specs.References.{declared, referent, Reference, is_target, is_reference, reference, references, references_in, part_references, item_references, resolve, has_number, numbers_of, if_bound, assigned, is_declared, repeated, is_for_each, written_by, written_by_all, written, imported_by, imported_by_all, imported, caught_again, caught_again_in, bound_spelling, function_name, function_names, case_functions, inner_functions, meant, catches_a_name, names_around, given_around, given_in, given_at, given_of, changed_otherwise, varying, is_free, writes_free}
+use Rattle.es_steps.specs.References.{declared, referent, Reference, is_target, is_reference, reference, references, references_in, part_references, item_references, resolve, has_number, numbers_of, if_bound, assigned, is_declared, repeated, is_for_each, written_by, written_by_all, written, imported_by, imported_by_all, imported, caught_again, caught_again_in, bound_spelling, function_name, function_names, case_functions, inner_functions, meant, catches_a_name, names_around, given_around, given_in, given_at, given_of, changed_otherwise, gives_inside, changes_free, varying, is_free, writes_free}
 use Rattle.es_steps.specs.Scopes.{Declaration, no_class, bound_part, names_at, is_body_part, scope_form, scope_names, var_part}
 use Rattle.es_steps.specs.Values.{String, Referent, Bound, Free}
 use Rattle.es_steps.proofs.Mapped.{mapped, mapped_part, mapped_parts, mapped_declaration, mapped_declarations, mapped_option, mapped_reference, mapped_referent, Renames}
@@ -197,6 +198,15 @@ module _ (f : ℕ → ℕ) where
   pub writes_free-mapped : (s : String) (rs : List Reference) → writes_free s (map (mapped_reference f) rs) ≡ writes_free s rs
   writes_free-mapped s [] = refl
   writes_free-mapped s (r ∷ rs) = rw (is_free-mapped s r.to, writes_free-mapped s rs) refl
+
+module _ (f : ℕ → ℕ) where
+  gives_inside-mapped : (s : String) (ts : List Tree) → gives_inside s (map (mapped f) ts) ≡ gives_inside s ts
+  gives_inside-mapped s [] = refl
+  gives_inside-mapped s (Node kind m span semantic_id ps ∷ ts) = ap₂ (λ a b. is_among s a || b) (inner_functions-mapped f false kind ps) (gives_inside-mapped s ts)
+
+  pub changes_free-mapped : (s : String) (t : Tree) → changes_free s (mapped f t) ≡ changes_free s t
+  changes_free-mapped s t =
+      ap₂ (λ a b. a || b) (ap (writes_free s) (resolve-mapped f t) ∙ writes_free-mapped f s (resolve t)) (ap (gives_inside s) (preorder-mapped f t) ∙ gives_inside-mapped s (preorder t))
 
 pub has_number-mapped : {first : ℕ} {f : ℕ → ℕ} → Renames first f → (n : ℕ) (ks : List ℕ) → has_number (f n) (map f ks) ≡ has_number n ks
 has_number-mapped r n [] = refl

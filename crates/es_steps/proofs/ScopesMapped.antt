@@ -93,7 +93,7 @@ module _ (f : ℕ → ℕ) where
     lexical_items-mapped end = refl
     lexical_items-mapped (more p ps) = append-mapped (mapped_declaration f) _ _ (lexical_part-mapped p) (lexical_items-mapped ps)
 
-  lexical_at-mapped : (i : ℕ) (ps : Parts) → lexical_part (at i (mapped_parts f ps)) ≡ mapped_declarations f (lexical_part (at i ps))
+  pub lexical_at-mapped : (i : ℕ) (ps : Parts) → lexical_part (at i (mapped_parts f ps)) ≡ mapped_declarations f (lexical_part (at i ps))
   lexical_at-mapped i ps = ap lexical_part (at-mapped f i ps) ∙ lexical_part-mapped (at i ps)
 
   -- ---- the names of `var`

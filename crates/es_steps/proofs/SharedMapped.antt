@@ -1,16 +1,16 @@
 -- Which declaring identifiers share one binding follows a change of numbers.
-use Rattle.std.specs.Prelude.{◌≡◌, ℕ, suc, List, [], ◌∷◌, map, Bool, false, Option, Some, None}
-use Rattle.std.proofs.Common.{refl, ap, ◌∙◌}
+use Rattle.std.specs.Prelude.{◌≡◌, ℕ, suc, List, [], ◌∷◌, map, Bool, true, false, cond, Option, Some, None}
+use Rattle.std.proofs.Common.{refl, ap, ap₂, ◌∙◌}
 use Rattle.es_base.specs.declared.kind.Kind.{Kind}
 use Rattle.es_base.specs.Tree.{Tree, Part, Parts, Node, end, more, child, list}
 use Rattle.es_steps.specs.References.{declared}
 use Rattle.es_steps.specs.Parts.{at, block_items}
-use Rattle.es_steps.specs.Scopes.{no_class, lexical_items, Declaration, scope_of, scope_names, is_body_part}
-use Rattle.es_steps.specs.Shared.{with_earlier, shared_behind, caught_names, shared, shared_in, shared_at, shared_of}
+use Rattle.es_steps.specs.Scopes.{no_class, bound_part, var_items, lexical_items, Declaration, scope_of, scope_names, is_body_part}
+use Rattle.es_steps.specs.Shared.{with_earlier, shared_behind, caught_names, is_name, names_hoisted_past, shared_with, shared, shared_in, shared_at, shared_of}
 use Rattle.es_steps.proofs.Mapped.{mapped, mapped_part, mapped_parts, mapped_option, mapped_declaration, mapped_declarations, mapped_pair}
-use Rattle.es_steps.proofs.PartsMapped.{append-mapped, block_items_at-mapped}
+use Rattle.es_steps.proofs.PartsMapped.{cond-mapped, append-mapped, at-mapped, block_items_at-mapped}
 use Rattle.es_steps.proofs.ReferencesMapped.{declared-mapped}
-use Rattle.es_steps.proofs.ScopesMapped.{bound_at-mapped, lexical_items-mapped, scope_names-mapped}
+use Rattle.es_steps.proofs.ScopesMapped.{bound_at-mapped, bound_part-mapped, var_items-mapped, lexical_at-mapped, lexical_items-mapped, scope_names-mapped}
 
 module _ (f : ℕ → ℕ) where
   with_earlier-mapped : (n : ℕ) (d : Option Declaration) → with_earlier (f n) (mapped_option (mapped_declaration f) d) ≡ map (mapped_pair f) (with_earlier n d)
@@ -27,13 +27,34 @@ module _ (f : ℕ → ℕ) where
       append-mapped (mapped_declaration f) _ _ (bound_at-mapped f no_class 0 ps) (ap lexical_items (block_items_at-mapped f 1 ps) ∙ lexical_items-mapped f (block_items (at 1 ps)))
   caught_names-mapped kind ps = refl
 
+  is_name-mapped : (p : Part) → is_name (mapped_part f p) ≡ is_name p
+  is_name-mapped (child (Node Kind.BindingIdentifier b span semantic_id ps)) = refl
+  is_name-mapped p = refl
+
+  names_hoisted_past-mapped : (is_body : Bool) (kind : Kind) (ps : Parts) → names_hoisted_past is_body kind (mapped_parts f ps) ≡ mapped_declarations f (names_hoisted_past is_body kind ps)
+  names_hoisted_past-mapped false Kind.BlockStatement ps = lexical_items-mapped f ps
+  names_hoisted_past-mapped true Kind.BlockStatement ps = refl
+  names_hoisted_past-mapped is_body Kind.SwitchStatement ps = lexical_at-mapped f 1 ps
+  names_hoisted_past-mapped is_body Kind.ForStatement ps = lexical_at-mapped f 0 ps
+  names_hoisted_past-mapped is_body Kind.ForInStatement ps = lexical_at-mapped f 0 ps
+  names_hoisted_past-mapped is_body Kind.ForOfStatement ps = lexical_at-mapped f 0 ps
+  names_hoisted_past-mapped is_body Kind.CatchClause ps = rw (at-mapped f 0 ps, is_name-mapped (at 0 ps)) (cond-mapped (mapped_declarations f) (is_name (at 0 ps)) [] (bound_part no_class (at 0 ps)) refl (bound_part-mapped f no_class (at 0 ps)))
+  names_hoisted_past-mapped is_body kind ps = refl
+
+  shared_with-mapped : (front ds : List Declaration) → shared_with (mapped_declarations f front) (mapped_declarations f ds) ≡ map (mapped_pair f) (shared_with front ds)
+  shared_with-mapped front [] = refl
+  shared_with-mapped front (d ∷ ds) =
+      append-mapped (mapped_pair f) _ _ (ap (with_earlier (f d.number)) (declared-mapped f d.spelling front) ∙ with_earlier-mapped d.number (declared d.spelling front)) (shared_with-mapped front ds)
+
   mutual
     pub shared-mapped : (is_body : Bool) (t : Tree) → shared is_body (mapped f t) ≡ map (mapped_pair f) (shared is_body t)
     shared-mapped is_body (Node kind m span semantic_id ps) =
         append-mapped (mapped_pair f) _ _
         (append-mapped (mapped_pair f) _ _
+        (append-mapped (mapped_pair f) _ _
         (ap (shared_behind []) (scope_names-mapped f (scope_of kind is_body) m ps) ∙ shared_behind-mapped [] (scope_names (scope_of kind is_body) m ps))
         (ap (shared_behind []) (caught_names-mapped kind ps) ∙ shared_behind-mapped [] (caught_names kind ps)))
+        (ap₂ shared_with (names_hoisted_past-mapped is_body kind ps) (var_items-mapped f ps) ∙ shared_with-mapped (names_hoisted_past is_body kind ps) (var_items ps)))
         (shared_in-mapped (is_body_part kind) ps)
 
     shared_in-mapped : (bodies : ℕ → Bool) (ps : Parts) → shared_in bodies (mapped_parts f ps) ≡ map (mapped_pair f) (shared_in bodies ps)

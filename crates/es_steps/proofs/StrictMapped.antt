@@ -6,10 +6,10 @@ use Rattle.es_base.specs.Preorder.{number_of, preorder, preorder_of}
 use Rattle.es_base.specs.Tree.{Tree, Part, Parts, Node, end, more, child, list}
 use Rattle.es_base.specs.declared.kind.Kind.{Kind}
 use Rattle.es_steps.specs.Parts.{at, items}
-use Rattle.es_steps.specs.Strict.{is_use_strict, has_use_strict, directives, makes_strict, if_strict, strict_numbers, strict_in, strict_at, were_strict, none_becomes_strict}
+use Rattle.es_steps.specs.Strict.{is_use_strict, has_use_strict, directives, makes_strict, if_strict, strict_numbers, strict_in, strict_at, none_becomes_strict}
 use Rattle.es_steps.proofs.Mapped.{Renames, mapped, mapped_part, mapped_parts}
 use Rattle.es_steps.proofs.PartsMapped.{append-mapped, at-mapped, items_at-mapped, string_at-mapped, number_of-mapped, preorder-mapped, preorder_of-mapped}
-use Rattle.es_steps.proofs.ReferencesMapped.{has_number-mapped}
+use Rattle.es_steps.proofs.KeptNodesMapped.{are_new_or_among-mapped}
 
 module _ (f : ℕ → ℕ) where
   is_use_strict-mapped : (p : Part) → is_use_strict (mapped_part f p) ≡ is_use_strict p
@@ -59,10 +59,5 @@ module _ (f : ℕ → ℕ) where
     strict_at-mapped strict (list ps) = strict_in-mapped strict ps
     strict_at-mapped strict p = refl
 
-module _ {first : ℕ} {f : ℕ → ℕ} (r : Renames first f) where
-  were_strict-mapped : (strict ns : List ℕ) → were_strict first (map f strict) (map f ns) ≡ were_strict first strict ns
-  were_strict-mapped strict [] = refl
-  were_strict-mapped strict (n ∷ ns) = rw (r.new n, has_number-mapped r n strict, were_strict-mapped strict ns) refl
-
-  pub none_becomes_strict-mapped : (p q : Tree) → none_becomes_strict first (mapped f p) (mapped f q) ≡ none_becomes_strict first p q
-  none_becomes_strict-mapped p q = rw (strict_numbers-mapped f false p, strict_numbers-mapped f false q) (were_strict-mapped (strict_numbers false p) (strict_numbers false q))
+pub none_becomes_strict-mapped : {first : ℕ} {f : ℕ → ℕ} → Renames first f → (p q : Tree) → none_becomes_strict first (mapped f p) (mapped f q) ≡ none_becomes_strict first p q
+none_becomes_strict-mapped {f = f} r p q = rw (strict_numbers-mapped f false p, strict_numbers-mapped f false q) (are_new_or_among-mapped r (strict_numbers false p) (strict_numbers false q))
