@@ -4,14 +4,16 @@ use Rattle.std.proofs.Common.{refl, sym, ap, ap₂, ◌∙◌, append_assoc, ◌
 use Rattle.std.proofs.lemmas.Bool.{le-leb}
 use Rattle.std.proofs.lemmas.List.{append-nil}
 use Rattle.es_base.specs.Preorder.{preorder, preorder_of}
-use Rattle.es_base.specs.Tree.{Tree, Parts, end, more, trees}
+use Rattle.es_base.specs.Conforms.{is_among}
+use Rattle.es_base.specs.declared.kind.Kind.{Kind}
+use Rattle.es_base.specs.Tree.{Tree, Parts, end, more, trees, Node, string, list, child}
 use Rattle.es_steps.proofs.FirstMeaning.{members_of_all-append}
 use Rattle.es_steps.specs.Context.{Context}
 use Rattle.es_steps.specs.Evaluation.{Environment}
 use Rattle.es_steps.specs.Meaning.{DeclarationKind, ClassDeclared, declared_as, declaring, declaring_items, declared_function, declared_functions, body_of, globals}
 use Rattle.es_steps.specs.Modules.{links_in, exports_in}
 use Rattle.es_steps.specs.PrivateNames.{private_members, members_of_all, elements_members}
-use Rattle.es_steps.specs.References.{Reference, if_bound, is_free, assigned, item_references, resolve, written_by, written_by_all, written, imported_by, imported_by_all, varying, writes_free, caught_again, caught_again_in, given_of, changed_otherwise}
+use Rattle.es_steps.specs.References.{Reference, if_bound, is_free, assigned, item_references, resolve, written_by, written_by_all, written, imported_by, imported_by_all, varying, writes_free, caught_again, caught_again_in, given_of, changed_otherwise, inner_functions, function_names, gives_inside, changes_free}
 use Rattle.es_steps.specs.Repeated.{Surroundings, places_of, all_places}
 use Rattle.es_steps.specs.Shared.{shared, shared_of}
 use Rattle.es_steps.specs.Scopes.{Declaration, lexical_part, lexical_items, var_part, body_names}
@@ -75,6 +77,17 @@ caught_again_in-append : (xs ys : List Tree) → caught_again_in (xs ++ ys) ≡ 
 caught_again_in-append [] ys = refl
 caught_again_in-append (x ∷ xs) ys = rw (caught_again_in-append xs ys) (sym (append_assoc (caught_again x) (caught_again_in xs) (caught_again_in ys)))
 
+gives_inside-append : (s : String) (xs ys : List Tree) → gives_inside s (xs ++ ys) ≡ (gives_inside s xs || gives_inside s ys)
+gives_inside-append s [] ys = refl
+gives_inside-append s (Node kind m span semantic_id ps ∷ xs) ys = rw (gives_inside-append s xs ys) (or-assoc (is_among s (inner_functions false kind ps)) (gives_inside s xs) (gives_inside s ys))
+
+-- the statements that define fields are no functions
+function-definitions : (es : Parts) → AreFields es → (k : ℕ) → function_names (trees (definitions_from k es)) ≡ []
+function-definitions end h k = refl
+function-definitions (more p es) (a_field m span semantic_id key v hk no_value, h) k = function-definitions es h (k + 9)
+function-definitions (more p es) (a_field m span semantic_id key v hk (a_literal l lspan l_semantic_id w), h) k = function-definitions es h (k + 7)
+function-definitions (more p es) (a_field m span semantic_id key v hk (a_reference r rspan r_semantic_id x), h) k = function-definitions es h (k + 7)
+
 -- what is empty, with nothing behind
 one-none : {xs : List ℕ} → xs ≡ [] → xs ++ [] ≡ []
 one-none e = rw e refl
@@ -95,23 +108,24 @@ pub record Unwritten (ps : Parts) : Type 0 where
   pub imported : imported_by_all (preorder_of ps) ≡ []
   pub caught : caught_again_in (preorder_of ps) ≡ []
   pub given : (names : List Declaration) → given_of names ps ≡ []
+  pub inside : gives_inside (codes "arguments") (preorder_of ps) ≡ false
   pub functions : declared_functions [] (preorder_of ps) ≡ []
   pub members : members_of_all (preorder_of ps) ≡ []
 
 unwritten-end : Unwritten end
-unwritten-end = record { assigned = λ names. refl; free = λ names. refl; repeated = refl; imported = refl; caught = refl; given = λ names. refl; functions = refl; members = refl }
+unwritten-end = record { assigned = λ names. refl; free = λ names. refl; repeated = refl; imported = refl; caught = refl; given = λ names. refl; inside = refl; functions = refl; members = refl }
 
 fields-unwritten : (es : Parts) → AreFields es → Unwritten es
 fields-unwritten end h = unwritten-end
-fields-unwritten (more p es) (a_field m span semantic_id key v (a_key i ispan i_semantic_id s) no_value, h) = let u : Unwritten es = fields-unwritten es h in record { assigned = u.assigned; free = u.free; repeated = u.repeated; imported = u.imported; caught = u.caught; given = u.given; functions = u.functions; members = u.members }
-fields-unwritten (more p es) (a_field m span semantic_id key v (a_key i ispan i_semantic_id s) (a_literal l lspan l_semantic_id w), h) = let u : Unwritten es = fields-unwritten es h in record { assigned = u.assigned; free = u.free; repeated = u.repeated; imported = u.imported; caught = u.caught; given = u.given; functions = u.functions; members = u.members }
-fields-unwritten (more p es) (a_field m span semantic_id key v (a_key i ispan i_semantic_id s) (a_reference r rspan r_semantic_id x), h) = let u : Unwritten es = fields-unwritten es h in record { assigned = u.assigned; free = u.free; repeated = u.repeated; imported = u.imported; caught = u.caught; given = u.given; functions = u.functions; members = u.members }
+fields-unwritten (more p es) (a_field m span semantic_id key v (a_key i ispan i_semantic_id s) no_value, h) = let u : Unwritten es = fields-unwritten es h in record { assigned = u.assigned; free = u.free; repeated = u.repeated; imported = u.imported; caught = u.caught; given = u.given; inside = u.inside; functions = u.functions; members = u.members }
+fields-unwritten (more p es) (a_field m span semantic_id key v (a_key i ispan i_semantic_id s) (a_literal l lspan l_semantic_id w), h) = let u : Unwritten es = fields-unwritten es h in record { assigned = u.assigned; free = u.free; repeated = u.repeated; imported = u.imported; caught = u.caught; given = u.given; inside = u.inside; functions = u.functions; members = u.members }
+fields-unwritten (more p es) (a_field m span semantic_id key v (a_key i ispan i_semantic_id s) (a_reference r rspan r_semantic_id x), h) = let u : Unwritten es = fields-unwritten es h in record { assigned = u.assigned; free = u.free; repeated = u.repeated; imported = u.imported; caught = u.caught; given = u.given; inside = u.inside; functions = u.functions; members = u.members }
 
 definitions-unwritten : (es : Parts) → AreFields es → (k : ℕ) → Unwritten (trees (definitions_from k es))
 definitions-unwritten end h k = unwritten-end
-definitions-unwritten (more p es) (a_field m span semantic_id key v hk no_value, h) k = let u : Unwritten (trees (definitions_from (k + 9) es)) = definitions-unwritten es h (k + 9) in record { assigned = u.assigned; free = u.free; repeated = u.repeated; imported = u.imported; caught = u.caught; given = u.given; functions = u.functions; members = u.members }
-definitions-unwritten (more p es) (a_field m span semantic_id key v hk (a_literal l lspan l_semantic_id w), h) k = let u : Unwritten (trees (definitions_from (k + 7) es)) = definitions-unwritten es h (k + 7) in record { assigned = u.assigned; free = u.free; repeated = u.repeated; imported = u.imported; caught = u.caught; given = u.given; functions = u.functions; members = u.members }
-definitions-unwritten (more p es) (a_field m span semantic_id key v hk (a_reference r rspan r_semantic_id x), h) k = let u : Unwritten (trees (definitions_from (k + 7) es)) = definitions-unwritten es h (k + 7) in record { assigned = u.assigned; free = u.free; repeated = u.repeated; imported = u.imported; caught = u.caught; given = u.given; functions = u.functions; members = u.members }
+definitions-unwritten (more p es) (a_field m span semantic_id key v hk no_value, h) k = let u : Unwritten (trees (definitions_from (k + 9) es)) = definitions-unwritten es h (k + 9) in record { assigned = u.assigned; free = u.free; repeated = u.repeated; imported = u.imported; caught = u.caught; given = u.given; inside = u.inside; functions = u.functions; members = u.members }
+definitions-unwritten (more p es) (a_field m span semantic_id key v hk (a_literal l lspan l_semantic_id w), h) k = let u : Unwritten (trees (definitions_from (k + 7) es)) = definitions-unwritten es h (k + 7) in record { assigned = u.assigned; free = u.free; repeated = u.repeated; imported = u.imported; caught = u.caught; given = u.given; inside = u.inside; functions = u.functions; members = u.members }
+definitions-unwritten (more p es) (a_field m span semantic_id key v hk (a_reference r rspan r_semantic_id x), h) k = let u : Unwritten (trees (definitions_from (k + 7) es)) = definitions-unwritten es h (k + 7) in record { assigned = u.assigned; free = u.free; repeated = u.repeated; imported = u.imported; caught = u.caught; given = u.given; inside = u.inside; functions = u.functions; members = u.members }
 
 elements-unwritten : (es : Parts) → AreFields es → (k : ℕ) → Unwritten (lowered_elements k es)
 elements-unwritten end h k = unwritten-end
@@ -124,6 +138,7 @@ elements-unwritten (more p es) h k =
       imported = rw (four_ends (preorder_of ts)) u.imported;
       caught = rw (four_ends (preorder_of ts)) u.caught;
       given = λ names. four-none (u.given _);
+      inside = rw (function-definitions (more p es) h (k + 4), four_ends (preorder_of ts)) u.inside;
       functions = rw (four_ends (preorder_of ts)) u.functions;
       members = rw (four_ends (preorder_of ts)) u.members;
     }
@@ -144,6 +159,7 @@ record ClassUnwritten (n : ℕ) (es ps : Parts) : Type 0 where
   repeated : written_by_all (preorder_of es ++ [] ++ [] ++ preorder_of ps) ≡ []
   imported : imported_by_all (preorder_of es ++ [] ++ [] ++ preorder_of ps) ≡ []
   caught : caught_again_in (preorder_of es ++ [] ++ [] ++ preorder_of ps) ≡ []
+  inside : gives_inside (codes "arguments") (preorder_of es ++ [] ++ [] ++ preorder_of ps) ≡ false
   functions : declared_functions [] (preorder_of es ++ [] ++ [] ++ preorder_of ps) ≡ []
   members : elements_members n es ++ members_of_all (preorder_of es ++ [] ++ [] ++ preorder_of ps) ≡ []
 
@@ -156,6 +172,7 @@ class-unwritten n es ps a b none =
       repeated = rw (two_ends xs ys, written_by_all-append xs ys, a.repeated) b.repeated;
       imported = rw (two_ends xs ys, imported_by_all-append xs ys, a.imported) b.imported;
       caught = rw (two_ends xs ys, caught_again_in-append xs ys, a.caught) b.caught;
+      inside = rw (two_ends xs ys, gives_inside-append (codes "arguments") xs ys, a.inside) b.inside;
       functions = rw (two_ends xs ys, declared_functions-append xs ys, a.functions) b.functions;
       members = rw (none, two_ends xs ys, members_of_all-append xs ys, a.members) b.members;
     }
@@ -165,7 +182,7 @@ classes-unwritten end h = unwritten-end
 classes-unwritten (more p ps) (a_class n span semantic_id id body (a_name i ispan i_semantic_id s free) (a_body m bspan b_semantic_id es he), h) =
     let rest : Unwritten ps = classes-unwritten ps h in
     let u : ClassUnwritten n es ps = class-unwritten n es ps (fields-unwritten es he) rest (fields-no_members n es he) in
-    record { assigned = u.assigned; free = u.free; repeated = u.repeated; imported = u.imported; caught = u.caught; given = λ names. two-none ((fields-unwritten es he).given _) (rest.given names); functions = u.functions; members = u.members }
+    record { assigned = u.assigned; free = u.free; repeated = u.repeated; imported = u.imported; caught = u.caught; given = λ names. two-none ((fields-unwritten es he).given _) (rest.given names); inside = u.inside; functions = u.functions; members = u.members }
 
 lowered-unwritten : (ps : Parts) → AreClasses ps → (k : ℕ) → Unwritten (lowered_statements k ps)
 lowered-unwritten end h k = unwritten-end
@@ -173,7 +190,7 @@ lowered-unwritten (more p ps) (a_class n span semantic_id id body (a_name i ispa
     let next : ℕ = k + statement_size p in
     let rest : Unwritten (lowered_statements next ps) = lowered-unwritten ps h next in
     let u : ClassUnwritten n (lowered_elements k es) (lowered_statements next ps) = class-unwritten n (lowered_elements k es) (lowered_statements next ps) (elements-unwritten es he k) rest (lowered-no_members n k es) in
-    record { assigned = u.assigned; free = u.free; repeated = u.repeated; imported = u.imported; caught = u.caught; given = λ names. two-none ((elements-unwritten es he k).given _) (rest.given names); functions = u.functions; members = u.members }
+    record { assigned = u.assigned; free = u.free; repeated = u.repeated; imported = u.imported; caught = u.caught; given = λ names. two-none ((elements-unwritten es he k).given _) (rest.given names); inside = u.inside; functions = u.functions; members = u.members }
 
 -- ---- declaring identifiers: those of the classes
 
@@ -311,16 +328,19 @@ declaring-lowered first k t (a_program m span semantic_id s all h) = ap (λ ds. 
 
 -- what a program has none of
 pub record HasNone (t : Tree) : Type 0 where
-  pub free : writes_free (codes "arguments") (resolve t) ≡ false
+  pub free : changes_free (codes "arguments") t ≡ false
   pub functions : declared_functions [] (preorder t) ≡ []
   pub members : private_members t ≡ []
   pub links : links_in (body_of t) ≡ []
   pub exports : (c : Context) (env : Environment) → exports_in c env (body_of t) ≡ []
 
+neither : (a b : Bool) → a ≡ false → b ≡ false → (a || b) ≡ false
+neither a b e f = rw (e, f) refl
+
 pub source-none : (t : Tree) → IsProgram t → HasNone t
 source-none t (a_program m span semantic_id s all h) =
     let here : Unwritten all = classes-unwritten all h in record {
-      free = rw (append-nil (item_references (body_names all ++ []) false all)) (here.free (body_names all ++ []));
+      free = neither _ _ (rw (append-nil (item_references (body_names all ++ []) false all)) (here.free (body_names all ++ []))) (rw (append-nil (preorder_of all)) here.inside);
       functions = rw (append-nil (preorder_of all)) here.functions;
       members = rw (append-nil (preorder_of all)) here.members;
       links = no_links all h;
@@ -331,7 +351,7 @@ pub lowered-none : (k : ℕ) (t : Tree) → IsProgram t → HasNone (lowered_fro
 lowered-none k t (a_program m span semantic_id s all h) =
     let ps : Parts = lowered_statements k all in
     let there : Unwritten ps = lowered-unwritten all h k in record {
-      free = rw (append-nil (item_references (body_names ps ++ []) false ps)) (there.free (body_names ps ++ []));
+      free = neither _ _ (rw (append-nil (item_references (body_names ps ++ []) false ps)) (there.free (body_names ps ++ []))) (rw (append-nil (preorder_of ps)) there.inside);
       functions = rw (append-nil (preorder_of ps)) there.functions;
       members = rw (append-nil (preorder_of ps)) there.members;
       links = lowered-no_links all h k;

@@ -1,6 +1,6 @@
 -- Nodes whose old numbers ascend and whose new numbers stand in turn: what such a list owes.
 use Rattle.std.proofs.Common.{◌≡◌, refl, ◌∙◌, ℕ, ◌+◌, ◌<◌, ◌≤◌, ◌⊎◌, inl, inr, List, [], ◌∷◌, ◌++◌, map, Bool, true, false, arith}
-use Rattle.std.specs.Prelude.{◌&&◌, not, nat_eq, filter}
+use Rattle.std.specs.Prelude.{◌&&◌, ◌||◌, not, nat_eq, filter}
 use Rattle.std.specs.List.{IsDistinct, AllByRecursion}
 use Rattle.std.proofs.lemmas.Bool.{le-leb, lt-leb, and_parts, not-true, true≢false}
 use Rattle.std.proofs.Math.Bool.{and-false}
@@ -13,15 +13,19 @@ use Rattle.es_steps.specs.Options.{class_properties_alone}
 use Rattle.es_steps.specs.OwnNames.{loses_name, none_loses_name}
 use Rattle.es_steps.specs.References.{Reference}
 use Rattle.es_steps.specs.Scopes.{is_binding_identifier, is_class_expression}
-use Rattle.es_unchanged.proofs.Unchanged.{old-no_const}
+use Rattle.es_unchanged.proofs.Standing.{none_of}
 
 -- kinds of nodes that declare names, kinds that stay, and kinds of new nodes
 abbrev pub declares_names : Kind → Bool
 declares_names Kind.VariableDeclaration = true
 declares_names kind = is_binding_identifier kind
 
+abbrev pub declares_variables : Kind → Bool
+declares_variables Kind.VariableDeclaration = true
+declares_variables kind = false
+
 abbrev pub stays : Kind → Bool
-stays kind = not (is_lowered_kind class_properties_alone kind) && not (is_class_expression kind)
+stays kind = not (is_lowered_kind class_properties_alone kind) && not (is_class_expression kind || declares_variables kind)
 
 abbrev pub may_be_new : Kind → Bool
 may_be_new kind = stays kind && not (declares_names kind)
@@ -84,21 +88,21 @@ laid-once {ts = t ∷ ts} l (generated e s rest) = (laid-apart (number_of t) (om
 
 -- ---- nothing is left, and no new node declares a name
 
-stays-parts : (kind : Kind) → stays kind ≡ true → (not (is_lowered_kind class_properties_alone kind) ≡ true) × (not (is_class_expression kind) ≡ true)
-stays-parts kind s = and_parts (not (is_lowered_kind class_properties_alone kind)) (not (is_class_expression kind)) s
+stays-parts : (kind : Kind) → stays kind ≡ true → (not (is_lowered_kind class_properties_alone kind) ≡ true) × (not (is_class_expression kind || declares_variables kind) ≡ true)
+stays-parts kind s = and_parts (not (is_lowered_kind class_properties_alone kind)) (not (is_class_expression kind || declares_variables kind)) s
 
-stays-no_expression : (kind : Kind) → stays kind ≡ true → is_class_expression kind ≡ false
-stays-no_expression kind s = not-true (is_class_expression kind) (stays-parts kind s).1
+stays-neither : (kind : Kind) → stays kind ≡ true → (is_class_expression kind ≡ false) × (declares_variables kind ≡ false)
+stays-neither kind s = none_of (is_class_expression kind) (declares_variables kind) (not-true (is_class_expression kind || declares_variables kind) (stays-parts kind s).1)
 
 pub laid-left : {first hi m lo n : ℕ} {ts : List Tree} → Laid first hi m lo n ts → none_lowered class_properties_alone ts ≡ true
 laid-left (none lh e) = refl
 laid-left {ts = t ∷ ts} (kept a b s rest) = rw ((stays-parts (kind_of t) s).0, laid-left rest) refl
 laid-left {ts = t ∷ ts} (generated e s rest) = rw ((stays-parts (kind_of t) (and_parts (stays (kind_of t)) (not (declares_names (kind_of t))) s).0).0, laid-left rest) refl
 
--- a node that declares no name is no new constant either
-fresh-no_const : (first : ℕ) (t : Tree) → declares_names (kind_of t) ≡ false → is_new_const first t ≡ false
-fresh-no_const first (Node Kind.VariableDeclaration m span semantic_id ps) e = absurd (true≢false e)
-fresh-no_const first t e = refl
+-- a node that declares no variables is no new constant
+no_const : (first : ℕ) (t : Tree) → declares_variables (kind_of t) ≡ false → is_new_const first t ≡ false
+no_const first (Node Kind.VariableDeclaration m span semantic_id ps) e = absurd (true≢false e)
+no_const first t e = refl
 
 fresh-no_binding : (kind : Kind) → declares_names kind ≡ false → is_binding_identifier kind ≡ false
 fresh-no_binding Kind.VariableDeclaration e = refl
@@ -107,10 +111,10 @@ fresh-no_binding kind e = e
 pub laid-accounted : {first hi m lo n : ℕ} {ts : List Tree} (own : List ℕ) → Laid first hi m lo n ts → all_accounted first [] own ts ≡ true
 laid-accounted own (none lh e) = refl
 laid-accounted {first = first} {ts = Node kind b span semantic_id ps ∷ ts} own (kept a l s rest) =
-    rw (old-no_const first (Node kind b span semantic_id ps) (lt-leb first b l), lt-leb first b l, and-false (is_binding_identifier kind)) (laid-accounted own rest)
+    rw (no_const first (Node kind b span semantic_id ps) (stays-neither kind s).1, lt-leb first b l, and-false (is_binding_identifier kind)) (laid-accounted own rest)
 laid-accounted {first = first} {ts = Node kind b span semantic_id ps ∷ ts} own (generated e s rest) =
-    let fresh : declares_names kind ≡ false = not-true (declares_names kind) (and_parts (stays kind) (not (declares_names kind)) s).1 in
-    rw (fresh-no_const first (Node kind b span semantic_id ps) fresh, fresh-no_binding kind fresh) (laid-accounted own rest)
+    let parts = and_parts (stays kind) (not (declares_names kind)) s in
+    rw (no_const first (Node kind b span semantic_id ps) (stays-neither kind parts.0).1, fresh-no_binding kind (not-true (declares_names kind) parts.1)) (laid-accounted own rest)
 
 -- no class is an expression
 not-expression : (ps : List Tree) (rs : List Reference) (t : Tree) → is_class_expression (kind_of t) ≡ false → loses_name ps rs t ≡ false
@@ -119,5 +123,5 @@ not-expression ps rs t e = refl
 
 pub laid-named : {first hi m lo n : ℕ} {ts : List Tree} (ps : List Tree) (rs : List Reference) → Laid first hi m lo n ts → none_loses_name ps rs ts ≡ true
 laid-named ps rs (none lh e) = refl
-laid-named {ts = t ∷ ts} ps rs (kept a b s rest) = rw (not-expression ps rs t (stays-no_expression (kind_of t) s)) (laid-named ps rs rest)
-laid-named {ts = t ∷ ts} ps rs (generated e s rest) = rw (not-expression ps rs t (stays-no_expression (kind_of t) (and_parts (stays (kind_of t)) (not (declares_names (kind_of t))) s).0)) (laid-named ps rs rest)
+laid-named {ts = t ∷ ts} ps rs (kept a b s rest) = rw (not-expression ps rs t (stays-neither (kind_of t) s).0) (laid-named ps rs rest)
+laid-named {ts = t ∷ ts} ps rs (generated e s rest) = rw (not-expression ps rs t (stays-neither (kind_of t) (and_parts (stays (kind_of t)) (not (declares_names (kind_of t))) s).0).0) (laid-named ps rs rest)

@@ -3,6 +3,7 @@ pub mod Children
 pub mod Conforming
 pub mod Constructions
 pub mod Declared
+pub mod Entering
 pub mod Fitting
 pub mod OfKinds
 pub mod Laid

@@ -2,6 +2,7 @@
 use Rattle.std.proofs.Common.{◌≡◌, refl, sym, subst, ℕ, ◌+◌, ◌≤◌, List, [], ◌++◌, true, false, arith}
 use Rattle.std.specs.Prelude.{◌||◌, bytes_eq, codes}
 use Rattle.es_base.specs.Conforms.{conforms}
+use Rattle.es_base.specs.Numbered.{EachOnce, numbers}
 use Rattle.es_base.specs.Preorder.{nodes, nodes_of, nodes_of_part, preorder, preorder_of, preorder_of_part, numbered_from, numbered_part, numbered_parts}
 use Rattle.es_base.specs.Tree.{Tree, Part, Parts, end, more, absent, trees}
 use Rattle.es_base.specs.declared.table.Place.{Place}
@@ -15,6 +16,7 @@ use Rattle.es_steps.specs.PrivateNames.{private_members}
 use Rattle.es_steps.specs.References.{resolve}
 use Rattle.es_steps.specs.Strict.{none_becomes_strict}
 use Rattle.es_steps.specs.Values.{String}
+use Rattle.class_properties.proofs.Entering.{nothing-enters}
 use Rattle.class_properties.proofs.Fitting.{definitions-fit}
 use Rattle.class_properties.proofs.Laid.{Laid, none, kept, generated, laid-below, laid-append, laid-upto, laid-from, laid-consecutive, laid-once, laid-left, laid-accounted, laid-named}
 use Rattle.class_properties.proofs.Shaped.{no_value, a_literal, a_reference, a_key, IsField, a_field, AreFields, a_name, IsBody, a_body, IsClass, a_class, AreClasses, IsProgram, a_program, first_form-shaped}
@@ -26,6 +28,7 @@ use Rattle.class_properties.proofs.Remaining.{Remains, remains}
 use Rattle.class_properties.proofs.Strictness.{no-directive, no-lowered_directive, program-strict}
 use Rattle.class_properties.proofs.Written.{texts-stay}
 use Rattle.es_unchanged.proofs.Standing.{temporaries-none}
+use Rattle.es_unchanged.proofs.Unchanged.{numbered-once}
 use Rattle.es_unchanged.proofs.Unmarked.{names-timely}
 use Rattle.class_properties.specs.Lowering.{lowered}
 
@@ -129,6 +132,7 @@ numbered-owes t p e =
         temporaries = refl;
         keys = rw (temporaries-none first class_properties_alone (private_members t) q (preorder q)) refl;
         nodes = rest.nodes;
+        classes = nothing-enters first t p (subst (λ u. EachOnce (numbers u)) (sym e) (numbered-once t)) first (omega arith);
         statements = rest.statements;
         lists = rest.lists;
         homes = rest.homes;

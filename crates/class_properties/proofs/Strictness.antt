@@ -1,15 +1,18 @@
 -- A lowered program of the first form has no code that becomes strict: its classes were strict, and nothing else is.
 use Rattle.std.specs.Prelude.{◌≡◌, ℕ, zero, suc, ◌+◌, ◌<◌, ◌≤◌, List, [], ◌∷◌, ◌++◌, map, Bool, true, false, ◌&&◌, ◌||◌, nat_eq, Option}
 use Rattle.std.proofs.Common.{refl, sym, ap, ap₂, ◌∙◌, subst, arith, ◌⊎◌, inl, inr}
-use Rattle.std.proofs.lemmas.Bool.{le-leb, and_parts}
+use Rattle.std.proofs.lemmas.Bool.{le-leb, true≢false}
 use Rattle.std.proofs.lemmas.List.{map-append}
 use Rattle.es_base.specs.Numbered.{is_new}
 use Rattle.es_base.specs.Preorder.{nodes, nodes_of, nodes_of_part, number_of, preorder, preorder_of, preorder_of_part, numbered_from, numbered_part, numbered_parts}
 use Rattle.es_base.specs.Tree.{Tree, Part, Parts, Node, end, more, child, absent, list, string, no_string, boolean, literal}
 use Rattle.es_base.specs.declared.kind.Kind.{Kind}
 use Rattle.es_steps.proofs.Reflexive.{number-same}
+use Rattle.es_steps.specs.KeptNodes.{are_new_or_among}
 use Rattle.es_steps.specs.References.{has_number}
-use Rattle.es_steps.specs.Strict.{if_strict, strict_numbers, strict_in, strict_at, makes_strict, has_use_strict, were_strict, none_becomes_strict}
+use Rattle.es_steps.specs.Strict.{if_strict, strict_numbers, strict_in, strict_at, has_use_strict}
+use Rattle.es_unchanged.proofs.Names.{or-true}
+use Rattle.class_properties.proofs.Entering.{among-append}
 use Rattle.class_properties.proofs.Laid.{Laid, none, kept, generated}
 use Rattle.class_properties.proofs.Numbered.{lowered_statement, statement_size, lowered_statements}
 use Rattle.class_properties.proofs.Shaped.{IsClass, a_class, AreClasses}
@@ -36,15 +39,12 @@ mutual
 -- ---- the numbers of a tree that is numbered
 
 has-left : (k : ℕ) (xs ys : List ℕ) → has_number k xs ≡ true → has_number k (xs ++ ys) ≡ true
+has-left k [] ys h = absurd (true≢false (sym h))
 has-left k (x ∷ xs) ys h = either (nat_eq k x) h (has-left k xs ys)
   where
     either : (b : Bool) → (b || has_number k xs) ≡ true → (has_number k xs ≡ true → has_number k (xs ++ ys) ≡ true) → (b || has_number k (xs ++ ys)) ≡ true
     either true i f = refl
     either false i f = f i
-
-or-true : (a b : Bool) → b ≡ true → (a || b) ≡ true
-or-true true b h = refl
-or-true false b h = h
 
 has-right : (k : ℕ) (xs ys : List ℕ) → has_number k ys ≡ true → has_number k (xs ++ ys) ≡ true
 has-right k [] ys h = h
@@ -64,24 +64,21 @@ has-either k xs ys (inl a) f g = has-left k xs ys (f a)
 has-either k xs ys (inr b) f g = has-right k xs ys (g b)
 
 mutual
-  has-numbered : (k n : ℕ) (t : Tree) → n ≤ k → k < n + nodes t → has_number k (map number_of (preorder (numbered_from n t))) ≡ true
-  has-numbered k n t l u = has-node k n t (first-or-later k n l) u
-
   has-node : (k n : ℕ) (t : Tree) → (nat_eq k n ≡ true) ⊎ (n + 1 ≤ k) → k < n + nodes t → has_number k (map number_of (preorder (numbered_from n t))) ≡ true
   has-node k n (Node kind m span semantic_id ps) (inl e) u = rw e refl
   has-node k n (Node kind m span semantic_id ps) (inr i) u = or-true (nat_eq k n) (has_number k (map number_of (preorder_of (numbered_parts (n + 1) ps)))) (has-numbered_parts k (n + 1) ps i (omega (arith, u)))
 
   has-numbered_part : (k n : ℕ) (p : Part) → n ≤ k → k < n + nodes_of_part p → has_number k (map number_of (preorder_of_part (numbered_part n p))) ≡ true
-  has-numbered_part k n (child t) l u = has-numbered k n t l u
-  has-numbered_part k n absent l u = omega (arith, l, u)
+  has-numbered_part k n (child t) l u = has-node k n t (first-or-later k n l) u
+  has-numbered_part k n absent l u = absurd (omega (arith, l, u))
   has-numbered_part k n (list ps) l u = has-numbered_parts k n ps l u
-  has-numbered_part k n (string s) l u = omega (arith, l, u)
-  has-numbered_part k n no_string l u = omega (arith, l, u)
-  has-numbered_part k n (boolean b) l u = omega (arith, l, u)
-  has-numbered_part k n (literal v) l u = omega (arith, l, u)
+  has-numbered_part k n (string s) l u = absurd (omega (arith, l, u))
+  has-numbered_part k n no_string l u = absurd (omega (arith, l, u))
+  has-numbered_part k n (boolean b) l u = absurd (omega (arith, l, u))
+  has-numbered_part k n (literal v) l u = absurd (omega (arith, l, u))
 
   has-numbered_parts : (k n : ℕ) (ps : Parts) → n ≤ k → k < n + nodes_of ps → has_number k (map number_of (preorder_of (numbered_parts n ps))) ≡ true
-  has-numbered_parts k n end l u = omega (arith, l, u)
+  has-numbered_parts k n end l u = absurd (omega (arith, l, u))
   has-numbered_parts k n (more p ps) l u =
       has-append k (preorder_of_part (numbered_part n p)) (preorder_of (numbered_parts (n + nodes_of_part p) ps))
       (has-either k (map number_of (preorder_of_part (numbered_part n p))) (map number_of (preorder_of (numbered_parts (n + nodes_of_part p) ps))) (below-or-not k (n + nodes_of_part p))
@@ -121,13 +118,7 @@ no-lowered_directive n (more p ps) (a_class m span semantic_id id body named h, 
 
 -- ---- none becomes strict
 
-were-append : (first : ℕ) (strict ms ns : List ℕ) → were_strict first strict ms ≡ true → were_strict first strict ns ≡ true → were_strict first strict (ms ++ ns) ≡ true
-were-append first strict [] ns a b = b
-were-append first strict (m ∷ ms) ns a b =
-    let parts = and_parts (is_new first m || has_number m strict) (were_strict first strict ms) a in
-    rw (parts.0) (were-append first strict ms ns parts.1 b)
-
-laid-strict : {first hi m lo n : ℕ} {ts : List Tree} (strict : List ℕ) → first ≤ n → ((k : ℕ) → lo ≤ k → k < first → has_number k strict ≡ true) → Laid first hi m lo n ts → were_strict first strict (map number_of ts) ≡ true
+laid-strict : {first hi m lo n : ℕ} {ts : List Tree} (strict : List ℕ) → first ≤ n → ((k : ℕ) → lo ≤ k → k < first → has_number k strict ≡ true) → Laid first hi m lo n ts → are_new_or_among first strict (map number_of ts) ≡ true
 laid-strict strict l f (none lh e) = refl
 laid-strict {first = first} {ts = t ∷ ts} strict l f (kept a b s rest) =
     rw (or-true (is_new first (number_of t)) (has_number (number_of t) strict) (f (number_of t) a b))
@@ -136,17 +127,17 @@ laid-strict {first = first} {ts = t ∷ ts} strict l f (generated e s rest) =
     rw (le-leb first (number_of t) (omega (arith, l, e))) (laid-strict strict (omega (arith, l)) f rest)
 
 -- the program itself is strict in both, or in none
-own-strict : (first : ℕ) (b : Bool) (rest : List ℕ) → were_strict first (if_strict b 0 ++ rest) (if_strict b 0) ≡ true
+own-strict : (first : ℕ) (b : Bool) (rest : List ℕ) → are_new_or_among first (if_strict b 0 ++ rest) (if_strict b 0) ≡ true
 own-strict first true rest = rw (or-true (is_new first 0) true refl) refl
 own-strict first false rest = refl
 
 pub program-strict : (first n : ℕ) (b : Bool) (all : Parts) → AreClasses all → 1 + nodes_of all ≡ first → first ≤ n → {m : ℕ} → Laid first (1 + nodes_of all) m 1 n (preorder_of (lowered_statements n (numbered_parts 1 all)))
-    → were_strict first (if_strict b 0 ++ (strict_in b (numbered_parts 1 all) ++ [])) (if_strict b 0 ++ (strict_in b (lowered_statements n (numbered_parts 1 all)) ++ [])) ≡ true
+    → are_new_or_among first (if_strict b 0 ++ (strict_in b (numbered_parts 1 all) ++ [])) (if_strict b 0 ++ (strict_in b (lowered_statements n (numbered_parts 1 all)) ++ [])) ≡ true
 program-strict first n b all h e l laid =
     let source : List ℕ = strict_in b (numbered_parts 1 all) ++ [] in
     let all_strict : List ℕ = if_strict b 0 ++ source in
     let has : (k : ℕ) → 1 ≤ k → k < first → has_number k all_strict ≡ true =
         λ k i j. has-right k (if_strict b 0) source (has-left k (strict_in b (numbered_parts 1 all)) [] (ap (has_number k) (classes-strict b all h 1) ∙ has-numbered_parts k 1 all i (omega (arith, j, e)))) in
-    were-append first all_strict (if_strict b 0) (strict_in b (lowered_statements n (numbered_parts 1 all)) ++ [])
+    among-append first all_strict (if_strict b 0) (strict_in b (lowered_statements n (numbered_parts 1 all)) ++ [])
     (own-strict first b source)
-    (were-append first all_strict (strict_in b (lowered_statements n (numbered_parts 1 all))) [] (ap (were_strict first all_strict) (all-lowered-strict b n all h 1) ∙ laid-strict all_strict l has laid) refl)
+    (among-append first all_strict (strict_in b (lowered_statements n (numbered_parts 1 all))) [] (ap (are_new_or_among first all_strict) (all-lowered-strict b n all h 1) ∙ laid-strict all_strict l has laid) refl)

@@ -2,6 +2,7 @@
 use Rattle.std.specs.Prelude.{◌≡◌, ℕ, ◌+◌, ◌≤◌, List, [], ◌∷◌, ◌++◌, map, Bool, true, false, cond, ◌&&◌, Option}
 use Rattle.std.proofs.Common.{refl, sym, subst, arith}
 use Rattle.std.proofs.lemmas.Bool.{le-leb, lt-leb, and_parts}
+use Rattle.std.proofs.lemmas.List.{append-nil}
 use Rattle.es_base.specs.Numbered.{is_new}
 use Rattle.es_base.specs.Preorder.{nodes, number_of, preorder, preorder_of, numbered_from}
 use Rattle.es_base.specs.Tree.{Tree, Part, Parts, Node, end, more, child, list, string, absent, boolean, literal, trees}
@@ -15,6 +16,7 @@ use Rattle.class_properties.proofs.Numbered as numbered
 use Rattle.class_properties.proofs.Shaped.{no_value, a_literal, a_reference, a_key, a_field, AreFields, a_name, a_body, a_class, AreClasses, IsProgram, a_program}
 
 below-old : (first : ℕ) (t : Tree) (ts : List Tree) → Below first ts → In t ts → is_new first (number_of t) ≡ false
+below-old first t [] b h = elim h [ ]
 below-old first t (u ∷ ts) b here = lt-leb first (number_of t) b.0
 below-old first t (u ∷ ts) b (later i) = below-old first t ts b.1 i
 
@@ -36,7 +38,7 @@ module _ (first : ℕ) (ps : List Tree) where
   fields-texts : (es : Parts) → AreFields es → OldAmong first (preorder_of es) ps → (n : ℕ) → first ≤ n → all_have_their_texts first ps (preorder_of (trees (definitions_from n es))) ≡ true
   fields-texts end h old n l = refl
   fields-texts (more p es) (a_field m span semantic_id k v (a_key km kspan k_semantic_id s) no_value, h) old n l =
-      rw (le-leb first (n + 6) (omega (arith, l)), le-leb first (n + 8) (omega (arith, l))) (fields-texts es h (λ t i. old t (later (later i))) (n + 9) (omega (arith, l)))
+      rw (le-leb first (n + 6) (omega (arith, l)), le-leb first (n + 7 + 1) (omega (arith, l))) (fields-texts es h (λ t i. old t (later (later i))) (n + 9) (omega (arith, l)))
   fields-texts (more p es) (a_field m span semantic_id k v (a_key km kspan k_semantic_id s) (a_literal vm vspan v_semantic_id x), h) old n l =
       let value : Tree = Node Kind.Literal vm vspan v_semantic_id (more (literal x) end) in
       let stands = old value (later (later here)) in
@@ -47,7 +49,8 @@ module _ (first : ℕ) (ps : List Tree) where
   elements-texts : (es : Parts) → AreFields es → OldAmong first (preorder_of es) ps → (n : ℕ) → first ≤ n → all_have_their_texts first ps (preorder_of (lowered_elements n es)) ≡ true
   elements-texts end h old n l = refl
   elements-texts (more p es) h old n l =
-      texts-append first ps (preorder_of (trees (definitions_from (n + 4) (more p es)))) _ (fields-texts (more p es) h old (n + 4) (omega (arith, l))) refl
+      let made : List Tree = preorder_of (trees (definitions_from (n + 4) (more p es))) in
+      rw (append-nil made, append-nil made, append-nil made, append-nil made) (fields-texts (more p es) h old (n + 4) (omega (arith, l)))
 
   classes-texts : (cs : Parts) → AreClasses cs → OldAmong first (preorder_of cs) ps → (n : ℕ) → first ≤ n → all_have_their_texts first ps (preorder_of (lowered_statements n cs)) ≡ true
   classes-texts end h old n l = refl

@@ -6,7 +6,7 @@ use Rattle.es_base.specs.Tree.{Tree, Part, Parts, Node, end, more, child, list}
 use Rattle.es_steps.specs.References.{declared}
 use Rattle.es_steps.specs.Parts.{at, block_items}
 use Rattle.es_steps.specs.Scopes.{no_class, bound_part, var_items, lexical_items, Declaration, scope_of, scope_names, is_body_part}
-use Rattle.es_steps.specs.Shared.{with_earlier, shared_behind, caught_names, is_name, names_hoisted_past, shared_with, shared, shared_in, shared_at, shared_of}
+use Rattle.es_steps.specs.Shared.{with_earlier, shared_behind, caught_names, is_name, hoisted_past, shared_with, shared, shared_in, shared_at, shared_of}
 use Rattle.es_steps.proofs.Mapped.{mapped, mapped_part, mapped_parts, mapped_option, mapped_declaration, mapped_declarations, mapped_pair}
 use Rattle.es_steps.proofs.PartsMapped.{cond-mapped, append-mapped, at-mapped, block_items_at-mapped}
 use Rattle.es_steps.proofs.ReferencesMapped.{declared-mapped}
@@ -31,20 +31,24 @@ module _ (f : ℕ → ℕ) where
   is_name-mapped (child (Node Kind.BindingIdentifier b span semantic_id ps)) = refl
   is_name-mapped p = refl
 
-  names_hoisted_past-mapped : (is_body : Bool) (kind : Kind) (ps : Parts) → names_hoisted_past is_body kind (mapped_parts f ps) ≡ mapped_declarations f (names_hoisted_past is_body kind ps)
-  names_hoisted_past-mapped false Kind.BlockStatement ps = lexical_items-mapped f ps
-  names_hoisted_past-mapped true Kind.BlockStatement ps = refl
-  names_hoisted_past-mapped is_body Kind.SwitchStatement ps = lexical_at-mapped f 1 ps
-  names_hoisted_past-mapped is_body Kind.ForStatement ps = lexical_at-mapped f 0 ps
-  names_hoisted_past-mapped is_body Kind.ForInStatement ps = lexical_at-mapped f 0 ps
-  names_hoisted_past-mapped is_body Kind.ForOfStatement ps = lexical_at-mapped f 0 ps
-  names_hoisted_past-mapped is_body Kind.CatchClause ps = rw (at-mapped f 0 ps, is_name-mapped (at 0 ps)) (cond-mapped (mapped_declarations f) (is_name (at 0 ps)) [] (bound_part no_class (at 0 ps)) refl (bound_part-mapped f no_class (at 0 ps)))
-  names_hoisted_past-mapped is_body kind ps = refl
-
   shared_with-mapped : (front ds : List Declaration) → shared_with (mapped_declarations f front) (mapped_declarations f ds) ≡ map (mapped_pair f) (shared_with front ds)
   shared_with-mapped front [] = refl
   shared_with-mapped front (d ∷ ds) =
       append-mapped (mapped_pair f) _ _ (ap (with_earlier (f d.number)) (declared-mapped f d.spelling front) ∙ with_earlier-mapped d.number (declared d.spelling front)) (shared_with-mapped front ds)
+
+  past-mapped : (front there : List Declaration) (ps : Parts) → there ≡ mapped_declarations f front → shared_with there (var_items (mapped_parts f ps)) ≡ map (mapped_pair f) (shared_with front (var_items ps))
+  past-mapped front there ps e = ap₂ shared_with e (var_items-mapped f ps) ∙ shared_with-mapped front (var_items ps)
+
+  hoisted_past-mapped : (is_body : Bool) (kind : Kind) (ps : Parts) → hoisted_past is_body kind (mapped_parts f ps) ≡ map (mapped_pair f) (hoisted_past is_body kind ps)
+  hoisted_past-mapped false Kind.BlockStatement ps = past-mapped _ _ ps (lexical_items-mapped f ps)
+  hoisted_past-mapped true Kind.BlockStatement ps = refl
+  hoisted_past-mapped is_body Kind.SwitchStatement ps = past-mapped _ _ ps (lexical_at-mapped f 1 ps)
+  hoisted_past-mapped is_body Kind.ForStatement ps = past-mapped _ _ ps (lexical_at-mapped f 0 ps)
+  hoisted_past-mapped is_body Kind.ForInStatement ps = past-mapped _ _ ps (lexical_at-mapped f 0 ps)
+  hoisted_past-mapped is_body Kind.ForOfStatement ps = past-mapped _ _ ps (lexical_at-mapped f 0 ps)
+  hoisted_past-mapped is_body Kind.CatchClause ps =
+      rw (at-mapped f 0 ps, is_name-mapped (at 0 ps)) (cond-mapped (map (mapped_pair f)) (is_name (at 0 ps)) [] (shared_with (bound_part no_class (at 0 ps)) (var_items ps)) refl (past-mapped _ _ ps (bound_part-mapped f no_class (at 0 ps))))
+  hoisted_past-mapped is_body kind ps = refl
 
   mutual
     pub shared-mapped : (is_body : Bool) (t : Tree) → shared is_body (mapped f t) ≡ map (mapped_pair f) (shared is_body t)
@@ -54,7 +58,7 @@ module _ (f : ℕ → ℕ) where
         (append-mapped (mapped_pair f) _ _
         (ap (shared_behind []) (scope_names-mapped f (scope_of kind is_body) m ps) ∙ shared_behind-mapped [] (scope_names (scope_of kind is_body) m ps))
         (ap (shared_behind []) (caught_names-mapped kind ps) ∙ shared_behind-mapped [] (caught_names kind ps)))
-        (ap₂ shared_with (names_hoisted_past-mapped is_body kind ps) (var_items-mapped f ps) ∙ shared_with-mapped (names_hoisted_past is_body kind ps) (var_items ps)))
+        (hoisted_past-mapped is_body kind ps))
         (shared_in-mapped (is_body_part kind) ps)
 
     shared_in-mapped : (bodies : ℕ → Bool) (ps : Parts) → shared_in bodies (mapped_parts f ps) ≡ map (mapped_pair f) (shared_in bodies ps)

@@ -27,24 +27,24 @@ abbrev pub is_name : Part → Bool
 is_name (child (Node Kind.BindingIdentifier b span semantic_id ps)) = true
 is_name p = false
 
-abbrev pub names_hoisted_past : Bool → Kind → Parts → List Declaration
-names_hoisted_past false Kind.BlockStatement ps = lexical_items ps
-names_hoisted_past is_body Kind.SwitchStatement ps = lexical_part (at 1 ps)
-names_hoisted_past is_body Kind.ForStatement ps = lexical_part (at 0 ps)
-names_hoisted_past is_body Kind.ForInStatement ps = lexical_part (at 0 ps)
-names_hoisted_past is_body Kind.ForOfStatement ps = lexical_part (at 0 ps)
-names_hoisted_past is_body Kind.CatchClause ps = cond (is_name (at 0 ps)) [] (bound_part no_class (at 0 ps))
-names_hoisted_past is_body kind ps = []
-
 -- the second names that are of the spelling of one of the first
 abbrev pub shared_with : List Declaration → List Declaration → List (ℕ × ℕ)
 shared_with front [] = []
 shared_with front (d ∷ ds) = with_earlier d.number (declared d.spelling front) ++ shared_with front ds
 
+abbrev pub hoisted_past : Bool → Kind → Parts → List (ℕ × ℕ)
+hoisted_past false Kind.BlockStatement ps = shared_with (lexical_items ps) (var_items ps)
+hoisted_past is_body Kind.SwitchStatement ps = shared_with (lexical_part (at 1 ps)) (var_items ps)
+hoisted_past is_body Kind.ForStatement ps = shared_with (lexical_part (at 0 ps)) (var_items ps)
+hoisted_past is_body Kind.ForInStatement ps = shared_with (lexical_part (at 0 ps)) (var_items ps)
+hoisted_past is_body Kind.ForOfStatement ps = shared_with (lexical_part (at 0 ps)) (var_items ps)
+hoisted_past is_body Kind.CatchClause ps = cond (is_name (at 0 ps)) [] (shared_with (bound_part no_class (at 0 ps)) (var_items ps))
+hoisted_past is_body kind ps = []
+
 -- in a tree, which is the body of a function or not
 abbrev mutual
   pub shared : Bool → Tree → List (ℕ × ℕ)
-  shared is_body (Node kind m span semantic_id ps) = shared_behind [] (scope_names (scope_of kind is_body) m ps) ++ shared_behind [] (caught_names kind ps) ++ shared_with (names_hoisted_past is_body kind ps) (var_items ps) ++ shared_in (is_body_part kind) ps
+  shared is_body (Node kind m span semantic_id ps) = shared_behind [] (scope_names (scope_of kind is_body) m ps) ++ shared_behind [] (caught_names kind ps) ++ hoisted_past is_body kind ps ++ shared_in (is_body_part kind) ps
 
   pub shared_in : (ℕ → Bool) → Parts → List (ℕ × ℕ)
   shared_in bodies end = []

@@ -1,19 +1,22 @@
--- In a program that is left as it is no class loses its name, and no code becomes strict.
-use Rattle.std.specs.Prelude.{◌≡◌, ℕ, List, [], ◌∷◌, ◌++◌, map, Bool, true, false, ◌&&◌, ◌||◌, nat_eq}
+-- In a program that is left as it is no class loses its name, no code becomes strict, and nothing gets into a class.
+use Rattle.std.specs.Prelude.{◌≡◌, ℕ, List, [], ◌∷◌, ◌++◌, map, Bool, true, false, ◌&&◌, ◌||◌, not, nat_eq, Option}
 use Rattle.std.specs.List.{IsDistinct, AllByRecursion}
 use Rattle.std.proofs.Common.{refl}
 use Rattle.std.proofs.Math.Bool.{and-false}
 use Rattle.es_base.specs.Numbered.{is_new, EachOnce}
 use Rattle.es_base.specs.Preorder.{number_of, preorder, preorder_of_part}
-use Rattle.es_base.specs.Tree.{Tree, Part, Node, more, child, absent}
+use Rattle.es_base.specs.Tree.{Tree, Part, Parts, Node, more, child, absent}
 use Rattle.es_base.specs.declared.kind.Kind.{Kind}
 use Rattle.es_steps.proofs.Reflexive.{number-same}
 use Rattle.es_steps.specs.HelperCalls.{body_runs}
+use Rattle.es_steps.specs.KeptNodes.{are_new_or_among, numbers_in_class, none_enters, classes_kept}
 use Rattle.es_steps.specs.OwnNames.{is_bound_among, references_to, identifier_at, identifiers_at, any_stands, loses_name, none_loses_name, own_names_stay}
+use Rattle.es_steps.specs.Parts.{at}
+use Rattle.es_steps.specs.PrivateNames.{is_class}
 use Rattle.es_steps.specs.References.{Reference, resolve, has_number}
-use Rattle.es_steps.specs.Strict.{strict_numbers, were_strict, none_becomes_strict}
+use Rattle.es_steps.specs.Strict.{strict_numbers, none_becomes_strict}
 use Rattle.es_steps.specs.Values.{Referent, Bound}
-use Rattle.es_unchanged.proofs.Standing.{In, here, later, Among, apart-sym}
+use Rattle.es_unchanged.proofs.Standing.{both, In, here, later, Among, apart-sym}
 
 -- ---- own names
 
@@ -64,15 +67,35 @@ names-stay t once = none-loses (preorder t) (preorder t) (resolve t) once (λ u 
 
 -- ---- strict code
 
-or-true : (a b : Bool) → b ≡ true → (a || b) ≡ true
+pub or-true : (a b : Bool) → b ≡ true → (a || b) ≡ true
 or-true true b h = refl
 or-true false b h = h
 
-were-among : (first : ℕ) (strict ns : List ℕ) → ((k : ℕ) → has_number k ns ≡ true → has_number k strict ≡ true) → were_strict first strict ns ≡ true
-were-among first strict [] h = refl
-were-among first strict (n ∷ ns) h =
+new-or-among : (first : ℕ) (strict ns : List ℕ) → ((k : ℕ) → has_number k ns ≡ true → has_number k strict ≡ true) → are_new_or_among first strict ns ≡ true
+new-or-among first strict [] h = refl
+new-or-among first strict (n ∷ ns) h =
     rw (or-true (is_new first n) (has_number n strict) (h n (rw (number-same n) refl)))
-    (were-among first strict ns (λ k i. h k (or-true (nat_eq k n) (has_number k ns) i)))
+    (new-or-among first strict ns (λ k i. h k (or-true (nat_eq k n) (has_number k ns) i)))
 
 pub strict-stays : (first : ℕ) (t : Tree) → none_becomes_strict first t t ≡ true
-strict-stays first t = were-among first (strict_numbers false t) (strict_numbers false t) (λ k i. i)
+strict-stays first t = new-or-among first (strict_numbers false t) (strict_numbers false t) (λ k i. i)
+
+-- ---- nothing gets into a class
+
+pub class-numbers : (kind : Kind) (n : ℕ) (span : Option (ℕ × ℕ)) (semantic_id : Option ℕ) (ps : Parts) (ts : List Tree) → is_class kind ≡ true → EachOnce (map number_of ts) → In (Node kind n span semantic_id ps) ts → numbers_in_class n ts ≡ map number_of (preorder_of_part (at 2 ps))
+unfolding IsDistinct
+class-numbers kind n span semantic_id ps [] c once h = elim h [ ]
+class-numbers kind n span semantic_id ps (t ∷ ts) c once here = rw (c, number-same n) refl
+class-numbers kind n span semantic_id ps (Node other k kspan k_semantic_id ks ∷ ts) c once (later i) =
+    rw (apart-sym k n (number-apart k (Node kind n span semantic_id ps) ts once.0 i), and-false (is_class other)) (class-numbers kind n span semantic_id ps ts c once.1 i)
+
+none-enters : (first : ℕ) (ts us : List Tree) → EachOnce (map number_of us) → Among ts us → none_enters first us ts ≡ true
+none-enters first [] us once h = refl
+none-enters first (Node kind n span semantic_id ps ∷ ts) us once h = both (either (is_class kind) refl) (none-enters first ts us once (λ u i. h u (later i)))
+  where
+    either : (b : Bool) → is_class kind ≡ b → (not b || are_new_or_among first (numbers_in_class n us) (map number_of (preorder_of_part (at 2 ps)))) ≡ true
+    either true c = rw (class-numbers kind n span semantic_id ps us c once (h (Node kind n span semantic_id ps) here)) (new-or-among first (map number_of (preorder_of_part (at 2 ps))) (map number_of (preorder_of_part (at 2 ps))) (λ k i. i))
+    either false c = refl
+
+pub classes-stay : (first : ℕ) (t : Tree) → EachOnce (map number_of (preorder t)) → classes_kept first t t ≡ true
+classes-stay first t once = none-enters first (preorder t) (preorder t) once (λ u i. i)

@@ -2,7 +2,7 @@
 use Rattle.std.proofs.Common.{◌≡◌, refl, sym, ap, subst, ℕ, zero, suc, ◌+◌, ◌<◌, ◌≤◌, List, [], ◌∷◌, ◌++◌, map, Bool, true, false, cond, Option, arith}
 use Rattle.std.specs.Prelude.{filter, not, ◌||◌, ◌&&◌, nat_eq, codes}
 use Rattle.std.specs.List.{IsDistinct, AllByRecursion}
-use Rattle.std.proofs.lemmas.Bool.{lt-leb, true≢false}
+use Rattle.std.proofs.lemmas.Bool.{lt-leb, true≢false, and_parts}
 use Rattle.std.proofs.Math.Bool.{and-false}
 use Rattle.es_base.proofs.NumberedLemmas.{IsNumbered-renumbered, EachOnce-old_zero}
 use Rattle.es_base.proofs.PreorderLemmas.{renumbered-zero}
@@ -15,7 +15,7 @@ use Rattle.es_steps.specs.Context.{is_constructor}
 use Rattle.es_steps.specs.Definitions.{FieldDefinition, chosen, element_numbers, body_numbers, elements_kept, call_definition, definition_at, definitions_in, definitions_at, definitions_of, function_definitions, super_definitions, constructor_definitions, all_definitions, instance_definitions, static_definitions, is_instance_method, any_of, defined_fields, class_fits, classes_fit, definitions_stand}
 use Rattle.es_steps.specs.HelperCalls.{is_helper_callee, computed_keys, StaticKey, Naming, naming_in, naming_of_element, is_class_body, field_key, method_keys, field_keys, call_fits, calls_fit, calls_in, calls_at, calls_of, calls_of_body}
 use Rattle.es_steps.specs.KeptNodes.{statement_list, declared_classes, carried_classes, item_number, item_numbers, free_number, free_numbers, is_static_block, free_lists, free_lists_at, free_lists_in, list_of, is_within, all_within, is_free_statement, stays_in_list, free_statements, free_at, free_in, all_homes, lowered_blocks}
-use Rattle.es_steps.specs.Lowered.{IsLowered, nothing_left, is_new_const, all_accounted}
+use Rattle.es_steps.specs.Lowered.{IsLowered, nothing_left, has_new_declarator, is_new_const, is_accounted, all_accounted}
 use Rattle.es_steps.specs.LoweredClasses.{Element, elements_of, is_lowered_element, any_element, is_lowered_class, holds_lowered, has_lowered_class, constructor_function, constructor_in}
 use Rattle.es_steps.specs.Options.{lowers_fields, lowers_blocks}
 use Rattle.es_steps.specs.OwnNames.{own_name_numbers}
@@ -27,7 +27,7 @@ use Rattle.es_steps.specs.Scopes.{is_binding_identifier}
 use Rattle.es_steps.specs.Texts.{has_its_text, all_have_their_texts}
 use Rattle.es_steps.specs.Values.{String}
 use Rattle.es_steps.specs.declared.options.Options.{Options}
-use Rattle.es_unchanged.proofs.Names.{number-apart, names-stay, strict-stays}
+use Rattle.es_unchanged.proofs.Names.{number-apart, names-stay, strict-stays, classes-stay}
 use Rattle.es_unchanged.proofs.Standing.{stands-equal, both, none_of, In, here, later, in-left, in-right, Among, among-append, all-equal, all-stand, within-more, within-both, within-same, within-append, all_within-append, apart-sym, home-same, temporaries-none}
 use Rattle.es_unchanged.proofs.Unmarked.{names-timely}
 
@@ -40,6 +40,14 @@ Below first (t ∷ ts) = (number_of t < first) × Below first ts
 below-append : (first : ℕ) (ts us : List Tree) → Below first ts → Below first us → Below first (ts ++ us)
 below-append first [] us a b = b
 below-append first (t ∷ ts) us a b = (a.0, below-append first ts us a.1 b)
+
+below-first : (first : ℕ) (ts us : List Tree) → Below first (ts ++ us) → Below first ts
+below-first first [] us b = tt
+below-first first (t ∷ ts) us b = (b.0, below-first first ts us b.1)
+
+below-second : (first : ℕ) (ts us : List Tree) → Below first (ts ++ us) → Below first us
+below-second first [] us b = b
+below-second first (t ∷ ts) us b = below-second first ts us b.1
 
 -- the numbers n, n + 1, .. of a tree, where they end by `first`
 mutual
@@ -66,20 +74,63 @@ below-none_new : (first : ℕ) (ts : List Tree) → Below first ts → filter (i
 below-none_new first [] b = refl
 below-none_new first (t ∷ ts) b = rw (lt-leb first (number_of t) b.0) (below-none_new first ts b.1)
 
--- an old node is no new constant
-pub old-no_const : (first : ℕ) (t : Tree) → is_new first (number_of t) ≡ false → is_new_const first t ≡ false
-old-no_const first (Node Kind.VariableDeclaration m span semantic_id ps) e = rw e refl
-old-no_const first t e = refl
+-- an old node, whose parts are old, is no new constant
+part-below : (first i : ℕ) (ps : Parts) → Below first (preorder_of ps) → Below first (preorder_of_part (at i ps))
+part-below first i end b = tt
+part-below first zero (more p ps) b = below-first first (preorder_of_part p) (preorder_of ps) b
+part-below first (suc i) (more p ps) b = part-below first i ps (below-second first (preorder_of_part p) (preorder_of ps) b)
+
+old-declarators : (first : ℕ) (ps : Parts) → Below first (preorder_of ps) → has_new_declarator first ps ≡ false
+old-declarators first end b = refl
+old-declarators first (more (child (Node kind m span semantic_id qs)) ps) b =
+    rw (lt-leb first m b.0) (old-declarators first ps (below-second first (preorder_of qs) (preorder_of ps) b.1))
+old-declarators first (more absent ps) b = old-declarators first ps b
+old-declarators first (more (list qs) ps) b = old-declarators first ps (below-second first (preorder_of qs) (preorder_of ps) b)
+old-declarators first (more (string s) ps) b = old-declarators first ps b
+old-declarators first (more no_string ps) b = old-declarators first ps b
+old-declarators first (more (boolean x) ps) b = old-declarators first ps b
+old-declarators first (more (literal v) ps) b = old-declarators first ps b
+
+list-below : (first : ℕ) (p : Part) → Below first (preorder_of_part p) → Below first (preorder_of (items p))
+list-below first (list ps) b = b
+list-below first p b = tt
+
+old-no_const : (first : ℕ) (kind : Kind) (m : ℕ) (span : Option (ℕ × ℕ)) (semantic_id : Option ℕ) (ps : Parts) → is_new first m ≡ false → Below first (preorder_of ps) → is_new_const first (Node kind m span semantic_id ps) ≡ false
+old-no_const first Kind.VariableDeclaration m span semantic_id ps e b = rw (e, old-declarators first (items (at 1 ps)) (list-below first (at 1 ps) (part-below first 1 ps b))) refl
+old-no_const first kind m span semantic_id ps e b = refl
 
 -- so no new node declares a name
-below-accounted : (first : ℕ) (own : List ℕ) (ts : List Tree) → Below first ts → all_accounted first [] own ts ≡ true
-below-accounted first own [] b = refl
-below-accounted first own (Node kind m span semantic_id ps ∷ ts) b =
-    rw (old-no_const first (Node kind m span semantic_id ps) (lt-leb first m b.0), lt-leb first m b.0, and-false (is_binding_identifier kind)) (below-accounted first own ts b.1)
+accounted-append : (first : ℕ) (own : List ℕ) (ts us : List Tree) → all_accounted first [] own ts ≡ true → all_accounted first [] own us ≡ true → all_accounted first [] own (ts ++ us) ≡ true
+accounted-append first own [] us h i = i
+accounted-append first own (t ∷ ts) us h i =
+    let here = and_parts (not (is_new_const first t)) (is_accounted first [] own t && all_accounted first [] own ts) h in
+    let behind = and_parts (is_accounted first [] own t) (all_accounted first [] own ts) here.1 in
+    both here.0 (both behind.0 (accounted-append first own ts us behind.1 i))
+
+mutual
+  tree-accounted : (first : ℕ) (own : List ℕ) (t : Tree) → Below first (preorder t) → all_accounted first [] own (preorder t) ≡ true
+  tree-accounted first own (Node kind m span semantic_id ps) b =
+      rw (old-no_const first kind m span semantic_id ps (lt-leb first m b.0) b.1, lt-leb first m b.0, and-false (is_binding_identifier kind)) (parts-accounted first own ps b.1)
+
+  part-accounted : (first : ℕ) (own : List ℕ) (p : Part) → Below first (preorder_of_part p) → all_accounted first [] own (preorder_of_part p) ≡ true
+  part-accounted first own (child t) b = tree-accounted first own t b
+  part-accounted first own absent b = refl
+  part-accounted first own (list ps) b = parts-accounted first own ps b
+  part-accounted first own (string s) b = refl
+  part-accounted first own no_string b = refl
+  part-accounted first own (boolean x) b = refl
+  part-accounted first own (literal v) b = refl
+
+  parts-accounted : (first : ℕ) (own : List ℕ) (ps : Parts) → Below first (preorder_of ps) → all_accounted first [] own (preorder_of ps) ≡ true
+  parts-accounted first own end b = refl
+  parts-accounted first own (more p ps) b =
+      accounted-append first own (preorder_of_part p) (preorder_of ps)
+      (part-accounted first own p (below-first first (preorder_of_part p) (preorder_of ps) b))
+      (parts-accounted first own ps (below-second first (preorder_of_part p) (preorder_of ps) b))
 
 -- ---- each number stands once
 
-numbered-once : (t : Tree) → EachOnce (numbers (numbered_from 0 t))
+pub numbered-once : (t : Tree) → EachOnce (numbers (numbered_from 0 t))
 numbered-once t =
     let whole : IsNumbered 0 (numbered_from 0 t) = subst (IsNumbered 0) (renumbered-zero 0 t) (IsNumbered-renumbered 0 t (EachOnce-old_zero t)) in
     whole.once
@@ -103,14 +154,6 @@ element-public o e f h =
     let here = none_of (lowers_fields o && (e.is_field || e.is_private)) (lowers_blocks o && e.is_block) h in
     let parts = none_of e.is_field e.is_private (both-false (lowers_fields o) (e.is_field || e.is_private) f here.0) in
     (parts.0, rw parts.1 refl)
-
-below-first : (first : ℕ) (ts us : List Tree) → Below first (ts ++ us) → Below first ts
-below-first first [] us b = tt
-below-first first (t ∷ ts) us b = (b.0, below-first first ts us b.1)
-
-below-second : (first : ℕ) (ts us : List Tree) → Below first (ts ++ us) → Below first us
-below-second first [] us b = b
-below-second first (t ∷ ts) us b = below-second first ts us b.1
 
 nothing-either : (b : Bool) → cond {A = List FieldDefinition} b [] [] ≡ []
 nothing-either true = refl
@@ -464,7 +507,7 @@ unchanged-owes o t e h left =
       clauses = record {
         left = left;
         declared = refl;
-        accounted = below-accounted (nodes t) (own_name_numbers t (resolve t) (preorder t)) (preorder t) turn.below;
+        accounted = tree-accounted (nodes t) (own_name_numbers t (resolve t) (preorder t)) t turn.below;
         names = names-stay t turn.once;
         strict = strict-stays (nodes t) t;
         texts = old-texts (nodes t) (preorder t) (preorder t) turn.below (λ u i. i);
@@ -472,6 +515,7 @@ unchanged-owes o t e h left =
         timely = names-timely (nodes t) (private_members t) t;
         temporaries = refl;
         keys = rw (temporaries-none (nodes t) o (private_members t) t (preorder t)) (keys-stand (lowers_fields o));
+        classes = classes-stay (nodes t) t turn.once;
         nodes = all-stand (preorder t) (preorder t) (λ u i. i);
         statements = all-equal (free_statements o t) (preorder t) (free-among o t);
         lists = lists-within o (preorder t) turn.once t (λ u i. i);
