@@ -340,7 +340,7 @@ neither a b e f = rw (e, f) refl
 pub source-none : (t : Tree) → IsProgram t → HasNone t
 source-none t (a_program m span semantic_id s all h) =
     let here : Unwritten all = classes-unwritten all h in record {
-      free = neither _ _ (rw (append-nil (item_references (body_names all ++ []) false all)) (here.free (body_names all ++ []))) (rw (append-nil (preorder_of all)) here.inside);
+      free = neither (writes_free (codes "arguments") (resolve (Node Kind.Program m span semantic_id (more (string s) (more (list all) end))))) (gives_inside (codes "arguments") (preorder_of all ++ [])) (rw (append-nil (item_references (body_names all ++ []) false all)) (here.free (body_names all ++ []))) (rw (append-nil (preorder_of all)) here.inside);
       functions = rw (append-nil (preorder_of all)) here.functions;
       members = rw (append-nil (preorder_of all)) here.members;
       links = no_links all h;
@@ -351,7 +351,7 @@ pub lowered-none : (k : ℕ) (t : Tree) → IsProgram t → HasNone (lowered_fro
 lowered-none k t (a_program m span semantic_id s all h) =
     let ps : Parts = lowered_statements k all in
     let there : Unwritten ps = lowered-unwritten all h k in record {
-      free = neither _ _ (rw (append-nil (item_references (body_names ps ++ []) false ps)) (there.free (body_names ps ++ []))) (rw (append-nil (preorder_of ps)) there.inside);
+      free = neither (writes_free (codes "arguments") (resolve (Node Kind.Program m span semantic_id (more (string s) (more (list ps) end))))) (gives_inside (codes "arguments") (preorder_of ps ++ [])) (rw (append-nil (item_references (body_names ps ++ []) false ps)) (there.free (body_names ps ++ []))) (rw (append-nil (preorder_of ps)) there.inside);
       functions = rw (append-nil (preorder_of ps)) there.functions;
       members = rw (append-nil (preorder_of ps)) there.members;
       links = lowered-no_links all h k;
