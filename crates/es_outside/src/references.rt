@@ -7,6 +7,7 @@ ghost use Rattle.es_base.specs.Tree.{trees, nullable, nullable_trees};
 ghost use Rattle.es_base.specs.declared.kind.Kind.{Kind};
 ghost use Rattle.es_binding_faults.specs.Named.{named, plain};
 ghost use Rattle.es_node.specs.View.{have_shapes, kind_of, number_in, part_of, parts_in, parts_of};
+ghost use Rattle.es_steps.specs.Expressions.{is_arguments};
 ghost use Rattle.es_steps.specs.Parts.{at, string_of};
 ghost use Rattle.es_steps.specs.References as spec;
 ghost use Rattle.es_steps.specs.References.{declared, referent};
@@ -32,6 +33,8 @@ pub struct Meant {
     pub binding: Option<NodeId>,
     /// Whether it stands where something is assigned to.
     pub writes: bool,
+    /// Whether it is a free name `arguments`.
+    pub is_free_arguments: bool,
 }
 
 /// The names that are seen at a place.
@@ -275,7 +278,7 @@ fn is_target(sort: Sort) -> bool
 }
 
 /// What the node means, if it is a reference.
-#[tactic(auto, using(crate::proofs::Resolving::no_reference))]
+#[tactic(auto, using(crate::proofs::Resolving::no_reference, crate::proofs::Resolving::free_arguments))]
 fn reference_at(scope: &Scope, is_target: bool, node: &Node) -> Option<Meant>
     ensures is { is_some result ≡ spec.is_reference (kind_of node.now) }
     ensures means { IfSome result (λ r. r ≡ meant (names_in scope.now) is_target (number_in node.now) (string_of (at 0 (parts_in node.now)))) }
@@ -283,14 +286,23 @@ fn reference_at(scope: &Scope, is_target: bool, node: &Node) -> Option<Meant>
     match node.kind() {
         Kind::IdentifierReference => {
             let reference = IdentifierReferenceRef::from_node(node);
+            let name = reference.name.as_str();
+            let binding = binding_of(scope, name);
             Some(Meant {
                 reference: reference.node_id,
-                binding: binding_of(scope, reference.name.as_str()),
+                binding,
                 writes: is_target,
+                is_free_arguments: binding.is_none() && is_arguments(name),
             })
         }
         _ => None,
     }
+}
+
+fn is_arguments(name: &str) -> bool
+    ensures { result ≡ is_arguments (chars name.now) }
+{
+    name == "arguments"
 }
 
 /// The binding of this name, by the first identifier that declares it; none if it is free.

@@ -23,6 +23,7 @@ pub mod Options
 pub mod Parts
 pub mod Printable
 pub mod PrivateNames
+pub mod Quiet
 pub mod Reading
 pub mod References
 pub mod Repeated
