@@ -6,10 +6,8 @@ use Rattle.es_base.specs.Tree.{Tree, Part, Parts, Node, end, more, child, absent
 use Rattle.es_base.specs.declared.ids.NodeId.{NodeId}
 use Rattle.es_base.specs.declared.kind.Kind.{Kind}
 use Rattle.std.specs.Prelude.{is_none}
-use Rattle.es_name_set.proofs.NameSets.{bytes_eq-flipped}
 use Rattle.es_binding_faults.specs.Named.{plain, plain_one}
 use Rattle.es_binding_faults.proofs.Plain.{plain-append, plain-bound_part}
-use Rattle.es_steps.specs.Expressions.{is_arguments}
 use Rattle.es_steps.specs.Parts.{at, string_of}
 use Rattle.es_steps.specs.References.{Reference, declared, referent, is_free, is_reference, is_target, reference, references, references_in, part_references, item_references, resolve}
 use Rattle.es_steps.specs.Scopes.{Declaration, own_name, names_at, is_body_part, ScopeForm, program_scope, function_scope, own_function_scope, arrow_scope, own_class_scope, block_scope, static_block_scope, loop_scope, switch_scope, catch_scope, no_scope, scope_of, seen}
@@ -137,9 +135,9 @@ no_reference Kind.IdentifierReference other = absurd (other refl)
 no_reference kind other = refl
 
 -- a name is a free `arguments` if it has no binding
-pub free_arguments : (s : String) (names : List Declaration) (b : Option NodeId) → b ≡ binding_of (referent s (declared s names)) → (is_none b && is_arguments s) ≡ is_free (codes "arguments") (referent s (declared s names))
-free_arguments s names b e = ap (λ x. is_none x && is_arguments s) e ∙ here (declared s names)
+pub free_arguments : (s : String) (names : List Declaration) (b : Option NodeId) → b ≡ binding_of (referent s (declared s names)) → (is_none b && bytes_eq (codes "arguments") s) ≡ is_free (codes "arguments") (referent s (declared s names))
+free_arguments s names b e = ap (λ x. is_none x && bytes_eq (codes "arguments") s) e ∙ here (declared s names)
   where
-    here : (d : Option Declaration) → (is_none (binding_of (referent s d)) && is_arguments s) ≡ is_free (codes "arguments") (referent s d)
-    here None = bytes_eq-flipped s (codes "arguments")
+    here : (d : Option Declaration) → (is_none (binding_of (referent s d)) && bytes_eq (codes "arguments") s) ≡ is_free (codes "arguments") (referent s d)
+    here None = refl
     here (Some d) = refl

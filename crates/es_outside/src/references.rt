@@ -1,13 +1,12 @@
 // The references of a program, and what each means.
 
-ghost use Rattle.std.specs.Prelude.{◌≡◌, ◌++◌, [], false, is_some, map, true, IfOk, IfSome, OnOk};
+ghost use Rattle.std.specs.Prelude.{◌≡◌, ◌++◌, [], bytes_eq, codes, false, is_some, map, true, IfOk, IfSome, OnOk};
 ghost use Rattle.std.specs.Str.{chars};
 ghost use Rattle.es_base.specs.Table.{field_of, members_of};
 ghost use Rattle.es_base.specs.Tree.{trees, nullable, nullable_trees};
 ghost use Rattle.es_base.specs.declared.kind.Kind.{Kind};
 ghost use Rattle.es_binding_faults.specs.Named.{named, plain};
 ghost use Rattle.es_node.specs.View.{have_shapes, kind_of, number_in, part_of, parts_in, parts_of};
-ghost use Rattle.es_steps.specs.Expressions.{is_arguments};
 ghost use Rattle.es_steps.specs.Parts.{at, string_of};
 ghost use Rattle.es_steps.specs.References as spec;
 ghost use Rattle.es_steps.specs.References.{declared, referent};
@@ -19,6 +18,7 @@ use crate::frame::Frame;
 use es_base::ids::NodeId;
 use es_base::kind::Kind;
 use es_base::places::is_target_place;
+use es_base::strings::is_word;
 use es_base::table::{Member, Sort, members};
 use es_binding_faults::scopes::{add_seen, is_body_part, scope_in};
 use es_node::node::{Node, Part};
@@ -299,10 +299,11 @@ fn reference_at(scope: &Scope, is_target: bool, node: &Node) -> Option<Meant>
     }
 }
 
+#[tactic(auto, using(es_base::proofs::Ascii::chars_ascii))]
 fn is_arguments(name: &str) -> bool
-    ensures { result ≡ is_arguments (chars name.now) }
+    ensures { result ≡ bytes_eq (codes "arguments") (chars name.now) }
 {
-    name == "arguments"
+    is_word(name, "arguments")
 }
 
 /// The binding of this name, by the first identifier that declares it; none if it is free.

@@ -8,6 +8,6 @@ pub mod MovedHeritages
 pub mod NameScopes
 pub mod Names
 pub mod Parameters
-pub mod Quiet
+pub mod ByKind
 pub mod Twice
 pub mod Written

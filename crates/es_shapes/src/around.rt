@@ -1,11 +1,11 @@
 // What is around a node: what its names mean there, and whether it stands in a block.
 
-ghost use Rattle.std.specs.Prelude.{◌≡◌, option_map};
+ghost use Rattle.std.specs.Prelude.{◌≡◌, ◌||◌, option_map};
 ghost use Rattle.std.specs.Option.{option_to_list};
 ghost use Rattle.es_node.specs.View.{kind_of, parts_in};
 ghost use Rattle.es_steps.specs.Quiet as spec;
 ghost use Rattle.es_steps.specs.References.{has_number};
-ghost use Rattle.es_shapes.specs.Around.{ids_in, around, around_in};
+ghost use Rattle.es_shapes.specs.Around.{ids_in};
 
 use crate::class::class_of;
 use es_base::ids::NodeId;
@@ -46,7 +46,7 @@ pub fn is_class_around(names: &ClassNames, id: NodeId) -> bool
 }
 
 /// The identifier that declares the class that the node is, if it is one and has a name.
-#[tactic(auto, using(crate::proofs::Quiet::name_of_class))]
+#[tactic(auto, using(crate::proofs::ByKind::name_of_class, crate::proofs::ByKind::number_of_id))]
 pub fn class_name(node: &Node) -> Option<NodeId>
     ensures { option_to_list (option_map (λ n. n.0) result) ≡ spec.class_name (kind_of node.now) (parts_in node.now) }
 {
@@ -60,15 +60,21 @@ pub fn class_name(node: &Node) -> Option<NodeId>
     }
 }
 
-/// How the i-th part of a node of this kind stands.
-pub fn standing_inside(standing: Standing, kind: Kind, i: usize) -> Standing
-    ensures has_arguments { result.has_arguments ≡ (around_in [] standing.has_arguments kind i).has_arguments }
-    ensures in_block { result.in_block ≡ spec.is_block kind }
+/// How the i-th part of the node stands.
+pub fn standing_inside(standing: Standing, node: &Node, i: usize) -> Standing
+    ensures has_arguments { result.has_arguments ≡ (spec.gives_arguments (kind_of node.now) i || standing.has_arguments) }
+    ensures in_block { result.in_block ≡ spec.is_block (kind_of node.now) }
 {
     Standing {
-        has_arguments: gives_arguments(kind, i) || standing.has_arguments,
-        in_block: matches!(kind, Kind::BlockStatement),
+        has_arguments: gives_arguments(node.kind(), i) || standing.has_arguments,
+        in_block: is_block(node.kind()),
     }
+}
+
+fn is_block(kind: Kind) -> bool
+    ensures { result ≡ spec.is_block kind }
+{
+    matches!(kind, Kind::BlockStatement)
 }
 
 /// Whether `arguments` has a meaning of its own in the i-th part.

@@ -1,10 +1,10 @@
 // Whether something moves before a heritage that has events.
 
-ghost use Rattle.std.specs.Prelude.{◌≡◌, ◌&&◌};
+ghost use Rattle.std.specs.Prelude.{◌≡◌, ◌&&◌, ◌||◌, false};
 ghost use Rattle.es_base.specs.Tree.{nullable, trees, nullable_trees};
 ghost use Rattle.es_node.specs.View.{kind_of, number_in, part_of, parts_in};
 ghost use Rattle.es_steps.specs.LoweredClasses.{is_lowered_class};
-ghost use Rattle.es_steps.specs.Quiet.{has_events, has_events_in, has_events_at, has_events_of, is_evaluated};
+ghost use Rattle.es_steps.specs.Quiet.{nothing_around, acts, has_events, has_events_in, has_events_at, has_events_of, is_evaluated};
 ghost use Rattle.es_steps.specs.References.{resolve, written};
 ghost use Rattle.es_steps.specs.Shapes.{class_at, has_shape_1, moves_before_heritage, moves_heritage, moves_heritage_in, moves_heritage_at, moves_heritage_of};
 ghost use Rattle.es_shapes.specs.Around.{ids_in, around, around_in};
@@ -63,7 +63,7 @@ struct FoundInParts {
 // ---- the walk, which comes to each node once
 
 #[cycle(found)]
-#[tactic(auto, using(crate::proofs::MovedHeritages::found_node, es_node::proofs::Below::nodes_in))]
+#[tactic(auto, using(crate::proofs::MovedHeritages::events_node, crate::proofs::MovedHeritages::moves_node, es_node::proofs::Below::nodes_in))]
 fn found_in_node<F: NameFacts>(
     options: &Options,
     facts: &F,
@@ -89,7 +89,7 @@ fn found_in_node<F: NameFacts>(
 
 /// What is found in the parts of the node, in which these classes are around.
 #[cycle(found)]
-#[tactic(auto, using(crate::proofs::MovedHeritages::events_start, crate::proofs::MovedHeritages::moves_start, crate::proofs::MovedHeritages::heritage_part, crate::proofs::MovedHeritages::or_none))]
+#[tactic(auto, using(crate::proofs::MovedHeritages::all_events, crate::proofs::MovedHeritages::all_moves, crate::proofs::MovedHeritages::or_none))]
 fn found_in_parts<F: NameFacts>(
     options: &Options,
     facts: &F,
@@ -108,9 +108,9 @@ fn found_in_parts<F: NameFacts>(
     };
     let parts = node.parts();
     for (i, part) in parts.iter().enumerate() {
-        let inside = standing_inside(standing, node.kind(), i);
+        let inside = standing_inside(standing, node, i);
         let in_part = found_in_part(options, facts, names, inside, part);
-        found = found_with_part(found, in_part, is_evaluated(node, i), i == 1);
+        found = found_with_part(found, in_part, is_evaluated(node, i), is_heritage(i));
     }
     found
 }
@@ -137,7 +137,7 @@ fn found_in_part<F: NameFacts>(
 }
 
 #[cycle(found)]
-#[tactic(auto, using(crate::proofs::MovedHeritages::or_none))]
+#[tactic(auto, using(crate::proofs::MovedHeritages::or_none, crate::proofs::MovedHeritages::events_next, crate::proofs::MovedHeritages::moves_next))]
 fn found_in_list<F: NameFacts>(
     options: &Options,
     facts: &F,
@@ -150,16 +150,13 @@ fn found_in_list<F: NameFacts>(
 {
     let mut found = nothing_found();
     for node in nodes {
-        found = either(
-            found,
-            found_in_node(options, facts, names, standing, node),
-        );
+        found = either(found, found_in_node(options, facts, names, standing, node));
     }
     found
 }
 
 #[cycle(found)]
-#[tactic(auto, using(crate::proofs::MovedHeritages::or_none))]
+#[tactic(auto, using(crate::proofs::MovedHeritages::or_none, crate::proofs::MovedHeritages::hole_events_next, crate::proofs::MovedHeritages::hole_moves_next))]
 fn found_in_list_with_holes<F: NameFacts>(
     options: &Options,
     facts: &F,
@@ -172,10 +169,7 @@ fn found_in_list_with_holes<F: NameFacts>(
 {
     let mut found = nothing_found();
     for node in nodes {
-        found = either(
-            found,
-            found_in_hole(options, facts, names, standing, node),
-        );
+        found = either(found, found_in_hole(options, facts, names, standing, node));
     }
     found
 }
@@ -217,6 +211,13 @@ fn either(a: Found, b: Found) -> Found
         has_events: a.has_events || b.has_events,
         moves_heritage: a.moves_heritage || b.moves_heritage,
     }
+}
+
+/// Whether the i-th part of a class is its heritage.
+fn is_heritage(i: usize) -> bool
+    ensures { result ≡ is_heritage i }
+{
+    i == 1
 }
 
 /// What is found with one part more, which is evaluated where the node is or not.

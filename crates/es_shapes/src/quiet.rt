@@ -1,12 +1,11 @@
 // Which nodes have events by themselves, and which of their parts are evaluated where they stand.
 
-ghost use Rattle.std.specs.Prelude.{◌≡◌, ◌&&◌, ◌||◌, codes, not};
-ghost use Rattle.std.specs.Str.{chars};
+ghost use Rattle.std.specs.Prelude.{◌≡◌, ◌&&◌, ◌||◌, bytes_eq, codes, not};
 ghost use Rattle.es_base.specs.Tree.{child};
 ghost use Rattle.es_base.specs.declared.kind.Kind.{Kind};
 ghost use Rattle.es_node.specs.View.{kind_of, number_in, parts_in};
 ghost use Rattle.es_steps.specs.Expressions as expressions;
-ghost use Rattle.es_steps.specs.LoweredClasses.{referent_of};
+ghost use Rattle.es_steps.specs.LoweredClasses.{has_no_items, referent_of};
 ghost use Rattle.es_steps.specs.Parts.{at, is_true, string_of};
 ghost use Rattle.es_steps.specs.Quiet as spec;
 ghost use Rattle.es_steps.specs.Quiet.{is_new, is_this, is_constant};
@@ -19,7 +18,9 @@ use crate::asked::leaves_out_fields;
 use crate::element::is_private_key;
 use crate::facts::NameFacts;
 use es_base::kind::Kind;
+use es_base::name::Name;
 use es_base::operator::UnaryOperator;
+use es_base::strings::is_word;
 use es_node::node::Node;
 use es_steps::options::Options;
 use es_tree::class::{ClassDeclarationRef, MethodDefinitionRef, PropertyDefinitionRef};
@@ -29,7 +30,7 @@ use es_tree::identifier::{IdentifierNameRef, IdentifierReferenceRef};
 use es_tree::statement::VariableDeclaratorRef;
 
 /// Whether the node has an event by itself, whatever its parts do.
-#[tactic(auto, using(crate::proofs::Quiet::acts_by_kind))]
+#[tactic(auto, using(crate::proofs::ByKind::acts_by_kind))]
 pub fn acts<F: NameFacts>(
     options: &Options,
     facts: &F,
@@ -45,10 +46,7 @@ pub fn acts<F: NameFacts>(
         Kind::IdentifierReference => reads_name(facts, names, standing, node),
         Kind::UnaryExpression => !is_quiet_unary(node),
         // `a`
-        Kind::TemplateLiteral => {
-            let template = TemplateLiteralRef::from_node(node);
-            !(template.quasis.len() == 1 && template.expressions.is_empty())
-        }
+        Kind::TemplateLiteral => !is_one_string(node),
         // static x = 1;
         Kind::PropertyDefinition => is_defined(options, node),
         // class A {}
@@ -90,7 +88,7 @@ fn is_quiet_kind(kind: Kind) -> bool
 }
 
 /// Whether the i-th part of the node is evaluated where the node is.
-#[tactic(auto, using(crate::proofs::Quiet::evaluated_by_kind))]
+#[tactic(auto, using(crate::proofs::ByKind::evaluated_by_kind))]
 pub fn is_evaluated(node: &Node, i: usize) -> bool
     ensures { result ≡ spec.is_evaluated (kind_of node.now) (parts_in node.now) i }
 {
@@ -115,13 +113,8 @@ pub fn is_evaluated(node: &Node, i: usize) -> bool
 
 /// Whether a reference is read by an event: its binding varies, and is not the name of a class around, or it
 /// is free, and no `arguments` that nothing writes.
-#[tactic(auto, using(crate::proofs::Quiet::reads_by_binding))]
-fn reads_name<F: NameFacts>(
-    facts: &F,
-    names: &ClassNames,
-    standing: Standing,
-    node: &Node,
-) -> bool
+#[tactic(auto, using(crate::proofs::ByKind::reads_by_binding))]
+fn reads_name<F: NameFacts>(facts: &F, names: &ClassNames, standing: Standing, node: &Node) -> bool
     requires { kind_of node.now ≡ Kind.IdentifierReference }
     ensures { result ≡ spec.reads_name (varying (F.program facts.now)) (writes_free (codes "arguments") (resolve (F.program facts.now))) (around (ids_in names.now) standing) (string_of (at 0 (parts_in node.now))) (referent_of (number_in node.now) (resolve (F.program facts.now))) }
 {
@@ -129,15 +122,23 @@ fn reads_name<F: NameFacts>(
         Some(binding) => facts.is_varying(binding) && !is_class_around(names, binding),
         None => {
             let name = IdentifierReferenceRef::from_node(node).name;
-            !(is_arguments(name.as_str()) && standing.has_arguments && !facts.writes_arguments())
+            !(is_arguments(name) && standing.has_arguments && !facts.writes_arguments())
         }
     }
 }
 
-fn is_arguments(name: &str) -> bool
-    ensures { result ≡ expressions.is_arguments (chars name.now) }
+#[tactic(auto, using(es_base::proofs::Ascii::chars_ascii))]
+fn is_arguments(name: &Name) -> bool
+    ensures { result ≡ expressions.is_arguments name.now }
 {
-    name == "arguments"
+    is_word("arguments", name.as_str())
+}
+
+#[tactic(auto, using(es_base::proofs::Ascii::chars_ascii))]
+fn is_new_word(name: &Name) -> bool
+    ensures { result ≡ bytes_eq name.now (codes "new") }
+{
+    is_word("new", name.as_str())
 }
 
 // ---- parts
@@ -157,8 +158,18 @@ fn is_quiet_unary(node: &Node) -> bool
     }
 }
 
+/// Whether the template is one string.
+#[tactic(auto, using(crate::proofs::ByKind::one_item, crate::proofs::ByKind::no_items))]
+fn is_one_string(node: &Node) -> bool
+    requires { kind_of node.now ≡ Kind.TemplateLiteral }
+    ensures { result ≡ (spec.has_one_item (at 0 (parts_in node.now)) && has_no_items (at 1 (parts_in node.now))) }
+{
+    let template = TemplateLiteralRef::from_node(node);
+    template.quasis.len() == 1 && template.expressions.is_empty()
+}
+
 /// Whether the node is a literal, or `delete this`.
-#[tactic(auto, using(crate::proofs::Quiet::literal_is_constant, crate::proofs::Quiet::unary_is_constant, crate::proofs::Quiet::no_constant))]
+#[tactic(auto, using(crate::proofs::ByKind::literal_is_constant, crate::proofs::ByKind::unary_is_constant, crate::proofs::ByKind::no_constant))]
 fn is_constant(node: &Node) -> bool
     ensures { result ≡ is_constant (child node.now) }
 {
@@ -172,7 +183,7 @@ fn is_constant(node: &Node) -> bool
     }
 }
 
-#[tactic(auto, using(crate::proofs::Quiet::this_by_kind))]
+#[tactic(auto, using(crate::proofs::ByKind::this_by_kind))]
 fn is_this(node: &Node) -> bool
     ensures { result ≡ is_this (child node.now) }
 {
@@ -180,17 +191,17 @@ fn is_this(node: &Node) -> bool
 }
 
 /// Whether the node is the `new` of `new.target`.
-#[tactic(auto, using(crate::proofs::Quiet::no_new))]
+#[tactic(auto, using(crate::proofs::ByKind::no_new))]
 fn is_new(node: &Node) -> bool
     ensures { result ≡ is_new (child node.now) }
 {
     match node.kind() {
-        Kind::IdentifierName => IdentifierNameRef::from_node(node).name.as_str() == "new",
+        Kind::IdentifierName => is_new_word(IdentifierNameRef::from_node(node).name),
         _ => false,
     }
 }
 
-#[tactic(auto, using(crate::proofs::Quiet::identifier_by_kind))]
+#[tactic(auto, using(crate::proofs::ByKind::identifier_by_kind))]
 fn is_identifier(node: &Node) -> bool
     ensures { result ≡ spec.is_identifier (child node.now) }
 {
@@ -203,7 +214,7 @@ fn is_defined(options: &Options, node: &Node) -> bool
     ensures { result ≡ (is_true (at 3 (parts_in node.now)) && not (spec.leaves_out_field options.now (parts_in node.now))) }
 {
     let field = PropertyDefinitionRef::from_node(node);
-    let is_left_out =
-        leaves_out_fields(options) && !(is_private_key(field.key) || field.value.is_some());
+    let is_left_out = leaves_out_fields(options)
+        && !(is_private_key(field.key) || field.value.is_some());
     field.is_static && !is_left_out
 }

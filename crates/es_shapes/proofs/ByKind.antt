@@ -1,10 +1,13 @@
 -- Events of nodes: what the kind of a node says.
-use Rattle.std.proofs.Common.{◌≡◌, refl, ap, sym, ◌∙◌, ℕ, List, [], ◌∷◌, Bool, true, false, not, ◌&&◌, Option, Some, None}
-use Rattle.es_base.specs.Tree.{Tree, Part, Parts, Node, end, child}
+use Rattle.std.proofs.Math.Dec.{eqb-suc-zero}
+use Rattle.std.proofs.Common.{◌≡◌, refl, ap, sym, ℕ, suc, arith, length, nat_eq, List, [], ◌∷◌, Bool, true, false, cond, not, Option, Some, None}
+use Rattle.std.proofs.lemmas.Bool.Decides.{nat_tests}
+use Rattle.es_base.specs.Tree.{Tree, Parts, Node, end, child, list, trees}
 use Rattle.es_base.specs.declared.kind.Kind.{Kind}
 use Rattle.es_node.specs.View.{kind_of, number_in, parts_in}
+use Rattle.es_steps.specs.LoweredClasses.{has_no_items}
 use Rattle.es_steps.specs.PrivateNames.{is_class}
-use Rattle.es_steps.specs.Quiet.{Around, id_number, class_name, is_new, is_this, deletes_this, is_constant, is_identifier, reads_name, acts, is_evaluated}
+use Rattle.es_steps.specs.Quiet.{Around, id_number, class_name, is_new, is_this, deletes_this, is_constant, is_identifier, has_one_item, reads_name, acts, is_evaluated}
 use Rattle.es_steps.specs.Shapes.{ClassAt, class_at}
 use Rattle.es_steps.specs.Values.{String, Referent, Bound, Free}
 use Rattle.es_steps.specs.declared.options.Options.{Options}
@@ -100,3 +103,14 @@ no_new (Node kind m span semantic_id ps) other = refl
 pub identifier_by_kind : (t : Tree) → is_identifier (child t) ≡ is_identifier (child (Node (kind_of t) 0 None None end))
 identifier_by_kind (Node Kind.BindingIdentifier m span semantic_id ps) = refl
 identifier_by_kind (Node kind m span semantic_id ps) = refl
+
+-- ---- templates
+
+pub one_item : (ts : List Tree) → has_one_item (list (trees ts)) ≡ nat_eq (length ts) 1
+one_item [] = refl
+one_item (t ∷ []) = refl
+one_item (t ∷ u ∷ ts) = let two : nat_eq (suc (suc (length ts))) 1 ≡ false = grind (arith, nat_tests) in sym two
+
+pub no_items : (ts : List Tree) → has_no_items (list (trees ts)) ≡ nat_eq (length ts) 0
+no_items [] = refl
+no_items (t ∷ ts) = sym (eqb-suc-zero (length ts))
