@@ -9,18 +9,15 @@ use Rattle.es_base.specs.Tree.{Tree, Part, Parts, Node, end, more, child, absent
 use Rattle.es_base.specs.declared.kind.Kind.{Kind}
 use Rattle.es_base.specs.declared.shape.Shape.{Shape}
 use Rattle.es_base.specs.declared.table.Place.{Place}
-use Rattle.es_steps.specs.Code.{Code}
 use Rattle.es_steps.specs.FirstForm.{is_first_form}
 use Rattle.es_steps.specs.LoweredClasses.{elements_in, any_element, is_lowered_class, constructor_function, is_hoisted_key}
-use Rattle.es_steps.specs.Meaning.{start, source_terms}
-use Rattle.es_steps.specs.Opening.{gather}
 use Rattle.es_steps.specs.Options.{lowers_fields, lowers_blocks}
 use Rattle.es_steps.specs.Parts.{at}
 use Rattle.es_steps.specs.PrivateNames.{PrivateMember, elements_members}
-use Rattle.es_steps.specs.Reading.{read}
 use Rattle.es_steps.specs.References.{Reference, item_references, resolve, written, changed_otherwise, varying}
 use Rattle.es_steps.specs.Scopes.{Declaration, body_names}
-use Rattle.es_steps.specs.Shapes.{ClassAt, class_at, lowered_classes, any_class, heritage_by, heritage_at, heritage_has_events, moves_before_heritage, has_shape_1, initializes_instances, is_late_class, has_shape_2, keeps_block, has_shape_3, reads_twice, reads_twice_of, is_imported_key, has_imported_key, has_shape_4, has_unwritable, unwritable_items, has_shape_5, class_names, refers_to, writes_any, has_shape_6, named_in_keys, names_stand_at, id_number, suspended_names, has_shape_7, private_behind_part, private_chains, has_shape_8, if_has, shapes_of, shapes}
+use Rattle.es_steps.specs.Quiet.{Around, nothing_around, id_number}
+use Rattle.es_steps.specs.Shapes.{ClassAt, class_at, lowered_classes, any_class, moves_heritage, moves_heritage_of, has_shape_1, initializes_instances, is_late_class, has_shape_2, keeps_block, has_shape_3, reads_twice, reads_twice_of, is_imported_key, has_imported_key, has_shape_4, has_unwritable, unwritable_items, has_shape_5, class_names, refers_to, writes_any, has_shape_6, named_in_keys, names_stand_at, suspended_names, has_shape_7, private_behind_part, private_chains, has_shape_8, if_has, shapes_of, shapes}
 use Rattle.es_steps.specs.declared.options.Options.{Options}
 use Rattle.class_properties.proofs.Declared.{two_ends}
 use Rattle.class_properties.proofs.Shaped.{no_value, a_literal, a_reference, a_key, a_field, AreFields, a_body, a_name, a_class, AreClasses, IsProgram, a_program, first_form-shaped}
@@ -69,10 +66,6 @@ no_class test each (k ∷ ks) h = rw (each k h.0) (no_class test each ks h.1)
 
 -- ---- what their elements are
 
-no_hoisted : (ws : List ℕ) (rs : List Reference) (es : Parts) → AreFields es → any_element (is_hoisted_key ws rs) (elements_in es) ≡ false
-no_hoisted ws rs end h = refl
-no_hoisted ws rs (more p es) (a_field m span semantic_id key v hk hv, h) = no_hoisted ws rs es h
-
 no_blocks : (es : Parts) → AreFields es → any_element (λ e. e.is_block) (elements_in es) ≡ false
 no_blocks end h = refl
 no_blocks (more p es) (a_field m span semantic_id key v hk hv, h) = no_blocks es h
@@ -90,9 +83,6 @@ no_imported hoists is rs end h = refl
 no_imported hoists is rs (more p es) (a_field m span semantic_id key v hk hv, h) = no_imported hoists is rs es h
 
 -- ---- shapes by classes
-
-moves-none : (o : Options) (ws : List ℕ) (rs : List Reference) (k : ClassAt) → IsPlainAt k → moves_before_heritage o ws rs k ≡ false
-moves-none o ws rs k (plain_at n j span semantic_id id es h) = rw (no_hoisted ws rs es h) refl
 
 imports-none : (ws is : List ℕ) (rs : List Reference) (k : ClassAt) → IsPlainAt k → has_imported_key ws is rs k ≡ false
 imports-none ws is rs k (plain_at n j span semantic_id id es h) = no_imported (any_element (is_hoisted_key ws rs) (elements_in es)) is rs es h
@@ -116,15 +106,16 @@ record AreQuiet (ps : Parts) : Type 0 where
   twice : (o : Options) (ws : List ℕ) (rs : List Reference) (moved : Bool) → reads_twice_of o ws rs moved ps ≡ false
   writes : (names : List ℕ) (ds : List Declaration) → writes_any names (item_references ds false ps) ≡ false
   unwritable : (seen : List PrivateMember) → unwritable_items seen ps ≡ false
+  heritages : (o : Options) (program : Tree) (a : Around) → moves_heritage_of o program a ps ≡ false
 
 quiet-end : AreQuiet end
-quiet-end = record { twice = λ o ws rs moved. refl; writes = λ names ds. refl; unwritable = λ seen. refl }
+quiet-end = record { twice = λ o ws rs moved. refl; writes = λ names ds. refl; unwritable = λ seen. refl; heritages = λ o program a. refl }
 
 fields-quiet : (es : Parts) → AreFields es → AreQuiet es
 fields-quiet end h = quiet-end
-fields-quiet (more p es) (a_field m span semantic_id key v (a_key i ispan i_semantic_id s) no_value, h) = let q : AreQuiet es = fields-quiet es h in record { twice = q.twice; writes = q.writes; unwritable = q.unwritable }
-fields-quiet (more p es) (a_field m span semantic_id key v (a_key i ispan i_semantic_id s) (a_literal l lspan l_semantic_id w), h) = let q : AreQuiet es = fields-quiet es h in record { twice = q.twice; writes = q.writes; unwritable = q.unwritable }
-fields-quiet (more p es) (a_field m span semantic_id key v (a_key i ispan i_semantic_id s) (a_reference r rspan r_semantic_id x), h) = let q : AreQuiet es = fields-quiet es h in record { twice = q.twice; writes = q.writes; unwritable = q.unwritable }
+fields-quiet (more p es) (a_field m span semantic_id key v (a_key i ispan i_semantic_id s) no_value, h) = let q : AreQuiet es = fields-quiet es h in record { twice = q.twice; writes = q.writes; unwritable = q.unwritable; heritages = q.heritages }
+fields-quiet (more p es) (a_field m span semantic_id key v (a_key i ispan i_semantic_id s) (a_literal l lspan l_semantic_id w), h) = let q : AreQuiet es = fields-quiet es h in record { twice = q.twice; writes = q.writes; unwritable = q.unwritable; heritages = q.heritages }
+fields-quiet (more p es) (a_field m span semantic_id key v (a_key i ispan i_semantic_id s) (a_reference r rspan r_semantic_id x), h) = let q : AreQuiet es = fields-quiet es h in record { twice = q.twice; writes = q.writes; unwritable = q.unwritable; heritages = q.heritages }
 
 writes-append : (names : List ℕ) (rs qs : List Reference) → writes_any names rs ≡ false → writes_any names qs ≡ false → writes_any names (rs ++ qs) ≡ false
 writes-append names [] qs h i = i
@@ -140,6 +131,7 @@ classes-quiet (more p ps) (a_class n span semantic_id id body (a_name i ispan i_
       twice = λ o ws rs moved. rw (here.twice o ws rs moved, there.twice o ws rs moved) refl;
       writes = λ names ds. rw (two_ends (item_references ds false es) (item_references ds false ps)) (writes-append names (item_references ds false es) (item_references ds false ps) (here.writes names ds) (there.writes names ds));
       unwritable = λ seen. rw (here.unwritable (elements_members n es ++ seen), there.unwritable seen) refl;
+      heritages = λ o program a. rw (and-false (is_lowered_class o Kind.ClassDeclaration (more id (more absent (more body end)))), here.heritages o program _, there.heritages o program a) refl;
     }
 
 -- and of the nodes of a program
@@ -147,6 +139,7 @@ record IsQuiet (t : Tree) : Type 0 where
   twice : (o : Options) (ws : List ℕ) (rs : List Reference) → reads_twice o ws rs false false t ≡ false
   writes : (names : List ℕ) → writes_any names (resolve t) ≡ false
   unwritable : has_unwritable [] t ≡ false
+  heritages : (o : Options) (program : Tree) → moves_heritage o program nothing_around t ≡ false
 
 program-quiet : (t : Tree) → IsProgram t → IsQuiet t
 program-quiet t (a_program m span semantic_id s all h) =
@@ -154,6 +147,7 @@ program-quiet t (a_program m span semantic_id s all h) =
       twice = λ o ws rs. rw (q.twice o ws rs false) refl;
       writes = λ names. rw (append-nil (item_references (body_names all ++ []) false all)) (q.writes names (body_names all ++ []));
       unwritable = rw (q.unwritable []) refl;
+      heritages = λ o program. rw (q.heritages o program _) refl;
     }
 
 -- ---- no chain
@@ -188,17 +182,14 @@ no_shapes : (a b c d e f g h : Bool) → a ≡ false → b ≡ false → c ≡ f
     → if_has a Shape.S1 (if_has b Shape.S2 (if_has c Shape.S3 (if_has d Shape.S4 (if_has e Shape.S5 (if_has f Shape.S6 (if_has g Shape.S7 (if_has h Shape.S8 []))))))) ≡ []
 no_shapes a b c d e f g h one two three four five six seven eight = rw (one, two, three, four, five, six, seven, eight) refl
 
-program-shapes : (o : Options) (t : Tree) (c : Code) → IsProgram t → shapes_of o t c (lowered_classes o (preorder t)) ≡ []
-program-shapes o t c p =
+program-shapes : (o : Options) (t : Tree) → IsProgram t → shapes_of o t (lowered_classes o (preorder t)) ≡ []
+program-shapes o t p =
     let ks : List ClassAt = lowered_classes o (preorder t) in
     let plain : ArePlainAt ks = program-plain o t p in
     let q : IsQuiet t = program-quiet t p in
-    let moves : any_class (λ k. heritage_has_events c (heritage_at k.number (gather heritage_by c)) && moves_before_heritage o (written t) (resolve t) k) ks ≡ false =
-    no_class (λ k. heritage_has_events c (heritage_at k.number (gather heritage_by c)) && moves_before_heritage o (written t) (resolve t) k)
-    (λ k h. rw (moves-none o (written t) (resolve t) k h) (and-false (heritage_has_events c (heritage_at k.number (gather heritage_by c))))) ks plain in
     let named : has_shape_7 t ks ≡ false = no_class (λ k. names_stand_at (id_number k.id) (resolve t) k.heritage || named_in_keys (id_number k.id) (resolve t) k.elements) (names-none (resolve t)) ks plain in
-    no_shapes (has_shape_1 o t c ks) (has_shape_2 o ks) (has_shape_3 o ks) (has_shape_4 o t ks) (has_shape_5 o t) (has_shape_6 o t ks) (has_shape_7 t ks) (has_shape_8 o t)
-    (rw moves (and-false (lowers_fields o)))
+    no_shapes (has_shape_1 o t) (has_shape_2 o ks) (has_shape_3 o ks) (has_shape_4 o t ks) (has_shape_5 o t) (has_shape_6 o t ks) (has_shape_7 t ks) (has_shape_8 o t)
+    (rw (q.heritages o t) (and-false (lowers_fields o)))
     (rw (no_class is_late_class late-none ks plain) (and-false (lowers_fields o)))
     (rw (no_class keeps_block block-none ks plain, and-false (not (lowers_blocks o))) (and-false (lowers_fields o)))
     (rw (q.twice o (varying t) (resolve t), no_class (has_imported_key (written t) (changed_otherwise t) (resolve t)) (imports-none (written t) (changed_otherwise t) (resolve t)) ks plain) (and-false (lowers_fields o)))
@@ -208,4 +199,4 @@ program-shapes o t c p =
     (rw (program-no_chain t p) (and-false (lowers_fields o)))
 
 pub first_form-shapes : (o : Options) (t : Tree) → conforms Place.Program t ≡ true → is_first_form t [] ≡ true → shapes o t ≡ []
-first_form-shapes o t f h = program-shapes o t (read (start (source_terms o t) t) t) (first_form-shaped t [] f h)
+first_form-shapes o t f h = program-shapes o t (first_form-shaped t [] f h)

@@ -1,5 +1,5 @@
 -- The names that a node declares by itself, by their numbers.
-use Rattle.std.proofs.Common.{◌≡◌, refl, sym, ap, ◌∙◌, ℕ, ◌+◌, ◌<◌, length, drop, get_or, List, [], ◌∷◌, ◌++◌, Bool, true, false, cond, ◌||◌, bytes_eq, Bor}
+use Rattle.std.proofs.Common.{◌≡◌, refl, sym, ap, ◌∙◌, ℕ, ◌+◌, ◌<◌, length, drop, get_or, List, [], ◌∷◌, ◌++◌, Bool, true, false, cond, ◌&&◌, ◌||◌, codes, bytes_eq, Bor}
 use Rattle.std.proofs.lemmas.List.{at_drop_more}
 use Rattle.std.specs.Str.{chars}
 use Rattle.es_base.specs.Conforms.{is_among}
@@ -17,12 +17,12 @@ use Rattle.es_binding_faults.proofs.HasNumbers.{has_number-append}
 use Rattle.es_binding_faults.proofs.Hoisting.{var-part}
 use Rattle.es_binding_faults.proofs.Plain.{plain-bound_part}
 use Rattle.es_steps.specs.Parts.{at}
-use Rattle.es_steps.specs.References.{Reference, assigned, if_bound, numbers_of, repeated, is_declared, is_for_each, written_by, written_by_all, imported_by, has_number}
+use Rattle.es_steps.specs.References.{Reference, assigned, if_bound, numbers_of, repeated, is_declared, is_for_each, written_by, written_by_all, imported_by, has_number, is_free, writes_free}
 use Rattle.es_steps.specs.Scopes.{Declaration, own_name, no_class, bound_part, var_part, ScopeForm, program_scope, function_scope, own_function_scope, arrow_scope, own_class_scope, block_scope, static_block_scope, loop_scope, switch_scope, catch_scope, no_scope, scope_form, scope_names}
 use Rattle.es_steps.specs.Values.{Referent, Bound, Free}
 use Rattle.es_outside.specs.Changing.{if_written, assigned_in}
 use Rattle.es_outside.specs.Frames.{binding_of}
-use Rattle.es_outside.specs.Meant.{meant_by_all}
+use Rattle.es_outside.specs.Meant.{meant_by_all, write_arguments}
 
 grouped : (a b c : Bool) → ((a || b) || c) ≡ (a || (b || c))
 grouped true b c = refl
@@ -91,6 +91,10 @@ written_if false (Free s) = refl
 pub assigned_by : (rs : List Reference) → assigned_in (meant_by_all rs) ≡ assigned rs
 assigned_by [] = refl
 assigned_by (r ∷ rs) = ap (λ ns. ns ++ assigned_in (meant_by_all rs)) (written_if r.writes r.to) ∙ ap (λ ns. if_bound r.writes r.to ++ ns) (assigned_by rs)
+
+pub arguments_written : (rs : List Reference) → write_arguments (meant_by_all rs) ≡ writes_free (codes "arguments") rs
+arguments_written [] = refl
+arguments_written (r ∷ rs) = ap (λ b. (r.writes && is_free (codes "arguments") r.to) || b) (arguments_written rs)
 
 -- ---- of one list or another
 

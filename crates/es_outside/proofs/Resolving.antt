@@ -1,14 +1,15 @@
 -- References in code are those of the resolution.
-use Rattle.std.proofs.Common.{◌≡◌, refl, sym, ap, ◌∙◌, ℕ, suc, ◌+◌, List, [], ◌∷◌, ◌++◌, Bool, true, false, cond, bytes_eq, Option, Some, None, arith}
+use Rattle.std.proofs.Common.{◌≡◌, refl, sym, ap, ◌∙◌, ℕ, suc, ◌+◌, List, [], ◌∷◌, ◌++◌, Bool, true, false, cond, ◌&&◌, codes, bytes_eq, Option, Some, None, arith}
 use Rattle.std.proofs.lemmas.List.{map-append}
 use Rattle.es_base.specs.Table.{Field, members_of}
 use Rattle.es_base.specs.Tree.{Tree, Part, Parts, Node, end, more, child, absent, list, string, no_string, boolean, literal}
 use Rattle.es_base.specs.declared.ids.NodeId.{NodeId}
 use Rattle.es_base.specs.declared.kind.Kind.{Kind}
+use Rattle.std.specs.Prelude.{is_none}
 use Rattle.es_binding_faults.specs.Named.{plain, plain_one}
 use Rattle.es_binding_faults.proofs.Plain.{plain-append, plain-bound_part}
 use Rattle.es_steps.specs.Parts.{at, string_of}
-use Rattle.es_steps.specs.References.{Reference, declared, referent, is_reference, is_target, reference, references, references_in, part_references, item_references, resolve}
+use Rattle.es_steps.specs.References.{Reference, declared, referent, is_free, is_reference, is_target, reference, references, references_in, part_references, item_references, resolve}
 use Rattle.es_steps.specs.Scopes.{Declaration, own_name, names_at, is_body_part, ScopeForm, program_scope, function_scope, own_function_scope, arrow_scope, own_class_scope, block_scope, static_block_scope, loop_scope, switch_scope, catch_scope, no_scope, scope_of, seen}
 use Rattle.es_steps.specs.Values.{String}
 use Rattle.es_outside.specs.Frames.{binding_of}
@@ -47,6 +48,15 @@ same_binding s (d ∷ ds) = here (bytes_eq s d.spelling) (same_binding s ds)
     here true h = refl
     here false h = h
 
+same_free : (x s : String) (ds : List Declaration) → is_free x (referent s (declared s ds)) ≡ is_free x (referent s (declared s (plain ds)))
+same_free x s [] = refl
+same_free x s (d ∷ ds) = here (bytes_eq s d.spelling) (same_free x s ds)
+  where
+    here : (b : Bool) → is_free x (referent s (declared s ds)) ≡ is_free x (referent s (declared s (plain ds)))
+        → is_free x (referent s (cond b (Some d) (declared s ds))) ≡ is_free x (referent s (cond b (Some (plain_one d)) (declared s (plain ds))))
+    here true h = refl
+    here false h = h
+
 plain_seen : (form : ScopeForm) (m : ℕ) (ps : Parts) (i : ℕ) → plain (seen form m ps i) ≡ plain (seen form 0 ps i)
 plain_seen program_scope m ps i = refl
 plain_seen function_scope m ps i = refl
@@ -66,7 +76,7 @@ inside names is_body kind m ps i = plain-append (names_at is_body kind m ps i) n
 -- ---- of a tree
 
 one : (names : List Declaration) (target : Bool) (m : ℕ) (s : String) → meant_by_all (reference names target m s) ≡ (meant (plain names) target m s ∷ [])
-one names target m s = ap (λ b. record { reference = record { 0 = m }; binding = b; writes = target } ∷ []) (same_binding s names)
+one names target m s = λ i. record { reference = record { 0 = m }; binding = same_binding s names i; writes = target; is_free_arguments = same_free (codes "arguments") s names i } ∷ []
 
 either : (b : Bool) (xs ys : List Reference) (us vs : List Meant) → meant_by_all xs ≡ us → meant_by_all ys ≡ vs → meant_by_all (cond b xs ys) ≡ cond b us vs
 either true xs ys us vs e f = e
@@ -123,3 +133,11 @@ resolved t = sym (meant-tree [] false false t)
 pub no_reference : (kind : Kind) → (kind ≡ Kind.IdentifierReference → ⊥) → is_reference kind ≡ false
 no_reference Kind.IdentifierReference other = absurd (other refl)
 no_reference kind other = refl
+
+-- a name is a free `arguments` if it has no binding
+pub free_arguments : (s : String) (names : List Declaration) (b : Option NodeId) → b ≡ binding_of (referent s (declared s names)) → (is_none b && bytes_eq (codes "arguments") s) ≡ is_free (codes "arguments") (referent s (declared s names))
+free_arguments s names b e = ap (λ x. is_none x && bytes_eq (codes "arguments") s) e ∙ here (declared s names)
+  where
+    here : (d : Option Declaration) → (is_none (binding_of (referent s d)) && bytes_eq (codes "arguments") s) ≡ is_free (codes "arguments") (referent s d)
+    here None = refl
+    here (Some d) = refl

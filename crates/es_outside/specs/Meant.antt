@@ -1,5 +1,5 @@
 -- What references mean, by numbers.
-use Rattle.std.specs.Prelude.{ℕ, ◌+◌, List, [], ◌∷◌, ◌++◌, Bool, false, cond, map}
+use Rattle.std.specs.Prelude.{ℕ, ◌+◌, List, [], ◌∷◌, ◌++◌, Bool, false, cond, ◌||◌, ◌&&◌, codes, map}
 use Rattle.es_base.specs.Table.{Field, members_of}
 use Rattle.es_base.specs.Tree.{Tree, Part, Parts, Node, end, more, child, list}
 use Rattle.es_base.specs.declared.kind.Kind.{Kind}
@@ -9,16 +9,21 @@ use Rattle.es_outside.specs.declared.references.Meant.{Meant}
 use Rattle.es_outside.specs.declared.references.Scope as scope
 use Rattle.es_outside.specs.declared.references.Scope.{Scope}
 use Rattle.es_steps.specs.Parts.{at, string_of}
-use Rattle.es_steps.specs.References.{Reference, declared, referent, is_reference, is_target}
+use Rattle.es_steps.specs.References.{Reference, declared, referent, is_free, is_reference, is_target}
 use Rattle.es_steps.specs.Scopes.{Declaration, names_at, is_body_part}
 use Rattle.es_steps.specs.Values.{String}
 
 -- a reference without its spelling
 abbrev pub meant_by : Reference → Meant
-meant_by r = record { reference = node_id r.number; binding = binding_of r.to; writes = r.writes }
+meant_by r = record { reference = node_id r.number; binding = binding_of r.to; writes = r.writes; is_free_arguments = is_free (codes "arguments") r.to }
 
 abbrev pub meant_by_all : List Reference → List Meant
 meant_by_all rs = map meant_by rs
+
+-- a free name `arguments` is written by one of these
+abbrev pub write_arguments : List Meant → Bool
+write_arguments [] = false
+write_arguments (r ∷ rs) = (r.writes && r.is_free_arguments) || write_arguments rs
 
 -- the names that are seen, the nearest first
 abbrev pub names_in : Scope → List Declaration
@@ -26,7 +31,7 @@ names_in scope.Outside = []
 names_in (scope.Inside' frame at outer) = named frame.now.names.items ++ names_in outer
 
 abbrev pub meant : List Declaration → Bool → ℕ → String → Meant
-meant names target m s = record { reference = node_id m; binding = binding_of (referent s (declared s names)); writes = target }
+meant names target m s = record { reference = node_id m; binding = binding_of (referent s (declared s names)); writes = target; is_free_arguments = is_free (codes "arguments") (referent s (declared s names)) }
 
 -- what the i-th part of a node sees
 abbrev pub names_inside : List Declaration → Bool → Kind → Parts → ℕ → List Declaration

@@ -12,6 +12,7 @@ ghost use Rattle.es_steps.specs.References as spec;
 ghost use Rattle.es_steps.specs.References.{has_number, numbers_of};
 ghost use Rattle.es_steps.specs.Scopes.{scope_names, scope_form, var_part};
 ghost use Rattle.es_outside.specs.Changing.{ids, assigned_in, own_number};
+ghost use Rattle.es_outside.specs.Meant.{write_arguments};
 
 use crate::references::Meant;
 use es_base::ids::NodeId;
@@ -47,6 +48,18 @@ fn add_if_written(reference: &Meant, bindings: &mut Vec<NodeId>) -> Result<(), A
         }
         _ => Ok(()),
     }
+}
+
+/// Whether one of these references writes a free name `arguments`.
+pub fn write_arguments(references: &[Meant]) -> bool
+    ensures { result ≡ write_arguments references.now }
+{
+    for reference in references {
+        if reference.writes && reference.is_free_arguments {
+            return true;
+        }
+    }
+    false
 }
 
 // ---- declared again

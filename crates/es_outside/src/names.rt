@@ -1,9 +1,9 @@
 // What the names of a program mean.
 
-ghost use Rattle.std.specs.Prelude.{◌≡◌, ℕ, IfOk};
+ghost use Rattle.std.specs.Prelude.{◌≡◌, ℕ, codes, IfOk};
 ghost use Rattle.es_shapes.specs.Names.{bound_number};
 ghost use Rattle.es_steps.specs.LoweredClasses.{referent_of};
-ghost use Rattle.es_steps.specs.References.{has_number, resolve, written_by_all, imported};
+ghost use Rattle.es_steps.specs.References.{has_number, resolve, written_by_all, imported, writes_free};
 ghost use Rattle.es_steps.specs.References as spec;
 ghost use Rattle.es_base.specs.Preorder.{preorder};
 ghost use Rattle.es_outside.specs.Bindings.{binding_in};
@@ -28,16 +28,19 @@ pub struct ProgramNames<'a> {
     /// Those that are declared again, and those of `var` in the head of a for-in or for-of.
     redeclared: Numbers,
     imported: Numbers,
+    /// Whether a reference writes a free name `arguments`.
+    writes_arguments: bool,
 
     ghost bindings_are: { (m : ℕ) → binding_in m bindings ≡ bound_number (referent_of m (resolve program.now)) },
     ghost assigned_are: { (n : ℕ) → has_number n assigned ≡ has_number n (spec.assigned (resolve program.now)) },
     ghost redeclared_are: { (n : ℕ) → has_number n redeclared ≡ has_number n (written_by_all (preorder program.now)) },
     ghost imported_are: { (n : ℕ) → has_number n imported ≡ has_number n (spec.imported program.now) },
+    ghost writes_arguments_is: { writes_arguments ≡ writes_free (codes "arguments") (resolve program.now) },
 }
 
 impl<'a> ProgramNames<'a> {
     /// The names of this program. Fails on allocation failure alone.
-    #[tactic(auto, using(crate::proofs::BoundNames::bound_first, crate::proofs::DeclaredNames::assigned_by))]
+    #[tactic(auto, using(crate::proofs::BoundNames::bound_first, crate::proofs::DeclaredNames::assigned_by, crate::proofs::DeclaredNames::arguments_written))]
     pub fn of(alloc: Global, program: &'a Node) -> Result<ProgramNames<'a>, AllocError>
         ensures { IfOk result (λ n. n.program.now ≡ program.now) }
     {
@@ -46,6 +49,7 @@ impl<'a> ProgramNames<'a> {
         let assigned = changing::assigned(alloc, references.as_slice())?;
         let redeclared = changing::redeclared(alloc, nodes.as_slice())?;
         let imported = changing::imported(alloc, nodes.as_slice())?;
+        let writes_arguments = changing::write_arguments(references.as_slice());
         let bindings = Bindings::of(alloc, references.as_slice())?;
         let assigned = Numbers::of(alloc, assigned.as_slice())?;
         let redeclared = Numbers::of(alloc, redeclared.as_slice())?;
@@ -56,6 +60,7 @@ impl<'a> ProgramNames<'a> {
             assigned,
             redeclared,
             imported,
+            writes_arguments,
         })
     }
 }
@@ -83,5 +88,9 @@ impl<'a> NameFacts for ProgramNames<'a> {
 
     fn is_assigned(&self, binding: NodeId) -> bool {
         self.assigned.has(binding)
+    }
+
+    fn writes_arguments(&self) -> bool {
+        self.writes_arguments
     }
 }

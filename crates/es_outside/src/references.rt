@@ -1,6 +1,6 @@
 // The references of a program, and what each means.
 
-ghost use Rattle.std.specs.Prelude.{◌≡◌, ◌++◌, [], false, is_some, map, true, IfOk, IfSome, OnOk};
+ghost use Rattle.std.specs.Prelude.{◌≡◌, ◌++◌, [], bytes_eq, codes, false, is_some, map, true, IfOk, IfSome, OnOk};
 ghost use Rattle.std.specs.Str.{chars};
 ghost use Rattle.es_base.specs.Table.{field_of, members_of};
 ghost use Rattle.es_base.specs.Tree.{trees, nullable, nullable_trees};
@@ -18,6 +18,7 @@ use crate::frame::Frame;
 use es_base::ids::NodeId;
 use es_base::kind::Kind;
 use es_base::places::is_target_place;
+use es_base::strings::is_word;
 use es_base::table::{Member, Sort, members};
 use es_binding_faults::scopes::{add_seen, is_body_part, scope_in};
 use es_node::node::{Node, Part};
@@ -32,6 +33,8 @@ pub struct Meant {
     pub binding: Option<NodeId>,
     /// Whether it stands where something is assigned to.
     pub writes: bool,
+    /// Whether it is a free name `arguments`.
+    pub is_free_arguments: bool,
 }
 
 /// The names that are seen at a place.
@@ -275,7 +278,7 @@ fn is_target(sort: Sort) -> bool
 }
 
 /// What the node means, if it is a reference.
-#[tactic(auto, using(crate::proofs::Resolving::no_reference))]
+#[tactic(auto, using(crate::proofs::Resolving::no_reference, crate::proofs::Resolving::free_arguments))]
 fn reference_at(scope: &Scope, is_target: bool, node: &Node) -> Option<Meant>
     ensures is { is_some result ≡ spec.is_reference (kind_of node.now) }
     ensures means { IfSome result (λ r. r ≡ meant (names_in scope.now) is_target (number_in node.now) (string_of (at 0 (parts_in node.now)))) }
@@ -283,14 +286,24 @@ fn reference_at(scope: &Scope, is_target: bool, node: &Node) -> Option<Meant>
     match node.kind() {
         Kind::IdentifierReference => {
             let reference = IdentifierReferenceRef::from_node(node);
+            let name = reference.name.as_str();
+            let binding = binding_of(scope, name);
             Some(Meant {
                 reference: reference.node_id,
-                binding: binding_of(scope, reference.name.as_str()),
+                binding,
                 writes: is_target,
+                is_free_arguments: binding.is_none() && is_arguments(name),
             })
         }
         _ => None,
     }
+}
+
+#[tactic(auto, using(es_base::proofs::Ascii::chars_ascii))]
+fn is_arguments(name: &str) -> bool
+    ensures { result ≡ bytes_eq (codes "arguments") (chars name.now) }
+{
+    is_word(name, "arguments")
 }
 
 /// The binding of this name, by the first identifier that declares it; none if it is free.

@@ -4,8 +4,10 @@ pub mod Chains
 pub mod Classes
 pub mod Heritages
 pub mod Lowered
+pub mod MovedHeritages
 pub mod NameScopes
 pub mod Names
 pub mod Parameters
+pub mod ByKind
 pub mod Twice
 pub mod Written

@@ -5,7 +5,8 @@ use Rattle.es_base.specs.declared.kind.Kind.{Kind}
 use Rattle.es_node.specs.View.{kind_of, number_in, parts_in}
 use Rattle.es_steps.specs.LoweredClasses.{Element, element_of, elements_in, referent_of}
 use Rattle.es_steps.specs.References.{Reference}
-use Rattle.es_steps.specs.Shapes.{ClassAt, is_any_function, is_reference_node, refers_as, names_stand, names_stand_at, names_stand_in, named_in_keys, id_number}
+use Rattle.es_steps.specs.Quiet.{id_number}
+use Rattle.es_steps.specs.Shapes.{ClassAt, is_any_function, is_reference_node, refers_as, names_stand, names_stand_at, names_stand_in, named_in_keys}
 use Rattle.es_steps.specs.Values.{Referent, Bound, Free}
 use Rattle.es_shapes.specs.Names.{bound_number, refers_here, names_itself}
 

@@ -10,7 +10,8 @@ use Rattle.es_steps.specs.NameScopes.{is_suspended_scope}
 use Rattle.es_steps.specs.Options.{lowers_fields, lowers_blocks}
 use Rattle.es_steps.specs.Parts.{at}
 use Rattle.es_steps.specs.References.{Reference, resolve, has_number, assigned, if_bound}
-use Rattle.es_steps.specs.Shapes.{ClassAt, any_class, class_names, id_number, refers_to, writes_any, suspended_names, lowered_classes, has_shape_6}
+use Rattle.es_steps.specs.Quiet.{id_number}
+use Rattle.es_steps.specs.Shapes.{ClassAt, any_class, class_names, refers_to, writes_any, suspended_names, lowered_classes, has_shape_6}
 use Rattle.es_steps.specs.Values.{Referent, Bound, Free}
 use Rattle.es_steps.specs.declared.options.Options.{Options}
 use Rattle.es_shapes.specs.Classes.{is_lowered_with}

@@ -1,8 +1,9 @@
+pub mod Around
 pub mod Chains
 pub mod Classes
-pub mod Heritages
 pub mod NameScopes
 pub mod Names
 pub mod Parameters
+pub mod Quiet
 pub mod Twice
 pub mod Warnings

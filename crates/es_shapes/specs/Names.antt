@@ -5,7 +5,8 @@ use Rattle.es_steps.specs.LoweredClasses.{referent_of}
 use Rattle.es_steps.specs.NameScopes.{is_suspended_scope}
 use Rattle.es_steps.specs.Options.{lowers_fields, lowers_blocks}
 use Rattle.es_steps.specs.References.{Reference}
-use Rattle.es_steps.specs.Shapes.{ClassAt, id_number, names_stand_at, named_in_keys, is_reference_node, refers_as, writes_any}
+use Rattle.es_steps.specs.Quiet.{id_number}
+use Rattle.es_steps.specs.Shapes.{ClassAt, names_stand_at, named_in_keys, is_reference_node, refers_as, writes_any}
 use Rattle.es_steps.specs.Values.{Referent, Bound, Free}
 use Rattle.es_steps.specs.declared.options.Options.{Options}
 use Rattle.es_shapes.specs.Classes.{class_of, passes_by}

@@ -1,7 +1,7 @@
 // What the options ask.
 
 ghost use Rattle.std.specs.Prelude.{◌≡◌};
-ghost use Rattle.es_steps.specs.Options.{is_loose, lowers_fields, lowers_blocks, keeps_privates_as_properties};
+ghost use Rattle.es_steps.specs.Options.{is_loose, lowers_fields, lowers_blocks, keeps_privates_as_properties, leaves_out_fields, sets_fields};
 
 use es_steps::options::{ClassPropertiesOptions, Options};
 
@@ -26,6 +26,22 @@ pub fn keeps_privates_as_properties(options: &Options) -> bool
     lowers_fields(options)
         && (is_loose(options.es2022.class_properties)
             || options.assumptions.private_fields_as_properties)
+}
+
+/// Whether a public field without initializer is left out.
+pub fn leaves_out_fields(options: &Options) -> bool
+    ensures { result ≡ leaves_out_fields options.now }
+{
+    sets_fields(options) && options.remove_class_fields_without_initializer
+}
+
+/// Whether public fields are set and not defined.
+fn sets_fields(options: &Options) -> bool
+    ensures { result ≡ sets_fields options.now }
+{
+    lowers_fields(options)
+        && (is_loose(options.es2022.class_properties)
+            || options.assumptions.set_public_class_fields)
 }
 
 fn is_loose(class_properties: Option<ClassPropertiesOptions>) -> bool

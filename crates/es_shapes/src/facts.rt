@@ -1,11 +1,9 @@
 // What the names of a program mean, as far as its shapes ask.
 
-ghost use Rattle.std.specs.Prelude.{◌≡◌, option_map};
+ghost use Rattle.std.specs.Prelude.{◌≡◌, codes, option_map};
 ghost use Rattle.es_base.specs.Tree.{Tree};
 ghost use Rattle.es_steps.specs.LoweredClasses.{referent_of};
-ghost use Rattle.es_steps.specs.References.{resolve, written, imported, varying, assigned, has_number};
-ghost use Rattle.es_steps.specs.declared.options.Options.{Options};
-ghost use Rattle.es_shapes.specs.Heritages.{heritage_events};
+ghost use Rattle.es_steps.specs.References.{resolve, written, imported, varying, assigned, has_number, writes_free};
 ghost use Rattle.es_shapes.specs.Names.{bound_number};
 
 use es_base::ids::NodeId;
@@ -35,15 +33,8 @@ pub trait NameFacts: Drop {
     /// Whether a reference writes the binding.
     fn is_assigned(&self, binding: NodeId) -> bool
         ensures { result ≡ has_number binding.0 (assigned (resolve (program self.now))) };
-}
 
-/// Which heritages of a source program have events, under these options.
-pub trait HeritageFacts: Drop {
-    ghost program: { Self → Tree };
-
-    ghost options: { Self → Options };
-
-    /// Whether the evaluation of the heritage of the class has events (docs/MEANING.md).
-    fn has_events(&self, class: NodeId) -> bool
-        ensures { result ≡ heritage_events (options self.now) (program self.now) class.0 };
+    /// Whether a reference writes a free name `arguments`.
+    fn writes_arguments(&self) -> bool
+        ensures { result ≡ writes_free (codes "arguments") (resolve (program self.now)) };
 }

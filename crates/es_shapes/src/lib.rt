@@ -2,17 +2,20 @@
 //! of its events.
 #![tactic(auto)]
 
+pub mod around;
 pub mod asked;
 mod class;
 mod element;
 pub mod facts;
-pub mod heritage;
+mod heritage;
 mod imported_key;
 pub mod kept_block;
 pub mod late_class;
+pub mod moved_heritage;
 mod name_scope;
 pub mod own_name;
 pub mod private_chain;
+mod quiet;
 pub mod twice_read;
 mod walk;
 pub mod warnings;

@@ -4,7 +4,8 @@ ghost use Rattle.std.specs.Prelude.{◌≡◌, ◌&&◌, option_map};
 ghost use Rattle.es_base.specs.Preorder.{preorder};
 ghost use Rattle.es_base.specs.Tree.{nullable};
 ghost use Rattle.es_steps.specs.References.{resolve};
-ghost use Rattle.es_steps.specs.Shapes.{lowered_classes, writes_any, id_number, has_shape_6};
+ghost use Rattle.es_steps.specs.Quiet.{id_number};
+ghost use Rattle.es_steps.specs.Shapes.{lowered_classes, writes_any, has_shape_6};
 ghost use Rattle.es_shapes.specs.Classes.{class_view, is_lowered, is_lowered_with};
 ghost use Rattle.es_shapes.specs.Names.{is_written_class, is_written_let, is_written_at};
 

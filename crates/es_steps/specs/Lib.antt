@@ -24,6 +24,7 @@ pub mod OwnNames
 pub mod Parts
 pub mod Printable
 pub mod PrivateNames
+pub mod Quiet
 pub mod Reading
 pub mod References
 pub mod Repeated

@@ -6,20 +6,17 @@ use Rattle.es_base.specs.Shape.{shape_number}
 use Rattle.es_base.specs.Tree.{Tree, Part, Parts, Node, end, more, child, absent, list, boolean}
 use Rattle.es_base.specs.declared.kind.Kind.{Kind}
 use Rattle.es_base.specs.declared.shape.Shape.{Shape}
-use Rattle.es_steps.specs.Code.{Code, Codes, class_code}
 use Rattle.es_steps.specs.Expressions.{is_logical}
-use Rattle.es_steps.specs.Evaluation.{Run, gives, is_none, ev_all}
 use Rattle.es_steps.specs.LoweredClasses.{is_private_key, Element, elements_of, any_element, is_lowered_class, constructor_in, referent_of, is_written_binding, is_hoisted_key}
-use Rattle.es_steps.specs.Meaning.{Meaning, start, source_terms, means}
+use Rattle.es_steps.specs.Meaning.{Meaning, source_terms, means}
 use Rattle.es_steps.specs.NameScopes.{is_suspended_scope}
-use Rattle.es_steps.specs.Opening.{gather, definitions, opening}
 use Rattle.es_steps.specs.Options.{lowers_fields, lowers_blocks, keeps_privates_as_properties}
 use Rattle.es_steps.specs.Parts.{at, items, string_of, is_true, is_present, has_pattern}
 use Rattle.es_steps.specs.PrivateNames.{PrivateMember, PrivateReference, seen_members, private_reference}
-use Rattle.es_steps.specs.Reading.{read}
+use Rattle.es_steps.specs.Quiet.{Around, nothing_around, id_number, inside, has_events_at}
 use Rattle.es_steps.specs.References.{Reference, resolve, written, changed_otherwise, varying, has_number}
 use Rattle.es_steps.specs.Scopes.{is_class_expression}
-use Rattle.es_steps.specs.Values.{Undefined, Referent, Bound, Free}
+use Rattle.es_steps.specs.Values.{Referent, Bound, Free}
 use Rattle.es_steps.specs.declared.options.Options.{Options}
 
 -- ---- what is asked of a class
@@ -46,22 +43,6 @@ any_class test (k ∷ ks) = test k || any_class test ks
 
 -- ---- 1: a heritage with events, and a hoisted key, or an expression with lowered blocks and no static field
 
-abbrev pub heritage_by : Code → List (ℕ × Codes)
-heritage_by (class_code n declared h es) = (n, h) ∷ []
-heritage_by c = []
-
-abbrev pub heritage_at : ℕ → List (ℕ × Codes) → Option Codes
-heritage_at n [] = None
-heritage_at n (p ∷ ps) = cond (nat_eq n p.0) (Some p.1) (heritage_at n ps)
-
-abbrev pub has_events : Option Run → Bool
-has_events None = true
-has_events (Some r) = not (is_none r.events)
-
-abbrev pub heritage_has_events : Code → Option Codes → Bool
-heritage_has_events c None = false
-heritage_has_events c (Some h) = has_events (ev_all (opening (definitions c)) h (λ vs. gives Undefined) [])
-
 abbrev pub is_static_field : Element → Bool
 is_static_field e = e.is_field && e.is_static
 
@@ -70,8 +51,34 @@ moves_before_heritage o written references k =
     any_element (is_hoisted_key written references) k.elements
     || (k.is_expression && (lowers_blocks o && (any_element (λ e. e.is_block) k.elements && not (any_element is_static_field k.elements))))
 
-abbrev pub has_shape_1 : Options → Tree → Code → List ClassAt → Bool
-has_shape_1 o t c ks = lowers_fields o && any_class (λ k. heritage_has_events c (heritage_at k.number (gather heritage_by c)) && moves_before_heritage o (written t) (resolve t) k) ks
+-- the heritage is read where it stands: a is around the class
+abbrev pub heritage_has_events : Options → Tree → Around → Kind → Parts → Bool
+heritage_has_events o program a kind ps = has_events_at o program (inside a kind ps 1) (at 1 ps)
+
+-- whether a node is a lowered class in which something moves before a heritage with events
+abbrev pub moves_here : Options → Tree → Around → Kind → ℕ → Parts → Bool
+moves_here o program a kind m ps = is_lowered_class o kind ps && (heritage_has_events o program a kind ps && moves_before_heritage o (written program) (resolve program) (class_at kind m ps))
+
+module _ (o : Options) (program : Tree) where
+  abbrev mutual
+    pub moves_heritage : Around → Tree → Bool
+    moves_heritage a (Node kind m span semantic_id ps) = moves_here o program a kind m ps || moves_heritage_in (inside a kind ps) ps
+
+    pub moves_heritage_in : (ℕ → Around) → Parts → Bool
+    moves_heritage_in a end = false
+    moves_heritage_in a (more p ps) = moves_heritage_at (a 0) p || moves_heritage_in (λ i. a (suc i)) ps
+
+    pub moves_heritage_at : Around → Part → Bool
+    moves_heritage_at a (child t) = moves_heritage a t
+    moves_heritage_at a (list ps) = moves_heritage_of a ps
+    moves_heritage_at a p = false
+
+    pub moves_heritage_of : Around → Parts → Bool
+    moves_heritage_of a end = false
+    moves_heritage_of a (more p ps) = moves_heritage_at a p || moves_heritage_of a ps
+
+abbrev pub has_shape_1 : Options → Tree → Bool
+has_shape_1 o t = lowers_fields o && moves_heritage o t nothing_around t
 
 -- ---- 2: fields or private methods of instances of a base class, and a parameter that is no identifier
 
@@ -243,10 +250,6 @@ has_shape_5 o t = lowers_fields o && has_unwritable [] t
 
 -- ---- 6: a write of the name of a lowered class; 7: its own name in its keys or heritage, outside functions
 
-abbrev pub id_number : Part → List ℕ
-id_number (child (Node kind b span semantic_id ps)) = b ∷ []
-id_number p = []
-
 abbrev pub class_names : List ClassAt → List ℕ
 class_names [] = []
 class_names (k ∷ ks) = id_number k.id ++ class_names ks
@@ -345,13 +348,13 @@ abbrev pub if_has : Bool → Shape → List Shape → List Shape
 if_has true shape rest = shape ∷ rest
 if_has false shape rest = rest
 
-abbrev pub shapes_of : Options → Tree → Code → List ClassAt → List Shape
-shapes_of o t c ks =
-    if_has (has_shape_1 o t c ks) Shape.S1 (if_has (has_shape_2 o ks) Shape.S2 (if_has (has_shape_3 o ks) Shape.S3 (if_has (has_shape_4 o t ks) Shape.S4
+abbrev pub shapes_of : Options → Tree → List ClassAt → List Shape
+shapes_of o t ks =
+    if_has (has_shape_1 o t) Shape.S1 (if_has (has_shape_2 o ks) Shape.S2 (if_has (has_shape_3 o ks) Shape.S3 (if_has (has_shape_4 o t ks) Shape.S4
     (if_has (has_shape_5 o t) Shape.S5 (if_has (has_shape_6 o t ks) Shape.S6 (if_has (has_shape_7 t ks) Shape.S7 (if_has (has_shape_8 o t) Shape.S8 [])))))))
 
 abbrev pub shapes : Options → Tree → List Shape
-shapes o t = shapes_of o t (read (start (source_terms o t) t) t) (lowered_classes o (preorder t))
+shapes o t = shapes_of o t (lowered_classes o (preorder t))
 
 abbrev pub shape_numbers : Options → Tree → List ℕ
 shape_numbers o t = map shape_number (shapes o t)

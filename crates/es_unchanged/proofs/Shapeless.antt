@@ -16,7 +16,8 @@ use Rattle.es_steps.specs.Options.{lowers_fields, lowers_blocks, keeps_privates_
 use Rattle.es_steps.specs.Parts.{at, items, string_of}
 use Rattle.es_steps.specs.PrivateNames.{PrivateMember, seen_members}
 use Rattle.es_steps.specs.References.{Reference, resolve, varying}
-use Rattle.es_steps.specs.Shapes.{lowered_classes, shapes, private_object, part_if, read_twice, any_written, moved_in, is_private_function, reads_twice, reads_twice_in, reads_twice_at, reads_twice_of, is_unwritable_target, any_unwritable, holds_unwritable, has_unwritable, unwritable_in, unwritable_part, unwritable_items, refers_to, writes_any, suspended_names, is_private_field, is_optional, is_spine, private_behind, private_behind_first, private_behind_part, private_chains, has_shape_4, has_shape_5, has_shape_6, has_shape_8, if_has}
+use Rattle.es_steps.specs.Quiet.{Around, nothing_around, inside}
+use Rattle.es_steps.specs.Shapes.{lowered_classes, shapes, moves_heritage, moves_heritage_in, moves_heritage_at, moves_heritage_of, has_shape_1, private_object, part_if, read_twice, any_written, moved_in, is_private_function, reads_twice, reads_twice_in, reads_twice_at, reads_twice_of, is_unwritable_target, any_unwritable, holds_unwritable, has_unwritable, unwritable_in, unwritable_part, unwritable_items, refers_to, writes_any, suspended_names, is_private_field, is_optional, is_spine, private_behind, private_behind_first, private_behind_part, private_chains, has_shape_4, has_shape_5, has_shape_6, has_shape_8, if_has}
 use Rattle.es_steps.specs.Values.{Referent, Bound, Free}
 use Rattle.es_steps.specs.declared.options.Options.{Options}
 use Rattle.es_unchanged.proofs.Quiet.{no_privates, quiet-first, quiet-second, program-quiet}
@@ -230,6 +231,43 @@ module _ (o : Options) (ws : List ℕ) (rs : List Reference) (fields : lowers_fi
         rw (reads_at-none p (none-first o (preorder_of_part p) (preorder_of ps) none) (quiet-first (preorder_of_part p) (preorder_of ps) quiet))
         (reads_of-none ps (none-second o (preorder_of_part p) (preorder_of ps) none) (quiet-second (preorder_of_part p) (preorder_of ps) quiet))
 
+-- ---- nothing moves before a heritage, where no class is lowered
+
+holds-both : (o : Options) (ts us : List Tree) → holds_lowered o (ts ++ us) ≡ false → (holds_lowered o ts ≡ false) × (holds_lowered o us ≡ false)
+holds-both o [] us h = (refl, h)
+holds-both o (Node kind n span semantic_id ps ∷ ts) us h =
+    let parts = none_of (is_lowered_class o kind ps) (holds_lowered o (ts ++ us)) h in
+    let rest = holds-both o ts us parts.1 in
+    (rw parts.0 rest.0, rest.1)
+
+module _ (o : Options) (program : Tree) where
+  mutual
+    moves-none : (a : Around) (t : Tree) → holds_lowered o (preorder t) ≡ false → moves_heritage o program a t ≡ false
+    moves-none a (Node kind m span semantic_id ps) h =
+        let parts = none_of (is_lowered_class o kind ps) (holds_lowered o (preorder_of ps)) h in
+        rw parts.0 (moves_in-none (inside a kind ps) ps parts.1)
+
+    moves_in-none : (a : ℕ → Around) (ps : Parts) → holds_lowered o (preorder_of ps) ≡ false → moves_heritage_in o program a ps ≡ false
+    moves_in-none a end h = refl
+    moves_in-none a (more p ps) h =
+        let parts = holds-both o (preorder_of_part p) (preorder_of ps) h in
+        rw (moves_at-none (a 0) p parts.0) (moves_in-none (λ i. a (suc i)) ps parts.1)
+
+    moves_at-none : (a : Around) (p : Part) → holds_lowered o (preorder_of_part p) ≡ false → moves_heritage_at o program a p ≡ false
+    moves_at-none a (child t) h = moves-none a t h
+    moves_at-none a absent h = refl
+    moves_at-none a (list ps) h = moves_of-none a ps h
+    moves_at-none a (string s) h = refl
+    moves_at-none a no_string h = refl
+    moves_at-none a (boolean b) h = refl
+    moves_at-none a (literal v) h = refl
+
+    moves_of-none : (a : Around) (ps : Parts) → holds_lowered o (preorder_of ps) ≡ false → moves_heritage_of o program a ps ≡ false
+    moves_of-none a end h = refl
+    moves_of-none a (more p ps) h =
+        let parts = holds-both o (preorder_of_part p) (preorder_of ps) h in
+        rw (moves_at-none a p parts.0) (moves_of-none a ps parts.1)
+
 -- ---- all shapes
 
 or-none : (a b : Bool) → a ≡ false → b ≡ false → (a || b) ≡ false
@@ -239,13 +277,14 @@ asked-none : (a b : Bool) → (a ≡ true → b ≡ false) → (a && b) ≡ fals
 asked-none true b h = h refl
 asked-none false b h = refl
 
-none-if : (a b c d : Bool) (s t u v : Shape) → a ≡ false → b ≡ false → c ≡ false → d ≡ false → if_has a s (if_has b t (if_has c u (if_has d v []))) ≡ []
-none-if a b c d s t u v h i j k = rw (h, i, j, k) refl
+none-if : (a b c d e : Bool) (s t u v w : Shape) → a ≡ false → b ≡ false → c ≡ false → d ≡ false → e ≡ false → if_has a s (if_has b t (if_has c u (if_has d v (if_has e w [])))) ≡ []
+none-if a b c d e s t u v w h i j k l = rw (h, i, j, k, l) refl
 
 pub no_shapes : (o : Options) (t : Tree) → conforms Place.Program t ≡ true → lowers_blocks o ≡ false → nothing_left o t ≡ true → shapes o t ≡ []
 no_shapes o t h b left =
     rw (classes-none o (preorder t) (no_lowered_class o t left), and-false (lowers_fields o), and-false (not (lowers_blocks o)), and-false (lowers_fields o))
-    (none-if (has_shape_4 o t []) (has_shape_5 o t) (has_shape_6 o t []) (has_shape_8 o t) Shape.S4 Shape.S5 Shape.S6 Shape.S8
+    (none-if (has_shape_1 o t) (has_shape_4 o t []) (has_shape_5 o t) (has_shape_6 o t []) (has_shape_8 o t) Shape.S1 Shape.S4 Shape.S5 Shape.S6 Shape.S8
+    (asked-none (lowers_fields o) _ (λ f. moves-none o t nothing_around t (no_lowered_class o t left)))
     (asked-none (lowers_fields o) _ (λ f. or-none _ _ (reads-none o (varying t) (resolve t) f b t left (program-quiet o t f h left)) refl))
     (asked-none (lowers_fields o) _ (λ f. unwritable-none [] t (program-quiet o t f h left)))
     (rw (suspended-none o (preorder t) b) (writes-none (resolve t)))

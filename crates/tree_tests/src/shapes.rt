@@ -4,7 +4,7 @@
 use es_json::read::read_program;
 use es_node::node::Node;
 use es_options::assumptions::{BadAssumptions, FromValue};
-use es_outside::outside::known_shapes;
+use es_outside::outside::outside_shapes;
 use es_reading::count::is_countable;
 use es_shapes::warnings::warnings;
 use es_steps::options::{ClassPropertiesOptions, CompilerAssumptions, ES2022Options, Options};
@@ -69,8 +69,7 @@ fn program(alloc: Global, text: &str) -> Option<Node> {
     }
 }
 
-/// The numbers of the shapes of a program, with class properties on, and a question mark in front where S1
-/// turns on the events of a heritage; nothing where the text is no program.
+/// The numbers of the shapes of a program, with class properties on; nothing where the text is no program.
 fn shapes(alloc: Global, text: &str) -> Result<String, AllocError> {
     let options = Options {
         es2022: ES2022Options {
@@ -81,11 +80,7 @@ fn shapes(alloc: Global, text: &str) -> Result<String, AllocError> {
     };
     let mut numbers = String::new(alloc);
     if let Some(program) = program(alloc, text) {
-        let outside = known_shapes(alloc, &program, &options)?;
-        if outside.may_have_first {
-            numbers.push('?')?;
-        }
-        for shape in &outside.others {
+        for shape in &outside_shapes(alloc, &program, &options)? {
             let number = shape.number();
             numbers.push_str(format!(in alloc; "{number}")?.as_str())?;
         }
@@ -99,7 +94,7 @@ fn shapes_are_found(rt: HostRuntime) -> Result<(), Fail> {
         // class A extends p() { [k()] = 1; }
         (
             r#"{"type":"Program","body":[{"type":"ClassDeclaration","id":{"type":"Identifier","name":"A"},"superClass":{"type":"CallExpression","callee":{"type":"Identifier","name":"p"},"arguments":[],"optional":false},"body":{"type":"ClassBody","body":[{"type":"PropertyDefinition","static":false,"computed":true,"key":{"type":"CallExpression","callee":{"type":"Identifier","name":"k"},"arguments":[],"optional":false},"value":{"type":"Literal","value":1,"raw":"1"}}]}}],"sourceType":"script"}"#,
-            "?",
+            "1",
         ),
         // class A { x = 1; constructor(y = g()) {} }
         (
@@ -184,7 +179,7 @@ fn shapes_are_found(rt: HostRuntime) -> Result<(), Fail> {
         // class C { [C.k] = 1; }
         (
             r#"{"type":"Program","body":[{"type":"ClassDeclaration","id":{"type":"Identifier","name":"C"},"superClass":null,"body":{"type":"ClassBody","body":[{"type":"PropertyDefinition","static":false,"computed":true,"key":{"type":"MemberExpression","object":{"type":"Identifier","name":"C"},"property":{"type":"Identifier","name":"k"},"computed":false,"optional":false},"value":{"type":"Literal","value":1,"raw":"1"}}]}}],"sourceType":"script"}"#,
-            "?7",
+            "7",
         ),
         // let k = 1; class C { [k] = C.k; }
         (
@@ -194,7 +189,7 @@ fn shapes_are_found(rt: HostRuntime) -> Result<(), Fail> {
         // class C { [(() => C.k)()] = 1; }
         (
             r#"{"type":"Program","body":[{"type":"ClassDeclaration","id":{"type":"Identifier","name":"C"},"superClass":null,"body":{"type":"ClassBody","body":[{"type":"PropertyDefinition","static":false,"computed":true,"key":{"type":"CallExpression","callee":{"type":"ArrowFunctionExpression","id":null,"expression":true,"generator":false,"async":false,"params":[],"body":{"type":"MemberExpression","object":{"type":"Identifier","name":"C"},"property":{"type":"Identifier","name":"k"},"computed":false,"optional":false}},"arguments":[],"optional":false},"value":{"type":"Literal","value":1,"raw":"1"}}]}}],"sourceType":"script"}"#,
-            "?",
+            "",
         ),
         // class A { #x; m(o) { return o?.p.#x; } }
         (
@@ -209,6 +204,52 @@ fn shapes_are_found(rt: HostRuntime) -> Result<(), Fail> {
         // class A { #x; m(o) { return (o?.p).#x; } }
         (
             r#"{"type":"Program","body":[{"type":"ClassDeclaration","id":{"type":"Identifier","name":"A"},"superClass":null,"body":{"type":"ClassBody","body":[{"type":"PropertyDefinition","static":false,"computed":false,"key":{"type":"PrivateIdentifier","name":"x"},"value":null},{"type":"MethodDefinition","static":false,"computed":false,"key":{"type":"Identifier","name":"m"},"kind":"method","value":{"type":"FunctionExpression","id":null,"expression":false,"generator":false,"async":false,"params":[{"type":"Identifier","name":"o"}],"body":{"type":"BlockStatement","body":[{"type":"ReturnStatement","argument":{"type":"MemberExpression","object":{"type":"ChainExpression","expression":{"type":"MemberExpression","object":{"type":"Identifier","name":"o"},"property":{"type":"Identifier","name":"p"},"computed":false,"optional":true}},"property":{"type":"PrivateIdentifier","name":"x"},"computed":false,"optional":false}}]}}}]}}],"sourceType":"script"}"#,
+            "",
+        ),
+    ];
+    for (text, expected) in cases {
+        assert_eq!(rt; shapes(rt.alloc(), text)?.as_str(), expected);
+    }
+    Ok(())
+}
+
+/// A heritage has events or not.
+#[test]
+fn heritages_are_told_apart(rt: HostRuntime) -> Result<(), Fail> {
+    let cases = [
+        // class P {} class A extends P { [k()] = 1; }
+        (
+            r#"{"type":"Program","body":[{"type":"ClassDeclaration","id":{"type":"Identifier","name":"P"},"superClass":null,"body":{"type":"ClassBody","body":[]}},{"type":"ClassDeclaration","id":{"type":"Identifier","name":"A"},"superClass":{"type":"Identifier","name":"P"},"body":{"type":"ClassBody","body":[{"type":"PropertyDefinition","static":false,"computed":true,"key":{"type":"CallExpression","callee":{"type":"Identifier","name":"k"},"arguments":[],"optional":false},"value":{"type":"Literal","value":1,"raw":"1"}}]}}],"sourceType":"script"}"#,
+            "",
+        ),
+        // class A extends P { [k()] = 1; }
+        (
+            r#"{"type":"Program","body":[{"type":"ClassDeclaration","id":{"type":"Identifier","name":"A"},"superClass":{"type":"Identifier","name":"P"},"body":{"type":"ClassBody","body":[{"type":"PropertyDefinition","static":false,"computed":true,"key":{"type":"CallExpression","callee":{"type":"Identifier","name":"k"},"arguments":[],"optional":false},"value":{"type":"Literal","value":1,"raw":"1"}}]}}],"sourceType":"script"}"#,
+            "1",
+        ),
+        // class A extends P { k = 1; }
+        (
+            r#"{"type":"Program","body":[{"type":"ClassDeclaration","id":{"type":"Identifier","name":"A"},"superClass":{"type":"Identifier","name":"P"},"body":{"type":"ClassBody","body":[{"type":"PropertyDefinition","static":false,"computed":false,"key":{"type":"Identifier","name":"k"},"value":{"type":"Literal","value":1,"raw":"1"}}]}}],"sourceType":"script"}"#,
+            "",
+        ),
+        // class A extends (class { static { f(); } }) { [k()] = 1; }
+        (
+            r#"{"type":"Program","body":[{"type":"ClassDeclaration","id":{"type":"Identifier","name":"A"},"superClass":{"type":"ClassExpression","id":null,"superClass":null,"body":{"type":"ClassBody","body":[{"type":"StaticBlock","body":[{"type":"ExpressionStatement","expression":{"type":"CallExpression","callee":{"type":"Identifier","name":"f"},"arguments":[],"optional":false}}]}]}},"body":{"type":"ClassBody","body":[{"type":"PropertyDefinition","static":false,"computed":true,"key":{"type":"CallExpression","callee":{"type":"Identifier","name":"k"},"arguments":[],"optional":false},"value":{"type":"Literal","value":1,"raw":"1"}}]}}],"sourceType":"script"}"#,
+            "1",
+        ),
+        // class A extends (class { #x = f(); }) { [k()] = 1; }
+        (
+            r#"{"type":"Program","body":[{"type":"ClassDeclaration","id":{"type":"Identifier","name":"A"},"superClass":{"type":"ClassExpression","id":null,"superClass":null,"body":{"type":"ClassBody","body":[{"type":"PropertyDefinition","static":false,"computed":false,"key":{"type":"PrivateIdentifier","name":"x"},"value":{"type":"CallExpression","callee":{"type":"Identifier","name":"f"},"arguments":[],"optional":false}}]}},"body":{"type":"ClassBody","body":[{"type":"PropertyDefinition","static":false,"computed":true,"key":{"type":"CallExpression","callee":{"type":"Identifier","name":"k"},"arguments":[],"optional":false},"value":{"type":"Literal","value":1,"raw":"1"}}]}}],"sourceType":"script"}"#,
+            "",
+        ),
+        // function f() { return class extends arguments { [k()] = 1; }; }
+        (
+            r#"{"type":"Program","body":[{"type":"FunctionDeclaration","id":{"type":"Identifier","name":"f"},"expression":false,"generator":false,"async":false,"params":[],"body":{"type":"BlockStatement","body":[{"type":"ReturnStatement","argument":{"type":"ClassExpression","id":null,"superClass":{"type":"Identifier","name":"arguments"},"body":{"type":"ClassBody","body":[{"type":"PropertyDefinition","static":false,"computed":true,"key":{"type":"CallExpression","callee":{"type":"Identifier","name":"k"},"arguments":[],"optional":false},"value":{"type":"Literal","value":1,"raw":"1"}}]}}}]}}],"sourceType":"script"}"#,
+            "",
+        ),
+        // class B { m() { return class extends B { [k()] = 1; }; } } B = 0;
+        (
+            r#"{"type":"Program","body":[{"type":"ClassDeclaration","id":{"type":"Identifier","name":"B"},"superClass":null,"body":{"type":"ClassBody","body":[{"type":"MethodDefinition","static":false,"computed":false,"key":{"type":"Identifier","name":"m"},"kind":"method","value":{"type":"FunctionExpression","id":null,"expression":false,"generator":false,"async":false,"params":[],"body":{"type":"BlockStatement","body":[{"type":"ReturnStatement","argument":{"type":"ClassExpression","id":null,"superClass":{"type":"Identifier","name":"B"},"body":{"type":"ClassBody","body":[{"type":"PropertyDefinition","static":false,"computed":true,"key":{"type":"CallExpression","callee":{"type":"Identifier","name":"k"},"arguments":[],"optional":false},"value":{"type":"Literal","value":1,"raw":"1"}}]}}}]}}}]}},{"type":"ExpressionStatement","expression":{"type":"AssignmentExpression","operator":"=","left":{"type":"Identifier","name":"B"},"right":{"type":"Literal","value":0,"raw":"0"}}}],"sourceType":"script"}"#,
             "",
         ),
     ];
