@@ -5,7 +5,7 @@ use Rattle.std.proofs.Math.Bool.{and-false}
 use Rattle.std.proofs.lemmas.List.{append-nil}
 use Rattle.es_base.specs.Conforms.{conforms}
 use Rattle.es_base.specs.Preorder.{preorder, preorder_of}
-use Rattle.es_base.specs.Tree.{Tree, Part, Parts, Node, end, more, child, absent, list}
+use Rattle.es_base.specs.Tree.{Tree, Part, Parts, Node, end, more, child, absent, list, string}
 use Rattle.es_base.specs.declared.kind.Kind.{Kind}
 use Rattle.es_base.specs.declared.shape.Shape.{Shape}
 use Rattle.es_base.specs.declared.table.Place.{Place}
@@ -16,8 +16,8 @@ use Rattle.es_steps.specs.Parts.{at}
 use Rattle.es_steps.specs.PrivateNames.{PrivateMember, elements_members}
 use Rattle.es_steps.specs.References.{Reference, item_references, resolve, written, changed_otherwise, varying}
 use Rattle.es_steps.specs.Scopes.{Declaration, body_names}
-use Rattle.es_steps.specs.Quiet.{Around, nothing_around, id_number}
-use Rattle.es_steps.specs.Shapes.{ClassAt, class_at, lowered_classes, any_class, moves_heritage, moves_heritage_of, has_shape_1, initializes_instances, is_late_class, has_shape_2, keeps_block, has_shape_3, reads_twice, reads_twice_of, is_imported_key, has_imported_key, has_shape_4, has_unwritable, unwritable_items, has_shape_5, class_names, refers_to, writes_any, has_shape_6, named_in_keys, names_stand_at, suspended_names, has_shape_7, private_behind_part, private_chains, has_shape_8, if_has, shapes_of, shapes}
+use Rattle.es_steps.specs.Quiet.{Around, nothing_around, id_number, inside}
+use Rattle.es_steps.specs.Shapes.{ClassAt, class_at, lowered_classes, any_class, moves_heritage, moves_heritage_of, has_shape_1, initializes_instances, is_late_class, has_shape_2, keeps_block, has_shape_3, reads_twice, reads_twice_of, is_changing_key, has_changing_key, has_shape_4, has_unwritable, unwritable_items, has_shape_5, class_names, refers_to, writes_any, has_shape_6, named_in_keys, names_stand_at, suspended_names, has_shape_7, private_behind_part, private_chains, has_shape_8, if_has, shapes_of, shapes}
 use Rattle.es_steps.specs.declared.options.Options.{Options}
 use Rattle.class_properties.proofs.Declared.{two_ends}
 use Rattle.class_properties.proofs.Shaped.{no_value, a_literal, a_reference, a_key, a_field, AreFields, a_body, a_name, a_class, AreClasses, IsProgram, a_program, first_form-shaped}
@@ -78,14 +78,14 @@ no_keys : (names : List ℕ) (rs : List Reference) (es : Parts) → AreFields es
 no_keys names rs end h = refl
 no_keys names rs (more p es) (a_field m span semantic_id key v hk hv, h) = no_keys names rs es h
 
-no_imported : (hoists : Bool) (is : List ℕ) (rs : List Reference) (es : Parts) → AreFields es → any_element (is_imported_key hoists is rs) (elements_in es) ≡ false
-no_imported hoists is rs end h = refl
-no_imported hoists is rs (more p es) (a_field m span semantic_id key v hk hv, h) = no_imported hoists is rs es h
+no_changing : (hoists : Bool) (is : List ℕ) (rs : List Reference) (es : Parts) → AreFields es → any_element (is_changing_key hoists is rs) (elements_in es) ≡ false
+no_changing hoists is rs end h = refl
+no_changing hoists is rs (more p es) (a_field m span semantic_id key v hk hv, h) = no_changing hoists is rs es h
 
 -- ---- shapes by classes
 
-imports-none : (ws is : List ℕ) (rs : List Reference) (k : ClassAt) → IsPlainAt k → has_imported_key ws is rs k ≡ false
-imports-none ws is rs k (plain_at n j span semantic_id id es h) = no_imported (any_element (is_hoisted_key ws rs) (elements_in es)) is rs es h
+changing-none : (ws is : List ℕ) (rs : List Reference) (k : ClassAt) → IsPlainAt k → has_changing_key ws is rs k ≡ false
+changing-none ws is rs k (plain_at n j span semantic_id id es h) = no_changing (any_element (is_hoisted_key ws rs) (elements_in es)) is rs es h
 
 late-none : (k : ClassAt) → IsPlainAt k → is_late_class k ≡ false
 late-none k (plain_at n j span semantic_id id es h) = rw (no_constructor es h) (and-false (any_element initializes_instances (elements_in es)))
@@ -131,7 +131,7 @@ classes-quiet (more p ps) (a_class n span semantic_id id body (a_name i ispan i_
       twice = λ o ws rs moved. rw (here.twice o ws rs moved, there.twice o ws rs moved) refl;
       writes = λ names ds. rw (two_ends (item_references ds false es) (item_references ds false ps)) (writes-append names (item_references ds false es) (item_references ds false ps) (here.writes names ds) (there.writes names ds));
       unwritable = λ seen. rw (here.unwritable (elements_members n es ++ seen), there.unwritable seen) refl;
-      heritages = λ o program a. rw (and-false (is_lowered_class o Kind.ClassDeclaration (more id (more absent (more body end)))), here.heritages o program _, there.heritages o program a) refl;
+      heritages = λ o program a. rw (and-false (is_lowered_class o Kind.ClassDeclaration (more id (more absent (more body end)))), here.heritages o program (inside (inside a Kind.ClassDeclaration (more id (more absent (more body end))) 2) Kind.ClassBody (more (list es) end) 0), there.heritages o program a) refl;
     }
 
 -- and of the nodes of a program
@@ -147,7 +147,7 @@ program-quiet t (a_program m span semantic_id s all h) =
       twice = λ o ws rs. rw (q.twice o ws rs false) refl;
       writes = λ names. rw (append-nil (item_references (body_names all ++ []) false all)) (q.writes names (body_names all ++ []));
       unwritable = rw (q.unwritable []) refl;
-      heritages = λ o program. rw (q.heritages o program _) refl;
+      heritages = λ o program. rw (q.heritages o program (inside nothing_around Kind.Program (more (string s) (more (list all) end)) 1)) refl;
     }
 
 -- ---- no chain
@@ -192,7 +192,7 @@ program-shapes o t p =
     (rw (q.heritages o t) (and-false (lowers_fields o)))
     (rw (no_class is_late_class late-none ks plain) (and-false (lowers_fields o)))
     (rw (no_class keeps_block block-none ks plain, and-false (not (lowers_blocks o))) (and-false (lowers_fields o)))
-    (rw (q.twice o (varying t) (resolve t), no_class (has_imported_key (written t) (changed_otherwise t) (resolve t)) (imports-none (written t) (changed_otherwise t) (resolve t)) ks plain) (and-false (lowers_fields o)))
+    (rw (q.twice o (varying t) (resolve t), no_class (has_changing_key (written t) (changed_otherwise t) (resolve t)) (changing-none (written t) (changed_otherwise t) (resolve t)) ks plain) (and-false (lowers_fields o)))
     (rw q.unwritable (and-false (lowers_fields o)))
     (q.writes (class_names ks ++ suspended_names o (preorder t)))
     named

@@ -3,7 +3,7 @@
 ghost use Rattle.std.specs.Prelude.{◌≡◌, codes, option_map};
 ghost use Rattle.es_base.specs.Tree.{Tree};
 ghost use Rattle.es_steps.specs.LoweredClasses.{referent_of};
-ghost use Rattle.es_steps.specs.References.{resolve, written, imported, varying, assigned, has_number, writes_free};
+ghost use Rattle.es_steps.specs.References.{resolve, written, changed_otherwise, varying, assigned, has_number, changes_free};
 ghost use Rattle.es_shapes.specs.Names.{bound_number};
 
 use es_base::ids::NodeId;
@@ -22,11 +22,12 @@ pub trait NameFacts: Drop {
     fn is_written(&self, binding: NodeId) -> bool
         ensures { result ≡ has_number binding.0 (written (program self.now)) };
 
-    /// Whether an import declares the binding.
-    fn is_imported(&self, binding: NodeId) -> bool
-        ensures { result ≡ has_number binding.0 (imported (program self.now)) };
+    /// Whether the binding changes without a write: an import declares it, a function in a block gives it a value
+    /// (ECMA-262, B.3.2), or a `var` of its name in a catch (B.3.4).
+    fn changes_otherwise(&self, binding: NodeId) -> bool
+        ensures { result ≡ has_number binding.0 (changed_otherwise (program self.now)) };
 
-    /// Whether the binding is written or imported.
+    /// Whether the binding is written, or changes without.
     fn is_varying(&self, binding: NodeId) -> bool
         ensures { result ≡ has_number binding.0 (varying (program self.now)) };
 
@@ -34,7 +35,7 @@ pub trait NameFacts: Drop {
     fn is_assigned(&self, binding: NodeId) -> bool
         ensures { result ≡ has_number binding.0 (assigned (resolve (program self.now))) };
 
-    /// Whether a reference writes a free name `arguments`.
-    fn writes_arguments(&self) -> bool
-        ensures { result ≡ writes_free (codes "arguments") (resolve (program self.now)) };
+    /// Whether a free name `arguments` is given a value: by a reference, or by a function in a block.
+    fn changes_arguments(&self) -> bool
+        ensures { result ≡ changes_free (codes "arguments") (program self.now) };
 }

@@ -8,7 +8,7 @@ mod class;
 mod element;
 pub mod facts;
 mod heritage;
-mod imported_key;
+mod changing_key;
 pub mod kept_block;
 pub mod late_class;
 pub mod moved_heritage;

@@ -9,7 +9,7 @@ ghost use Rattle.es_steps.specs.LoweredClasses.{has_no_items, referent_of};
 ghost use Rattle.es_steps.specs.Parts.{at, is_true, string_of};
 ghost use Rattle.es_steps.specs.Quiet as spec;
 ghost use Rattle.es_steps.specs.Quiet.{is_new, is_this, is_constant};
-ghost use Rattle.es_steps.specs.References.{resolve, varying, writes_free};
+ghost use Rattle.es_steps.specs.References.{resolve, varying, changes_free};
 ghost use Rattle.es_shapes.specs.Around.{ids_in, around};
 ghost use Rattle.es_shapes.specs.Quiet as kinds;
 
@@ -116,13 +116,13 @@ pub fn is_evaluated(node: &Node, i: usize) -> bool
 #[tactic(auto, using(crate::proofs::ByKind::reads_by_binding))]
 fn reads_name<F: NameFacts>(facts: &F, names: &ClassNames, standing: Standing, node: &Node) -> bool
     requires { kind_of node.now ≡ Kind.IdentifierReference }
-    ensures { result ≡ spec.reads_name (varying (F.program facts.now)) (writes_free (codes "arguments") (resolve (F.program facts.now))) (around (ids_in names.now) standing) (string_of (at 0 (parts_in node.now))) (referent_of (number_in node.now) (resolve (F.program facts.now))) }
+    ensures { result ≡ spec.reads_name (varying (F.program facts.now)) (changes_free (codes "arguments") (F.program facts.now)) (around (ids_in names.now) standing) (string_of (at 0 (parts_in node.now))) (referent_of (number_in node.now) (resolve (F.program facts.now))) }
 {
     match facts.binding_of(node.node_id()) {
         Some(binding) => facts.is_varying(binding) && !is_class_around(names, binding),
         None => {
             let name = IdentifierReferenceRef::from_node(node).name;
-            !(is_arguments(name) && standing.has_arguments && !facts.writes_arguments())
+            !(is_arguments(name) && standing.has_arguments && !facts.changes_arguments())
         }
     }
 }

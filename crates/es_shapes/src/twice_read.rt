@@ -1,4 +1,4 @@
-// Whether a written or imported name is read twice.
+// Whether a varying name is read twice.
 
 ghost use Rattle.std.specs.Prelude.{◌≡◌, false};
 ghost use Rattle.es_base.specs.Preorder.{preorder};
@@ -13,7 +13,7 @@ ghost use Rattle.es_shapes.specs.Twice.{reads_twice_here, target_parts, is_super
 use crate::asked::{keeps_privates_as_properties, lowers_blocks, lowers_fields};
 use crate::element::is_private_key;
 use crate::facts::NameFacts;
-use crate::imported_key::has_imported_key;
+use crate::changing_key::has_changing_key;
 use es_base::kind::Kind;
 use es_base::operator::AssignmentOperator;
 use es_node::node::{Node, Part};
@@ -24,16 +24,16 @@ use es_tree::expression::{
     TaggedTemplateExpressionRef, UpdateExpressionRef,
 };
 
-/// Whether a written or imported name is read twice, with class properties on: as the object of a private
+/// Whether a varying name is read twice, with class properties on: as the object of a private
 /// member that is written by an operator, updated, called, a tag or behind `?.`, or as the key of a `super`
-/// member in moved code that is written by an operator or updated; or an imported name is a computed key that
+/// member in moved code that is written by an operator or updated; or a name that changes without a write is a computed key that
 /// is read at another time: shape S4.
 pub fn has_twice_read_name<F: NameFacts>(program: &Node, options: &Options, facts: &F) -> bool
     requires { F.program facts.now ≡ program.now }
     ensures { result ≡ has_shape_4 options.now program.now (lowered_classes options.now (preorder program.now)) }
 {
     lowers_fields(options)
-        && (any_twice_read(program, options, facts) || has_imported_key(program, options, facts))
+        && (any_twice_read(program, options, facts) || has_changing_key(program, options, facts))
 }
 
 /// Whether a node of the program reads such a name twice.
@@ -194,7 +194,7 @@ fn is_private_function(node: &Node, i: usize) -> bool
     }
 }
 
-/// Whether the node by itself reads a written or imported name twice.
+/// Whether the node by itself reads a varying name twice.
 #[tactic(auto, using(crate::proofs::Twice::no_twice))]
 fn reads_twice_here<F: NameFacts>(options: &Options, facts: &F, moved: bool, node: &Node) -> bool
     ensures { result ≡ reads_twice_here options.now (varying (F.program facts.now)) (resolve (F.program facts.now)) moved node.now }
@@ -231,14 +231,14 @@ fn reads_twice_here<F: NameFacts>(options: &Options, facts: &F, moved: bool, nod
 }
 
 /// Whether the object of a private member that counts, or the key of a `super` member in moved code, is a
-/// written or imported name.
+/// varying name.
 fn is_target_written<F: NameFacts>(facts: &F, counts: bool, moved: bool, target: &Node) -> bool
     ensures { result ≡ any_written (varying (F.program facts.now)) (resolve (F.program facts.now)) (target_parts counts moved (child target.now)) }
 {
     (counts && is_object_written(facts, target)) || (moved && is_super_key_written(facts, target))
 }
 
-/// Whether the node is a private member, and its object a written or imported name.
+/// Whether the node is a private member, and its object a varying name.
 #[tactic(auto, using(crate::proofs::Twice::no_private))]
 fn is_object_written<F: NameFacts>(facts: &F, node: &Node) -> bool
     ensures { result ≡ is_written_name (varying (F.program facts.now)) (resolve (F.program facts.now)) (private_object (child node.now)) }
@@ -250,7 +250,7 @@ fn is_object_written<F: NameFacts>(facts: &F, node: &Node) -> bool
     }
 }
 
-/// Whether the node is a computed member of `super`, and its key a written or imported name.
+/// Whether the node is a computed member of `super`, and its key a varying name.
 #[tactic(auto, using(crate::proofs::Twice::no_member, crate::proofs::Twice::member_key))]
 fn is_super_key_written<F: NameFacts>(facts: &F, node: &Node) -> bool
     ensures { result ≡ is_written_name (varying (F.program facts.now)) (resolve (F.program facts.now)) (super_key (child node.now)) }

@@ -111,11 +111,11 @@ keeps_block k = any_element (λ e. e.is_block) k.elements && any_element (λ e. 
 abbrev pub has_shape_3 : Options → List ClassAt → Bool
 has_shape_3 o ks = lowers_fields o && (not (lowers_blocks o) && any_class keeps_block ks)
 
--- ---- 4: a written or imported bound name that is read twice: the object of a private member that is written by an
+-- ---- 4: a bound name that varies and is read twice: the object of a private member that is written by an
 -- operator, updated, called, a tag or behind `?.`, or the key of a `super` member in moved code that is written by an
 -- operator or updated. A private member that is kept as a property is read once but where a logical operator writes it, and
--- behind `?.`. And an imported name as a computed key of a lowered class that is read at another time: that of a field,
--- where the field is defined; and any, where other keys are evaluated in front of the class.
+-- behind `?.`. And a name that changes without a write as a computed key of a lowered class, which is read at another time: that of a
+-- field, where the field is defined; and any, where other keys are evaluated in front of the class.
 
 abbrev pub is_written_name : List ℕ → List Reference → Part → Bool
 is_written_name written references (child (Node Kind.IdentifierReference m span semantic_id ps)) = is_written_binding written (referent_of m references)
@@ -185,16 +185,16 @@ module _ (o : Options) (written : List ℕ) (references : List Reference) where
     reads_twice_of moved end = false
     reads_twice_of moved (more p ps) = reads_twice_at moved false p || reads_twice_of moved ps
 
--- an imported name as a computed key, which has no temporary: that of a field, or one that stays behind keys in front of the
--- class
-abbrev pub is_imported_key : Bool → List ℕ → List Reference → Element → Bool
-is_imported_key hoists imported references e = e.computed && (is_written_name imported references e.key && (e.is_field || hoists))
+-- a name that changes without a write as a computed key, which has no temporary: that of a field, or one that stays behind keys
+-- in front of the class
+abbrev pub is_changing_key : Bool → List ℕ → List Reference → Element → Bool
+is_changing_key hoists changed references e = e.computed && (is_written_name changed references e.key && (e.is_field || hoists))
 
-abbrev pub has_imported_key : List ℕ → List ℕ → List Reference → ClassAt → Bool
-has_imported_key written imported references k = any_element (is_imported_key (any_element (is_hoisted_key written references) k.elements) imported references) k.elements
+abbrev pub has_changing_key : List ℕ → List ℕ → List Reference → ClassAt → Bool
+has_changing_key written changed references k = any_element (is_changing_key (any_element (is_hoisted_key written references) k.elements) changed references) k.elements
 
 abbrev pub has_shape_4 : Options → Tree → List ClassAt → Bool
-has_shape_4 o t ks = lowers_fields o && (reads_twice o (varying t) (resolve t) false false t || any_class (has_imported_key (written t) (changed_otherwise t) (resolve t)) ks)
+has_shape_4 o t ks = lowers_fields o && (reads_twice o (varying t) (resolve t) false false t || any_class (has_changing_key (written t) (changed_otherwise t) (resolve t)) ks)
 
 -- ---- 5: a private member without a writing side as a target in a pattern; 8: a private name behind `?.` in one chain
 
