@@ -84,8 +84,8 @@ module _ (first : ℕ) (us : List Tree) (once : EachOnce (map number_of us)) whe
       let found : numbers_in_class m us ≡ there = class-numbers Kind.ClassDeclaration m span semantic_id (more id (more absent (more body end))) us refl once (i (Node Kind.ClassDeclaration m span semantic_id (more id (more absent (more body end)))) here) in
       let inner : AllIn (map number_of (preorder_of es)) there = λ k e. or-true (nat_eq k j) (has_number k (map number_of (preorder_of es ++ []))) (ap (λ ts. has_number k (map number_of ts)) (append-nil (preorder_of es)) ∙ e) in
       let own : are_new_or_among first there (j ∷ map number_of (made ++ [])) ≡ true =
-          both (or-true (is_new first j) (has_number j there) (rw (number-same j) refl))
-          (ap (λ ts. are_new_or_among first there (map number_of ts)) (append-nil made) ∙ elements-among first there es he inner n l) in
+      both (or-true (is_new first j) (has_number j there) (rw (number-same j) refl))
+      (ap (λ ts. are_new_or_among first there (map number_of ts)) (append-nil made) ∙ elements-among first there es he inner n l) in
       both (ap (λ ns. are_new_or_among first ns (j ∷ map number_of (made ++ []))) found ∙ own)
       (enters-append first us ((made ++ []) ++ []) (preorder_of (lowered_statements next cs))
       (rw (append-nil made, append-nil made) (elements-plain first us es he n))

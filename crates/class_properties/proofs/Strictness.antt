@@ -137,7 +137,7 @@ program-strict first n b all h e l laid =
     let source : List ℕ = strict_in b (numbered_parts 1 all) ++ [] in
     let all_strict : List ℕ = if_strict b 0 ++ source in
     let has : (k : ℕ) → 1 ≤ k → k < first → has_number k all_strict ≡ true =
-        λ k i j. has-right k (if_strict b 0) source (has-left k (strict_in b (numbered_parts 1 all)) [] (ap (has_number k) (classes-strict b all h 1) ∙ has-numbered_parts k 1 all i (omega (arith, j, e)))) in
+    λ k i j. has-right k (if_strict b 0) source (has-left k (strict_in b (numbered_parts 1 all)) [] (ap (has_number k) (classes-strict b all h 1) ∙ has-numbered_parts k 1 all i (omega (arith, j, e)))) in
     among-append first all_strict (if_strict b 0) (strict_in b (lowered_statements n (numbered_parts 1 all)) ++ [])
     (own-strict first b source)
     (among-append first all_strict (strict_in b (lowered_statements n (numbered_parts 1 all))) [] (ap (are_new_or_among first all_strict) (all-lowered-strict b n all h 1) ∙ laid-strict all_strict l has laid) refl)

@@ -4,11 +4,11 @@
 
 pub mod around;
 pub mod asked;
+mod changing_key;
 mod class;
 mod element;
 pub mod facts;
 mod heritage;
-mod changing_key;
 pub mod kept_block;
 pub mod late_class;
 pub mod moved_heritage;

@@ -11,9 +11,9 @@ ghost use Rattle.es_steps.specs.Shapes.{lowered_classes, is_written_name, privat
 ghost use Rattle.es_shapes.specs.Twice.{reads_twice_here, target_parts, is_super_kind};
 
 use crate::asked::{keeps_privates_as_properties, lowers_blocks, lowers_fields};
+use crate::changing_key::has_changing_key;
 use crate::element::is_private_key;
 use crate::facts::NameFacts;
-use crate::changing_key::has_changing_key;
 use es_base::kind::Kind;
 use es_base::operator::AssignmentOperator;
 use es_node::node::{Node, Part};

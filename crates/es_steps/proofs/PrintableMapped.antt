@@ -13,7 +13,6 @@ use Rattle.es_steps.specs.Values.{String}
 use Rattle.es_steps.proofs.KeptNodesMapped.{statement_list-mapped}
 use Rattle.es_steps.proofs.Mapped.{mapped, mapped_part, mapped_parts}
 use Rattle.es_steps.proofs.PartsMapped.{cond-mapped, at-mapped, items_at-mapped, block_items_at-mapped, string_at-mapped, is_true_at-mapped, is_present_at-mapped}
-
 use Rattle.es_steps.proofs.StrictMapped.{body_strict-mapped}
 
 module _ (f : ℕ → ℕ) where
