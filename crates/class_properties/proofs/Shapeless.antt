@@ -5,7 +5,7 @@ use Rattle.std.proofs.Math.Bool.{and-false}
 use Rattle.std.proofs.lemmas.List.{append-nil}
 use Rattle.es_base.specs.Conforms.{conforms}
 use Rattle.es_base.specs.Preorder.{preorder, preorder_of}
-use Rattle.es_base.specs.Tree.{Tree, Part, Parts, Node, end, more, child, absent, list}
+use Rattle.es_base.specs.Tree.{Tree, Part, Parts, Node, end, more, child, absent, list, string}
 use Rattle.es_base.specs.declared.kind.Kind.{Kind}
 use Rattle.es_base.specs.declared.shape.Shape.{Shape}
 use Rattle.es_base.specs.declared.table.Place.{Place}
@@ -16,7 +16,7 @@ use Rattle.es_steps.specs.Parts.{at}
 use Rattle.es_steps.specs.PrivateNames.{PrivateMember, elements_members}
 use Rattle.es_steps.specs.References.{Reference, item_references, resolve, written, imported, varying}
 use Rattle.es_steps.specs.Scopes.{Declaration, body_names}
-use Rattle.es_steps.specs.Quiet.{Around, nothing_around, id_number}
+use Rattle.es_steps.specs.Quiet.{Around, nothing_around, id_number, inside}
 use Rattle.es_steps.specs.Shapes.{ClassAt, class_at, lowered_classes, any_class, moves_heritage, moves_heritage_of, has_shape_1, initializes_instances, is_late_class, has_shape_2, keeps_block, has_shape_3, reads_twice, reads_twice_of, is_imported_key, has_imported_key, has_shape_4, has_unwritable, unwritable_items, has_shape_5, class_names, refers_to, writes_any, has_shape_6, named_in_keys, names_stand_at, suspended_names, has_shape_7, private_behind_part, private_chains, has_shape_8, if_has, shapes_of, shapes}
 use Rattle.es_steps.specs.declared.options.Options.{Options}
 use Rattle.class_properties.proofs.Declared.{two_ends}
@@ -131,7 +131,7 @@ classes-quiet (more p ps) (a_class n span semantic_id id body (a_name i ispan i_
       twice = λ o ws rs moved. rw (here.twice o ws rs moved, there.twice o ws rs moved) refl;
       writes = λ names ds. rw (two_ends (item_references ds false es) (item_references ds false ps)) (writes-append names (item_references ds false es) (item_references ds false ps) (here.writes names ds) (there.writes names ds));
       unwritable = λ seen. rw (here.unwritable (elements_members n es ++ seen), there.unwritable seen) refl;
-      heritages = λ o program a. rw (and-false (is_lowered_class o Kind.ClassDeclaration (more id (more absent (more body end)))), here.heritages o program _, there.heritages o program a) refl;
+      heritages = λ o program a. rw (and-false (is_lowered_class o Kind.ClassDeclaration (more id (more absent (more body end)))), here.heritages o program (inside (inside a Kind.ClassDeclaration (more id (more absent (more body end))) 2) Kind.ClassBody (more (list es) end) 0), there.heritages o program a) refl;
     }
 
 -- and of the nodes of a program
@@ -147,7 +147,7 @@ program-quiet t (a_program m span semantic_id s all h) =
       twice = λ o ws rs. rw (q.twice o ws rs false) refl;
       writes = λ names. rw (append-nil (item_references (body_names all ++ []) false all)) (q.writes names (body_names all ++ []));
       unwritable = rw (q.unwritable []) refl;
-      heritages = λ o program. rw (q.heritages o program _) refl;
+      heritages = λ o program. rw (q.heritages o program (inside nothing_around Kind.Program (more (string s) (more (list all) end)) 1)) refl;
     }
 
 -- ---- no chain
