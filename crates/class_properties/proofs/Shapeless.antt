@@ -17,7 +17,7 @@ use Rattle.es_steps.specs.PrivateNames.{PrivateMember, elements_members}
 use Rattle.es_steps.specs.References.{Reference, item_references, resolve, written, changed_otherwise, varying}
 use Rattle.es_steps.specs.Scopes.{Declaration, body_names}
 use Rattle.es_steps.specs.Quiet.{Around, nothing_around, id_number, inside}
-use Rattle.es_steps.specs.Shapes.{ClassAt, class_at, lowered_classes, any_class, moves_heritage, moves_heritage_of, has_shape_1, initializes_instances, is_late_class, has_shape_2, keeps_block, has_shape_3, reads_twice, reads_twice_of, is_changed_otherwise_key, has_changed_otherwise_key, has_shape_4, has_unwritable, unwritable_items, has_shape_5, class_names, refers_to, writes_any, has_shape_6, named_in_keys, names_stand_at, suspended_names, has_shape_7, private_behind_part, private_chains, has_shape_8, if_has, shapes_of, shapes}
+use Rattle.es_steps.specs.Shapes.{ClassAt, class_at, lowered_classes, any_class, moves_heritage, moves_heritage_of, has_shape_1, initializes_instances, is_late_class, has_shape_2, keeps_block, has_shape_3, reads_twice, reads_twice_of, is_changing_key, has_changing_key, has_shape_4, has_unwritable, unwritable_items, has_shape_5, class_names, refers_to, writes_any, has_shape_6, named_in_keys, names_stand_at, suspended_names, has_shape_7, private_behind_part, private_chains, has_shape_8, if_has, shapes_of, shapes}
 use Rattle.es_steps.specs.declared.options.Options.{Options}
 use Rattle.class_properties.proofs.Declared.{two_ends}
 use Rattle.class_properties.proofs.Shaped.{no_value, a_literal, a_reference, a_key, a_field, AreFields, a_body, a_name, a_class, AreClasses, IsProgram, a_program, first_form-shaped}
