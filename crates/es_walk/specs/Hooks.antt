@@ -139,3 +139,7 @@ module _ {T N : Type 0} (inner : N → T) where
 
   pub inner_place : (s e : N × TraverseCtx) → KeepsPlace (inner s.0, s.1) (inner e.0, e.1) → KeepsPlace s e
   inner_place s e h = record { path = h.path; depth = h.depth; given = h.given }
+
+-- a walk by named hooks goes into every node
+pub never : {A : Type 0} → false ≡ true → A
+never e = absurd (cc e)

@@ -1,6 +1,6 @@
 // Hooks by the role and the kind of a node, as a transform of the walk.
 
-ghost use Rattle.std.specs.Prelude.{◌≡◌, ℕ, ◌+◌, ◌<◌, ◌≤◌, ◌^◌, Bool, true, OnOk, Option};
+ghost use Rattle.std.specs.Prelude.{◌≡◌, ℕ, ◌+◌, ◌<◌, ◌≤◌, ◌^◌, Bool, true, OnOk, Option, ◌∷◌, List};
 ghost use Rattle.es_base.specs.Preorder.{nodes};
 ghost use Rattle.es_base.specs.Tree.{Tree, Part};
 ghost use Rattle.es_base.specs.declared.kind.Kind as kind;
@@ -8,11 +8,16 @@ ghost use Rattle.es_ctx.specs.Stores.{stored};
 ghost use Rattle.es_ctx.specs.declared.ancestor.Parent as parents;
 ghost use Rattle.es_ctx.specs.declared.ctx.TraverseCtx as ctxs;
 ghost use Rattle.es_node.specs.View.{kind_of};
-ghost use Rattle.es_walk.specs.Hooks.{is_entering, is_leaving, is_last, enter_hook_of_role, enter_hook_of_kind, exit_hook_of_role, exit_hook_of_kind, role_here, Calls, EntersNode, LeavesNode, enters_ready, leaves_ready, enters_pay, leaves_pay, enters_place, leaves_place, inner_opens, inner_closes, inner_place};
-ghost use Rattle.es_walk.specs.Steps.{OpensPart, ClosesPart, KeepPlaces};
+ghost use Rattle.es_walk.specs.Hooks.{is_entering, is_leaving, is_last, enter_hook_of_role, enter_hook_of_kind, exit_hook_of_role, exit_hook_of_kind, role_here, Calls, EntersNode, LeavesNode, enters_ready, leaves_ready, enters_pay, leaves_pay, enters_place, leaves_place, inner_opens, inner_closes, inner_place, never};
+ghost use Rattle.es_walk.specs.Holes.{Hole, places, pending, pending_below};
+ghost use Rattle.es_walk.specs.Laws.{AllSettled, BelowSettled};
+ghost use Rattle.es_walk.specs.SettledStores.{ListsSettled};
+ghost use Rattle.es_walk.specs.Steps.{OpensPart, ClosesPart, KeepPlaces, path_of, lists_of};
+ghost use Rattle.es_walk.specs.Whole.{whole};
 ghost use Rattle.es_walk.specs.Weight.{total, heft, NoMore, KeepsReady};
 ghost use Rattle.es_walk.specs.declared.hooks.Hook as hook;
 
+use crate::program::Lawful;
 use crate::walk::Traverse;
 use es_base::kind::Kind;
 use es_base::table::{Place, fits};
@@ -340,4 +345,54 @@ impl<T: Hooks> Traverse for Named<T> {
         exit_node(&mut self.transform, node, ctx)?;
         Ok(())
     }
+}
+
+/// What the hooks by name of a transform keep of whole trees: as `Lawful`, of all hooks of a node that is
+/// entered, and of all hooks of a node that is left.
+pub trait LawfulHooks: Hooks {
+    ghost settled: { Self → Tree → Type 0 };
+
+    ghost kept: { Self × ctxs.TraverseCtx → Tree → Self × ctxs.TraverseCtx → Tree → List Tree → List Tree → Type 0 };
+
+    ghost enter_steady: { (s e : Self × ctxs.TraverseCtx) (t u : Tree) → EntersNode Self.does s t e u → (v : Tree) → settled s.0 v → settled e.0 v };
+
+    ghost leave_steady: { (s e : Self × ctxs.TraverseCtx) (t u : Tree) → LeavesNode Self.does s t e u → (v : Tree) → settled s.0 v → settled e.0 v };
+
+    ghost enter_settles: { (s e : Self × ctxs.TraverseCtx) (t u : Tree) → EntersNode Self.does s t e u → Self.ready s → ListsSettled (settled s.0) (lists_of s) → ListsSettled (settled e.0) (lists_of e) };
+
+    ghost leave_settles: { (s e : Self × ctxs.TraverseCtx) (t u : Tree) → LeavesNode Self.does s t e u → Self.ready s → ListsSettled (settled s.0) (lists_of s) → BelowSettled (settled s.0) t → ListsSettled (settled e.0) (lists_of e) × AllSettled (settled e.0) u };
+
+    ghost enter_keeps: { (begin : Self × ctxs.TraverseCtx) (program : Tree) (s e : Self × ctxs.TraverseCtx) (t u : Tree) → EntersNode Self.does s t e u → Self.ready s → (hole : Hole) → path_of s ≡ places hole → (around rest : List Tree) → kept begin program s (whole (lists_of s) hole t) around (pending t rest) → kept begin program e (whole (lists_of e) hole u) (t ∷ around) (pending_below u rest) };
+
+    ghost leave_keeps: { (begin : Self × ctxs.TraverseCtx) (program : Tree) (s e : Self × ctxs.TraverseCtx) (t u : Tree) → LeavesNode Self.does s t e u → Self.ready s → (hole : Hole) → path_of s ≡ places hole → (entered : Tree) (around rest : List Tree) → kept begin program s (whole (lists_of s) hole t) (entered ∷ around) rest → kept begin program e (whole (lists_of e) hole u) around rest };
+
+    ghost open_keeps: { (begin : Self × ctxs.TraverseCtx) (program : Tree) (s e : Self × ctxs.TraverseCtx) (parent : parents.Parent) (at : ℕ) (p : Part) → OpensPart s parent at p e → Self.ready s → (t : Tree) (around rest : List Tree) → kept begin program s t around rest → kept begin program e t around rest };
+
+    ghost close_keeps: { (begin : Self × ctxs.TraverseCtx) (program : Tree) (s e : Self × ctxs.TraverseCtx) (parent : parents.Parent) (at : ℕ) (p q : Part) → ClosesPart s parent at p e q → Self.ready s → (t : Tree) (around rest : List Tree) → kept begin program s t around rest → kept begin program e t around rest };
+}
+
+impl<T: LawfulHooks> Lawful for Named<T> {
+    ghost settled = { λ n. T.settled n.transform };
+
+    ghost kept = { λ begin program s t around rest. T.kept (begin.0.transform, begin.1) program (s.0.transform, s.1) t around rest };
+
+    ghost enter_steady = { λ goes s e t u h v x. T.enter_steady (s.0.transform, s.1) (e.0.transform, e.1) t u h.1 v x };
+
+    ghost leave_steady = { λ s e t u h v x. T.leave_steady (s.0.transform, s.1) (e.0.transform, e.1) t u h v x };
+
+    ghost enter_settles = { λ s e t u h r l. T.enter_settles (s.0.transform, s.1) (e.0.transform, e.1) t u h.1 r l };
+
+    ghost pass_settles = { λ s e t u h r l. never h.0 };
+
+    ghost leave_settles = { λ s e t u h r l below. T.leave_settles (s.0.transform, s.1) (e.0.transform, e.1) t u h r l below };
+
+    ghost enter_keeps = { λ begin program s e t u h r hole here around rest x. T.enter_keeps (begin.0.transform, begin.1) program (s.0.transform, s.1) (e.0.transform, e.1) t u h.1 r hole here around rest x };
+
+    ghost pass_keeps = { λ begin program s e t u h r hole here around rest x. never h.0 };
+
+    ghost leave_keeps = { λ begin program s e t u h r hole here entered around rest x. T.leave_keeps (begin.0.transform, begin.1) program (s.0.transform, s.1) (e.0.transform, e.1) t u h r hole here entered around rest x };
+
+    ghost open_keeps = { λ begin program s e parent at p h r t around rest x. T.open_keeps (begin.0.transform, begin.1) program (s.0.transform, s.1) (e.0.transform, e.1) parent at p (inner_opens (λ n. n.transform) s parent at p e h) r t around rest x };
+
+    ghost close_keeps = { λ begin program s e parent at p q h r t around rest x. T.close_keeps (begin.0.transform, begin.1) program (s.0.transform, s.1) (e.0.transform, e.1) parent at p q (inner_closes (λ n. n.transform) s parent at p e q h) r t around rest x };
 }
