@@ -1,3 +1,4 @@
+pub mod Calls
 pub mod Hoist
 pub mod HoistKept
 pub mod HoistLaws
