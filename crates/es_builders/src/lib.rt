@@ -4,3 +4,5 @@
 pub mod bound_identifier;
 pub mod builders;
 pub mod helper;
+#[cfg(test)]
+mod tests;
