@@ -1,0 +1,51 @@
+-- The nodes around the node at hand, as they are told of.
+use Rattle.std.specs.Prelude.{ℕ, zero, suc, List, [], ◌∷◌, Bool, true, false, Option, Some, None}
+use Rattle.es_base.specs.Table.{Field, members_of}
+use Rattle.es_base.specs.Tree.{Tree, Part, Parts, Node, end, more, child}
+use Rattle.es_base.specs.declared.kind.Kind.{Kind}
+use Rattle.es_base.specs.declared.table.Place.{Place}
+use Rattle.es_base.specs.declared.table.Sort.{Sort}
+use Rattle.es_ctx.specs.declared.ancestor.ClassHead.{ClassHead}
+use Rattle.es_ctx.specs.declared.ancestor.Parent.{Parent}
+use Rattle.es_visit.specs.Roles.{is_computed, is_static}
+
+abbrev pub is_node : Part → Bool
+is_node (child t) = true
+is_node p = false
+
+abbrev pub semantic_id_of : Part → Option ℕ
+semantic_id_of (child (Node k i sp si ps)) = si
+semantic_id_of p = None
+
+abbrev pub begins_with_node : Parts → Bool
+begins_with_node (more p rest) = is_node p
+begins_with_node end = false
+
+-- `class id extends superClass { .. }`
+abbrev pub class_head_of : Bool → Parts → ClassHead
+class_head_of is_declaration (more id rest) = record { is_declaration = is_declaration; has_name = is_node id; symbol = semantic_id_of id; has_heritage = begins_with_node rest }
+class_head_of is_declaration end = record { is_declaration = is_declaration; has_name = false; symbol = None; has_heritage = false }
+
+abbrev pub class_head : Kind → Parts → Option ClassHead
+class_head Kind.ClassDeclaration ps = Some (class_head_of true ps)
+class_head Kind.ClassExpression ps = Some (class_head_of false ps)
+class_head k ps = None
+
+-- what is told of a node
+abbrev pub parent_of : Tree → Parent
+parent_of (Node k i sp si ps) = record { kind = k; node = i; scope = si; is_computed = is_computed k ps; is_static = is_static k ps; class = class_head k ps }
+
+-- whether a member is a list of statements: the body of a program, a block, a function or a static block, or
+-- what a case of a `switch` has
+abbrev pub is_statement_list : Sort → Bool
+is_statement_list (Sort.List Place.Statement) = true
+is_statement_list sort = false
+
+abbrev pub has_statements_in : List Field → ℕ → Bool
+has_statements_in [] at = false
+has_statements_in (f ∷ fs) zero = is_statement_list f.sort
+has_statements_in (f ∷ fs) (suc at) = has_statements_in fs at
+
+-- whether that of a node of this kind at this place is one
+abbrev pub has_statements : Kind → ℕ → Bool
+has_statements k at = has_statements_in (members_of k) at

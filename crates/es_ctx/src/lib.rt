@@ -1,0 +1,7 @@
+// What a walk that lowers carries along: the nodes around, and the statements and declarations that are
+// still to be put into the lists of statements that are open. docs/WALK.md says what they promise.
+#![tactic(auto)]
+
+pub mod ancestor;
+pub mod ctx;
+pub mod stores;

@@ -1,0 +1,5 @@
+pub mod Assembly
+pub mod Here
+pub mod Lawful
+pub mod Load
+pub mod Walked

@@ -1,0 +1,11 @@
+pub mod Holes
+pub mod Hooks
+pub mod Idle
+pub mod Inserted
+pub mod Laws
+pub mod Placing
+pub mod SettledStores
+pub mod Steps
+pub mod Traversed
+pub mod Weight
+pub mod Whole

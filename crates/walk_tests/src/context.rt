@@ -1,0 +1,168 @@
+// The context of a walk: each of its calls.
+
+ghost use Rattle.std.specs.Prelude.{◌≡◌, IfOk};
+ghost use Rattle.es_base.specs.declared.kind.Kind as kind;
+
+use es_base::ids::NodeId;
+use es_base::kind::Kind;
+use es_base::list::List;
+use es_base::literal::LiteralValue;
+use es_base::name::Name;
+use es_ctx::ancestor::{Parent, has_statements};
+use es_ctx::ctx::TraverseCtx;
+use es_ctx::stores::Side;
+use es_node::node::{Node, Part};
+use es_tree::class::{make_class_body, make_class_declaration};
+use es_tree::identifier::{make_binding_identifier, make_identifier_reference};
+use es_tree::literal::make_literal;
+use es_tree::statement::{
+    BlockStatement, BreakStatement, ExpressionStatement, make_block_statement,
+    make_break_statement, make_expression_statement, make_variable_declarator,
+};
+use std::alloc::{AllocError, Global};
+use std::test::Fail;
+
+/// A statement of this number.
+fn statement(alloc: Global, number: u32) -> Result<Node, AllocError> {
+    let mut statement = BreakStatement::from_node(make_break_statement(alloc, None)?);
+    statement.node_id = NodeId(number);
+    Ok(statement.into_node())
+}
+
+/// The directive `"use strict";` of this number.
+fn directive(alloc: Global, number: u32) -> Result<Node, AllocError> {
+    let value = LiteralValue::String {
+        value: Name::new(alloc, "use strict")?,
+        raw: None,
+    };
+    let directive = make_expression_statement(
+        alloc,
+        make_literal(alloc, value)?,
+        Some(Name::new(alloc, "use strict")?),
+    )?;
+    let mut directive = ExpressionStatement::from_node(directive);
+    directive.node_id = NodeId(number);
+    Ok(directive.into_node())
+}
+
+/// A declarator of this name.
+fn declarator(alloc: Global, name: &str) -> Result<Node, AllocError> {
+    let name = make_binding_identifier(alloc, Name::new(alloc, name)?)?;
+    make_variable_declarator(alloc, name, None)
+}
+
+/// Keeps a statement of a number beside the element of another.
+fn keep(ctx: &mut TraverseCtx, side: Side, element: u32, number: u32) -> Result<(), Fail> {
+    if !ctx.has_open_list() {
+        return Err(Fail::new("no list is open"));
+    }
+    let mut statements = List::new(ctx.alloc);
+    statements.push(statement(ctx.alloc, number)?)?;
+    ctx.insert(side, NodeId(element), statements)?;
+    Ok(())
+}
+
+/// Has a name declared by the `var`, or else by the `let`, of the innermost open list.
+fn declare(ctx: &mut TraverseCtx, is_var: bool, name: &str) -> Result<(), Fail> {
+    if !ctx.has_open_list() {
+        return Err(Fail::new("no list is open"));
+    }
+    let declarator = declarator(ctx.alloc, name)?;
+    if is_var {
+        ctx.insert_var(declarator)?;
+    } else {
+        ctx.insert_let(declarator)?;
+    }
+    Ok(())
+}
+
+/// The kinds and numbers of the nodes of a list.
+fn shown(alloc: Global, part: &Part) -> Result<String, AllocError> {
+    let mut text = String::new(alloc);
+    if let Part::List(nodes) = part {
+        for node in nodes.as_slice() {
+            write!(text, "{:?} {}\n", node.kind(), node.node_id().0)?;
+        }
+    }
+    Ok(text)
+}
+
+/// What is told of a block.
+fn block(alloc: Global) -> Result<Parent, AllocError>
+    ensures { IfOk result (λ parent. parent.kind ≡ kind.Kind.BlockStatement) }
+{
+    let mut block = BlockStatement::from_node(make_block_statement(alloc, List::new(alloc))?);
+    block.node_id = NodeId(9);
+    Ok(Parent::of(&block.into_node()))
+}
+
+// "use strict"; break; break;
+fn statements(alloc: Global) -> Result<List<Node>, AllocError> {
+    let mut nodes = List::new(alloc);
+    nodes.push(directive(alloc, 1)?)?;
+    nodes.push(statement(alloc, 2)?)?;
+    nodes.push(statement(alloc, 3)?)?;
+    Ok(nodes)
+}
+
+/// Keeps statements beside the second of them, and one beside an element that there is not.
+fn keep_some(ctx: &mut TraverseCtx) -> Result<(), Fail> {
+    keep(ctx, Side::After, 2, 22)?;
+    keep(ctx, Side::Before, 2, 20)?;
+    keep(ctx, Side::Before, 2, 21)?;
+    keep(ctx, Side::After, 77, 78)
+}
+
+/// The list of the statements, after it was opened and closed.
+fn closed(alloc: Global) -> Result<String, Fail> {
+    let mut ctx = TraverseCtx::new(alloc, 5);
+    let parent = block(alloc)?;
+    let mut part = Part::List(statements(alloc)?);
+    ctx.open(parent, 0, &part)?;
+    keep_some(&mut ctx)?;
+    declare(&mut ctx, false, "a")?;
+    declare(&mut ctx, true, "b")?;
+    ctx.close(parent, 0, &mut part)?;
+    Ok(shown(alloc, &part)?)
+}
+
+#[test]
+fn statements_go_beside_their_elements(rt: HostRuntime) -> Result<(), Fail> {
+    let found = closed(rt.alloc())?;
+    let wanted =
+        "ExpressionStatement 1\nVariableDeclaration 4294967295\nVariableDeclaration 4294967295\nBreakStatement 20\nBreakStatement 21\nBreakStatement 2\nBreakStatement 22\nBreakStatement 3\nBreakStatement 78\n";
+    assert!(rt; found.as_str() == wanted, "{found}");
+    Ok(())
+}
+
+#[test]
+fn numbers_are_given(rt: HostRuntime) -> Result<(), Fail> {
+    let alloc = rt.alloc();
+    let mut ctx = TraverseCtx::new(alloc, 5);
+    assert!(rt; ctx.fresh_id() == NodeId(5));
+    assert!(rt; !ctx.has_open_list());
+    let parent = block(alloc)?;
+    assert!(rt; parent.node == 9);
+    assert!(rt; has_statements(parent.kind, 0) && !has_statements(parent.kind, 1));
+    Ok(())
+}
+
+// class C extends D {}
+#[test]
+fn heads_of_classes_are_told(rt: HostRuntime) -> Result<(), Fail> {
+    let alloc = rt.alloc();
+    let id = make_binding_identifier(alloc, Name::new(alloc, "C")?)?;
+    let heritage = make_identifier_reference(alloc, Name::new(alloc, "D")?)?;
+    let body = make_class_body(alloc, List::new(alloc))?;
+    let class = make_class_declaration(alloc, Some(id), Some(heritage), body)?;
+    let parent = Parent::of(&class);
+    assert!(rt; parent.kind == Kind::ClassDeclaration && !parent.is_computed && !parent.is_static);
+    match parent.class {
+        Some(head) => {
+            assert!(rt; head.is_declaration && head.has_name && head.has_heritage);
+            assert!(rt; head.symbol.is_none());
+        }
+        None => return Err(Fail::new("no class")),
+    }
+    Ok(())
+}
