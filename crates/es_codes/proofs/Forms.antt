@@ -28,12 +28,15 @@ use Rattle.es_codes.specs.declared.code.Callee.TheViews.{roll-Code, roll-Target,
 use Rattle.es_codes.specs.declared.code.Callee.TheFolds.{map-Code, map-Target, map-Callee, fold-roll-Code, fold-roll-Target, fold-roll-Callee}
 
 code-roll : (y : Code-F Callee Code Target) → code_of (roll-Code y) ≡ code_step (map-Code Callee Code Target of_code.Callee of_code.Code of_code.Target callee_of code_of target_of y)
+unfolding code_of target_of callee_of
 code-roll y = fold-roll-Code of_code.Callee of_code.Code of_code.Target callee_step code_step target_step y
 
 target-roll : (y : Target-F Callee Code Target) → target_of (roll-Target y) ≡ target_step (map-Target Callee Code Target of_code.Callee of_code.Code of_code.Target callee_of code_of target_of y)
+unfolding code_of target_of callee_of
 target-roll y = fold-roll-Target of_code.Callee of_code.Code of_code.Target callee_step code_step target_step y
 
 callee-roll : (y : Callee-F Callee Code Target) → callee_of (roll-Callee y) ≡ callee_step (map-Callee Callee Code Target of_code.Callee of_code.Code of_code.Target callee_of code_of target_of y)
+unfolding code_of target_of callee_of
 callee-roll y = fold-roll-Callee of_code.Callee of_code.Code of_code.Target callee_step code_step target_step y
 
 pub nothing_is : code_of codes.Nothing ≡ of_code.nothing

@@ -4,7 +4,6 @@ use Rattle.std.proofs.Common.{◌≡◌, refl, sym, ap, ap₂, ◌∙◌, ℕ, L
 use Rattle.es_steps.specs.Values as of
 use Rattle.es_steps.specs.Events as of_event
 use Rattle.es_steps.specs.Events.{Event, Events, none, then, Held}
-use Rattle.es_codes.specs.Constants.{constant_of}
 use Rattle.es_codes.specs.Stored.{constant_in}
 use Rattle.es_evaluation.specs.Flat as flat
 use Rattle.es_evaluation.specs.Flat.{flat, flat_event, tokens}
@@ -16,7 +15,6 @@ use Rattle.es_codes.specs.declared.event.Operation.{Operation}
 use Rattle.es_codes.specs.declared.event.Place.{Place}
 use Rattle.es_codes.specs.declared.event.Token.{Token}
 use Rattle.es_codes.specs.declared.name.Referent.{Referent}
-use Rattle.es_codes.specs.declared.value.Constant.{Constant}
 use Rattle.es_codes.proofs.Keys.{constant_in-of}
 
 abbrev referent_in : of.Referent → Referent

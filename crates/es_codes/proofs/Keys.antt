@@ -1,9 +1,10 @@
 -- Values that were made keys.
-use Rattle.std.proofs.Common.{◌≡◌, refl, sym, ap, ◌∙◌, ℕ, zero, suc, ◌-◌, Bool, false, arith}
-use Rattle.es_steps.specs.Values.{Value, KeyOf, as_key, is_class_value}
+use Rattle.std.proofs.Common.{◌≡◌, refl, sym, ap, ◌∙◌, ℕ, zero, suc, ◌-◌, ◌<◌, true, false, arith}
+use Rattle.es_steps.specs.Values.{as_key, is_class_value}
 use Rattle.es_codes.specs.declared.value.Origin.{Origin}
 use Rattle.es_codes.specs.Constants.{origin_of}
-use Rattle.es_codes.specs.Keyed.{keyed}
+use Rattle.es_codes.specs.Keyed.{keyed, is_key}
+use Rattle.es_steps.specs.Evaluation.{is_binding_value}
 use Rattle.es_codes.specs.Stored.{constant_in, origin_in, depth}
 use Rattle.es_codes.specs.Constants.{constant_of}
 use Rattle.es_codes.specs.declared.value.Constant.{Constant}
@@ -66,3 +67,24 @@ same_depth j k a b h = sym (depth-keyed j a) ∙ ap depth h ∙ depth-keyed k b
 
 pub same_origin : (j k : ℕ) (a b : Origin) → keyed j (origin_of a) ≡ keyed k (origin_of b) → a ≡ b
 same_origin j k a b h = sym (origin-keyed j a) ∙ ap origin_in h ∙ origin-keyed k b
+
+pub no_key : (k : ℕ) (o : Origin) → k ≡ zero → is_key (keyed k (origin_of o)) ≡ false
+no_key zero (Origin.ConstantOf c) h = refl
+no_key zero Origin.Undefined h = refl
+no_key zero (Origin.BindingOf b) h = refl
+no_key zero (Origin.FunctionOf f) h = refl
+no_key zero (Origin.ClassOf n) h = refl
+no_key zero (Origin.ThisOf k) h = refl
+no_key zero (Origin.ArgumentsOf k) h = refl
+no_key zero (Origin.NewTargetOf k) h = refl
+no_key zero (Origin.ResultOf m) h = refl
+no_key zero (Origin.FormerOf m) h = refl
+no_key (suc k) o h = cc
+
+pub a_key : (k : ℕ) (o : Origin) → 0 < k → is_key (keyed k (origin_of o)) ≡ true
+a_key zero o h = absurd (omega arith)
+a_key (suc k) o h = refl
+
+pub binding_keyed : (k : ℕ) (o : Origin) → is_binding_value (keyed k (origin_of o)) ≡ is_binding_value (origin_of o)
+binding_keyed zero o = refl
+binding_keyed (suc k) o = binding_keyed k o

@@ -1,6 +1,6 @@
 -- Strings that a test finds equal are.
 use Rattle.std.specs.Prelude.{bytes_eq, ◌↔◌, IsTrue}
-use Rattle.std.proofs.Common.{◌≡◌, refl, sym, ap, ◌∙◌, ℕ, List, Bool, true, false}
+use Rattle.std.proofs.Common.{◌≡◌, sym, ◌∙◌, ℕ, List, Bool}
 use Rattle.std.proofs.lemmas.Slice.Eq.{bytes_eq-Decides}
 
 pub same_string : (b : Bool) (xs ys : List ℕ) → b ≡ bytes_eq xs ys → IsTrue b ↔ (xs ≡ ys)

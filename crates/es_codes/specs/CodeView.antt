@@ -1,8 +1,8 @@
 -- Which codes of the definitions codes in code are.
-use Rattle.std.specs.Prelude.{ℕ, List, [], ◌∷◌, map, Option, option_map}
+use Rattle.std.specs.Prelude.{List, [], ◌∷◌, map, option_map}
 use Rattle.es_steps.specs.Code as of
 use Rattle.es_steps.specs.Helpers as of_helper
-use Rattle.es_codes.specs.View.{referent_of, kind_of, reference_of, home_of, test_of, details_of, operation_of}
+use Rattle.es_codes.specs.View.{kind_of, reference_of, home_of, test_of, details_of, operation_of}
 use Rattle.es_codes.specs.declared.code.FunctionForm.{FunctionForm}
 use Rattle.es_codes.specs.declared.code.FieldForm.{FieldForm}
 use Rattle.es_codes.specs.declared.code.TemplateString.{TemplateString}
@@ -138,13 +138,13 @@ callee_step (Callee-F.Checked callee) = of.checked callee
 callee_step (Callee-F.OnChain node callee) = of.on_chain node callee
 callee_step (Callee-F.BehindTest object again callee) = of.behind_test object (chained again) callee
 
-abbrev pub code_of : Code → of.Code
+unfoldable pub code_of : Code → of.Code
 code_of = fold-Code of.Callee of.Code of.Target callee_step code_step target_step
 
-abbrev pub target_of : Target → of.Target
+unfoldable pub target_of : Target → of.Target
 target_of = fold-Target of.Callee of.Code of.Target callee_step code_step target_step
 
-abbrev pub callee_of : Callee → of.Callee
+unfoldable pub callee_of : Callee → of.Callee
 callee_of = fold-Callee of.Callee of.Code of.Target callee_step code_step target_step
 
 abbrev pub codes_of : List Code → of.Codes

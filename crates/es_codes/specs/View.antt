@@ -1,5 +1,5 @@
 -- What tokens in code, and what stands in them, are.
-use Rattle.std.specs.Prelude.{ℕ, List, map, Option}
+use Rattle.std.specs.Prelude.{List, map}
 use Rattle.es_steps.specs.Values as of
 use Rattle.es_steps.specs.Context as of_name
 use Rattle.es_steps.specs.Events as of_event

@@ -9,6 +9,10 @@ use es_base::ledger::GeneratedKind;
 use es_base::list::List;
 use es_base::name::Name;
 
+mod callees;
+mod codes;
+mod targets;
+
 /// What a function is beside its parameters and its body.
 #[derive(Clone, Copy)]
 pub struct FunctionForm {
@@ -74,6 +78,7 @@ pub enum Code {
     Nothing,
     /// A form that has no rule.
     NoRule,
+    /// `1`, `this`
     Value {
         value: Value,
     },
@@ -81,11 +86,13 @@ pub enum Code {
     Spelled {
         spelling: Name,
     },
+    /// `#x`
     PrivateName {
         node: u32,
         spelling: Name,
         means: Option<PrivateReference>,
     },
+    /// A binding that is not evaluated: the name of a parameter.
     Binding {
         node: u32,
         spelling: Name,
@@ -95,11 +102,13 @@ pub enum Code {
     Rest {
         to: Target,
     },
+    /// `x`
     Name {
         node: u32,
         spelling: Name,
         kind: NameKind,
     },
+    /// `super`
     Super,
     /// `o[k]`
     Member {
@@ -193,6 +202,7 @@ pub enum Code {
     Sequence {
         all: List<Code>,
     },
+    /// In a template, a string.
     TemplateString {
         string: TemplateString,
     },
@@ -229,6 +239,7 @@ pub enum Code {
         again: List<Code>,
         rest: Boxed<Code>,
     },
+    /// `[a, b]`, which is given nothing.
     Pattern {
         node: u32,
         to: Target,
@@ -253,6 +264,7 @@ pub enum Code {
     ExportDefault {
         expression: Boxed<Code>,
     },
+    /// `function () {}`
     Function {
         node: u32,
         form: FunctionForm,
@@ -260,15 +272,18 @@ pub enum Code {
         parameters: List<Code>,
         body: Boxed<Code>,
     },
+    /// A function that is new in the lowered tree.
     NewFunction {
         node: u32,
         form: FunctionForm,
         parameters: List<Code>,
         body: Boxed<Code>,
     },
+    /// `return e;`, which is new in the lowered tree.
     NewReturn {
         argument: List<Code>,
     },
+    /// `class {}`
     Class {
         node: u32,
         declared: Option<u32>,
@@ -309,6 +324,7 @@ pub enum Code {
     StaticBlock {
         all: List<Code>,
     },
+    /// A private element of a generated name.
     GeneratedElement {
         spelling: Name,
         right: Boxed<Code>,
@@ -329,11 +345,13 @@ pub enum Code {
     Helper {
         helper: Helper,
     },
+    /// A call of a helper that stands in another form.
     HelperCall {
         node: u32,
         helper: Helper,
         arguments: List<Code>,
     },
+    /// An access that always throws.
     Throw,
     /// `babelHelpers.defineProperty(o, k, e)`
     Define {
@@ -342,12 +360,14 @@ pub enum Code {
         key: Boxed<Code>,
         right: Boxed<Code>,
     },
+    /// `babelHelpers.classPrivateFieldInitSpec(o, w, e)`
     PrivateInitialize {
         node: u32,
         key: u32,
         object: Value,
         right: Boxed<Code>,
     },
+    /// `babelHelpers.classPrivateMethodInitSpec(o, b)`
     AddBrand {
         node: u32,
         class: u32,
@@ -379,6 +399,7 @@ pub enum Code {
         spelling: Name,
         arguments: List<Code>,
     },
+    /// The initializers of a class.
     Initializers {
         class: u32,
     },
@@ -443,6 +464,7 @@ pub enum Target {
         to: Boxed<Target>,
         default: Boxed<Code>,
     },
+    /// What cannot be assigned to.
     NoTarget,
 }
 

@@ -24,6 +24,26 @@ pub enum Constant {
 }
 
 impl Constant {
+    ghost use Rattle.es_steps.specs.Values.{ConstantOf};
+    ghost use Rattle.es_steps.specs.Evaluation.{is_binding_value};
+    ghost use Rattle.es_codes.specs.Constants.{constant_of};
+
+    /// Whether it is a regular expression, which is another object each time (ECMA-262, 13.2.7).
+    pub fn is_reg_exp(&self) -> bool
+        ensures { result ≡ is_binding_value (ConstantOf (constant_of self.now)) }
+    {
+        match self {
+            Constant::RegExpOf { .. } => true,
+            Constant::StringOf(_) => false,
+            Constant::NumberOf(_) => false,
+            Constant::BigIntOf(_) => false,
+            Constant::BooleanOf(_) => false,
+            Constant::Null => false,
+            Constant::RawTemplate(_) => false,
+            Constant::TagString { .. } => false,
+        }
+    }
+
     /// A copy. Fails on allocation failure alone.
     pub fn try_clone(&self, alloc: Global) -> Result<Constant, AllocError>
         ensures { IfOk result (λ c. c ≡ self.now) }
@@ -131,7 +151,9 @@ impl Model for Value {
 
 impl Value {
     ghost use Rattle.es_steps.specs.Values.{Undefined, BindingOf, FunctionOf, ClassOf, ThisOf, ArgumentsOf, NewTargetOf, ResultOf, FormerOf, KeyOf, ConstantOf, as_key, is_class_value};
+    ghost use Rattle.es_steps.specs.Evaluation.{is_binding_value};
     ghost use Rattle.es_codes.specs.Constants.{constant_of, origin_of};
+    ghost use Rattle.es_codes.specs.Keyed.{is_key};
 
     /// The value that comes from there.
     pub fn of(origin: Origin) -> Value
@@ -180,6 +202,33 @@ impl Value {
             origin,
             key_depth: self.key_depth,
         })
+    }
+
+    /// Whether it was made the key of a property.
+    #[tactic(auto, using(crate::proofs::Keys::no_key, crate::proofs::Keys::a_key))]
+    pub fn is_key(&self) -> bool
+        ensures { result ≡ is_key self.now }
+    {
+        self.key_depth > 0
+    }
+
+    /// Whether it is no value of a temporary: what a binding holds, a regular expression, or the key of one.
+    #[tactic(auto, using(crate::proofs::Keys::binding_keyed))]
+    pub fn is_of_binding(&self) -> bool
+        ensures { result ≡ is_binding_value self.now }
+    {
+        match &self.origin {
+            Origin::ConstantOf(constant) => constant.is_reg_exp(),
+            Origin::BindingOf(_) => true,
+            Origin::Undefined => false,
+            Origin::FunctionOf(_) => false,
+            Origin::ClassOf(_) => false,
+            Origin::ThisOf(_) => false,
+            Origin::ArgumentsOf(_) => false,
+            Origin::NewTargetOf(_) => false,
+            Origin::ResultOf(_) => false,
+            Origin::FormerOf(_) => false,
+        }
     }
 
     /// What it is as the key of a property (ECMA-262, 7.1.19). None where it was made a key too often.
