@@ -1,0 +1,4 @@
+pub mod Forms
+pub mod Injective
+pub mod Keys
+pub mod Sameness
