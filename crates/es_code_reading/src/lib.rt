@@ -3,6 +3,8 @@
 #![tactic(auto)]
 
 pub mod context;
+pub mod form;
 pub mod inside;
+pub mod letters;
 pub mod name_kind;
 pub mod words;
