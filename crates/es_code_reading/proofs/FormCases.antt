@@ -1,5 +1,5 @@
 -- What a code is, by its form.
-use Rattle.std.proofs.Common.{◌≡◌, refl, sym, ap, ◌∙◌, ℕ, List, Option, Some, None}
+use Rattle.std.proofs.Common.{◌≡◌, refl, sym, ap, ◌∙◌, ℕ, List, None}
 use Rattle.es_steps.specs.Code as of
 use Rattle.es_codes.specs.CodeView.{code_of, target_of, callee_of, code_step, target_step, callee_step}
 use Rattle.es_codes.specs.declared.name.NameKind.{NameKind}
@@ -7,7 +7,7 @@ use Rattle.es_codes.specs.declared.code.Code.{Code}
 use Rattle.es_codes.specs.declared.code.Target.{Target}
 use Rattle.es_codes.specs.declared.code.Callee.{Callee}
 use Rattle.es_codes.specs.declared.code.Code.TheVariants as codes
-use Rattle.es_codes.specs.declared.code.Callee.TheOpen.{Code-F, Target-F, Callee-F}
+use Rattle.es_codes.specs.declared.code.Callee.TheOpen.{Code-F}
 use Rattle.es_codes.specs.declared.code.Callee.TheViews.{roll-Code, out-Code, roll-out-Code}
 use Rattle.es_codes.specs.declared.code.Callee.TheFolds.{map-Code, fold-roll-Code}
 use Rattle.es_code_reading.specs.Letters.{name_kind_in}

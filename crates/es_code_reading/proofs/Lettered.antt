@@ -1,10 +1,9 @@
 -- A letter is told by what a name is.
-use Rattle.std.proofs.Common.{◌≡◌, refl, sym, ap, ◌∙◌, ℕ, Option, Some, None}
+use Rattle.std.proofs.Common.{◌≡◌, refl, sym, ap, ◌∙◌, Option, Some, None}
 use Rattle.es_base.specs.declared.ledger.GeneratedKind.{GeneratedKind}
 use Rattle.es_steps.specs.Code.{Code, name}
 use Rattle.es_steps.specs.Context.{Context, NameKind, Generated, MeansClass, StaticMethod}
 use Rattle.es_steps.specs.GeneratedForms.{weak_map, static_field, loose_key, private_function, class_named}
-use Rattle.es_steps.specs.PrivateNames.{PrivateMember}
 use Rattle.es_code_reading.specs.Letters.{name_kind_in, weak_map_of, static_field_of, loose_key_of, private_function_of, class_named_of}
 
 abbrev by_kind : {A : Type 0} → (NameKind → Option A) → Option NameKind → Option A
