@@ -43,7 +43,7 @@ pub enum StatementForm {
 }
 
 /// How statements of this kind declare.
-fn statement_form(kind: Kind) -> StatementForm
+pub fn statement_form(kind: Kind) -> StatementForm
     ensures { form_of result ≡ spec.statement_form kind }
 {
     match kind {
@@ -126,7 +126,7 @@ fn identifier_in(part: &Part) -> Option<&Node>
 }
 
 /// The identifier of a declarator that declares no more.
-fn declarator_identifier(parts: &[Part]) -> Option<&Node>
+pub fn declarator_identifier(parts: &[Part]) -> Option<&Node>
     ensures { option_map (λ x. x.now) result ≡ identifier_in (first_of_two (parts_of parts.now)) }
 {
     match first_of_two(parts) {

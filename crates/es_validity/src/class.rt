@@ -98,7 +98,7 @@ pub fn is_super_call(node: &Node) -> bool
 /// Whether a `super(..)` is or stands in the node, outside functions that are no arrows.
 #[cycle(holds_super)]
 #[tactic(auto, using(crate::proofs::OfKinds::holds_elsewhere, es_node::proofs::Below::nodes_in))]
-fn node_holds_super(node: &Node) -> bool
+pub fn node_holds_super(node: &Node) -> bool
     ensures { result ≡ holds_super node.now }
 {
     if is_super_call(node) {
@@ -122,8 +122,9 @@ fn parts_hold_super(parts: &[Part]) -> bool
     false
 }
 
+/// The same of a part.
 #[cycle(holds_super)]
-fn part_holds_super(part: &Part) -> bool
+pub fn part_holds_super(part: &Part) -> bool
     ensures { result ≡ part_holds_super (part_of part.now) }
 {
     match part {
@@ -134,8 +135,9 @@ fn part_holds_super(part: &Part) -> bool
     }
 }
 
+/// The same of the nodes of a list.
 #[cycle(holds_super)]
-fn list_holds_super(nodes: &[Node]) -> bool
+pub fn list_holds_super(nodes: &[Node]) -> bool
     ensures { result ≡ parts_hold_super (trees nodes.now) }
 {
     for node in nodes {

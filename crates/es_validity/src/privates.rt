@@ -175,7 +175,7 @@ impl<'a> Declared<'a> {
 }
 
 /// The kind of a private method.
-fn method_kind(kind: MethodDefinitionKind) -> PrivateKind
+pub fn method_kind(kind: MethodDefinitionKind) -> PrivateKind
     ensures { kind_in result ≡ members.method_kind (method_definition_kind_string kind) }
 {
     match kind {

@@ -1,0 +1,6 @@
+pub mod Declarators
+pub mod Declaring
+pub mod Naming
+pub mod PrivateKinds
+pub mod Strings
+pub mod SuperCalls

@@ -1,0 +1,7 @@
+pub mod Declarations
+pub mod Frames
+pub mod Items
+pub mod PrivateMembers
+pub mod Sides
+pub mod Statements
+pub mod SuperCalls
