@@ -1,5 +1,5 @@
 -- The list of shapes, one after another.
-use Rattle.std.proofs.Common.{◌≡◌, refl, sym, ap, ◌∙◌, List, [], ◌∷◌, ◌++◌, append_assoc, Bool, true, false}
+use Rattle.std.proofs.Common.{◌≡◌, refl, ap, ◌∙◌, List, [], ◌++◌, append_assoc, Bool, true, false}
 use Rattle.es_base.specs.declared.shape.Shape.{Shape}
 use Rattle.es_steps.specs.Shapes.{if_has}
 

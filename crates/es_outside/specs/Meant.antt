@@ -20,10 +20,13 @@ meant_by r = record { reference = node_id r.number; binding = binding_of r.to; w
 abbrev pub meant_by_all : List Reference → List Meant
 meant_by_all rs = map meant_by rs
 
+abbrev pub writes_arguments : Meant → Bool
+writes_arguments r = r.writes && r.is_free_arguments
+
 -- a free name `arguments` is written by one of these
 abbrev pub write_arguments : List Meant → Bool
 write_arguments [] = false
-write_arguments (r ∷ rs) = (r.writes && r.is_free_arguments) || write_arguments rs
+write_arguments (r ∷ rs) = writes_arguments r || write_arguments rs
 
 -- the names that are seen, the nearest first
 abbrev pub names_in : Scope → List Declaration

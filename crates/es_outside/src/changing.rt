@@ -12,7 +12,7 @@ ghost use Rattle.es_steps.specs.References as spec;
 ghost use Rattle.es_steps.specs.References.{has_number, numbers_of};
 ghost use Rattle.es_steps.specs.Scopes.{scope_names, scope_form, var_part};
 ghost use Rattle.es_outside.specs.Changing.{ids, assigned_in, own_number};
-ghost use Rattle.es_outside.specs.Meant.{write_arguments};
+ghost use Rattle.es_outside.specs.Meant.{write_arguments, writes_arguments};
 
 use crate::references::Meant;
 use es_base::ids::NodeId;
@@ -55,11 +55,17 @@ pub fn write_arguments(references: &[Meant]) -> bool
     ensures { result ≡ write_arguments references.now }
 {
     for reference in references {
-        if reference.writes && reference.is_free_arguments {
+        if writes_arguments(reference) {
             return true;
         }
     }
     false
+}
+
+fn writes_arguments(reference: &Meant) -> bool
+    ensures { result ≡ writes_arguments reference.now }
+{
+    reference.writes && reference.is_free_arguments
 }
 
 // ---- declared again
