@@ -1,4 +1,0 @@
-pub mod FormCases
-pub mod Framing
-pub mod Lettered
-pub mod NameKinds

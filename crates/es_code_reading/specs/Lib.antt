@@ -1,3 +1,0 @@
-pub mod Contexts
-pub mod Letters
-pub mod NameKinds
