@@ -1,15 +1,17 @@
 // What the names of a program mean.
 
-ghost use Rattle.std.specs.Prelude.{◌≡◌, ℕ, codes, IfOk};
+ghost use Rattle.std.specs.Prelude.{◌≡◌, ◌||◌, [], ℕ, codes, false, IfOk};
 ghost use Rattle.es_shapes.specs.Names.{bound_number};
 ghost use Rattle.es_steps.specs.LoweredClasses.{referent_of};
-ghost use Rattle.es_steps.specs.References.{has_number, resolve, written_by_all, imported, writes_free};
+ghost use Rattle.es_steps.specs.References.{has_number, resolve, written_by_all, imported, caught_again_in, given_around, changes_free};
 ghost use Rattle.es_steps.specs.References as spec;
 ghost use Rattle.es_base.specs.Preorder.{preorder};
 ghost use Rattle.es_outside.specs.Bindings.{binding_in};
 
 use crate::bindings::Bindings;
 use crate::changing;
+use crate::given::given;
+use crate::inner_functions::give_arguments;
 use crate::references::references;
 use es_base::ids::NodeId;
 use es_binding_faults::numbers::Numbers;
@@ -28,19 +30,25 @@ pub struct ProgramNames<'a> {
     /// Those that are declared again, and those of `var` in the head of a for-in or for-of.
     redeclared: Numbers,
     imported: Numbers,
-    /// Whether a reference writes a free name `arguments`.
-    writes_arguments: bool,
+    /// Those of a catch that a `var` declares again.
+    caught_again: Numbers,
+    /// Those that a function in a block gives a value to.
+    given: Numbers,
+    /// Whether a free name `arguments` is given a value: by a reference, or by a function in a block.
+    changes_arguments: bool,
 
     ghost bindings_are: { (m : ℕ) → binding_in m bindings ≡ bound_number (referent_of m (resolve program.now)) },
     ghost assigned_are: { (n : ℕ) → has_number n assigned ≡ has_number n (spec.assigned (resolve program.now)) },
     ghost redeclared_are: { (n : ℕ) → has_number n redeclared ≡ has_number n (written_by_all (preorder program.now)) },
     ghost imported_are: { (n : ℕ) → has_number n imported ≡ has_number n (spec.imported program.now) },
-    ghost writes_arguments_is: { writes_arguments ≡ writes_free (codes "arguments") (resolve program.now) },
+    ghost caught_again_are: { (n : ℕ) → has_number n caught_again ≡ has_number n (caught_again_in (preorder program.now)) },
+    ghost given_are: { (n : ℕ) → has_number n given ≡ has_number n (given_around [] false program.now) },
+    ghost changes_arguments_is: { changes_arguments ≡ changes_free (codes "arguments") program.now },
 }
 
 impl<'a> ProgramNames<'a> {
     /// The names of this program. Fails on allocation failure alone.
-    #[tactic(auto, using(crate::proofs::BoundNames::bound_first, crate::proofs::DeclaredNames::assigned_by, crate::proofs::DeclaredNames::arguments_written))]
+    #[tactic(auto, using(crate::proofs::BoundNames::bound_first, crate::proofs::DeclaredNames::assigned_by, crate::proofs::DeclaredNames::arguments_written, crate::proofs::InnerNames::gives_alike))]
     pub fn of(alloc: Global, program: &'a Node) -> Result<ProgramNames<'a>, AllocError>
         ensures { IfOk result (λ n. n.program.now ≡ program.now) }
     {
@@ -49,18 +57,25 @@ impl<'a> ProgramNames<'a> {
         let assigned = changing::assigned(alloc, references.as_slice())?;
         let redeclared = changing::redeclared(alloc, nodes.as_slice())?;
         let imported = changing::imported(alloc, nodes.as_slice())?;
-        let writes_arguments = changing::write_arguments(references.as_slice());
+        let caught_again = changing::caught_again(alloc, nodes.as_slice())?;
+        let given = given(alloc, program)?;
+        let changes_arguments = changing::write_arguments(references.as_slice())
+            || give_arguments(alloc, nodes.as_slice())?;
         let bindings = Bindings::of(alloc, references.as_slice())?;
         let assigned = Numbers::of(alloc, assigned.as_slice())?;
         let redeclared = Numbers::of(alloc, redeclared.as_slice())?;
         let imported = Numbers::of(alloc, imported.as_slice())?;
+        let caught_again = Numbers::of(alloc, caught_again.as_slice())?;
+        let given = Numbers::of(alloc, given.as_slice())?;
         Ok(ProgramNames {
             program,
             bindings,
             assigned,
             redeclared,
             imported,
-            writes_arguments,
+            caught_again,
+            given,
+            changes_arguments,
         })
     }
 }
@@ -77,20 +92,21 @@ impl<'a> NameFacts for ProgramNames<'a> {
         self.assigned.has(binding) || self.redeclared.has(binding)
     }
 
-    fn is_imported(&self, binding: NodeId) -> bool {
-        self.imported.has(binding)
+    #[tactic(auto, using(crate::proofs::DeclaredNames::either_number))]
+    fn changes_otherwise(&self, binding: NodeId) -> bool {
+        self.imported.has(binding) || self.caught_again.has(binding) || self.given.has(binding)
     }
 
     #[tactic(auto, using(crate::proofs::DeclaredNames::either_number))]
     fn is_varying(&self, binding: NodeId) -> bool {
-        self.is_written(binding) || self.is_imported(binding)
+        self.is_written(binding) || self.changes_otherwise(binding)
     }
 
     fn is_assigned(&self, binding: NodeId) -> bool {
         self.assigned.has(binding)
     }
 
-    fn writes_arguments(&self) -> bool {
-        self.writes_arguments
+    fn changes_arguments(&self) -> bool {
+        self.changes_arguments
     }
 }
