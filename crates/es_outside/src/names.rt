@@ -6,13 +6,16 @@ ghost use Rattle.es_steps.specs.LoweredClasses.{referent_of};
 ghost use Rattle.es_steps.specs.References.{has_number, resolve, written_by_all, imported, caught_again_in, given_around, changes_free};
 ghost use Rattle.es_steps.specs.References as spec;
 ghost use Rattle.es_base.specs.Preorder.{preorder};
+ghost use Rattle.es_binding_faults.specs.Seen.{seen};
 ghost use Rattle.es_outside.specs.Bindings.{binding_in};
+ghost use Rattle.es_outside.specs.InnerFunctions.{give_name};
+ghost use Rattle.es_outside.specs.Meant.{write_arguments};
 
 use crate::bindings::Bindings;
 use crate::changing;
 use crate::given::given;
 use crate::inner_functions::give_arguments;
-use crate::references::references;
+use crate::references::{Meant, references};
 use es_base::ids::NodeId;
 use es_binding_faults::numbers::Numbers;
 use es_binding_faults::preorder::preorder;
@@ -57,16 +60,13 @@ impl<'a> ProgramNames<'a> {
         let assigned = changing::assigned(alloc, references.as_slice())?;
         let redeclared = changing::redeclared(alloc, nodes.as_slice())?;
         let imported = changing::imported(alloc, nodes.as_slice())?;
-        let caught_again = changing::caught_again(alloc, nodes.as_slice())?;
-        let given = given(alloc, program)?;
-        let changes_arguments = changing::write_arguments(references.as_slice())
-            || give_arguments(alloc, nodes.as_slice())?;
+        let caught_again = caught_again(alloc, nodes.as_slice())?;
+        let given = given_numbers(alloc, program)?;
+        let changes_arguments = change_arguments(alloc, references.as_slice(), nodes.as_slice())?;
         let bindings = Bindings::of(alloc, references.as_slice())?;
         let assigned = Numbers::of(alloc, assigned.as_slice())?;
         let redeclared = Numbers::of(alloc, redeclared.as_slice())?;
         let imported = Numbers::of(alloc, imported.as_slice())?;
-        let caught_again = Numbers::of(alloc, caught_again.as_slice())?;
-        let given = Numbers::of(alloc, given.as_slice())?;
         Ok(ProgramNames {
             program,
             bindings,
@@ -77,6 +77,37 @@ impl<'a> ProgramNames<'a> {
             given,
             changes_arguments,
         })
+    }
+}
+
+/// The names of catches that a `var` declares again. Fails on allocation failure alone.
+fn caught_again(alloc: Global, nodes: &[&Node]) -> Result<Numbers, AllocError>
+    ensures { IfOk result (λ r. (n : ℕ) → has_number n r ≡ has_number n (caught_again_in (seen nodes.now))) }
+{
+    let bindings = changing::caught_again(alloc, nodes)?;
+    Numbers::of(alloc, bindings.as_slice())
+}
+
+/// The bindings that functions in blocks give a value to. Fails on allocation failure alone.
+fn given_numbers(alloc: Global, program: &Node) -> Result<Numbers, AllocError>
+    ensures { IfOk result (λ r. (n : ℕ) → has_number n r ≡ has_number n (given_around [] false program.now)) }
+{
+    let bindings = given(alloc, program)?;
+    Numbers::of(alloc, bindings.as_slice())
+}
+
+/// Whether a free name `arguments` is given a value. Fails on allocation failure alone.
+fn change_arguments(
+    alloc: Global,
+    references: &[Meant],
+    nodes: &[&Node],
+) -> Result<bool, AllocError>
+    ensures { IfOk result (λ b. b ≡ (write_arguments references.now || give_name (codes "arguments") (seen nodes.now))) }
+{
+    if changing::write_arguments(references) {
+        Ok(true)
+    } else {
+        give_arguments(alloc, nodes)
     }
 }
 
