@@ -24,7 +24,7 @@ use Rattle.es_outside.specs.Changing.{if_written, assigned_in}
 use Rattle.es_outside.specs.Frames.{binding_of}
 use Rattle.es_outside.specs.Meant.{meant_by_all, write_arguments}
 
-grouped : (a b c : Bool) → ((a || b) || c) ≡ (a || (b || c))
+pub grouped : (a b c : Bool) → ((a || b) || c) ≡ (a || (b || c))
 grouped true b c = refl
 grouped false b c = refl
 
@@ -44,7 +44,7 @@ plain_declared : (s : List ℕ) (ds : List Declaration) → is_declared s (plain
 plain_declared s [] = refl
 plain_declared s (d ∷ ds) = ap (λ b. bytes_eq s d.spelling || b) (plain_declared s ds)
 
-plain_repeated : (ds : List Declaration) → repeated (plain ds) ≡ repeated ds
+pub plain_repeated : (ds : List Declaration) → repeated (plain ds) ≡ repeated ds
 plain_repeated [] = refl
 plain_repeated (d ∷ ds) = ap (λ b. cond b (d.number ∷ []) [] ++ repeated (plain ds)) (plain_declared d.spelling ds) ∙ ap (λ ns. cond (is_declared d.spelling ds) (d.number ∷ []) [] ++ ns) (plain_repeated ds)
 
@@ -82,7 +82,7 @@ no_import (Node kind m span semantic_id ps) other = refl
 
 -- ---- what references write
 
-written_if : (writes : Bool) (r : Referent) → if_written writes (binding_of r) ≡ if_bound writes r
+pub written_if : (writes : Bool) (r : Referent) → if_written writes (binding_of r) ≡ if_bound writes r
 written_if true (Bound b) = refl
 written_if true (Free s) = refl
 written_if false (Bound b) = refl

@@ -1,7 +1,10 @@
 pub mod Ascending
 pub mod BoundNames
+pub mod CaughtNames
 pub mod DeclaredNames
 pub mod FirstNames
+pub mod Giving
+pub mod InnerNames
 pub mod PrivateSets
 pub mod PrivateTargets
 pub mod Resolving

@@ -39,7 +39,7 @@ declared_outside s xs ys e = declared_append s xs ys ∙ ap (λ o. or_outer o (b
 
 -- ---- without the classes that names may name
 
-same_binding : (s : String) (ds : List Declaration) → binding_of (referent s (declared s ds)) ≡ binding_of (referent s (declared s (plain ds)))
+pub same_binding : (s : String) (ds : List Declaration) → binding_of (referent s (declared s ds)) ≡ binding_of (referent s (declared s (plain ds)))
 same_binding s [] = refl
 same_binding s (d ∷ ds) = here (bytes_eq s d.spelling) (same_binding s ds)
   where
@@ -57,7 +57,7 @@ same_free x s (d ∷ ds) = here (bytes_eq s d.spelling) (same_free x s ds)
     here true h = refl
     here false h = h
 
-plain_seen : (form : ScopeForm) (m : ℕ) (ps : Parts) (i : ℕ) → plain (seen form m ps i) ≡ plain (seen form 0 ps i)
+pub plain_seen : (form : ScopeForm) (m : ℕ) (ps : Parts) (i : ℕ) → plain (seen form m ps i) ≡ plain (seen form 0 ps i)
 plain_seen program_scope m ps i = refl
 plain_seen function_scope m ps i = refl
 plain_seen own_function_scope m ps i = refl

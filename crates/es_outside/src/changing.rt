@@ -10,7 +10,7 @@ ghost use Rattle.es_node.specs.View.{kind_of, number_in, parts_in};
 ghost use Rattle.es_steps.specs.Parts.{at};
 ghost use Rattle.es_steps.specs.References as spec;
 ghost use Rattle.es_steps.specs.References.{has_number, numbers_of};
-ghost use Rattle.es_steps.specs.Scopes.{scope_names, scope_form, var_part};
+ghost use Rattle.es_steps.specs.Scopes.{bound_part, no_class, scope_names, scope_form, var_part};
 ghost use Rattle.es_outside.specs.Changing.{ids, assigned_in, own_number};
 ghost use Rattle.es_outside.specs.Meant.{write_arguments, writes_arguments};
 
@@ -190,4 +190,47 @@ fn add_imported(alloc: Global, node: &Node, bindings: &mut Vec<NodeId>) -> Resul
         }
         _ => Ok(()),
     }
+}
+
+// ---- caught again
+
+/// The names of each catch that a `var` of its block declares again, in some order. Fails on allocation failure alone.
+pub fn caught_again(alloc: Global, nodes: &[&Node]) -> Result<Vec<NodeId>, AllocError>
+    ensures { IfOk result (λ r. (n : ℕ) → has_number n (ids r.items) ≡ has_number n (spec.caught_again_in (seen nodes.now))) }
+{
+    let mut bindings = Vec::new(alloc);
+    for node in nodes {
+        add_caught_again(alloc, node, &mut bindings)?;
+    }
+    Ok(bindings)
+}
+
+/// Adds those of one node.
+#[tactic(auto, using(crate::proofs::CaughtNames::in_catch, crate::proofs::CaughtNames::no_catch))]
+fn add_caught_again(
+    alloc: Global,
+    node: &Node,
+    bindings: &mut Vec<NodeId>,
+) -> Result<(), AllocError>
+    ensures { OnOk result ((n : ℕ) → has_number n (ids bindings.new.items) ≡ (has_number n (ids bindings.old.items) || has_number n (spec.caught_again node.now))) }
+{
+    match node.kind() {
+        // catch (e) { var e; }
+        Kind::CatchClause => {
+            let names = caught_names(alloc, node)?;
+            add_repeated(alloc, names.as_slice(), bindings)
+        }
+        _ => Ok(()),
+    }
+}
+
+/// The names that the parameter of a catch binds, and those of `var` in its block.
+#[tactic(auto, using(crate::proofs::CaughtNames::repeated_names))]
+fn caught_names(alloc: Global, node: &Node) -> Result<Vec<Declared<'_>>, AllocError>
+    ensures { IfOk result (λ r. spec.repeated (named r.items) ≡ spec.repeated (bound_part no_class (at 0 (parts_in node.now)) ++ var_part (at 1 (parts_in node.now)))) }
+{
+    let mut names = Vec::new(alloc);
+    add_bound_at(node.parts(), 0, &mut names)?;
+    add_hoisted_at(Hoist::Var, node.parts(), 1, &mut names)?;
+    Ok(names)
 }

@@ -4,6 +4,8 @@
 pub mod bindings;
 pub mod changing;
 pub mod frame;
+pub mod given;
+pub mod inner_functions;
 pub mod names;
 pub mod outside;
 pub mod private_names;

@@ -1,16 +1,21 @@
 // What the names of a program mean.
 
-ghost use Rattle.std.specs.Prelude.{◌≡◌, ℕ, codes, IfOk};
+ghost use Rattle.std.specs.Prelude.{◌≡◌, ◌||◌, [], ℕ, codes, false, IfOk};
 ghost use Rattle.es_shapes.specs.Names.{bound_number};
 ghost use Rattle.es_steps.specs.LoweredClasses.{referent_of};
-ghost use Rattle.es_steps.specs.References.{has_number, resolve, written_by_all, imported, writes_free};
+ghost use Rattle.es_steps.specs.References.{has_number, resolve, written_by_all, imported_by_all, caught_again_in, given_around, changes_free};
 ghost use Rattle.es_steps.specs.References as spec;
 ghost use Rattle.es_base.specs.Preorder.{preorder};
+ghost use Rattle.es_binding_faults.specs.Seen.{seen};
 ghost use Rattle.es_outside.specs.Bindings.{binding_in};
+ghost use Rattle.es_outside.specs.InnerFunctions.{give_name};
+ghost use Rattle.es_outside.specs.Meant.{meant_by_all, write_arguments};
 
 use crate::bindings::Bindings;
 use crate::changing;
-use crate::references::references;
+use crate::given::given;
+use crate::inner_functions::give_arguments;
+use crate::references::{Meant, references};
 use es_base::ids::NodeId;
 use es_binding_faults::numbers::Numbers;
 use es_binding_faults::preorder::preorder;
@@ -27,20 +32,70 @@ pub struct ProgramNames<'a> {
     assigned: Numbers,
     /// Those that are declared again, and those of `var` in the head of a for-in or for-of.
     redeclared: Numbers,
-    imported: Numbers,
-    /// Whether a reference writes a free name `arguments`.
-    writes_arguments: bool,
+    unwritten: Unwritten<'a>,
 
     ghost bindings_are: { (m : ℕ) → binding_in m bindings ≡ bound_number (referent_of m (resolve program.now)) },
     ghost assigned_are: { (n : ℕ) → has_number n assigned ≡ has_number n (spec.assigned (resolve program.now)) },
     ghost redeclared_are: { (n : ℕ) → has_number n redeclared ≡ has_number n (written_by_all (preorder program.now)) },
+    ghost unwritten_are: { unwritten.program.now ≡ program.now },
+}
+
+/// What of a program's names changes without a write.
+#[derive(Drop)]
+struct Unwritten<'a> {
+    program: &'a Node,
+    imported: Numbers,
+    /// Those of a catch that a `var` declares again.
+    caught_again: Numbers,
+    /// Those that a function in a block gives a value to.
+    given: Numbers,
+    /// Whether a free name `arguments` is given a value: by a reference, or by a function in a block.
+    arguments: bool,
+
     ghost imported_are: { (n : ℕ) → has_number n imported ≡ has_number n (spec.imported program.now) },
-    ghost writes_arguments_is: { writes_arguments ≡ writes_free (codes "arguments") (resolve program.now) },
+    ghost caught_again_are: { (n : ℕ) → has_number n caught_again ≡ has_number n (caught_again_in (preorder program.now)) },
+    ghost given_are: { (n : ℕ) → has_number n given ≡ has_number n (given_around [] false program.now) },
+    ghost arguments_are: { arguments ≡ changes_free (codes "arguments") program.now },
+}
+
+impl<'a> Unwritten<'a> {
+    /// Those of this program, which has these references and nodes. Fails on allocation failure alone.
+    #[tactic(auto, using(crate::proofs::DeclaredNames::arguments_written, crate::proofs::InnerNames::gives_alike))]
+    fn of(
+        alloc: Global,
+        program: &'a Node,
+        references: &[Meant],
+        nodes: &[&Node],
+    ) -> Result<Unwritten<'a>, AllocError>
+        requires references { references.now ≡ meant_by_all (resolve program.now) }
+        requires nodes { seen nodes.now ≡ preorder program.now }
+        ensures { IfOk result (λ u. u.program.now ≡ program.now) }
+    {
+        let imported = imported(alloc, nodes)?;
+        let caught_again = caught_again(alloc, nodes)?;
+        let given = given_numbers(alloc, program)?;
+        let arguments = change_arguments(alloc, references, nodes)?;
+        Ok(Unwritten {
+            program,
+            imported,
+            caught_again,
+            given,
+            arguments,
+        })
+    }
+
+    /// Whether the binding changes without a write.
+    #[tactic(auto, using(crate::proofs::DeclaredNames::either_number))]
+    fn has(&self, binding: NodeId) -> bool
+        ensures { result ≡ has_number binding.0 (spec.changed_otherwise self.now.program.now) }
+    {
+        self.imported.has(binding) || self.caught_again.has(binding) || self.given.has(binding)
+    }
 }
 
 impl<'a> ProgramNames<'a> {
     /// The names of this program. Fails on allocation failure alone.
-    #[tactic(auto, using(crate::proofs::BoundNames::bound_first, crate::proofs::DeclaredNames::assigned_by, crate::proofs::DeclaredNames::arguments_written))]
+    #[tactic(auto, using(crate::proofs::BoundNames::bound_first, crate::proofs::DeclaredNames::assigned_by))]
     pub fn of(alloc: Global, program: &'a Node) -> Result<ProgramNames<'a>, AllocError>
         ensures { IfOk result (λ n. n.program.now ≡ program.now) }
     {
@@ -48,20 +103,56 @@ impl<'a> ProgramNames<'a> {
         let nodes = preorder(alloc, program)?;
         let assigned = changing::assigned(alloc, references.as_slice())?;
         let redeclared = changing::redeclared(alloc, nodes.as_slice())?;
-        let imported = changing::imported(alloc, nodes.as_slice())?;
-        let writes_arguments = changing::write_arguments(references.as_slice());
+        let unwritten = Unwritten::of(alloc, program, references.as_slice(), nodes.as_slice())?;
         let bindings = Bindings::of(alloc, references.as_slice())?;
         let assigned = Numbers::of(alloc, assigned.as_slice())?;
         let redeclared = Numbers::of(alloc, redeclared.as_slice())?;
-        let imported = Numbers::of(alloc, imported.as_slice())?;
         Ok(ProgramNames {
             program,
             bindings,
             assigned,
             redeclared,
-            imported,
-            writes_arguments,
+            unwritten,
         })
+    }
+}
+
+/// The names that imports declare. Fails on allocation failure alone.
+fn imported(alloc: Global, nodes: &[&Node]) -> Result<Numbers, AllocError>
+    ensures { IfOk result (λ r. (n : ℕ) → has_number n r ≡ has_number n (imported_by_all (seen nodes.now))) }
+{
+    let bindings = changing::imported(alloc, nodes)?;
+    Numbers::of(alloc, bindings.as_slice())
+}
+
+/// The names of catches that a `var` declares again. Fails on allocation failure alone.
+fn caught_again(alloc: Global, nodes: &[&Node]) -> Result<Numbers, AllocError>
+    ensures { IfOk result (λ r. (n : ℕ) → has_number n r ≡ has_number n (caught_again_in (seen nodes.now))) }
+{
+    let bindings = changing::caught_again(alloc, nodes)?;
+    Numbers::of(alloc, bindings.as_slice())
+}
+
+/// The bindings that functions in blocks give a value to. Fails on allocation failure alone.
+fn given_numbers(alloc: Global, program: &Node) -> Result<Numbers, AllocError>
+    ensures { IfOk result (λ r. (n : ℕ) → has_number n r ≡ has_number n (given_around [] false program.now)) }
+{
+    let bindings = given(alloc, program)?;
+    Numbers::of(alloc, bindings.as_slice())
+}
+
+/// Whether a free name `arguments` is given a value. Fails on allocation failure alone.
+fn change_arguments(
+    alloc: Global,
+    references: &[Meant],
+    nodes: &[&Node],
+) -> Result<bool, AllocError>
+    ensures { IfOk result (λ b. b ≡ (write_arguments references.now || give_name (codes "arguments") (seen nodes.now))) }
+{
+    if changing::write_arguments(references) {
+        Ok(true)
+    } else {
+        give_arguments(alloc, nodes)
     }
 }
 
@@ -77,20 +168,20 @@ impl<'a> NameFacts for ProgramNames<'a> {
         self.assigned.has(binding) || self.redeclared.has(binding)
     }
 
-    fn is_imported(&self, binding: NodeId) -> bool {
-        self.imported.has(binding)
+    fn changes_otherwise(&self, binding: NodeId) -> bool {
+        self.unwritten.has(binding)
     }
 
     #[tactic(auto, using(crate::proofs::DeclaredNames::either_number))]
     fn is_varying(&self, binding: NodeId) -> bool {
-        self.is_written(binding) || self.is_imported(binding)
+        self.is_written(binding) || self.unwritten.has(binding)
     }
 
     fn is_assigned(&self, binding: NodeId) -> bool {
         self.assigned.has(binding)
     }
 
-    fn writes_arguments(&self) -> bool {
-        self.writes_arguments
+    fn changes_arguments(&self) -> bool {
+        self.unwritten.arguments
     }
 }

@@ -250,7 +250,7 @@ fn add_references_of_hole<'a>(
 // ---- at a node
 
 /// What the i-th part of a node sees of the names of its scope. Fails on allocation failure alone.
-fn names_seen<'a>(alloc: Global, around: Parent<'a>, i: usize) -> Result<Frame<'a>, AllocError>
+pub fn names_seen<'a>(alloc: Global, around: Parent<'a>, i: usize) -> Result<Frame<'a>, AllocError>
     ensures { IfOk result (λ r. named r.names.items ≡ plain (names_at around.entry.is_body around.entry.kind 0 (parts_of around.entry.parts.now) i)) }
 {
     let mut names = Vec::new(alloc);
@@ -308,7 +308,7 @@ fn is_arguments(name: &str) -> bool
 
 /// The binding of this name, by the first identifier that declares it; none if it is free.
 #[tactic(auto, using(crate::proofs::Resolving::declared_here, crate::proofs::Resolving::declared_outside))]
-fn binding_of(scope: &Scope, name: &str) -> Option<NodeId>
+pub fn binding_of(scope: &Scope, name: &str) -> Option<NodeId>
     ensures { result ≡ binding_of (referent (chars name.now) (declared (chars name.now) (names_in scope.now))) }
 {
     match scope {
