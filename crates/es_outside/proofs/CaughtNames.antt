@@ -1,5 +1,5 @@
 -- The names that a catch declares twice.
-use Rattle.std.proofs.Common.{◌≡◌, refl, sym, ap, ◌∙◌, ℕ, ◌+◌, ◌<◌, length, drop, get_or, List, [], ◌++◌, Bool, false, ◌||◌, Bor}
+use Rattle.std.proofs.Common.{◌≡◌, refl, sym, ap, ◌∙◌, ℕ, ◌+◌, ◌<◌, length, drop, get_or, List, [], ◌++◌, Bool, ◌||◌, Bor}
 use Rattle.std.proofs.lemmas.List.{at_drop_more}
 use Rattle.es_base.specs.Tree.{Tree, Part, Node}
 use Rattle.es_base.specs.declared.kind.Kind.{Kind}

@@ -1,5 +1,5 @@
 -- What functions in blocks give a value to is that of the definition.
-use Rattle.std.proofs.Common.{◌≡◌, refl, sym, ap, ◌∙◌, ℕ, suc, ◌+◌, List, [], ◌∷◌, ◌++◌, Bool, true, false, cond, Option, Some, None, arith}
+use Rattle.std.proofs.Common.{◌≡◌, refl, sym, ap, ◌∙◌, ℕ, suc, ◌+◌, List, [], ◌∷◌, ◌++◌, Bool, true, false, cond, Some, None, arith}
 use Rattle.es_base.specs.Tree.{Tree, Part, Parts, Node, end, more, child, absent, list, string, no_string, boolean, literal}
 use Rattle.es_base.specs.declared.ids.NodeId.{NodeId}
 use Rattle.es_base.specs.declared.kind.Kind.{Kind}
@@ -8,7 +8,7 @@ use Rattle.es_binding_faults.proofs.Plain.{plain-append}
 use Rattle.es_node.specs.View.{kind_of, parts_in}
 use Rattle.es_steps.specs.References.{declared, referent, if_bound, meant, inner_functions, catches_a_name, names_around, given_around, given_in, given_at, given_of}
 use Rattle.es_steps.specs.Scopes.{Declaration, names_at, is_body_part, scope_of}
-use Rattle.es_steps.specs.Values.{String, Referent, Bound, Free}
+use Rattle.es_steps.specs.Values.{String, Referent}
 use Rattle.es_outside.specs.Changing.{if_written}
 use Rattle.es_outside.specs.Frames.{binding_of}
 use Rattle.es_outside.specs.Given.{names_passed, given_by, given_from, given_by_part, given_by_items}

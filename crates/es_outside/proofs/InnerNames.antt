@@ -1,9 +1,9 @@
 -- The names of functions in blocks, by the kind of a node.
 use Rattle.std.proofs.Common.{◌≡◌, refl, ap, List, [], ◌∷◌, ◌++◌, Bool, true, false, ◌||◌}
 use Rattle.es_base.specs.Conforms.{is_among}
-use Rattle.es_base.specs.Tree.{Tree, Part, Parts, Node, end, more, child, absent, list, string, no_string, boolean, literal}
+use Rattle.es_base.specs.Tree.{Tree, Parts, Node, end, more, child, absent, list, string, no_string, boolean, literal}
 use Rattle.es_base.specs.declared.kind.Kind.{Kind}
-use Rattle.es_node.specs.View.{kind_of, parts_in}
+use Rattle.es_node.specs.View.{kind_of}
 use Rattle.es_steps.specs.Parts.{at, items}
 use Rattle.es_steps.specs.References.{bound_spelling, function_name, function_names, case_functions, inner_functions, gives_inside, catches_a_name}
 use Rattle.es_steps.specs.Scopes.{is_binding_identifier}
