@@ -1,12 +1,13 @@
 // The shapes of a program.
 
-ghost use Rattle.std.specs.Prelude.{◌≡◌, ◌++◌, [], IfOk, OnOk};
+ghost use Rattle.std.specs.Prelude.{◌≡◌, ◌++◌, [], true, IfOk, OnOk};
 ghost use Rattle.es_steps.specs.Shapes.{if_has, shapes};
 ghost use Rattle.es_outside.specs.Outside.{other_shapes};
 
 use crate::names::ProgramNames;
 use crate::private_target::has_unwritable_target;
 use es_base::shape::Shape;
+use es_base::table::Place;
 use es_node::node::Node;
 use es_shapes::kept_block::has_kept_block;
 use es_shapes::late_class::has_late_class;
@@ -16,6 +17,7 @@ use es_shapes::private_chain::has_private_chain;
 use es_shapes::twice_read::has_twice_read_name;
 use es_shapes::written_class::has_written_class;
 use es_steps::options::Options;
+use es_unchanged::left::nothing_left;
 use std::alloc::{AllocError, Global};
 
 /// The shapes of a program under these options: ascending, each once. Fails on allocation failure alone.
@@ -27,12 +29,25 @@ pub fn outside_shapes(
 ) -> Result<Vec<Shape>, AllocError>
     ensures { IfOk result (λ r. r.items ≡ shapes options.now program.now) }
 {
-    let names = ProgramNames::of(alloc, program)?;
     let mut shapes = Vec::new(alloc);
+    if stays_as_it_is(program, options) {
+        return Ok(shapes);
+    }
+    let names = ProgramNames::of(alloc, program)?;
     let is_moved = has_moved_heritage(program, options, &names);
     push_if(is_moved, Shape::S1, &mut shapes)?;
     add_others(alloc, program, options, &names, &mut shapes)?;
     Ok(shapes)
+}
+
+/// Whether the program has no shape, since nothing in it is lowered.
+#[tactic(auto, using(es_unchanged::proofs::Shapeless::no_shapes))]
+fn stays_as_it_is(program: &Node, options: &Options) -> bool
+    ensures { result ≡ true → shapes options.now program.now ≡ [] }
+{
+    !options.es2022.class_static_block
+        && nothing_left(program, options)
+        && program.conforms(Place::Program)
 }
 
 /// Adds the shapes but S1.
