@@ -12,11 +12,6 @@ use Rattle.es_steps.specs.Values.{String}
 abbrev pub texts : List (Bor (List ℕ)) → List String
 texts names = map (λ s. chars s.now) names
 
--- whether a part is an identifier that declares
-abbrev pub is_declaring : Part → Bool
-is_declaring (child (Node Kind.BindingIdentifier b span semantic_id ps)) = true
-is_declaring p = false
-
 -- whether a function in one of these nodes has this name
 abbrev pub give_name : String → List Tree → Bool
 give_name s [] = false

@@ -1,16 +1,16 @@
 -- Contexts follow a change of numbers: what a name is, what is known inside a node, and at the start.
-use Rattle.std.specs.Prelude.{◌≡◌, ℕ, List, [], ◌∷◌, ◌++◌, ◌||◌, map, Bool, true, false, cond, bytes_eq, codes, nat_eq, Option, Some, None, not}
+use Rattle.std.specs.Prelude.{◌≡◌, ℕ, List, [], ◌∷◌, ◌++◌, ◌||◌, map, Bool, true, false, cond, bytes_eq, codes, nat_eq, Option, Some, None}
 use Rattle.std.proofs.Common.{refl, ap, ◌∙◌}
 use Rattle.es_base.specs.Numbered.{is_new}
 use Rattle.es_base.specs.Tree.{Tree, Part, Parts, Node, end, more, child, list}
 use Rattle.es_base.specs.declared.kind.Kind.{Kind}
 use Rattle.es_base.specs.declared.ledger.GeneratedKind.{GeneratedKind}
 use Rattle.es_base.specs.declared.ledger.LedgerEntry.{LedgerEntry}
-use Rattle.es_steps.specs.Context.{NameKind, Fixed, Changing, MeansClass, FunctionRole, a_function, constructor_of, method_on, super_function_of, Context, is_private_entry, generated_as, is_private_for, is_generated_private, is_private_elsewhere, is_generated_elsewhere, if_around, around_inside, unless_varying, declared_kind, found_kind, generated_or, name_kind, is_super_call, holds_super, part_holds_super, parts_hold_super, rest_among, super_statement, first_super, initializing_call, Frame, function_frame, arrow_frame, class_frame, field_frame, method_frame, static_block_frame, object_frame, property_frame, assignment_frame, declarator_frame, same_frame, frame_of, in_function, in_element, is_constructor, method_role, property_role, role_of_generated, name_in, let_class_of, framed, role_in, inner_name, inside}
+use Rattle.es_steps.specs.Context.{NameKind, Fixed, Changing, MeansClass, FunctionRole, a_function, constructor_of, method_on, super_function_of, Context, is_private_entry, generated_as, is_private_for, is_generated_private, if_around, around_inside, unless_varying, declared_kind, found_kind, generated_or, name_kind, is_super_call, holds_super, part_holds_super, parts_hold_super, rest_among, super_statement, first_super, initializing_call, Frame, function_frame, arrow_frame, class_frame, field_frame, method_frame, static_block_frame, object_frame, property_frame, assignment_frame, declarator_frame, same_frame, frame_of, in_function, in_element, is_constructor, method_role, property_role, role_of_generated, name_in, let_class_of, framed, role_in, inner_name, inside}
 use Rattle.es_steps.specs.Meaning.{Terms, start}
 use Rattle.es_steps.specs.Parts.{at, items, block_items, string_of, is_true, is_present}
 use Rattle.es_steps.specs.PrivateNames.{seen_members}
-use Rattle.es_steps.specs.References.{declared, has_number, resolve, names_around}
+use Rattle.es_steps.specs.References.{declared, has_number, names_around}
 use Rattle.es_steps.specs.Scopes.{ClassName, no_class, declares, own_name, let_names, Declaration, bound_part, names_at, class_in}
 use Rattle.es_steps.specs.Values.{String, Bound, Home, OfClass, OfPrototype}
 use Rattle.es_steps.proofs.Mapped.{mapped, mapped_part, mapped_parts, mapped_class_name, mapped_declaration, mapped_declarations, mapped_option, mapped_generated, mapped_ledger, mapped_name_kind, mapped_private, mapped_home, mapped_role, mapped_pair, mapped_context, mapped_terms, Renames}
@@ -126,14 +126,6 @@ module _ {first : ℕ} {f : ℕ → ℕ} (r : Renames first f) where
   pub is_generated_private-mapped : (s : String) (n : ℕ) (es : List LedgerEntry) → is_generated_private s (f n) (mapped_ledger f es) ≡ is_generated_private s n es
   is_generated_private-mapped s n [] = refl
   is_generated_private-mapped s n (e ∷ es) = rw (is_private_for-mapped n e.kind, is_generated_private-mapped s n es) refl
-
-  is_private_elsewhere-mapped : (n : ℕ) (g : GeneratedKind) → is_private_elsewhere (f n) (mapped_generated f g) ≡ is_private_elsewhere n g
-  is_private_elsewhere-mapped n (GeneratedKind.Private k) = ap not (r.apart n k.0)
-  is_private_elsewhere-mapped n g = refl
-
-  pub is_generated_elsewhere-mapped : (s : String) (n : ℕ) (es : List LedgerEntry) → is_generated_elsewhere s (f n) (mapped_ledger f es) ≡ is_generated_elsewhere s n es
-  is_generated_elsewhere-mapped s n [] = refl
-  is_generated_elsewhere-mapped s n (e ∷ es) = rw (is_private_elsewhere-mapped n e.kind, is_generated_elsewhere-mapped s n es) refl
 
   unless_varying-mapped : (varying : List ℕ) (b : ℕ) (kind : NameKind) → unless_varying (map f varying) (f b) (mapped_name_kind f kind) ≡ mapped_name_kind f (unless_varying varying b kind)
   unless_varying-mapped varying b kind = rw (has_number-mapped r b varying) (cond-mapped (mapped_name_kind f) (has_number b varying) (Changing (Bound b)) kind refl refl)

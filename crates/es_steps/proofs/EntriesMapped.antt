@@ -2,15 +2,15 @@
 use Rattle.std.specs.Prelude.{◌≡◌, ℕ, suc, List, [], ◌∷◌, ◌++◌, map, Bool, true, false, cond, ◌&&◌, Option, Some, None}
 use Rattle.std.proofs.Common.{refl, ap, ap₂, ◌∙◌}
 use Rattle.es_steps.specs.Code.{Code, Codes, Target, Callee, FunctionForm, Opened, binding, rest, member, private_member, super_member, private_in, assign, compound, logical, logical_assign, update, call, tag, construct, super_call, sequence, template, operation, chain, short, tested, pattern, takes, steps, gives_to, export_default, function, new_function, class_code, field, private_field, method, private_method, constructor, static_block, generated_element, from_call, from_member, key_of, define, private_initialize, call_arrow, call_closure, give_function, give_class, to_name, to_member, to_private, to_super, to_setter, to_pattern, to_default, plain, on_member, on_private, on_super, with_receiver, checked, on_chain, behind_test, done, and}
-use Rattle.es_steps.specs.Entries.{Parameter, Identifier, RestIdentifier, Pattern, Method, Listed, is_string_among, without, parameter_of, parameters_of, constructor_form, constructor_parameters, no_constructor, if_one, in_order, is_identifier, all_identifiers, entered, ev_parameter, ev_parameters, ev_given, ev_body, ev_construction, listed, value_in, after_run, function_entry, class_entry, some_value, method_with, Entries, heritage_in, same_nullable, behind_key, methods_in, keys_stay, behind_code, behind_all, behind_target, behind_callee, behind_arguments, behind_parameters, behind_fields, entries, target_entries, pattern_entries, taken_entries, take_entries, callee_entries, all_entries, held_entries, parameter_entries, key_entries, key_entry, static_entries, static_entry, field_entries, field_entry, function_entries, element_function}
+use Rattle.es_steps.specs.Entries.{Parameter, Identifier, RestIdentifier, Pattern, Method, Listed, is_string_among, without, parameter_of, parameters_of, constructor_form, constructor_parameters, no_constructor, if_one, in_order, is_identifier, all_identifiers, entered, ev_parameter, ev_parameters, ev_given, ev_body, ev_construction, listed, value_in, after_run, function_entry, class_entry, some_value, method_with, Entries, heritage_in, same_nullable, behind_key, methods_in, keys_stay, behind_code, behind_all, behind_target, behind_callee, behind_arguments, behind_parameters, behind_fields, behind_leading, leading, elements_start, entries, target_entries, pattern_entries, taken_entries, take_entries, callee_entries, all_entries, held_entries, parameter_entries, key_entries, key_entry, static_entries, static_entry, field_entries, field_entry, function_entries, element_function}
 use Rattle.es_steps.specs.Evaluation.{Environment, Run, Evaluation, gives, event, bind, write_ready, ev, ev_target, ev_take, ev_keys, ev_static, ev_field, ev_initializers}
 use Rattle.es_steps.specs.Events.{Take, Index, Rest, Operate, SuperCallWithAll, EnterBody}
 use Rattle.es_steps.specs.GeneratedForms.{is_plain}
 use Rattle.es_steps.specs.Opening.{all_arguments, assigned_in, assigned_in_all}
 use Rattle.es_steps.specs.References.{has_number}
 use Rattle.es_steps.specs.Values.{String, Value, Undefined, ThisOf, ResultOf}
-use Rattle.es_steps.proofs.EvaluationMapped.{as_key-mapped, same_value-mapped, Follows, no_meaning-follows, gives-follows, event-follows, bind-follows, value_behind-mapped, bind_parameters-follows, ev-follows, ev_target-follows, ev_take-follows, ev_callee-follows, ev_all-follows, ev_keys-follows, ev_key-follows, ev_static-follows, ev_field-follows, ev_initializers-follows}
-use Rattle.es_steps.proofs.Mapped.{Renames, mapped_option, mapped_value, mapped_nullable, mapped_environment, mapped_runs, mapped_opened, mapped_code, mapped_target, mapped_callee, mapped_codes, mapped_listed, mapped_parameter, mapped_parameters, mapped_methods, mapped_entry, mapped_nullable_entry, mapped_entries}
+use Rattle.es_steps.proofs.EvaluationMapped.{added_private-mapped, as_key-mapped, same_value-mapped, Follows, no_meaning-follows, gives-follows, event-follows, bind-follows, value_behind-mapped, bind_parameters-follows, ev-follows, ev_target-follows, ev_take-follows, ev_callee-follows, ev_all-follows, ev_keys-follows, ev_key-follows, ev_static-follows, ev_field-follows, ev_initializers-follows}
+use Rattle.es_steps.proofs.Mapped.{Renames, mapped_option, mapped_value, mapped_nullable, mapped_given, mapped_environment, mapped_runs, mapped_opened, mapped_code, mapped_target, mapped_callee, mapped_codes, mapped_listed, mapped_parameter, mapped_parameters, mapped_methods, mapped_entry, mapped_nullable_entry, mapped_entries}
 use Rattle.es_steps.proofs.OpeningMapped.{all_arguments-mapped, assigned_in-mapped, assigned_in_all-mapped}
 use Rattle.es_steps.proofs.PartsMapped.{cond-mapped, append-mapped}
 use Rattle.es_steps.proofs.ReferencesMapped.{has_number-mapped}
@@ -209,6 +209,21 @@ module _ {first : ℕ} {f : ℕ → ℕ} (r : Renames first f) (opens there : Op
   behind_fields-mapped s n done es = after-follows f (initializers-follow n es) s
   behind_fields-mapped s n (and h hs) es = refl
 
+  behind_leading-mapped : (n : ℕ) (s : Environment) (cs : Codes) → behind_leading there first later (f n) (mapped_environment f s) (mapped_codes f cs) ≡ mapped_environment f (behind_leading opens first late n s cs)
+  behind_leading-mapped n s (and (generated_element x c) cs) = rw (after-follows f (ev_static-follows r opens there follow n Undefined (generated_element x c)) s) (behind_leading-mapped n (after_run s (ev_static opens n Undefined (generated_element x c) s)) cs)
+  behind_leading-mapped n s (and (field false form k c) cs) = behind_leading-mapped n s cs
+  behind_leading-mapped n s (and (private_field false d c) cs) = behind_leading-mapped n s cs
+  behind_leading-mapped n s (and (method is_static kind k g) cs) = behind_leading-mapped n s cs
+  behind_leading-mapped n s (and (private_method is_static d g) cs) = behind_leading-mapped n s cs
+  behind_leading-mapped n s (and (constructor g) cs) = behind_leading-mapped n s cs
+  behind_leading-mapped n s cs = refl
+
+  leading-mapped : (n : ℕ) (s : Environment) (cs : Codes) → leading there first later (f n) (mapped_environment f s) (mapped_codes f cs) ≡ mapped_environment f (leading opens first late n s cs)
+  leading-mapped n s cs = rw (behind_leading-mapped n s cs) (added_private-mapped f (behind_leading opens first late n s cs) s)
+
+  elements_start-mapped : (n : ℕ) (s b : Environment) (es : Codes) → elements_start there first later (f n) (mapped_environment f s) (mapped_environment f b) (mapped_codes f es) ≡ mapped_environment f (elements_start opens first late n s b es)
+  elements_start-mapped n s b es = append-mapped (mapped_given f) _ _ (leading-mapped n b es) (rw (assigned_in_all-mapped f es) (without-mapped f (assigned_in_all es) s))
+
   -- ---- entries
 
   body_start-mapped : (e : Environment) (ps : Codes) (body : Code) → without (assigned_in_all (mapped_codes f ps) ++ assigned_in (mapped_code f body)) (mapped_environment f e) ≡ mapped_environment f (without (assigned_in_all ps ++ assigned_in body) e)
@@ -216,9 +231,6 @@ module _ {first : ℕ} {f : ℕ → ℕ} (r : Renames first f) (opens there : Op
 
   given_start-mapped : (e : Environment) (body : Code) → without (assigned_in (mapped_code f body)) (mapped_environment f e) ≡ mapped_environment f (without (assigned_in body) e)
   given_start-mapped e body = rw (assigned_in-mapped f body) (without-mapped f (assigned_in body) e)
-
-  elements_start-mapped : (e : Environment) (es : Codes) → without (assigned_in_all (mapped_codes f es)) (mapped_environment f e) ≡ mapped_environment f (without (assigned_in_all es) e)
-  elements_start-mapped e es = rw (assigned_in_all-mapped f es) (without-mapped f (assigned_in_all es) e)
 
   -- s is the environment in front of the class, a that behind its heritage, i that of its construction
   entry_of_class-mapped : (n : ℕ) (declared : Option ℕ) (h es : Codes) (s a i : Environment) → class_entry (keys_stay there first later (mapped_environment f a) (mapped_environment f i) (mapped_codes f es)) (mapped_option f declared) (constructor_form (mapped_codes f es)) (constructor_parameters (mapped_codes f es)) (heritage_in there first later (mapped_environment f s) (mapped_codes f h)) (methods_in there first later (mapped_environment f a) (mapped_codes f es)) (listed (ev_construction there first later (f n) (mapped_codes f h) (mapped_codes f es) (mapped_codes f es) (mapped_environment f i))) ≡ mapped_option (mapped_entry f) (class_entry (keys_stay opens first late a i es) declared (constructor_form es) (constructor_parameters es) (heritage_in opens first late s h) (methods_in opens first late a es) (listed (ev_construction opens first late n h es es i)))
@@ -261,10 +273,10 @@ module _ {first : ℕ} {f : ℕ → ℕ} (r : Renames first f) (opens there : Op
         rw (body_start-mapped s ps body, listed-follows f (ev_body-follows ps body) start, behind_parameters-mapped start ps, parameters_of-mapped f ps, function_entry-mapped f form own (parameters_of ps) (listed (ev_body opens first late ps body start)))
         (ap (λ rest. mapped_nullable_entry f (g, function_entry form own (parameters_of ps) (listed (ev_body opens first late ps body start))) ∷ rest) (joined-entries f _ _ (parameter_entries-mapped start ps) (entries-mapped (behind_parameters opens first late start ps) body)))
     entries-mapped s (class_code n declared h es) =
-        let start : Environment = without (assigned_in_all es) s in
         let a : Environment = behind_all opens first late s h in
         let b : Environment = after_run a (ev_keys opens es (λ ks. gives Undefined) a) in
-        rw (elements_start-mapped s es, behind_all-mapped s h, entry_of_class-mapped n declared h es s a start, after-follows f (ev_keys-follows r opens there follow es (λ ks. gives Undefined) (λ ks. gives Undefined) (λ ks. gives-follows f Undefined)) a, behind_fields-mapped start n h es)
+        let start : Environment = elements_start opens first late n s b es in
+        rw (behind_all-mapped s h, after-follows f (ev_keys-follows r opens there follow es (λ ks. gives Undefined) (λ ks. gives Undefined) (λ ks. gives-follows f Undefined)) a, elements_start-mapped n s b es, entry_of_class-mapped n declared h es s a start, behind_fields-mapped start n h es)
         (ap (λ rest. mapped_nullable_entry f (n, class_entry (keys_stay opens first late a start es) declared (constructor_form es) (constructor_parameters es) (heritage_in opens first late s h) (methods_in opens first late a es) (listed (ev_construction opens first late n h es es start))) ∷ rest) (joined-entries f _ _ (joined-entries f _ _ (joined-entries f _ _ (joined-entries f _ _ (all_entries-mapped s h) (key_entries-mapped a es)) (static_entries-mapped n b es)) (field_entries-mapped n start es)) (function_entries-mapped s (behind_fields opens first late start n h es) es)))
     entries-mapped s (from_call c) = entries-mapped s c
     entries-mapped s (from_member c) = entries-mapped s c

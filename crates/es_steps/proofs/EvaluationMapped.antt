@@ -1,11 +1,12 @@
 -- Evaluation follows a change of numbers: a code with other numbers does what the code did, with those numbers.
-use Rattle.std.specs.Prelude.{◌≡◌, refl, ℕ, suc, List, [], ◌∷◌, Bool, true, false, cond, ◌&&◌, bytes_eq, Option, Some, None}
+use Rattle.std.specs.Prelude.{◌≡◌, refl, ℕ, zero, suc, length, List, [], ◌∷◌, Bool, true, false, cond, ◌&&◌, bytes_eq, Option, Some, None}
 use Rattle.std.proofs.Common.{◌∙◌, ap}
 use Rattle.es_base.specs.declared.ledger.GeneratedKind.{GeneratedKind}
 use Rattle.es_steps.proofs.Mapped.{Renames, mapped_option, mapped_generated, mapped_name_kind, mapped_value, mapped_values, mapped_nullable, mapped_event, mapped_events, mapped_environment, mapped_run, mapped_runs, mapped_opened, mapped_code, mapped_target, mapped_callee, mapped_codes}
+use Rattle.es_steps.proofs.PartsMapped.{cond-mapped}
 use Rattle.es_steps.specs.Code.{Code, Codes, Target, Callee, FieldForm, defines, sets, leaves_out, TemplateString, Opened, InitializersOf, BodyOf, CalledBodyOf, nothing, no_rule, value, spelled, private_name, binding, rest, name, super, member, private_member, super_member, private_in, assign, compound, logical, logical_assign, update, call, tag, construct, super_call, super_call_with_all, sequence, template_string, template, operation, piece, chain, short, tested, pattern, takes, steps, gives_to, export_default, function, new_function, new_return, class_code, field, private_field, method, private_method, constructor, static_block, generated_element, from_call, from_member, key_of, helper, helper_call, throw, define, private_initialize, add_brand, bound, setter, private_value, call_arrow, call_closure, initializers, give_function, give_class, to_name, to_member, to_private, to_super, to_setter, to_pattern, to_default, no_target, plain, on_member, on_private, on_super, with_receiver, checked, on_chain, behind_test, done, and}
 use Rattle.es_steps.specs.Context.{NameKind, Fixed, Changing, MeansClass, Generated, StaticMethod}
-use Rattle.es_steps.specs.Evaluation.{is_binding_value, element_holds, kept_as, given_as, Environment, Run, Evaluation, no_meaning, gives, event, run_behind, go_on, bind, settle_run, settle, held_run, held, quiet_run, quiet, is_none, same_run, stays, class_run, gives_class, this_run, gives_this, found, give_found, read_given, read_generated, read_name, stands_for, write_generated, write_name, private_key, default_key, read_private, write_private, Ready, ready_member, ready_private, ready_setter, ready_pattern, read_ready, write_ready, initialized, last_of, new_or_former, nullable_gives, has_receiver, receiver_in, ev_template, tag_values, bind_parameters, tested_then, has_instance_methods, brand_first, declared_first, ev_behind, ev, ev_target, ev_taken, ev_take, ev_callee, ev_again, ev_all, ev_converted, ev_held, ev_keys, ev_key, ev_statics, ev_static, ev_fields, ev_field, ev_initializers}
+use Rattle.es_steps.specs.Evaluation.{added, is_private_key, without_private, only_private, outside_run, outside, is_binding_value, element_holds, kept_as, given_as, Environment, Run, Evaluation, no_meaning, gives, event, run_behind, go_on, bind, settle_run, settle, held_run, held, quiet_run, quiet, is_none, same_run, stays, class_run, gives_class, this_run, gives_this, found, give_found, read_given, read_generated, read_name, stands_for, write_generated, write_name, private_key, default_key, read_private, write_private, Ready, ready_member, ready_private, ready_setter, ready_pattern, read_ready, write_ready, initialized, last_of, new_or_former, nullable_gives, has_receiver, receiver_in, ev_template, tag_values, bind_parameters, tested_then, has_instance_methods, brand_first, declared_first, ev_behind, ev, ev_target, ev_taken, ev_take, ev_callee, ev_again, ev_all, ev_converted, ev_held, ev_keys, ev_key, ev_statics, ev_static, ev_fields, ev_field, ev_initializers}
 use Rattle.es_steps.specs.Events.{OfKind, Take, Index, Place, RightOf, Default, Part, Event, AddBrand, SuperCall, SuperCallWithAll, InitializeClass, Throw, Events, none, then, is_throw, throws, behind, value_behind, Short, Operate}
 use Rattle.es_steps.specs.SameValues.{same_value}
 use Rattle.es_steps.specs.Values.{String, RegExpOf, Value, ConstantOf, Undefined, BindingOf, FunctionOf, ClassOf, ThisOf, ArgumentsOf, NewTargetOf, ResultOf, FormerOf, KeyOf, TagString, as_key, is_class_value}
@@ -79,6 +80,35 @@ module _ (f : ℕ → ℕ) where
 
   pub held-follows : {a b : Evaluation} (m : ℕ) (place : Place) (test : Option Value) → Follows f a b → Follows f (held m place test a) (held (f m) place (mapped_nullable f test) b)
   held-follows {a = a} m place test all = record { on = λ s. ap (held_run (f m) place (mapped_nullable f test) (mapped_environment f s)) (all.on s) ∙ held_run-mapped m place test s (a s) }
+
+  length-mapped : (s : Environment) → length (mapped_environment f s) ≡ length s
+  length-mapped [] = refl
+  length-mapped (p ∷ s) = ap suc (length-mapped s)
+
+  added-mapped : (a s : Environment) → added (mapped_environment f a) (mapped_environment f s) ≡ added a s
+  added-mapped [] s = refl
+  added-mapped (p ∷ a) [] = ap suc (length-mapped a)
+  added-mapped (p ∷ a) (q ∷ s) = added-mapped a s
+
+  without_private-mapped : (k : ℕ) (s : Environment) → without_private k (mapped_environment f s) ≡ mapped_environment f (without_private k s)
+  without_private-mapped zero s = refl
+  without_private-mapped (suc k) [] = refl
+  without_private-mapped (suc k) (p ∷ s) = cond-mapped (mapped_environment f) (is_private_key p.0) (without_private k s) (p ∷ without_private k s) (without_private-mapped k s) (ap (λ rest. (p.0, mapped_value f p.1) ∷ rest) (without_private-mapped k s))
+
+  only_private-mapped : (k : ℕ) (s : Environment) → only_private k (mapped_environment f s) ≡ mapped_environment f (only_private k s)
+  only_private-mapped zero s = refl
+  only_private-mapped (suc k) [] = refl
+  only_private-mapped (suc k) (p ∷ s) = cond-mapped (mapped_environment f) (is_private_key p.0) (p ∷ only_private k s) (only_private k s) (ap (λ rest. (p.0, mapped_value f p.1) ∷ rest) (only_private-mapped k s)) (only_private-mapped k s)
+
+  pub added_private-mapped : (a s : Environment) → only_private (added (mapped_environment f a) (mapped_environment f s)) (mapped_environment f a) ≡ mapped_environment f (only_private (added a s) a)
+  added_private-mapped a s = rw (added-mapped a s) (only_private-mapped (added a s) a)
+
+  outside_run-mapped : (s : Environment) (r : Option Run) → outside_run (mapped_environment f s) (mapped_runs f r) ≡ mapped_runs f (outside_run s r)
+  outside_run-mapped s None = refl
+  outside_run-mapped s (Some r) = rw (added-mapped r.after s, without_private-mapped (added r.after s) r.after) refl
+
+  pub outside-follows : {a b : Evaluation} → Follows f a b → Follows f (outside a) (outside b)
+  outside-follows {a = a} all = record { on = λ s. ap (outside_run (mapped_environment f s)) (all.on s) ∙ outside_run-mapped s (a s) }
 
   quiet_run-mapped : (s : Environment) (r : Option Run) → quiet_run (mapped_environment f s) (mapped_runs f r) ≡ mapped_runs f (quiet_run s r)
   quiet_run-mapped s None = refl
@@ -383,7 +413,7 @@ module _ {first : ℕ} {f : ℕ → ℕ} (r : Renames first f) where
       ev-follows (function g form own ps body) = gives-follows f _
       ev-follows (new_function g form ps body) = no_meaning-follows f
       ev-follows (new_return es) = no_meaning-follows f
-      ev-follows (class_code n declared h es) = settle-follows f (ev_all-follows h _ _ (λ vs. ev_keys-follows es (λ ks. bind (declared_first declared n) (λ u. bind (ev_statics opens n ks es) (λ w. gives (ClassOf n)))) (λ ks. bind (declared_first (mapped_option f declared) (f n)) (λ u. bind (ev_statics there (f n) ks (mapped_codes f es)) (λ w. gives (ClassOf (f n))))) (λ ks. bind-follows f (λ u. bind (ev_statics opens n ks es) (λ w. gives (ClassOf n))) (λ u. bind (ev_statics there (f n) (mapped_values f ks) (mapped_codes f es)) (λ w. gives (ClassOf (f n)))) (declared_first-follows f declared n) (λ u. bind-follows f _ _ (ev_statics-follows n ks es) (λ w. gives-follows f (ClassOf n))))))
+      ev-follows (class_code n declared h es) = outside-follows f (settle-follows f (ev_all-follows h _ _ (λ vs. ev_keys-follows es (λ ks. bind (declared_first declared n) (λ u. bind (ev_statics opens n ks es) (λ w. gives (ClassOf n)))) (λ ks. bind (declared_first (mapped_option f declared) (f n)) (λ u. bind (ev_statics there (f n) ks (mapped_codes f es)) (λ w. gives (ClassOf (f n))))) (λ ks. bind-follows f (λ u. bind (ev_statics opens n ks es) (λ w. gives (ClassOf n))) (λ u. bind (ev_statics there (f n) (mapped_values f ks) (mapped_codes f es)) (λ w. gives (ClassOf (f n)))) (declared_first-follows f declared n) (λ u. bind-follows f _ _ (ev_statics-follows n ks es) (λ w. gives-follows f (ClassOf n)))))))
       ev-follows (field is_static form k e) = no_meaning-follows f
       ev-follows (private_field is_static d e) = no_meaning-follows f
       ev-follows (method is_static kind k g) = no_meaning-follows f

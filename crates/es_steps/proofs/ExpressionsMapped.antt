@@ -1,18 +1,18 @@
 -- The codes of expressions follow a change of numbers.
-use Rattle.std.specs.Prelude.{◌≡◌, ℕ, [], ◌∷◌, ◌++◌, Bool, true, false, cond, ◌&&◌, codes, bytes_eq, Option, Some, None, not}
+use Rattle.std.specs.Prelude.{◌≡◌, ℕ, [], ◌∷◌, ◌++◌, Bool, true, false, cond, ◌&&◌, codes, bytes_eq, Option, Some, None}
 use Rattle.std.proofs.Common.{refl, ap, ap₂, ◌∙◌}
 use Rattle.es_base.specs.Numbered.{is_new}
 use Rattle.es_base.specs.declared.kind.Kind.{Kind}
 use Rattle.es_base.specs.declared.ledger.GeneratedKind.{GeneratedKind}
 use Rattle.es_steps.specs.Code.{Code, Codes, Target, Callee, no_rule, value, spelled, private_name, name, super, member, private_member, super_member, private_in, compound, logical, logical_assign, call, tag, template_string, template, operation, piece, chain, tested, private_value, on_chain, behind_test, done, and, from_call, from_member, bound, with_receiver}
-use Rattle.es_steps.specs.Context.{Context, NameKind, Changing, Generated, StaticMethod, name_kind, is_generated_elsewhere}
+use Rattle.es_steps.specs.Context.{Context, NameKind, Changing, Generated, StaticMethod, name_kind, new_here}
 use Rattle.es_steps.specs.Events.{Operand, Spelled, Flag, OfKind, Delete}
 use Rattle.es_steps.specs.Expressions.{operation_of, the_code, literal_code, is_arguments, static_method, arguments_of, name_or_arguments, name_code, private_name_code, cooked_of, template_string_code, template_strings, template_code, spelling_of, meta_code, key_code, super_member_at, checked_object, member_on, member_code, is_made_private, names_class, private_on, private_field_of, private_field_code, private_in_of, private_in_code, target_of, is_logical, without_sign, assignment_code, update_code, void_code, deleted, delete_code, is_free_name, is_any_name, unary_operation, unary_code, binary_code, quiet_logical, logical_code, chain_code, spliced, deleted_as, ended_alone, chain_or, conditional_code, callee_of, checked_callee, call_code, new_code, tag_of, tag_code, is_prototype, key_details, property_code}
 use Rattle.es_steps.specs.GeneratedForms.{generated_member, generated_call, generated_assignment, is_undefined_test, tested_object, class_named, is_method_kind}
 use Rattle.es_steps.specs.Members.{Member, Members, code, string, literal, at, codes_of, word_of, flag_of, details}
 use Rattle.es_steps.specs.PrivateNames.{PrivateMember, PrivateReference, member_at}
 use Rattle.es_steps.specs.Values.{String, StringOf, BooleanOf, Value, ConstantOf, Undefined, ResultOf, ThisOf, ClassOf, ArgumentsOf, Free, Home}
-use Rattle.es_steps.proofs.ContextMapped.{name_kind-mapped, is_generated_private-mapped, is_generated_elsewhere-mapped}
+use Rattle.es_steps.proofs.ContextMapped.{name_kind-mapped, new_here-mapped, is_generated_private-mapped}
 use Rattle.es_steps.proofs.FormsMapped.{code-cond, cond-code, here, class_named-mapped, tested_object-mapped, again_of-mapped, helper_member-mapped, generated_member-mapped, generated_call-mapped, generated_binary-mapped, is_undefined_test-mapped, generated_assignment-mapped}
 use Rattle.es_steps.proofs.Mapped.{Renames, mapped_option, mapped_name_kind, mapped_private, mapped_private_reference, mapped_value, mapped_home, mapped_context, mapped_code, mapped_codes, mapped_callee, mapped_target, mapped_member, mapped_members}
 use Rattle.es_steps.proofs.MembersMapped.{at-mapped, operands-mapped, details-mapped, word_at-mapped, flag_at-mapped, codes_at-mapped}
@@ -58,13 +58,8 @@ module _ (f : ℕ → ℕ) where
   spelling_of-mapped (code (spelled s)) = refl
   spelling_of-mapped p = refl
 
-  spelling_at-mapped : (i : ℕ) (ps : Members) → spelling_of (at i (mapped_members f ps)) ≡ spelling_of (at i ps)
+  pub spelling_at-mapped : (i : ℕ) (ps : Members) → spelling_of (at i (mapped_members f ps)) ≡ spelling_of (at i ps)
   spelling_at-mapped i ps = ap spelling_of (at-mapped f i ps) ∙ spelling_of-mapped (at i ps)
-
-  pub meta_code-mapped : (c : Context) (m : ℕ) (ps : Members) → meta_code (mapped_context f c) (f m) (mapped_members f ps) ≡ mapped_code f (meta_code c m ps)
-  meta_code-mapped c m ps =
-      rw (spelling_at-mapped 0 ps, operation_of-mapped Kind.MetaProperty m ps)
-      (cond-code f (bytes_eq (spelling_of (at 0 ps)) (codes "new")) (value c.new_target) (operation_of Kind.MetaProperty m ps))
 
   -- ---- members
 
@@ -219,6 +214,12 @@ module _ {first : ℕ} {f : ℕ → ℕ} (r : Renames first f) (c : Context) (e 
   pub name_code-mapped : (m : ℕ) (s : String) → name_code there (f m) s ≡ mapped_code f (name_code c m s)
   name_code-mapped m s = ap (name_or_arguments there (f m) s) (name_kind-mapped r c e s) ∙ name_or_arguments-mapped m s (name_kind c s)
 
+  pub meta_code-mapped : (m : ℕ) (ps : Members) → meta_code there (f m) (mapped_members f ps) ≡ mapped_code f (meta_code c m ps)
+  meta_code-mapped m ps =
+      let target : Code = cond (new_here c m) no_rule (value c.new_target) in
+      rw (spelling_at-mapped f 0 ps, operation_of-mapped f Kind.MetaProperty m ps, new_here-mapped r c e m)
+      (code-cond f (bytes_eq (spelling_of (at 0 ps)) (codes "new")) target (operation_of Kind.MetaProperty m ps) (cond-code f (new_here c m) no_rule (value c.new_target)) refl)
+
   pub private_name_code-mapped : (d : ℕ) (s : String) → private_name_code there (f d) s ≡ mapped_code f (private_name_code c d s)
   private_name_code-mapped d s = ap (private_name (f d) s) (private_reference-mapped r s c.privates)
 
@@ -240,8 +241,8 @@ module _ {first : ℕ} {f : ℕ → ℕ} (r : Renames first f) (c : Context) (e 
   private_on-mapped : (m : ℕ) (s : String) (x : Option PrivateReference) (o checked_o : Code) → private_on there (f m) s (mapped_option (mapped_private_reference f) x) (mapped_code f o) (mapped_code f checked_o) ≡ mapped_code f (private_on c m s x o checked_o)
   private_on-mapped m s None o checked_o = refl
   private_on-mapped m s (Some x) o checked_o =
-      let is_meant : Bool = names_class x (class_named o) && not (is_generated_elsewhere s x.class c.ledger) in
-      rw (is_generated_private-mapped r s x.class c.ledger, is_generated_elsewhere-mapped r s x.class c.ledger, class_named-mapped f o, names_class-mapped x (class_named o))
+      let is_meant : Bool = names_class x (class_named o) in
+      rw (is_generated_private-mapped r s x.class c.ledger, class_named-mapped f o, names_class-mapped x (class_named o))
       (code-cond f (is_made_private c s x) (cond is_meant (private_value s) no_rule) (private_member m x checked_o) (cond-code f is_meant (private_value s) no_rule) refl)
 
   private_field_of-mapped : (m : ℕ) (optional : Bool) (o k : Code) → private_field_of there (f m) optional (mapped_code f o) (mapped_code f k) ≡ mapped_code f (private_field_of c m optional o k)

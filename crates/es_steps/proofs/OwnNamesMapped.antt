@@ -1,16 +1,14 @@
 -- The own names of classes, under a change of numbers.
-use Rattle.std.specs.Prelude.{◌≡◌, ℕ, List, [], ◌∷◌, ◌++◌, map, Bool, not, ◌&&◌, ◌||◌, cond, nat_eq}
+use Rattle.std.specs.Prelude.{◌≡◌, ℕ, List, [], ◌∷◌, map, Bool, not, ◌&&◌, ◌||◌, nat_eq}
 use Rattle.std.proofs.Common.{refl, ap₂}
 use Rattle.es_base.specs.Conforms.{is_among}
 use Rattle.es_base.specs.Preorder.{number_of, preorder, preorder_of_part}
-use Rattle.es_base.specs.Tree.{Tree, Node, more, child, absent}
+use Rattle.es_base.specs.Tree.{Tree, Node, end, more, child, absent}
 use Rattle.es_base.specs.declared.kind.Kind.{Kind}
-use Rattle.es_steps.specs.HelperCalls.{body_runs}
-use Rattle.es_steps.specs.OwnNames.{is_bound_among, references_to, class_name_at, declares_class, are_none, own_name_number, own_name_numbers, identifier_at, identifiers_at, any_stands, loses_name, none_loses_name, own_names_stay}
+use Rattle.es_steps.specs.OwnNames.{is_bound_among, references_to, class_name_at, declares_class, are_none, own_name_number, own_name_numbers, identifier_at, identifiers_at, any_stands, loses_name, none_loses_name, class_identifier, class_identifiers, reads_itself, none_reads_itself, own_names_stay}
 use Rattle.es_steps.specs.Parts.{at, string_of}
 use Rattle.es_steps.specs.References.{Reference, resolve}
 use Rattle.es_steps.specs.Values.{String, Referent, Bound}
-use Rattle.es_steps.proofs.HelperCallsMapped.{body_runs-mapped}
 use Rattle.es_steps.proofs.Mapped.{Renames, mapped, mapped_referent, mapped_reference}
 use Rattle.es_steps.proofs.PartsMapped.{cond-mapped, append-mapped, string_at-mapped, number_of-mapped, preorder-mapped, preorder_of_part-mapped}
 use Rattle.es_steps.proofs.ReferencesMapped.{resolve-mapped, has_number-mapped}
@@ -65,12 +63,33 @@ module _ {first : ℕ} {f : ℕ → ℕ} (r : Renames first f) where
 
   loses_name-mapped : (ps : List Tree) (rs : List Reference) (t : Tree) → loses_name (map (mapped f) ps) (map (mapped_reference f) rs) (mapped f t) ≡ loses_name ps rs t
   loses_name-mapped ps rs (Node Kind.ClassExpression n span semantic_id (more absent (more heritage (more body rest)))) =
-      rw (body_runs-mapped f body, identifiers_at-mapped n ps, references_to-mapped (identifiers_at n ps) rs, preorder_of_part-mapped f body, any_stands-mapped (references_to (identifiers_at n ps) rs) (preorder_of_part body)) refl
+      rw (identifiers_at-mapped n ps, references_to-mapped (identifiers_at n ps) rs, preorder_of_part-mapped f body, any_stands-mapped (references_to (identifiers_at n ps) rs) (preorder_of_part body)) refl
   loses_name-mapped ps rs t = refl
 
   none_loses_name-mapped : (ps : List Tree) (rs : List Reference) (ts : List Tree) → none_loses_name (map (mapped f) ps) (map (mapped_reference f) rs) (map (mapped f) ts) ≡ none_loses_name ps rs ts
   none_loses_name-mapped ps rs [] = refl
   none_loses_name-mapped ps rs (t ∷ ts) = ap₂ (λ a b. not a && b) (loses_name-mapped ps rs t) (none_loses_name-mapped ps rs ts)
 
+  -- ---- declarators of declared classes
+
+  class_identifier-mapped : (t : Tree) → class_identifier (mapped f t) ≡ map f (class_identifier t)
+  class_identifier-mapped (Node Kind.ClassDeclaration m span semantic_id (more (child (Node kind b bspan b_semantic_id bs)) ps)) = refl
+  class_identifier-mapped t = refl
+
+  class_identifiers-mapped : (ts : List Tree) → class_identifiers (map (mapped f) ts) ≡ map f (class_identifiers ts)
+  class_identifiers-mapped [] = refl
+  class_identifiers-mapped (t ∷ ts) = append-mapped f _ _ (class_identifier-mapped t) (class_identifiers-mapped ts)
+
+  reads_itself-mapped : (classes : List ℕ) (rs : List Reference) (t : Tree) → reads_itself (map f classes) (map (mapped_reference f) rs) (mapped f t) ≡ reads_itself classes rs t
+  reads_itself-mapped classes rs (Node Kind.VariableDeclarator m span semantic_id (more (child (Node kind b bspan b_semantic_id bs)) (more e end))) =
+      rw (has_number-mapped r b classes, references_to-mapped (b ∷ []) rs, preorder_of_part-mapped f e, any_stands-mapped (references_to (b ∷ []) rs) (preorder_of_part e)) refl
+  reads_itself-mapped classes rs t = refl
+
+  none_reads_itself-mapped : (classes : List ℕ) (rs : List Reference) (ts : List Tree) → none_reads_itself (map f classes) (map (mapped_reference f) rs) (map (mapped f) ts) ≡ none_reads_itself classes rs ts
+  none_reads_itself-mapped classes rs [] = refl
+  none_reads_itself-mapped classes rs (t ∷ ts) = ap₂ (λ a b. not a && b) (reads_itself-mapped classes rs t) (none_reads_itself-mapped classes rs ts)
+
   pub own_names_stay-mapped : (p q : Tree) → own_names_stay (mapped f p) (mapped f q) ≡ own_names_stay p q
-  own_names_stay-mapped p q = rw (preorder-mapped f p, resolve-mapped f q, preorder-mapped f q) (none_loses_name-mapped (preorder p) (resolve q) (preorder q))
+  own_names_stay-mapped p q =
+      rw (preorder-mapped f p, resolve-mapped f q, preorder-mapped f q, class_identifiers-mapped (preorder p))
+      (ap₂ (λ a b. a && b) (none_loses_name-mapped (preorder p) (resolve q) (preorder q)) (none_reads_itself-mapped (class_identifiers (preorder p)) (resolve q) (preorder q)))

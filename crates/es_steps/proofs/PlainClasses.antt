@@ -5,8 +5,8 @@ use Rattle.std.proofs.Common.{sym, ◌∙◌, subst}
 use Rattle.std.proofs.lemmas.Bool.{true≢false}
 use Rattle.es_steps.specs.Code.{Code, Codes, FieldForm, FunctionForm, Opened, defines, sets, leaves_out, value, name, steps, class_code, field, done, and}
 use Rattle.es_steps.specs.Context.{NameKind, Fixed, Changing, MeansClass}
-use Rattle.es_steps.specs.Entries.{Entry, Entries, Listed, Method, Parameter, listed, after_run, methods_in, keys_stay, class_entry, without, constructor_form, constructor_parameters, ev_construction, entries, key_entries, key_entry, static_entries, static_entry, field_entries, field_entry, function_entries, element_function}
-use Rattle.es_steps.specs.Evaluation.{Environment, Run, Evaluation, gives, run_behind, go_on, bind, settle_run, settle, quiet, initialized, read_name, has_instance_methods, declared_first, ev, ev_all, ev_keys, ev_key, ev_statics, ev_static, ev_fields, ev_field, ev_initializers}
+use Rattle.es_steps.specs.Entries.{elements_start, Entry, Entries, Listed, Method, Parameter, listed, after_run, methods_in, keys_stay, class_entry, without, constructor_form, constructor_parameters, ev_construction, entries, key_entries, key_entry, static_entries, static_entry, field_entries, field_entry, function_entries, element_function}
+use Rattle.es_steps.specs.Evaluation.{added, outside_run, outside, Environment, Run, Evaluation, gives, run_behind, go_on, bind, settle_run, settle, quiet, initialized, read_name, has_instance_methods, declared_first, ev, ev_all, ev_keys, ev_key, ev_statics, ev_static, ev_fields, ev_field, ev_initializers}
 use Rattle.es_steps.specs.Events.{Events}
 use Rattle.es_steps.specs.Meaning.{with_entry, whole}
 use Rattle.es_steps.specs.Opening.{assigned_in, assigned_in_all}
@@ -39,6 +39,17 @@ settle_run-ends env (Some r) h = h
 
 pub settle-stays : (a : Evaluation) → Stays a → Stays (settle a)
 settle-stays a h env = settle_run-ends env (a env) (h env)
+
+added-none : (env : Environment) → added env env ≡ 0
+added-none [] = refl
+added-none (p ∷ env) = added-none env
+
+outside_run-ends : (env : Environment) (r : Option Run) → EndsIn env r → EndsIn env (outside_run env r)
+outside_run-ends env None h = h
+outside_run-ends env (Some r) h = rw (h, added-none env) refl
+
+outside-stays : (a : Evaluation) → Stays a → Stays (outside a)
+outside-stays a h env = outside_run-ends env (a env) (h env)
 
 initialized-stays : (form : FieldForm) (o k v : Value) → Stays (initialized form o k v)
 initialized-stays defines o k v env = refl
@@ -219,8 +230,9 @@ module _ (opens : Opened → Evaluation) (first : ℕ) (late : List ℕ) where
 
   class-entries : (n : ℕ) (declared : Option ℕ) (s : Environment) (cs : Codes) → AreFields cs → IsSome (whole (entries opens first late s (class_code n declared done cs)))
   class-entries n declared s cs h =
+      let start : Environment = elements_start opens first late n s (after_run s (ev_keys opens cs (λ ks. gives Undefined) s)) cs in
       rw (keys-none _ cs h, statics-none n _ cs h, fields-none n _ cs h, functions-none _ _ cs h)
-      (with_entry-there n _ (Some []) (class_entry-there _ declared (constructor_form cs) (constructor_parameters cs) _ _ (keys-fields s (without (assigned_in_all cs) s) cs h) (methods-fields s cs h) (ends-there _ _ (construction-stays n cs h (without (assigned_in_all cs) s)))) refl)
+      (with_entry-there n _ (Some []) (class_entry-there _ declared (constructor_form cs) (constructor_parameters cs) _ _ (keys-fields s start cs h) (methods-fields s cs h) (ends-there _ _ (construction-stays n cs h start))) refl)
 
   -- ---- classes
 
@@ -232,7 +244,7 @@ module _ (opens : Opened → Evaluation) (first : ℕ) (late : List ℕ) where
   class-stays c (plain_class n declared cs h) =
       let behind : List Value → Value → Evaluation = λ ks u. bind (ev_statics opens n ks cs) (λ w. gives (ClassOf n)) in
       let statics : List Value → Evaluation = λ ks. bind (declared_first declared n) (behind ks) in
-      settle-stays (ev_keys opens cs statics) (ev_keys-stays cs statics h (λ ks. bind-stays (declared_first declared n) (behind ks) (declared-stays declared n) (λ u. bind-stays (ev_statics opens n ks cs) (λ w. gives (ClassOf n)) (ev_statics-stays n ks cs h) (λ w env. refl))))
+      outside-stays (settle (ev_keys opens cs statics)) (settle-stays (ev_keys opens cs statics) (ev_keys-stays cs statics h (λ ks. bind-stays (declared_first declared n) (behind ks) (declared-stays declared n) (λ u. bind-stays (ev_statics opens n ks cs) (λ w. gives (ClassOf n)) (ev_statics-stays n ks cs h) (λ w env. refl)))))
 
   ev_all-stays : (cs : Codes) (f : List Value → Evaluation) → AreClasses cs → ((vs : List Value) → Stays (f vs)) → Stays (ev_all opens cs f)
   ev_all-stays done f h k = k []

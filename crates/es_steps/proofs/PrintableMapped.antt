@@ -6,14 +6,15 @@ use Rattle.es_base.specs.Tree.{Tree, Part, Parts, Node, end, more, child, absent
 use Rattle.es_base.specs.declared.kind.Kind.{Kind}
 use Rattle.es_base.specs.declared.literal.LiteralValue.TheVariants as literal_value
 use Rattle.es_steps.specs.KeptNodes.{statement_list}
-use Rattle.es_steps.specs.Parts.{at, items, block_items, is_present}
-use Rattle.es_steps.specs.Printable.{is_bad_name, is_bad_label_name, is_bad_label, is_bad_literal, tails_fit, is_bad_template, is_directive_of, is_bad_directive, is_directive, has_late_directive, is_binding_name, are_names, is_strict_with_patterns, has_bad_prologue, count, is_kind_of, is_default, is_function_expression, is_identifier_name, name_of_part, shorthand_name, has_id, is_suspending, is_bad_property, is_spelled, is_bad_method, is_bad_field, is_meta_property, only_named, are_behind_default, are_specifiers, is_declaration_body, is_lexical_body, ends_open, part_ends_open, is_bad_if, is_super_part, has_optional, part_has_optional, is_spine_kind, any_optional, behind_first, has_stray_optional, is_bad_form, is_bad_node, is_default_export, is_module, is_declaration_without_name, is_bad_in, has_bad, bad_at, bad_in, Jumps, no_jumps, is_label_among, is_stray, is_looping, part_is_looping, jumps_inside, has_stray, stray_at, stray_in, is_printable}
-use Rattle.es_steps.specs.Strict.{has_use_strict, directives}
+use Rattle.es_steps.specs.Parts.{at, items, is_present}
+use Rattle.es_steps.specs.Printable.{is_bad_name, is_bad_label_name, is_bad_label, is_bad_literal, tails_fit, is_bad_template, lacks_cooked, is_uncooked, any_uncooked, has_uncooked, is_bare_string, has_bare_string, is_directive_of, is_bad_directive, is_directive, has_late_directive, are_names, is_strict_with_patterns, has_bad_prologue, count, is_kind_of, is_default, is_function_expression, is_identifier_name, name_of_part, shorthand_name, has_id, is_suspending, is_bad_property, is_spelled, is_bad_method, is_bad_field, is_meta_property, only_named, are_behind_default, are_specifiers, is_declaration_body, is_lexical_body, ends_open, part_ends_open, is_bad_if, is_super_part, has_optional, part_has_optional, is_spine_kind, any_optional, behind_first, has_stray_optional, is_bad_form, is_bad_node, is_default_export, is_module, is_declaration_without_name, is_bad_in, has_bad, bad_at, bad_in, Jumps, no_jumps, is_label_among, is_stray, is_looping, part_is_looping, jumps_inside, has_stray, stray_at, stray_in, is_printable}
+use Rattle.es_steps.specs.Strict.{directives}
 use Rattle.es_steps.specs.Values.{String}
 use Rattle.es_steps.proofs.KeptNodesMapped.{statement_list-mapped}
 use Rattle.es_steps.proofs.Mapped.{mapped, mapped_part, mapped_parts}
-use Rattle.es_steps.proofs.PartsMapped.{cond-mapped, at-mapped, items_at-mapped, block_items_at-mapped, string_at-mapped, is_true_at-mapped, is_present_at-mapped}
-use Rattle.es_steps.proofs.StrictMapped.{body_strict-mapped}
+use Rattle.es_steps.proofs.PartsMapped.{cond-mapped, at-mapped, items_at-mapped, string_at-mapped, is_true_at-mapped, is_present_at-mapped}
+use Rattle.es_steps.proofs.ScopesMapped.{is_declaring-mapped}
+use Rattle.es_steps.proofs.StrictMapped.{body_strict-mapped, directives_at-mapped}
 
 module _ (f : ℕ → ℕ) where
   is_bad_name-mapped : (kind : Kind) (ps : Parts) → is_bad_name kind (mapped_parts f ps) ≡ is_bad_name kind ps
@@ -48,6 +49,24 @@ module _ (f : ℕ → ℕ) where
   is_bad_template-mapped Kind.TemplateLiteral ps = rw (items_at-mapped f 0 ps) (ap not (tails_fit-mapped (items (at 0 ps))))
   is_bad_template-mapped kind ps = refl
 
+  lacks_cooked-mapped : (ps : Parts) → lacks_cooked (mapped_parts f ps) ≡ lacks_cooked ps
+  lacks_cooked-mapped end = refl
+  lacks_cooked-mapped (more (child (Node kind m span semantic_id (more raw (more (string s) ps)))) rest) = lacks_cooked-mapped rest
+  lacks_cooked-mapped (more p rest) = refl
+
+  is_uncooked-mapped : (p : Part) → is_uncooked (mapped_part f p) ≡ is_uncooked p
+  is_uncooked-mapped (child (Node Kind.TemplateLiteral m span semantic_id ps)) = ap lacks_cooked (items_at-mapped f 0 ps) ∙ lacks_cooked-mapped (items (at 0 ps))
+  is_uncooked-mapped p = refl
+
+  any_uncooked-mapped : (ps : Parts) → any_uncooked (mapped_parts f ps) ≡ any_uncooked ps
+  any_uncooked-mapped end = refl
+  any_uncooked-mapped (more (list ps) rest) = ap₂ (λ a b. a || b) (any_uncooked-mapped ps) (any_uncooked-mapped rest)
+  any_uncooked-mapped (more p rest) = ap₂ (λ a b. a || b) (is_uncooked-mapped p) (any_uncooked-mapped rest)
+
+  has_uncooked-mapped : (kind : Kind) (ps : Parts) → has_uncooked kind (mapped_parts f ps) ≡ has_uncooked kind ps
+  has_uncooked-mapped Kind.TaggedTemplateExpression ps = ap is_uncooked (at-mapped f 0 ps) ∙ is_uncooked-mapped (at 0 ps)
+  has_uncooked-mapped kind ps = any_uncooked-mapped ps
+
   is_directive_of-mapped : (s : String) (p : Part) → is_directive_of s (mapped_part f p) ≡ is_directive_of s p
   is_directive_of-mapped s (child (Node Kind.Literal m span semantic_id (more (literal (literal_value.String t raw)) end))) = refl
   is_directive_of-mapped s p = refl
@@ -64,13 +83,9 @@ module _ (f : ℕ → ℕ) where
   has_late_directive-mapped late end = refl
   has_late_directive-mapped late (more p ps) = rw (is_directive-mapped p, has_late_directive-mapped (late || not (is_directive p)) ps) refl
 
-  is_binding_name-mapped : (p : Part) → is_binding_name (mapped_part f p) ≡ is_binding_name p
-  is_binding_name-mapped (child (Node Kind.BindingIdentifier m span semantic_id ps)) = refl
-  is_binding_name-mapped p = refl
-
   are_names-mapped : (ps : Parts) → are_names (mapped_parts f ps) ≡ are_names ps
   are_names-mapped end = refl
-  are_names-mapped (more p ps) = ap₂ (λ a b. a && b) (is_binding_name-mapped p) (are_names-mapped ps)
+  are_names-mapped (more p ps) = ap₂ (λ a b. a && b) (is_declaring-mapped f p) (are_names-mapped ps)
 
   strict_with_patterns-mapped : (i j : ℕ) (ps : Parts) → is_strict_with_patterns (at i (mapped_parts f ps)) (at j (mapped_parts f ps)) ≡ is_strict_with_patterns (at i ps) (at j ps)
   strict_with_patterns-mapped i j ps = rw (items_at-mapped f i ps) (ap₂ (λ a b. not a && b) (are_names-mapped (items (at i ps))) (body_strict-mapped f j ps))
@@ -78,10 +93,29 @@ module _ (f : ℕ → ℕ) where
   late_in-mapped : (kind : Kind) (ps : Parts) → has_late_directive false (statement_list kind (mapped_parts f ps)) ≡ has_late_directive false (statement_list kind ps)
   late_in-mapped kind ps = ap (has_late_directive false) (statement_list-mapped f kind ps) ∙ has_late_directive-mapped false (statement_list kind ps)
 
+  is_bare_string-mapped : (p : Part) → is_bare_string (mapped_part f p) ≡ is_bare_string p
+  is_bare_string-mapped (child (Node Kind.ExpressionStatement m span semantic_id (more (child (Node Kind.Literal k kspan k_semantic_id (more (literal (literal_value.String s raw)) end))) (more directive end)))) =
+      ap not (is_directive-mapped (child (Node Kind.ExpressionStatement m span semantic_id (more absent (more directive end)))))
+  is_bare_string-mapped p = refl
+
+  has_bare_string-mapped : (ps : Parts) → has_bare_string (mapped_parts f ps) ≡ has_bare_string ps
+  has_bare_string-mapped end = refl
+  has_bare_string-mapped (more p ps) = rw (is_bare_string-mapped p, is_directive-mapped p, has_bare_string-mapped ps) refl
+
+  bare_items-mapped : (i : ℕ) (ps : Parts) → has_bare_string (items (at i (mapped_parts f ps))) ≡ has_bare_string (items (at i ps))
+  bare_items-mapped i ps = ap has_bare_string (items_at-mapped f i ps) ∙ has_bare_string-mapped (items (at i ps))
+
+  bare_body-mapped : (i : ℕ) (ps : Parts) → has_bare_string (directives (at i (mapped_parts f ps))) ≡ has_bare_string (directives (at i ps))
+  bare_body-mapped i ps = ap has_bare_string (directives_at-mapped f i ps) ∙ has_bare_string-mapped (directives (at i ps))
+
+  late_items-mapped : (i : ℕ) (ps : Parts) → has_late_directive false (items (at i (mapped_parts f ps))) ≡ has_late_directive false (items (at i ps))
+  late_items-mapped i ps = ap (has_late_directive false) (items_at-mapped f i ps) ∙ has_late_directive-mapped false (items (at i ps))
+
   has_bad_prologue-mapped : (kind : Kind) (ps : Parts) → has_bad_prologue kind (mapped_parts f ps) ≡ has_bad_prologue kind ps
-  has_bad_prologue-mapped Kind.FunctionDeclaration ps = strict_with_patterns-mapped 1 2 ps
-  has_bad_prologue-mapped Kind.FunctionExpression ps = strict_with_patterns-mapped 1 2 ps
-  has_bad_prologue-mapped Kind.ArrowFunctionExpression ps = strict_with_patterns-mapped 0 1 ps
+  has_bad_prologue-mapped Kind.Program ps = ap₂ (λ a b. a || b) (late_items-mapped 1 ps) (bare_items-mapped 1 ps)
+  has_bad_prologue-mapped Kind.FunctionDeclaration ps = ap₂ (λ a b. a || b) (strict_with_patterns-mapped 1 2 ps) (bare_body-mapped 2 ps)
+  has_bad_prologue-mapped Kind.FunctionExpression ps = ap₂ (λ a b. a || b) (strict_with_patterns-mapped 1 2 ps) (bare_body-mapped 2 ps)
+  has_bad_prologue-mapped Kind.ArrowFunctionExpression ps = ap₂ (λ a b. a || b) (strict_with_patterns-mapped 0 1 ps) (bare_body-mapped 1 ps)
   has_bad_prologue-mapped kind ps = late_in-mapped kind ps
 
   count-mapped : (ps : Parts) → count (mapped_parts f ps) ≡ count ps
@@ -217,6 +251,7 @@ module _ (f : ℕ → ℕ) where
   is_bad_form-mapped Kind.PropertyDefinition ps = is_bad_field-mapped ps
   is_bad_form-mapped Kind.SequenceExpression ps = rw (items_at-mapped f 0 ps, count-mapped (items (at 0 ps))) refl
   is_bad_form-mapped Kind.MetaProperty ps = ap not (is_meta_property-mapped ps)
+  is_bad_form-mapped Kind.VariableDeclaration ps = rw (items_at-mapped f 1 ps, count-mapped (items (at 1 ps))) refl
   is_bad_form-mapped Kind.VariableDeclarator ps = default_at-mapped ps
   is_bad_form-mapped Kind.AssignmentPattern ps = default_at-mapped ps
   is_bad_form-mapped Kind.AssignmentTargetWithDefault ps = default_at-mapped ps
@@ -242,7 +277,7 @@ module _ (f : ℕ → ℕ) where
   is_bad_form-mapped kind ps = refl
 
   is_bad_node-mapped : (kind : Kind) (ps : Parts) → is_bad_node kind (mapped_parts f ps) ≡ is_bad_node kind ps
-  is_bad_node-mapped kind ps = rw (is_bad_name-mapped kind ps, is_bad_label-mapped kind ps, is_bad_literal-mapped kind ps, is_bad_template-mapped kind ps, is_bad_directive-mapped kind ps, has_bad_prologue-mapped kind ps, is_bad_form-mapped kind ps, has_stray_optional-mapped kind ps) refl
+  is_bad_node-mapped kind ps = rw (is_bad_name-mapped kind ps, is_bad_label-mapped kind ps, is_bad_literal-mapped kind ps, is_bad_template-mapped kind ps, is_bad_directive-mapped kind ps, has_bad_prologue-mapped kind ps, is_bad_form-mapped kind ps, has_stray_optional-mapped kind ps, has_uncooked-mapped kind ps) refl
 
   is_module-mapped : (kind : Kind) (ps : Parts) → is_module kind (mapped_parts f ps) ≡ is_module kind ps
   is_module-mapped Kind.Program ps = rw (string_at-mapped f 0 ps) refl

@@ -83,7 +83,7 @@ module _ {first : ℕ} {f : ℕ → ℕ} (r : Renames first f) (c : Context) (e 
   code_of-mapped Kind.TemplateElement m ps = template_string_code-mapped f ps
   code_of-mapped Kind.TemplateLiteral m ps = template_code-mapped f m ps
   code_of-mapped Kind.TaggedTemplateExpression m ps = tag_code-mapped f m ps
-  code_of-mapped Kind.MetaProperty m ps = meta_code-mapped f c m ps
+  code_of-mapped Kind.MetaProperty m ps = meta_code-mapped r c e m ps
   code_of-mapped Kind.MemberExpression m ps = member_code-mapped r c e m ps
   code_of-mapped Kind.PrivateField m ps = private_field_code-mapped r c e m ps
   code_of-mapped Kind.PrivateIn m ps = private_in_code-mapped f m ps

@@ -6,13 +6,13 @@ use Rattle.es_base.specs.Preorder.{preorder}
 use Rattle.es_base.specs.Table.{Field, members_of}
 use Rattle.es_base.specs.Tree.{Tree, Part, Parts, Node, end, more, child, list}
 use Rattle.es_base.specs.declared.kind.Kind.{Kind}
-use Rattle.es_steps.specs.Parts.{at, items, string_of, is_true}
-use Rattle.es_steps.specs.References.{declared, referent, Reference, is_target, is_reference, reference, references, references_in, part_references, item_references, resolve, has_number, numbers_of, if_bound, assigned, is_declared, repeated, is_for_each, written_by, written_by_all, written, imported_by, imported_by_all, imported, caught_again, caught_again_in, bound_spelling, function_name, function_names, case_functions, inner_functions, meant, catches_a_name, names_around, given_around, given_in, given_at, given_of, changed_otherwise, gives_inside, changes_free, varying, is_free, writes_free}
-use Rattle.es_steps.specs.Scopes.{Declaration, no_class, bound_part, names_at, is_body_part, scope_form, scope_names, var_part}
+use Rattle.es_steps.specs.Parts.{at, items, string_of}
+use Rattle.es_steps.specs.References.{unless_class, names_no_class, declared, referent, Reference, is_target, is_reference, reference, references, references_in, part_references, item_references, resolve, has_number, numbers_of, if_bound, assigned, is_declared, repeated, is_for_each, written_by, written_by_all, written, imported_by, imported_by_all, imported, caught_again, caught_again_in, bound_spelling, function_name, function_names, case_functions, inner_functions, meant, catches_a_name, names_around, given_around, given_in, given_at, given_of, changed_otherwise, gives_inside, changes_free, varying, is_free, writes_free}
+use Rattle.es_steps.specs.Scopes.{ClassName, declares, own_name, let_names, Declaration, no_class, bound_part, names_at, is_body_part, scope_form, scope_names, var_part}
 use Rattle.es_steps.specs.Values.{String, Referent, Bound, Free}
-use Rattle.es_steps.proofs.Mapped.{mapped, mapped_part, mapped_parts, mapped_declaration, mapped_declarations, mapped_option, mapped_reference, mapped_referent, Renames}
+use Rattle.es_steps.proofs.Mapped.{mapped_class_name, mapped, mapped_part, mapped_parts, mapped_declaration, mapped_declarations, mapped_option, mapped_reference, mapped_referent, Renames}
 use Rattle.es_steps.proofs.PartsMapped.{cond-mapped, append-mapped, at-mapped, items_at-mapped, string_at-mapped, is_true_at-mapped, preorder-mapped}
-use Rattle.es_steps.proofs.ScopesMapped.{bound_part-mapped, names_at-mapped, scope_names-mapped, var_part-mapped}
+use Rattle.es_steps.proofs.ScopesMapped.{bound_part-mapped, is_declaring_at-mapped, names_at-mapped, scope_names-mapped, var_part-mapped}
 
 module _ (f : ℕ → ℕ) where
   -- ---- resolution
@@ -145,15 +145,25 @@ module _ (f : ℕ → ℕ) where
   inner_functions-mapped is_body Kind.IfStatement ps = rw (at-mapped f 1 ps, at-mapped f 2 ps, function_name-mapped (at 1 ps), function_name-mapped (at 2 ps)) refl
   inner_functions-mapped is_body kind ps = refl
 
+  names_no_class-mapped : (c : ClassName) → names_no_class (mapped_class_name f c) ≡ names_no_class c
+  names_no_class-mapped no_class = refl
+  names_no_class-mapped (declares n) = refl
+  names_no_class-mapped (own_name n) = refl
+  names_no_class-mapped (let_names m n) = refl
+
+  unless_class-mapped : (d : Option Declaration) → unless_class (mapped_option (mapped_declaration f) d) ≡ map f (unless_class d)
+  unless_class-mapped None = refl
+  unless_class-mapped (Some d) = rw (names_no_class-mapped d.class_name) (cond-mapped (map f) (names_no_class d.class_name) (d.number ∷ []) [] refl refl)
+
   meant-mapped : (names : List Declaration) (ss : List String) → meant (mapped_declarations f names) ss ≡ map f (meant names ss)
   meant-mapped names [] = refl
   meant-mapped names (s ∷ ss) =
       append-mapped f _ _
-      (rw (declared-mapped s names, referent-mapped s (declared s names)) (if_bound-mapped true (referent s (declared s names))))
+      (rw (declared-mapped s names) (unless_class-mapped (declared s names)))
       (meant-mapped names ss)
 
   catches_a_name-mapped : (kind : Kind) (ps : Parts) → catches_a_name kind (mapped_parts f ps) ≡ catches_a_name kind ps
-  catches_a_name-mapped Kind.CatchClause (more (child (Node Kind.BindingIdentifier b span semantic_id bs)) ps) = refl
+  catches_a_name-mapped Kind.CatchClause ps = is_declaring_at-mapped f 0 ps
   catches_a_name-mapped kind ps = refl
 
   pub names_around-mapped : (is_body : Bool) (kind : Kind) (m : ℕ) (ps : Parts) (i : ℕ) → names_around is_body kind (f m) (mapped_parts f ps) i ≡ mapped_declarations f (names_around is_body kind m ps i)

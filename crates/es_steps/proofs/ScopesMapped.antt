@@ -6,7 +6,7 @@ use Rattle.es_base.specs.Table.{Field, members_of}
 use Rattle.es_base.specs.Tree.{Tree, Part, Parts, Node, end, more, child, list}
 use Rattle.es_base.specs.declared.kind.Kind.{Kind}
 use Rattle.es_steps.specs.Parts.{at, items, block_items}
-use Rattle.es_steps.specs.Scopes.{ClassName, no_class, declares, own_name, is_class_expression, first_class, class_in, let_name, declarator_names, declarators_names, is_let, scope_of, Declaration, binds, is_binding_identifier, declaration, bound_names, bound_members, bound_part, bound_items, StatementForm, variables, function_declaration, class_declaration, imports, passes_on, nests, statement_form, is_var, lexical_by, lexical_names, lexical_part, lexical_items, var_by, var_names, var_part, var_items, body_names, ScopeForm, program_scope, function_scope, own_function_scope, arrow_scope, own_class_scope, block_scope, static_block_scope, loop_scope, switch_scope, catch_scope, no_scope, scope_names, seen, names_at}
+use Rattle.es_steps.specs.Scopes.{ClassName, no_class, declares, own_name, is_class_expression, first_class, class_in, let_name, declarator_names, declarators_names, is_let, scope_of, Declaration, binds, is_binding_identifier, is_declaring, declaration, bound_names, bound_members, bound_part, bound_items, StatementForm, variables, function_declaration, class_declaration, imports, passes_on, nests, statement_form, is_var, lexical_by, lexical_names, lexical_part, lexical_items, var_by, var_names, var_part, var_items, body_names, ScopeForm, program_scope, function_scope, own_function_scope, arrow_scope, own_class_scope, block_scope, static_block_scope, loop_scope, switch_scope, catch_scope, no_scope, scope_names, seen, names_at}
 use Rattle.es_steps.proofs.Mapped.{mapped, mapped_part, mapped_parts, mapped_option, mapped_class_name, mapped_declaration, mapped_declarations}
 use Rattle.es_steps.proofs.PartsMapped.{cond-mapped, append-mapped, at-mapped, preorder-mapped, items_at-mapped, block_items_at-mapped, string_at-mapped}
 
@@ -36,6 +36,13 @@ module _ (f : ℕ → ℕ) where
 
   pub bound_at-mapped : (name : ClassName) (i : ℕ) (ps : Parts) → bound_part (mapped_class_name f name) (at i (mapped_parts f ps)) ≡ mapped_declarations f (bound_part name (at i ps))
   bound_at-mapped name i ps = ap (bound_part (mapped_class_name f name)) (at-mapped f i ps) ∙ bound_part-mapped name (at i ps)
+
+  pub is_declaring-mapped : (p : Part) → is_declaring (mapped_part f p) ≡ is_declaring p
+  is_declaring-mapped (child (Node kind b span semantic_id ps)) = refl
+  is_declaring-mapped p = refl
+
+  pub is_declaring_at-mapped : (i : ℕ) (ps : Parts) → is_declaring (at i (mapped_parts f ps)) ≡ is_declaring (at i ps)
+  is_declaring_at-mapped i ps = ap is_declaring (at-mapped f i ps) ∙ is_declaring-mapped (at i ps)
 
   -- ---- the names that a statement declares
 

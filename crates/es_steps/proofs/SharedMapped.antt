@@ -1,16 +1,16 @@
 -- Which declaring identifiers share one binding follows a change of numbers.
-use Rattle.std.specs.Prelude.{◌≡◌, ℕ, suc, List, [], ◌∷◌, map, Bool, true, false, cond, Option, Some, None}
+use Rattle.std.specs.Prelude.{◌≡◌, ℕ, suc, List, [], ◌∷◌, map, Bool, true, false, Option, Some, None}
 use Rattle.std.proofs.Common.{refl, ap, ap₂, ◌∙◌}
 use Rattle.es_base.specs.declared.kind.Kind.{Kind}
 use Rattle.es_base.specs.Tree.{Tree, Part, Parts, Node, end, more, child, list}
 use Rattle.es_steps.specs.References.{declared}
 use Rattle.es_steps.specs.Parts.{at, block_items}
-use Rattle.es_steps.specs.Scopes.{no_class, bound_part, var_items, lexical_items, Declaration, scope_of, scope_names, is_body_part}
-use Rattle.es_steps.specs.Shared.{with_earlier, shared_behind, caught_names, is_name, hoisted_past, shared_with, shared, shared_in, shared_at, shared_of}
+use Rattle.es_steps.specs.Scopes.{is_declaring, no_class, bound_part, var_items, lexical_items, Declaration, scope_of, scope_names, is_body_part}
+use Rattle.es_steps.specs.Shared.{with_earlier, shared_behind, caught_names, hoisted_past, shared_with, shared, shared_in, shared_at, shared_of}
 use Rattle.es_steps.proofs.Mapped.{mapped, mapped_part, mapped_parts, mapped_option, mapped_declaration, mapped_declarations, mapped_pair}
 use Rattle.es_steps.proofs.PartsMapped.{cond-mapped, append-mapped, at-mapped, block_items_at-mapped}
 use Rattle.es_steps.proofs.ReferencesMapped.{declared-mapped}
-use Rattle.es_steps.proofs.ScopesMapped.{bound_at-mapped, bound_part-mapped, var_items-mapped, lexical_at-mapped, lexical_items-mapped, scope_names-mapped}
+use Rattle.es_steps.proofs.ScopesMapped.{is_declaring-mapped, bound_at-mapped, bound_part-mapped, var_items-mapped, lexical_at-mapped, lexical_items-mapped, scope_names-mapped}
 
 module _ (f : ℕ → ℕ) where
   with_earlier-mapped : (n : ℕ) (d : Option Declaration) → with_earlier (f n) (mapped_option (mapped_declaration f) d) ≡ map (mapped_pair f) (with_earlier n d)
@@ -26,10 +26,6 @@ module _ (f : ℕ → ℕ) where
   caught_names-mapped Kind.CatchClause ps =
       append-mapped (mapped_declaration f) _ _ (bound_at-mapped f no_class 0 ps) (ap lexical_items (block_items_at-mapped f 1 ps) ∙ lexical_items-mapped f (block_items (at 1 ps)))
   caught_names-mapped kind ps = refl
-
-  is_name-mapped : (p : Part) → is_name (mapped_part f p) ≡ is_name p
-  is_name-mapped (child (Node Kind.BindingIdentifier b span semantic_id ps)) = refl
-  is_name-mapped p = refl
 
   shared_with-mapped : (front ds : List Declaration) → shared_with (mapped_declarations f front) (mapped_declarations f ds) ≡ map (mapped_pair f) (shared_with front ds)
   shared_with-mapped front [] = refl
@@ -47,7 +43,7 @@ module _ (f : ℕ → ℕ) where
   hoisted_past-mapped is_body Kind.ForInStatement ps = past-mapped _ _ ps (lexical_at-mapped f 0 ps)
   hoisted_past-mapped is_body Kind.ForOfStatement ps = past-mapped _ _ ps (lexical_at-mapped f 0 ps)
   hoisted_past-mapped is_body Kind.CatchClause ps =
-      rw (at-mapped f 0 ps, is_name-mapped (at 0 ps)) (cond-mapped (map (mapped_pair f)) (is_name (at 0 ps)) [] (shared_with (bound_part no_class (at 0 ps)) (var_items ps)) refl (past-mapped _ _ ps (bound_part-mapped f no_class (at 0 ps))))
+      rw (at-mapped f 0 ps, is_declaring-mapped f (at 0 ps)) (cond-mapped (map (mapped_pair f)) (is_declaring (at 0 ps)) [] (shared_with (bound_part no_class (at 0 ps)) (var_items ps)) refl (past-mapped _ _ ps (bound_part-mapped f no_class (at 0 ps))))
   hoisted_past-mapped is_body kind ps = refl
 
   mutual

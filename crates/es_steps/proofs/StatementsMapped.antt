@@ -12,7 +12,7 @@ use Rattle.es_steps.specs.Members.{Member, Members, code, absent, list, string, 
 use Rattle.es_steps.specs.PrivateNames.{PrivateMember, member_at}
 use Rattle.es_steps.specs.Statements.{held_from, case_code, given_codes, catch_code, is_initialized, initialized_first, head_initializers, declared_target, given_targets, head_targets, for_each_code, is_other_directive, expression_code, declarator_of, declarator_code, return_code, suspension_code, default_export_code, default_code, rest_code, pattern_property_code, target_number, taken, taken_element, elements_from, members_of_list, array_pattern_code, taken_properties, object_pattern_code, form_of, function_or_new, own_name_of, function_code, function_expression_code, hoisted_function, declared_function, around_plain, is_new_return, ends_with_return, arrow_body, function_declaration_code, arrow_code, declared_by, declared_by_let, elements_of, class_of, value_or_undefined, is_name_or_length, is_absent, field_form, private_element, field_of, field_code, is_constructor_key, method_or_constructor, is_declared_as, method_of, method_code}
 use Rattle.es_steps.specs.GeneratedForms.{opened_body}
-use Rattle.es_steps.specs.References.{declared, referent}
+use Rattle.es_steps.specs.References.{declared}
 use Rattle.es_steps.specs.Scopes.{Declaration}
 use Rattle.es_steps.specs.Values.{String, StringOf, ConstantOf}
 use Rattle.es_steps.proofs.ContextMapped.{is_generated_private-mapped}

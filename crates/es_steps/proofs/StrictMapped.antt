@@ -1,14 +1,12 @@
 -- Strict code, and that none becomes strict, under a change of numbers.
-use Rattle.std.specs.Prelude.{◌≡◌, ℕ, List, [], ◌∷◌, ◌++◌, map, Bool, true, false, not, ◌&&◌, ◌||◌, bytes_eq, codes}
+use Rattle.std.specs.Prelude.{◌≡◌, ℕ, map, Bool, true, false, ◌||◌, bytes_eq, codes}
 use Rattle.std.proofs.Common.{refl, ap, ap₂, ◌∙◌}
-use Rattle.es_base.specs.Numbered.{is_new}
-use Rattle.es_base.specs.Preorder.{number_of, preorder, preorder_of}
 use Rattle.es_base.specs.Tree.{Tree, Part, Parts, Node, end, more, child, list}
 use Rattle.es_base.specs.declared.kind.Kind.{Kind}
 use Rattle.es_steps.specs.Parts.{at, items}
 use Rattle.es_steps.specs.Strict.{is_use_strict, has_use_strict, directives, makes_strict, if_strict, strict_numbers, strict_in, strict_at, none_becomes_strict}
 use Rattle.es_steps.proofs.Mapped.{Renames, mapped, mapped_part, mapped_parts}
-use Rattle.es_steps.proofs.PartsMapped.{append-mapped, at-mapped, items_at-mapped, string_at-mapped, number_of-mapped, preorder-mapped, preorder_of-mapped}
+use Rattle.es_steps.proofs.PartsMapped.{append-mapped, at-mapped, items_at-mapped, string_at-mapped}
 use Rattle.es_steps.proofs.KeptNodesMapped.{are_new_or_among-mapped}
 
 module _ (f : ℕ → ℕ) where
@@ -20,11 +18,11 @@ module _ (f : ℕ → ℕ) where
   has_use_strict-mapped end = refl
   has_use_strict-mapped (more p ps) = ap₂ (λ a b. a || b) (is_use_strict-mapped p) (has_use_strict-mapped ps)
 
-  directives-mapped : (p : Part) → directives (mapped_part f p) ≡ mapped_parts f (directives p)
+  pub directives-mapped : (p : Part) → directives (mapped_part f p) ≡ mapped_parts f (directives p)
   directives-mapped (child (Node Kind.BlockStatement m span semantic_id ps)) = items_at-mapped f 0 ps
   directives-mapped p = refl
 
-  directives_at-mapped : (i : ℕ) (ps : Parts) → directives (at i (mapped_parts f ps)) ≡ mapped_parts f (directives (at i ps))
+  pub directives_at-mapped : (i : ℕ) (ps : Parts) → directives (at i (mapped_parts f ps)) ≡ mapped_parts f (directives (at i ps))
   directives_at-mapped i ps = ap directives (at-mapped f i ps) ∙ directives-mapped (at i ps)
 
   pub body_strict-mapped : (i : ℕ) (ps : Parts) → has_use_strict (directives (at i (mapped_parts f ps))) ≡ has_use_strict (directives (at i ps))

@@ -10,15 +10,15 @@ use Rattle.es_steps.specs.Definitions.{spelling}
 use Rattle.es_steps.specs.Expressions.{is_logical}
 use Rattle.es_steps.specs.HelperCalls.{is_class_body, body_runs}
 use Rattle.es_steps.specs.KeptNodes.{pair_stands, all_pairs_stand}
-use Rattle.es_steps.specs.Parts.{at, items, string_of}
+use Rattle.es_steps.specs.Parts.{at, string_of}
 use Rattle.es_steps.specs.PrivateNames.{PrivateMember, member_at, is_class, is_element}
-use Rattle.es_steps.specs.Timely.{MarkForm, declares, initializes, hoists, uses, Around, Mark, is_held, is_held_arrow, is_instance_value, runs_later, around_in, mark_by, mark, declared_mark, initialized_mark, marks_before, marks_behind, is_given, is_let_declaration, is_of_class, is_needed_by, needed_names, uses_of, is_called_arrow, marks, marks_in, marks_at, marks_of, key_marks, value_marks, is_later, gives_by, gives_in_time, any_gives, is_dead_by, is_dead, is_skipped_by, is_skipped, is_followed, is_use, comes_first, is_early_by, is_early, asks, in_time, names_timely}
+use Rattle.es_steps.specs.Timely.{MarkForm, declares, initializes, hoists, uses, Around, Mark, is_held, is_held_arrow, is_instance_value, runs_later, around_in, mark_by, mark, declared_mark, initialized_mark, marks_before, marks_behind, is_given, is_let_declaration, is_of_class, is_needed_by, needed_names, uses_of, is_called_arrow, marks, marks_in, marks_at, marks_of, key_marks, value_marks, is_later, gives_by, gives_in_time, any_gives, is_dead_by, is_dead, is_skipped_by, is_skipped, is_followed, is_use, comes_first, is_running, is_early_by, is_early, asks, in_time, names_timely}
 use Rattle.es_steps.specs.Values.{String}
 use Rattle.es_steps.proofs.ContextMapped.{generated_as-mapped}
 use Rattle.es_steps.proofs.DefinitionsMapped.{spelling-mapped}
 use Rattle.es_steps.proofs.HelperCallsMapped.{body_runs-mapped}
 use Rattle.es_steps.proofs.Mapped.{Renames, mapped, mapped_part, mapped_parts, mapped_option, mapped_generated, mapped_ledger, mapped_privates, mapped_private}
-use Rattle.es_steps.proofs.PartsMapped.{cond-mapped, append-mapped, at-mapped, items_at-mapped, string_at-mapped, is_true_at-mapped}
+use Rattle.es_steps.proofs.PartsMapped.{cond-mapped, append-mapped, at-mapped, string_at-mapped, is_true_at-mapped}
 use Rattle.es_steps.proofs.PrivatesMapped.{member_at-mapped}
 use Rattle.es_steps.proofs.ReferencesMapped.{has_number-mapped}
 
@@ -26,8 +26,11 @@ module _ (f : ℕ → ℕ) where
   abbrev mapped_held : ℕ × ℕ → ℕ × ℕ
   mapped_held p = (f p.0, p.1)
 
+  abbrev mapped_running : ℕ × String → ℕ × String
+  mapped_running p = (f p.0, p.1)
+
   abbrev pub mapped_around : Around → Around
-  mapped_around x = record { held = map mapped_held x.held; later = map f x.later; is_called = x.is_called; running = map f x.running }
+  mapped_around x = record { held = map mapped_held x.held; later = map f x.later; is_called = x.is_called; running = map mapped_running x.running }
 
   abbrev pub mapped_mark : Mark → Mark
   mapped_mark m = record { name = m.name; form = m.form; around = mapped_around m.around }
@@ -79,10 +82,13 @@ module _ {first : ℕ} {f : ℕ → ℕ} (r : Renames first f) where
   later_in-mapped : (x : Around) (kind : Kind) (m : ℕ) (ps : Parts) (i : ℕ) → cond (runs_later first kind (f m) (mapped_parts f ps) i) (f m ∷ map f x.later) (map f x.later) ≡ map f (cond (runs_later first kind m ps i) (m ∷ x.later) x.later)
   later_in-mapped x kind m ps i = rw (runs_later-mapped kind m ps i) (cond-mapped (map f) (runs_later first kind m ps i) (m ∷ x.later) x.later refl refl)
 
-  running_in-mapped : (x : Around) (kind : Kind) (m : ℕ) (ps : Parts) → cond (is_class kind && body_runs (at 2 (mapped_parts f ps))) (f m ∷ map f x.running) (map f x.running) ≡ map f (cond (is_class kind && body_runs (at 2 ps)) (m ∷ x.running) x.running)
+  body_at-mapped : (i : ℕ) (ps : Parts) → body_runs (at i (mapped_parts f ps)) ≡ body_runs (at i ps)
+  body_at-mapped i ps = ap body_runs (at-mapped f i ps) ∙ body_runs-mapped f (at i ps)
+
+  running_in-mapped : (x : Around) (kind : Kind) (m : ℕ) (ps : Parts) → cond (is_class kind && body_runs (at 2 (mapped_parts f ps))) ((f m, spelling (at 0 (mapped_parts f ps))) ∷ map (mapped_running f) x.running) (map (mapped_running f) x.running) ≡ map (mapped_running f) (cond (is_class kind && body_runs (at 2 ps)) ((m, spelling (at 0 ps)) ∷ x.running) x.running)
   running_in-mapped x kind m ps =
-      ap (λ b. cond (is_class kind && b) (f m ∷ map f x.running) (map f x.running)) (ap body_runs (at-mapped f 2 ps) ∙ body_runs-mapped f (at 2 ps))
-      ∙ cond-mapped (map f) (is_class kind && body_runs (at 2 ps)) (m ∷ x.running) x.running refl refl
+      rw (body_at-mapped 2 ps, spelling_at-mapped f 0 ps)
+      (cond-mapped (map (mapped_running f)) (is_class kind && body_runs (at 2 ps)) ((m, spelling (at 0 ps)) ∷ x.running) x.running refl refl)
 
   around_in-mapped : (x : Around) (kind : Kind) (m : ℕ) (ps : Parts) (i : ℕ) → around_in first (mapped_around f x) kind (f m) (mapped_parts f ps) i ≡ mapped_around f (around_in first x kind m ps i)
   around_in-mapped x kind m ps i = rw (held_in-mapped x kind m ps i, later_in-mapped x kind m ps i, running_in-mapped x kind m ps) refl
@@ -242,13 +248,17 @@ module _ {first : ℕ} {f : ℕ → ℕ} (r : Renames first f) where
   is_skipped-mapped m [] = refl
   is_skipped-mapped m (d ∷ ds) = ap₂ (λ a b. (bytes_eq m.name d.name && is_skipped_by d.form a) || b) (all_pairs_stand-mapped d.around.held m.around.held) (is_skipped-mapped m ds)
 
-  is_early_by-mapped : (ledger : List LedgerEntry) (running : List ℕ) (g : Option GeneratedKind) → is_early_by (mapped_ledger f ledger) (map f running) (mapped_option (mapped_generated f) g) ≡ is_early_by ledger running g
-  is_early_by-mapped ledger running (Some (GeneratedKind.ClassTemp n)) = has_number-mapped r n.0 running
-  is_early_by-mapped ledger running (Some g) = refl
-  is_early_by-mapped ledger running None = refl
+  is_running-mapped : (ledger : List LedgerEntry) (n : ℕ) (s : String) (running : List (ℕ × String)) → is_running (mapped_ledger f ledger) (f n) s (map (mapped_running f) running) ≡ is_running ledger n s running
+  is_running-mapped ledger n s [] = refl
+  is_running-mapped ledger n s (p ∷ ps) = rw (r.apart n p.0, is_running-mapped ledger n s ps) refl
+
+  is_early_by-mapped : (ledger : List LedgerEntry) (running : List (ℕ × String)) (s : String) (g : Option GeneratedKind) → is_early_by (mapped_ledger f ledger) (map (mapped_running f) running) s (mapped_option (mapped_generated f) g) ≡ is_early_by ledger running s g
+  is_early_by-mapped ledger running s (Some (GeneratedKind.ClassTemp n)) = is_running-mapped ledger n.0 s running
+  is_early_by-mapped ledger running s (Some g) = refl
+  is_early_by-mapped ledger running s None = refl
 
   is_early-mapped : (ledger : List LedgerEntry) (m : Mark) → is_early (mapped_ledger f ledger) (mapped_mark f m) ≡ is_early ledger m
-  is_early-mapped ledger m = ap (λ b. is_use m.form && b) (ap (is_early_by (mapped_ledger f ledger) (map f m.around.running)) (generated_as-mapped f m.name ledger) ∙ is_early_by-mapped ledger m.around.running (generated_as m.name ledger))
+  is_early-mapped ledger m = ap (λ b. is_use m.form && b) (ap (is_early_by (mapped_ledger f ledger) (map (mapped_running f) m.around.running) m.name) (generated_as-mapped f m.name ledger) ∙ is_early_by-mapped ledger m.around.running m.name (generated_as m.name ledger))
 
   asks-mapped : (ledger : List LedgerEntry) (m : Mark) → asks (mapped_ledger f ledger) (mapped_mark f m) ≡ asks ledger m
   asks-mapped ledger m = ap (λ b. is_use m.form && b) (ap is_followed (generated_as-mapped f m.name ledger) ∙ is_followed-mapped f (generated_as m.name ledger))

@@ -1,7 +1,7 @@
 -- What is known at a place of a tree: which names are seen there, what `this` is, which class stands around.
 -- (ECMA-262, 9.1, 9.2 and 9.4: environments, private environments, execution contexts. What new nodes and generated
 -- names are is our own.)
-use Rattle.std.specs.Prelude.{ℕ, List, [], ◌∷◌, ◌++◌, Bool, true, false, cond, not, ◌||◌, ◌&&◌, codes, bytes_eq, nat_eq, Option, Some, None}
+use Rattle.std.specs.Prelude.{ℕ, List, [], ◌∷◌, ◌++◌, Bool, true, false, cond, ◌||◌, ◌&&◌, codes, bytes_eq, nat_eq, Option, Some, None}
 use Rattle.es_base.specs.Numbered.{is_new}
 use Rattle.es_base.specs.Tree.{Tree, Part, Parts, Node, end, more, child, list}
 use Rattle.es_base.specs.declared.kind.Kind.{Kind}
@@ -94,15 +94,6 @@ is_private_for n g = false
 abbrev pub is_generated_private : String → ℕ → List LedgerEntry → Bool
 is_generated_private s n [] = false
 is_generated_private s n (e ∷ es) = (is_private_for n e.kind && bytes_eq s e.name) || is_generated_private s n es
-
-abbrev pub is_private_elsewhere : ℕ → GeneratedKind → Bool
-is_private_elsewhere n (GeneratedKind.Private k) = not (nat_eq n k.0)
-is_private_elsewhere n g = false
-
--- .. and for another one
-abbrev pub is_generated_elsewhere : String → ℕ → List LedgerEntry → Bool
-is_generated_elsewhere s n [] = false
-is_generated_elsewhere s n (e ∷ es) = (is_private_elsewhere n e.kind && bytes_eq s e.name) || is_generated_elsewhere s n es
 
 abbrev pub unless_varying : List ℕ → ℕ → NameKind → NameKind
 unless_varying varying b kind = cond (has_number b varying) (Changing (Bound b)) kind
@@ -210,10 +201,10 @@ in_function (constructor_of n) f ps c = record c { this = ThisOf n; new_target =
 in_function (method_on home) f ps c = record c { this = ThisOf f; new_target = NewTargetOf f; arguments = ArgumentsOf f; home = Some home; constructs = None; in_new_function = new_here c f; rest_name = rest_among (items (at 1 ps)) }
 in_function (super_function_of n) f ps c = record c { this = ThisOf n; new_target = Undefined; arguments = ArgumentsOf f; home = None; constructs = None; in_new_function = new_here c f; rest_name = rest_among (items (at 1 ps)) }
 
--- in the value of a field or in a static block, where `new.target` is undefined, and no `await` or `yield` of the code around
+-- in the value of a field or in a static block, where `new.target` is undefined, and no `arguments`, `await` or `yield` of the code around
 -- can stand (15.7.1): as in a new function
 abbrev pub in_element : Bool → Context → Context
-in_element is_static c = record c { this = cond is_static (ClassOf c.class) (ThisOf c.class); new_target = Undefined; arguments = ArgumentsOf c.class; home = Some (cond is_static (OfClass c.class) (OfPrototype c.class)); constructs = None; in_new_function = true }
+in_element is_static c = record c { this = cond is_static (ClassOf c.class) (ThisOf c.class); new_target = Undefined; arguments = Undefined; home = Some (cond is_static (OfClass c.class) (OfPrototype c.class)); constructs = None; in_new_function = true }
 
 abbrev pub is_constructor : String → Bool
 is_constructor s = bytes_eq s (codes "constructor")

@@ -2,7 +2,7 @@
 -- stands. (ECMA-262, 10.2 and 15.7: calls, field initialization, class definition evaluation. Entries are our own.)
 use Rattle.std.specs.Prelude.{ℕ, suc, List, [], ◌∷◌, ◌++◌, Bool, true, false, cond, ◌&&◌, ◌||◌, bytes_eq, Option, Some, None}
 use Rattle.es_steps.specs.Code.{Code, Codes, Target, Callee, FunctionForm, Opened, binding, rest, member, private_member, super_member, private_in, assign, compound, logical, logical_assign, update, call, tag, construct, super_call, sequence, template, operation, chain, short, tested, pattern, takes, steps, gives_to, export_default, function, new_function, class_code, field, private_field, method, private_method, constructor, static_block, generated_element, from_call, from_member, key_of, define, private_initialize, call_arrow, call_closure, give_function, give_class, to_name, to_member, to_private, to_super, to_setter, to_pattern, to_default, plain, on_member, on_private, on_super, with_receiver, checked, on_chain, behind_test, done, and}
-use Rattle.es_steps.specs.Evaluation.{Environment, Run, Evaluation, no_meaning, gives, event, bind, bind_parameters, write_ready, ev, ev_all, ev_target, ev_take, ev_callee, ev_key, ev_keys, ev_static, ev_field, ev_initializers}
+use Rattle.es_steps.specs.Evaluation.{added, only_private, Environment, Run, Evaluation, no_meaning, gives, event, bind, bind_parameters, write_ready, ev, ev_all, ev_target, ev_take, ev_callee, ev_key, ev_keys, ev_static, ev_field, ev_initializers}
 use Rattle.es_steps.specs.Events.{Events, Take, Index, Rest, Operate, SuperCallWithAll, EnterBody, value_behind}
 use Rattle.es_steps.specs.GeneratedForms.{is_plain}
 use Rattle.es_steps.specs.Opening.{assigned_in, assigned_in_all, all_arguments}
@@ -210,6 +210,23 @@ module _ (opens : Opened → Evaluation) (first_new : ℕ) (late : List ℕ) whe
   behind_fields s n done es = after_run s (ev_initializers opens n es s)
   behind_fields s n (and h hs) es = s
 
+  -- what the private elements hold that are generated in front of all other elements which run with the class
+  abbrev pub behind_leading : ℕ → Environment → Codes → Environment
+  behind_leading n s (and (generated_element x r) cs) = behind_leading n (after_run s (ev_static opens n Undefined (generated_element x r) s)) cs
+  behind_leading n s (and (field false form k r) cs) = behind_leading n s cs
+  behind_leading n s (and (private_field false d r) cs) = behind_leading n s cs
+  behind_leading n s (and (method is_static kind k f) cs) = behind_leading n s cs
+  behind_leading n s (and (private_method is_static d f) cs) = behind_leading n s cs
+  behind_leading n s (and (constructor f) cs) = behind_leading n s cs
+  behind_leading n s cs = s
+
+  abbrev pub leading : ℕ → Environment → Codes → Environment
+  leading n s cs = let a : Environment = behind_leading n s cs in only_private (added a s) a
+
+  -- in front of the elements of a construction: s is in front of the class, b behind its keys
+  abbrev pub elements_start : ℕ → Environment → Environment → Codes → Environment
+  elements_start n s b es = leading n b es ++ without (assigned_in_all es) s
+
   abbrev pub own_function : ℕ → FunctionForm → Option ℕ → Codes → Option Listed → Entries
   own_function f form own_name ps l = (f, function_entry form own_name (parameters_of ps) l) ∷ []
 
@@ -241,9 +258,9 @@ module _ (opens : Opened → Evaluation) (first_new : ℕ) (late : List ℕ) whe
         let start : Environment = without (assigned_in_all ps ++ assigned_in body) s in
         own_function f form own_name ps (listed (ev_body opens first_new late ps body start)) ++ parameter_entries start ps ++ entries (behind_parameters start ps) body
     entries s (class_code n declared h es) =
-        let start : Environment = without (assigned_in_all es) s in
         let a : Environment = behind_all s h in
         let b : Environment = after_run a (ev_keys opens es (λ ks. gives Undefined) a) in
+        let start : Environment = elements_start n s b es in
         ((n, class_entry (keys_stay a start es) declared (constructor_form es) (constructor_parameters es) (heritage_in s h) (methods_in a es) (listed (ev_construction opens first_new late n h es es start))) ∷ all_entries s h)
         ++ key_entries a es ++ static_entries n b es ++ field_entries n start es ++ function_entries s (behind_fields start n h es) es
     entries s (from_call c) = entries s c

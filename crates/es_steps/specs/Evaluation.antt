@@ -1,6 +1,6 @@
 -- Evaluation: the list of events of a code and its value, in an environment. (ECMA-262, 13 to 15: the order in which
 -- operands, operations and writes come.)
-use Rattle.std.specs.Prelude.{ℕ, suc, List, [], ◌∷◌, Bool, true, false, cond, ◌&&◌, bytes_eq, Option, Some, None}
+use Rattle.std.specs.Prelude.{ℕ, zero, suc, List, [], ◌∷◌, Bool, true, false, cond, ◌&&◌, nat_eq, bytes_eq, length, Option, Some, None}
 use Rattle.es_base.specs.declared.kind.Kind.{Kind}
 use Rattle.es_base.specs.declared.ledger.GeneratedKind.{GeneratedKind}
 use Rattle.es_steps.specs.Code.{Code, Codes, Target, Callee, FieldForm, defines, sets, leaves_out, TemplateString, Opened, InitializersOf, BodyOf, nothing, no_rule, value, spelled, private_name, binding, rest, name, super, member, private_member, super_member, private_in, assign, compound, logical, logical_assign, update, call, tag, construct, super_call, super_call_with_all, sequence, template_string, template, operation, piece, chain, short, tested, pattern, takes, steps, gives_to, export_default, function, new_function, new_return, class_code, field, private_field, method, private_method, constructor, static_block, generated_element, from_call, from_member, key_of, helper, helper_call, throw, define, private_initialize, add_brand, bound, setter, private_value, call_arrow, call_closure, initializers, give_function, give_class, to_name, to_member, to_private, to_super, to_setter, to_pattern, to_default, no_target, plain, on_member, on_private, on_super, with_receiver, checked, on_chain, behind_test, done, and}
@@ -164,6 +164,32 @@ private_key s = 35 ∷ s
 
 abbrev pub default_key : String
 default_key = 42 ∷ []
+
+-- what was added to an environment, and of that what private elements hold, which are seen in their class alone
+abbrev pub added : Environment → Environment → ℕ
+added (p ∷ after) (q ∷ env) = added after env
+added after env = length after
+
+abbrev pub is_private_key : String → Bool
+is_private_key [] = false
+is_private_key (c ∷ cs) = nat_eq c 35
+
+abbrev pub without_private : ℕ → Environment → Environment
+without_private zero env = env
+without_private (suc k) [] = []
+without_private (suc k) (p ∷ env) = cond (is_private_key p.0) (without_private k env) (p ∷ without_private k env)
+
+abbrev pub only_private : ℕ → Environment → Environment
+only_private zero env = []
+only_private (suc k) [] = []
+only_private (suc k) (p ∷ env) = cond (is_private_key p.0) (p ∷ only_private k env) (only_private k env)
+
+abbrev pub outside_run : Environment → Option Run → Option Run
+outside_run env None = None
+outside_run env (Some r) = Some (record { events = r.events; value = r.value; after = without_private (added r.after env) r.after })
+
+abbrev pub outside : Evaluation → Evaluation
+outside a env = outside_run env (a env)
 
 -- ---- private members
 
@@ -340,7 +366,7 @@ module _ (opens : Opened → Evaluation) where
     ev (function f form own_name ps body) = gives (FunctionOf f)
     ev (new_function f form ps body) = no_meaning
     ev (new_return es) = no_meaning
-    ev (class_code n declared h es) = settle (ev_all h (λ vs. ev_keys es (λ ks. bind (declared_first declared n) (λ u. bind (ev_statics n ks es) (λ w. gives (ClassOf n))))))
+    ev (class_code n declared h es) = outside (settle (ev_all h (λ vs. ev_keys es (λ ks. bind (declared_first declared n) (λ u. bind (ev_statics n ks es) (λ w. gives (ClassOf n)))))))
     ev (field is_static form k e) = no_meaning
     ev (private_field is_static d e) = no_meaning
     ev (method is_static kind k f) = no_meaning

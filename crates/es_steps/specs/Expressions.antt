@@ -5,7 +5,7 @@ use Rattle.es_base.specs.declared.ledger.GeneratedKind.{GeneratedKind}
 use Rattle.es_base.specs.declared.literal.LiteralValue.{LiteralValue}
 use Rattle.es_base.specs.declared.literal.LiteralValue.TheVariants as literal_value
 use Rattle.es_steps.specs.Code.{Code, Codes, Target, Callee, TemplateString, no_rule, value, spelled, private_name, binding, name, super, member, private_member, super_member, private_in, compound, logical, logical_assign, update, call, tag, construct, template_string, template, operation, piece, chain, short, tested, pattern, from_call, from_member, bound, setter, private_value, to_name, to_member, to_private, to_super, to_setter, no_target, plain, on_member, on_private, on_super, with_receiver, checked, on_chain, behind_test, done, and}
-use Rattle.es_steps.specs.Context.{Context, NameKind, Changing, Generated, StaticMethod, name_kind, new_here, is_generated_private, is_generated_elsewhere}
+use Rattle.es_steps.specs.Context.{Context, NameKind, Changing, Generated, StaticMethod, name_kind, new_here, is_generated_private}
 use Rattle.es_steps.specs.Events.{Detail, Operand, Spelled, Flag, Key, Prototype, OfKind, Delete}
 use Rattle.es_steps.specs.GeneratedForms.{helper_member, generated_member, generated_call, generated_binary, generated_assignment, is_undefined_test, again_of, tested_object, class_named, is_method_kind}
 use Rattle.es_steps.specs.Members.{Member, Members, code, string, literal, at, operands, details, codes_of, word_of, flag_of}
@@ -79,9 +79,9 @@ abbrev pub spelling_of : Member → String
 spelling_of (code (spelled s)) = s
 spelling_of p = []
 
--- `new.target` and `import.meta`
+-- `new.target`, which no lowering makes, and `import.meta`
 abbrev pub meta_code : Context → ℕ → Members → Code
-meta_code c m ps = cond (bytes_eq (spelling_of (at 0 ps)) (codes "new")) (value c.new_target) (operation_of Kind.MetaProperty m ps)
+meta_code c m ps = cond (bytes_eq (spelling_of (at 0 ps)) (codes "new")) (cond (new_here c m) no_rule (value c.new_target)) (operation_of Kind.MetaProperty m ps)
 
 -- ---- members
 
@@ -121,7 +121,7 @@ names_class r (Some n) = nat_eq r.class n
 
 abbrev pub private_on : Context → ℕ → String → Option PrivateReference → Code → Code → Code
 private_on c m s None o checked_o = no_rule
-private_on c m s (Some r) o checked_o = cond (is_made_private c s r) (cond (names_class r (class_named o) && not (is_generated_elsewhere s r.class c.ledger)) (private_value s) no_rule) (private_member m r checked_o)
+private_on c m s (Some r) o checked_o = cond (is_made_private c s r) (cond (names_class r (class_named o)) (private_value s) no_rule) (private_member m r checked_o)
 
 abbrev pub private_field_of : Context → ℕ → Bool → Code → Code → Code
 private_field_of c m optional super k = no_rule

@@ -2,7 +2,6 @@
 -- are. (Our own. p is the source, q what it was lowered to, `first` the number of the first new node.)
 use Rattle.std.specs.Prelude.{◌≡◌, ℕ, List, [], ◌∷◌, ◌++◌, Bool, true, false, cond, not, ◌&&◌, ◌||◌, bytes_eq, nat_eq, codes, Option, Some, None, is_some}
 use Rattle.es_base.specs.Carried.{stripped}
-use Rattle.es_base.specs.Conforms.{is_among}
 use Rattle.es_base.specs.Numbered.{IsNumbered, is_new}
 use Rattle.es_base.specs.Preorder.{preorder, number_of}
 use Rattle.es_base.specs.Tree.{Tree, Part, Parts, Node, end, more, child, list, string}

@@ -16,7 +16,7 @@ use Rattle.es_steps.specs.Opening.{gather, definitions, opening}
 use Rattle.es_steps.specs.Parts.{at, items, string_of}
 use Rattle.es_steps.specs.PrivateNames.{PrivateMember, PrivateKind, a_field, private_members}
 use Rattle.es_steps.specs.Reading.{read}
-use Rattle.es_steps.specs.References.{resolve, varying, changes_free}
+use Rattle.es_steps.specs.References.{varying, changes_free}
 use Rattle.es_steps.specs.Repeated.{all_places}
 use Rattle.es_steps.specs.Shared.{shared}
 use Rattle.es_steps.specs.Scopes.{Declaration, is_binding_identifier, class_in, body_names}

@@ -2,9 +2,8 @@
 use Rattle.std.specs.Prelude.{ℕ, List, [], ◌∷◌, ◌++◌, Bool, true, false, cond, not, ◌&&◌, ◌||◌, nat_eq}
 use Rattle.es_base.specs.Conforms.{is_among}
 use Rattle.es_base.specs.Preorder.{number_of, preorder, preorder_of_part}
-use Rattle.es_base.specs.Tree.{Tree, Part, Node, more, child, absent}
+use Rattle.es_base.specs.Tree.{Tree, Node, end, more, child, absent}
 use Rattle.es_base.specs.declared.kind.Kind.{Kind}
-use Rattle.es_steps.specs.HelperCalls.{body_runs}
 use Rattle.es_steps.specs.Parts.{at, string_of}
 use Rattle.es_steps.specs.References.{Reference, resolve, has_number}
 use Rattle.es_steps.specs.Values.{String, Referent, Bound}
@@ -57,14 +56,32 @@ abbrev pub any_stands : List ℕ → List Tree → Bool
 any_stands ns [] = false
 any_stands ns (t ∷ ts) = has_number (number_of t) ns || any_stands ns ts
 
--- what runs with such a class reads the name around it, which is given a value behind the class
+-- such a class reads the name around it, which is given a value behind the class and what runs with it
 abbrev pub loses_name : List Tree → List Reference → Tree → Bool
-loses_name ps references (Node Kind.ClassExpression n span semantic_id (more absent (more heritage (more body rest)))) = body_runs body && any_stands (references_to (identifiers_at n ps) references) (preorder_of_part body)
+loses_name ps references (Node Kind.ClassExpression n span semantic_id (more absent (more heritage (more body rest)))) = any_stands (references_to (identifiers_at n ps) references) (preorder_of_part body)
 loses_name ps references t = false
 
 abbrev pub none_loses_name : List Tree → List Reference → List Tree → Bool
 none_loses_name ps references [] = true
 none_loses_name ps references (t ∷ ts) = not (loses_name ps references t) && none_loses_name ps references ts
 
+-- ---- nor does what a `let` of a declared class is initialized with read that `let`, which is not there yet
+
+abbrev pub class_identifier : Tree → List ℕ
+class_identifier (Node Kind.ClassDeclaration m span semantic_id (more (child (Node kind b bspan b_semantic_id bs)) ps)) = b ∷ []
+class_identifier t = []
+
+abbrev pub class_identifiers : List Tree → List ℕ
+class_identifiers [] = []
+class_identifiers (t ∷ ts) = class_identifier t ++ class_identifiers ts
+
+abbrev pub reads_itself : List ℕ → List Reference → Tree → Bool
+reads_itself classes references (Node Kind.VariableDeclarator m span semantic_id (more (child (Node kind b bspan b_semantic_id bs)) (more e end))) = has_number b classes && any_stands (references_to (b ∷ []) references) (preorder_of_part e)
+reads_itself classes references t = false
+
+abbrev pub none_reads_itself : List ℕ → List Reference → List Tree → Bool
+none_reads_itself classes references [] = true
+none_reads_itself classes references (t ∷ ts) = not (reads_itself classes references t) && none_reads_itself classes references ts
+
 abbrev pub own_names_stay : Tree → Tree → Bool
-own_names_stay p q = none_loses_name (preorder p) (resolve q) (preorder q)
+own_names_stay p q = none_loses_name (preorder p) (resolve q) (preorder q) && none_reads_itself (class_identifiers (preorder p)) (resolve q) (preorder q)

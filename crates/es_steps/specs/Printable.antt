@@ -8,8 +8,9 @@ use Rattle.es_base.specs.declared.literal.LiteralValue.{LiteralValue}
 use Rattle.es_base.specs.declared.literal.LiteralValue.TheVariants as literal_value
 use Rattle.es_steps.specs.Context.{is_constructor, is_function}
 use Rattle.es_steps.specs.KeptNodes.{statement_list}
-use Rattle.es_steps.specs.Parts.{at, items, block_items, string_of, is_true, is_present}
+use Rattle.es_steps.specs.Parts.{at, items, string_of, is_true, is_present}
 use Rattle.es_steps.specs.Repeated.{is_loop, is_arrow}
+use Rattle.es_steps.specs.Scopes.{is_declaring}
 use Rattle.es_steps.specs.Strict.{has_use_strict, directives}
 use Rattle.es_steps.specs.Values.{String}
 
@@ -186,6 +187,25 @@ is_bad_template Kind.TemplateElement ps = not (is_raw false false (string_of (at
 is_bad_template Kind.TemplateLiteral ps = not (tails_fit (items (at 0 ps)))
 is_bad_template kind ps = false
 
+-- a template that is no quasi of a tag has strings with a cooked form (12.8.6.1)
+abbrev pub lacks_cooked : Parts → Bool
+lacks_cooked end = false
+lacks_cooked (more (child (Node kind m span semantic_id (more raw (more (string s) ps)))) rest) = lacks_cooked rest
+lacks_cooked (more p rest) = true
+
+abbrev pub is_uncooked : Part → Bool
+is_uncooked (child (Node Kind.TemplateLiteral m span semantic_id ps)) = lacks_cooked (items (at 0 ps))
+is_uncooked p = false
+
+abbrev pub any_uncooked : Parts → Bool
+any_uncooked end = false
+any_uncooked (more (list ps) rest) = any_uncooked ps || any_uncooked rest
+any_uncooked (more p rest) = is_uncooked p || any_uncooked rest
+
+abbrev pub has_uncooked : Kind → Parts → Bool
+has_uncooked Kind.TaggedTemplateExpression ps = is_uncooked (at 0 ps)
+has_uncooked kind ps = any_uncooked ps
+
 -- ---- directives: as their string is, without `"`, backslash and line end
 
 abbrev pub is_plain_directive : List ℕ → Bool
@@ -210,21 +230,27 @@ abbrev pub has_late_directive : Bool → Parts → Bool
 has_late_directive late end = false
 has_late_directive late (more p ps) = (late && is_directive p) || has_late_directive (late || not (is_directive p)) ps
 
-abbrev pub is_binding_name : Part → Bool
-is_binding_name (child (Node Kind.BindingIdentifier m span semantic_id ps)) = true
-is_binding_name p = false
-
 abbrev pub are_names : Parts → Bool
 are_names end = true
-are_names (more p ps) = is_binding_name p && are_names ps
+are_names (more p ps) = is_declaring p && are_names ps
 
 abbrev pub is_strict_with_patterns : Part → Part → Bool
 is_strict_with_patterns parameters body = not (are_names (items parameters)) && has_use_strict (directives body)
 
+-- a string among the first statements that is no directive: a printer may write it as one
+abbrev pub is_bare_string : Part → Bool
+is_bare_string (child (Node Kind.ExpressionStatement m span semantic_id (more (child (Node Kind.Literal k kspan k_semantic_id (more (literal (literal_value.String s raw)) end))) (more directive end)))) = not (is_directive (child (Node Kind.ExpressionStatement m span semantic_id (more absent (more directive end)))))
+is_bare_string p = false
+
+abbrev pub has_bare_string : Parts → Bool
+has_bare_string end = false
+has_bare_string (more p ps) = is_bare_string p || (is_directive p && has_bare_string ps)
+
 abbrev pub has_bad_prologue : Kind → Parts → Bool
-has_bad_prologue Kind.FunctionDeclaration ps = is_strict_with_patterns (at 1 ps) (at 2 ps)
-has_bad_prologue Kind.FunctionExpression ps = is_strict_with_patterns (at 1 ps) (at 2 ps)
-has_bad_prologue Kind.ArrowFunctionExpression ps = is_strict_with_patterns (at 0 ps) (at 1 ps)
+has_bad_prologue Kind.Program ps = has_late_directive false (items (at 1 ps)) || has_bare_string (items (at 1 ps))
+has_bad_prologue Kind.FunctionDeclaration ps = is_strict_with_patterns (at 1 ps) (at 2 ps) || has_bare_string (directives (at 2 ps))
+has_bad_prologue Kind.FunctionExpression ps = is_strict_with_patterns (at 1 ps) (at 2 ps) || has_bare_string (directives (at 2 ps))
+has_bad_prologue Kind.ArrowFunctionExpression ps = is_strict_with_patterns (at 0 ps) (at 1 ps) || has_bare_string (directives (at 1 ps))
 has_bad_prologue kind ps = has_late_directive false (statement_list kind ps)
 
 -- ---- forms
@@ -388,6 +414,7 @@ is_bad_form Kind.MethodDefinition ps = is_bad_method ps
 is_bad_form Kind.PropertyDefinition ps = is_bad_field ps
 is_bad_form Kind.SequenceExpression ps = nat_le (count (items (at 0 ps))) 1
 is_bad_form Kind.MetaProperty ps = not (is_meta_property ps)
+is_bad_form Kind.VariableDeclaration ps = nat_eq (count (items (at 1 ps))) 0
 is_bad_form Kind.VariableDeclarator ps = is_kind_of is_default (at 0 ps)
 is_bad_form Kind.AssignmentPattern ps = is_kind_of is_default (at 0 ps)
 is_bad_form Kind.AssignmentTargetWithDefault ps = is_kind_of is_default (at 0 ps)
@@ -426,7 +453,7 @@ is_module_item Kind.ExportAllDeclaration = true
 is_module_item kind = false
 
 abbrev pub is_bad_node : Kind → Parts → Bool
-is_bad_node kind ps = (is_bad_name kind ps || is_bad_label kind ps) || ((is_bad_literal kind ps || is_bad_template kind ps) || ((is_bad_directive kind ps || has_bad_prologue kind ps) || (is_bad_form kind ps || has_stray_optional kind ps)))
+is_bad_node kind ps = (is_bad_name kind ps || is_bad_label kind ps) || ((is_bad_literal kind ps || is_bad_template kind ps) || ((is_bad_directive kind ps || has_bad_prologue kind ps) || (is_bad_form kind ps || (has_stray_optional kind ps || has_uncooked kind ps))))
 
 -- a tree under a node that allows a declaration without a name or not, and imports and exports or not
 abbrev pub is_default_export : Kind → Bool

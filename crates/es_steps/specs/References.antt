@@ -8,7 +8,7 @@ use Rattle.es_base.specs.Preorder.{preorder}
 use Rattle.es_base.specs.declared.kind.Kind.{Kind}
 use Rattle.es_base.specs.declared.table.Sort.{Sort}
 use Rattle.es_steps.specs.Parts.{at, items, string_of, is_true}
-use Rattle.es_steps.specs.Scopes.{Declaration, no_class, bound_part, names_at, is_body_part, scope_form, scope_names, var_part}
+use Rattle.es_steps.specs.Scopes.{ClassName, Declaration, no_class, bound_part, names_at, is_body_part, is_declaring, scope_form, scope_names, var_part}
 use Rattle.es_steps.specs.Values.{String, Referent, Bound, Free}
 
 -- the first of this spelling: of the nearest scope, and there of the first declaring identifier
@@ -112,6 +112,10 @@ written_by_all (t ∷ ts) = written_by t ++ written_by_all ts
 abbrev pub written : Tree → List ℕ
 written t = assigned (resolve t) ++ written_by_all (preorder t)
 
+abbrev pub names_no_class : ClassName → Bool
+names_no_class no_class = true
+names_no_class name = false
+
 -- ---- names that change without a reference or a scope that says so
 
 -- a `var` in a catch of the name that the catch declares gives its value to that name (B.3.4)
@@ -149,13 +153,18 @@ inner_functions is_body Kind.SwitchStatement ps = case_functions (items (at 1 ps
 inner_functions is_body Kind.IfStatement ps = function_name (at 1 ps) ++ function_name (at 2 ps)
 inner_functions is_body kind ps = []
 
+-- a class is no `var`, so such a function stays in its block where its name means one
+abbrev pub unless_class : Option Declaration → List ℕ
+unless_class None = []
+unless_class (Some d) = cond (names_no_class d.class_name) (d.number ∷ []) []
+
 abbrev pub meant : List Declaration → List String → List ℕ
 meant names [] = []
-meant names (s ∷ ss) = if_bound true (referent s (declared s names)) ++ meant names ss
+meant names (s ∷ ss) = unless_class (declared s names) ++ meant names ss
 
 -- the `var` of such a function passes a name that is caught (B.3.4)
 abbrev pub catches_a_name : Kind → Parts → Bool
-catches_a_name Kind.CatchClause (more (child (Node Kind.BindingIdentifier b span semantic_id bs)) ps) = true
+catches_a_name Kind.CatchClause ps = is_declaring (at 0 ps)
 catches_a_name kind ps = false
 
 abbrev pub names_around : Bool → Kind → ℕ → Parts → ℕ → List Declaration

@@ -47,6 +47,11 @@ abbrev pub is_binding_identifier : Kind → Bool
 is_binding_identifier Kind.BindingIdentifier = true
 is_binding_identifier kind = false
 
+-- whether a part is an identifier that declares
+abbrev pub is_declaring : Part → Bool
+is_declaring (child (Node kind b span semantic_id ps)) = is_binding_identifier kind
+is_declaring p = false
+
 abbrev pub declaration : ClassName → ℕ → Parts → List Declaration
 declaration name b ps = record { spelling = string_of (at 0 ps); number = b; class_name = name } ∷ []
 

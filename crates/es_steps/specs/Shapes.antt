@@ -46,10 +46,12 @@ any_class test (k ∷ ks) = test k || any_class test ks
 abbrev pub is_static_field : Element → Bool
 is_static_field e = e.is_field && e.is_static
 
+-- lowered blocks stand before an expression that gets no temporary
+abbrev pub runs_before_class : Options → ClassAt → Bool
+runs_before_class o k = k.is_expression && (lowers_blocks o && (any_element (λ e. e.is_block) k.elements && not (any_element is_static_field k.elements)))
+
 abbrev pub moves_before_heritage : Options → List ℕ → List Reference → ClassAt → Bool
-moves_before_heritage o written references k =
-    any_element (is_hoisted_key written references) k.elements
-    || (k.is_expression && (lowers_blocks o && (any_element (λ e. e.is_block) k.elements && not (any_element is_static_field k.elements))))
+moves_before_heritage o written references k = any_element (is_hoisted_key written references) k.elements || runs_before_class o k
 
 -- the heritage is read where it stands: a is around the class
 abbrev pub heritage_has_events : Options → Tree → Around → Kind → Parts → Bool
@@ -190,11 +192,11 @@ module _ (o : Options) (written : List ℕ) (references : List Reference) where
 abbrev pub is_changing_key : Bool → List ℕ → List Reference → Element → Bool
 is_changing_key hoists changed references e = e.computed && (is_written_name changed references e.key && (e.is_field || hoists))
 
-abbrev pub has_changing_key : List ℕ → List ℕ → List Reference → ClassAt → Bool
-has_changing_key written changed references k = any_element (is_changing_key (any_element (is_hoisted_key written references) k.elements) changed references) k.elements
+abbrev pub has_changing_key : Options → List ℕ → List ℕ → List Reference → ClassAt → Bool
+has_changing_key o written changed references k = any_element (is_changing_key (moves_before_heritage o written references k) changed references) k.elements
 
 abbrev pub has_shape_4 : Options → Tree → List ClassAt → Bool
-has_shape_4 o t ks = lowers_fields o && (reads_twice o (varying t) (resolve t) false false t || any_class (has_changing_key (written t) (changed_otherwise t) (resolve t)) ks)
+has_shape_4 o t ks = lowers_fields o && (reads_twice o (varying t) (resolve t) false false t || any_class (has_changing_key o (written t) (changed_otherwise t) (resolve t)) ks)
 
 -- ---- 5: a private member without a writing side as a target in a pattern; 8: a private name behind `?.` in one chain
 

@@ -11,7 +11,7 @@ use Rattle.es_steps.specs.Definitions.{spelling}
 use Rattle.es_steps.specs.Expressions.{is_logical}
 use Rattle.es_steps.specs.HelperCalls.{is_class_body, body_runs}
 use Rattle.es_steps.specs.KeptNodes.{all_pairs_stand}
-use Rattle.es_steps.specs.Parts.{at, items, string_of, is_true}
+use Rattle.es_steps.specs.Parts.{at, string_of, is_true}
 use Rattle.es_steps.specs.PrivateNames.{PrivateMember, member_at, is_class, is_element}
 use Rattle.es_steps.specs.References.{has_number}
 use Rattle.es_steps.specs.Repeated.{is_loop, is_arrow}
@@ -32,8 +32,8 @@ pub record Around : Type 0 where
   pub held : List (ℕ × ℕ)
   pub later : List ℕ
   pub is_called : Bool
-  -- classes whose body is around, and has elements that run with the class
-  pub running : List ℕ
+  -- classes whose body is around, and has elements that run with the class, each with its own name, which is there
+  pub running : List (ℕ × String)
 
 pub record Mark : Type 0 where
   pub name : String
@@ -81,7 +81,7 @@ abbrev pub runs_later : ℕ → Kind → ℕ → Parts → ℕ → Bool
 runs_later first kind m ps i = is_function kind || ((is_arrow kind && not (is_new first m)) || is_instance_value kind ps i)
 
 abbrev pub around_in : ℕ → Around → Kind → ℕ → Parts → ℕ → Around
-around_in first x kind m ps i = record { running = cond (is_class kind && body_runs (at 2 ps)) (m ∷ x.running) x.running; is_called = is_callee_of_call kind i; held = cond (is_held kind ps i || (is_held_arrow first x kind m || is_instance_value kind ps i)) ((m, i) ∷ x.held) x.held; later = cond (runs_later first kind m ps i) (m ∷ x.later) x.later }
+around_in first x kind m ps i = record { running = cond (is_class kind && body_runs (at 2 ps)) ((m, spelling (at 0 ps)) ∷ x.running) x.running; is_called = is_callee_of_call kind i; held = cond (is_held kind ps i || (is_held_arrow first x kind m || is_instance_value kind ps i)) ((m, i) ∷ x.held) x.held; later = cond (runs_later first kind m ps i) (m ∷ x.later) x.later }
 
 abbrev pub is_spelled : String → Bool
 is_spelled [] = false
@@ -239,12 +239,16 @@ is_use form = false
 
 module _ (ledger : List LedgerEntry) where
   -- a name of a class in the body of it that runs with the class, where it is not given yet
-  abbrev pub is_early_by : List ℕ → Option GeneratedKind → Bool
-  is_early_by running (Some (GeneratedKind.ClassTemp n)) = has_number n.0 running
-  is_early_by running g = false
+  abbrev pub is_running : ℕ → String → List (ℕ × String) → Bool
+  is_running n s [] = false
+  is_running n s (p ∷ ps) = (nat_eq n p.0 && not (bytes_eq s p.1)) || is_running n s ps
+
+  abbrev pub is_early_by : List (ℕ × String) → String → Option GeneratedKind → Bool
+  is_early_by running s (Some (GeneratedKind.ClassTemp n)) = is_running n.0 s running
+  is_early_by running s g = false
 
   abbrev pub is_early : Mark → Bool
-  is_early m = is_use m.form && is_early_by m.around.running (generated_as m.name ledger)
+  is_early m = is_use m.form && is_early_by m.around.running m.name (generated_as m.name ledger)
 
   abbrev pub asks : Mark → Bool
   asks m = is_use m.form && is_followed (generated_as m.name ledger)

@@ -2,6 +2,5 @@
 //! docs/MEANING.md has each definition in plain words.
 #![tactic(auto)]
 
-pub mod error;
 pub mod law;
 pub mod options;
