@@ -6,9 +6,9 @@ use Rattle.es_base.specs.declared.kind.Kind.{Kind}
 use Rattle.es_node.specs.View.{kind_of}
 use Rattle.es_steps.specs.Parts.{at, items}
 use Rattle.es_steps.specs.References.{bound_spelling, function_name, function_names, case_functions, inner_functions, gives_inside, catches_a_name}
-use Rattle.es_steps.specs.Scopes.{is_binding_identifier}
+use Rattle.es_steps.specs.Scopes.{is_binding_identifier, is_declaring}
 use Rattle.es_steps.specs.Values.{String}
-use Rattle.es_outside.specs.InnerFunctions.{is_declaring, give_name}
+use Rattle.es_outside.specs.InnerFunctions.{give_name}
 
 pub in_block : (ps : Parts) → inner_functions false Kind.BlockStatement ps ≡ function_names (items (at 0 ps))
 in_block ps = refl
@@ -49,20 +49,11 @@ gives_alike s (Node kind m span semantic_id ps ∷ ts) = ap (λ b. is_among s (i
 -- ---- a caught name
 
 pub caught_name : (ps : Parts) → catches_a_name Kind.CatchClause ps ≡ is_declaring (at 0 ps)
-caught_name end = refl
-caught_name (more (child (Node Kind.BindingIdentifier b span semantic_id bs)) ps) = refl
-caught_name (more (child (Node kind b span semantic_id bs)) ps) = refl
-caught_name (more absent ps) = refl
-caught_name (more (list xs) ps) = refl
-caught_name (more (string s) ps) = refl
-caught_name (more no_string ps) = refl
-caught_name (more (boolean b) ps) = refl
-caught_name (more (literal v) ps) = refl
+caught_name ps = refl
 
 pub no_catch : (kind : Kind) (ps : Parts) → (kind ≡ Kind.CatchClause → ⊥) → catches_a_name kind ps ≡ false
 no_catch Kind.CatchClause ps other = absurd (other refl)
 no_catch kind ps other = refl
 
 pub no_name : (t : Tree) → is_declaring (child t) ≡ is_binding_identifier (kind_of t)
-no_name (Node Kind.BindingIdentifier b span semantic_id ps) = refl
 no_name (Node kind b span semantic_id ps) = refl

@@ -11,17 +11,17 @@ ghost use Rattle.es_shapes.specs.Classes.{class_view, is_lowered, is_lowered_wit
 use crate::class::{ClassRef, class_of, elements_of};
 use crate::element::{element_kinds, element_of};
 use crate::facts::NameFacts;
-use crate::heritage::any_hoisted_key;
+use crate::heritage::moves_before_heritage;
 use crate::walk::{NodeTest, any_node};
 use es_base::kind::Kind;
 use es_node::node::Node;
 use es_steps::options::Options;
 
 /// Whether a lowered class has a name that changes without a write as a computed key of a field, or as one that stays behind
-/// keys that are evaluated before.
+/// keys or static blocks that are evaluated before.
 pub fn has_changing_key<F: NameFacts>(program: &Node, options: &Options, facts: &F) -> bool
     requires { F.program facts.now ≡ program.now }
-    ensures { result ≡ any_class (has_changing_key (written program.now) (changed_otherwise program.now) (resolve program.now)) (lowered_classes options.now (preorder program.now)) }
+    ensures { result ≡ any_class (has_changing_key options.now (written program.now) (changed_otherwise program.now) (resolve program.now)) (lowered_classes options.now (preorder program.now)) }
 {
     let test = HasImportedKey { options, facts };
     any_node(&test, program)
@@ -35,10 +35,10 @@ struct HasImportedKey<'a, F> {
 }
 
 impl<'a, F: NameFacts> NodeTest for HasImportedKey<'a, F> {
-    ghost passes = { λ k t. is_lowered_with k.options.now (has_changing_key (written (F.program k.facts.now)) (changed_otherwise (F.program k.facts.now)) (resolve (F.program k.facts.now))) t };
+    ghost passes = { λ k t. is_lowered_with k.options.now (has_changing_key k.options.now (written (F.program k.facts.now)) (changed_otherwise (F.program k.facts.now)) (resolve (F.program k.facts.now))) t };
 
     fn passes(&self, node: &Node) -> bool
-        ensures { result ≡ is_lowered_with self.now.options.now (has_changing_key (written (F.program self.now.facts.now)) (changed_otherwise (F.program self.now.facts.now)) (resolve (F.program self.now.facts.now))) node.now }
+        ensures { result ≡ is_lowered_with self.now.options.now (has_changing_key self.now.options.now (written (F.program self.now.facts.now)) (changed_otherwise (F.program self.now.facts.now)) (resolve (F.program self.now.facts.now))) node.now }
     {
         // import { k } from "m"; class A { [k] = 1; }
         match class_of(node) {
@@ -49,32 +49,32 @@ impl<'a, F: NameFacts> NodeTest for HasImportedKey<'a, F> {
 }
 
 fn is_changing_in<F: NameFacts>(options: &Options, facts: &F, class: ClassRef) -> bool
-    ensures { result ≡ (is_lowered options.now (class_view class.entry) && has_changing_key (written (F.program facts.now)) (changed_otherwise (F.program facts.now)) (resolve (F.program facts.now)) (class_view class.entry)) }
+    ensures { result ≡ (is_lowered options.now (class_view class.entry) && has_changing_key options.now (written (F.program facts.now)) (changed_otherwise (F.program facts.now)) (resolve (F.program facts.now)) (class_view class.entry)) }
 {
     let elements = elements_of(class.body);
     element_kinds(options, elements).has_lowered
-        && any_changing_key(facts, any_hoisted_key(facts, elements), elements)
+        && any_changing_key(facts, moves_before_heritage(options, facts, class), elements)
 }
 
-/// Whether an element has such a key, where a key needs a temporary or none does.
+/// Whether an element has such a key, where something is evaluated before the class or not.
 #[tactic(auto, using(crate::proofs::NameScopes::any_first))]
-fn any_changing_key<F: NameFacts>(facts: &F, hoists: bool, elements: &[Node]) -> bool
-    ensures { result ≡ any_element (is_changing_key hoists (changed_otherwise (F.program facts.now)) (resolve (F.program facts.now))) (elements_in (trees elements.now)) }
+fn any_changing_key<F: NameFacts>(facts: &F, is_behind: bool, elements: &[Node]) -> bool
+    ensures { result ≡ any_element (is_changing_key is_behind (changed_otherwise (F.program facts.now)) (resolve (F.program facts.now))) (elements_in (trees elements.now)) }
 {
     for element in elements {
-        if is_changing_key(facts, hoists, element) {
+        if is_changing_key(facts, is_behind, element) {
             return true;
         }
     }
     false
 }
 
-fn is_changing_key<F: NameFacts>(facts: &F, hoists: bool, element: &Node) -> bool
-    ensures { result ≡ any_element (is_changing_key hoists (changed_otherwise (F.program facts.now)) (resolve (F.program facts.now))) (element_of (child element.now)) }
+fn is_changing_key<F: NameFacts>(facts: &F, is_behind: bool, element: &Node) -> bool
+    ensures { result ≡ any_element (is_changing_key is_behind (changed_otherwise (F.program facts.now)) (resolve (F.program facts.now))) (element_of (child element.now)) }
 {
     match element_of(element) {
         Some(element) => {
-            element.computed && is_changing_name(facts, element.key) && (element.is_field || hoists)
+            element.computed && is_changing_name(facts, element.key) && (element.is_field || is_behind)
         }
         None => false,
     }

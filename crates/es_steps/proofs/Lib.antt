@@ -18,6 +18,7 @@ pub mod OpeningMapped
 pub mod EntriesMapped
 pub mod ModulesMapped
 pub mod StrictMapped
+pub mod ReservedMapped
 pub mod RepeatedMapped
 pub mod SharedMapped
 pub mod Still

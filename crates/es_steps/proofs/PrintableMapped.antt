@@ -8,11 +8,13 @@ use Rattle.es_base.specs.declared.literal.LiteralValue.TheVariants as literal_va
 use Rattle.es_steps.specs.KeptNodes.{statement_list}
 use Rattle.es_steps.specs.Parts.{at, items, is_present}
 use Rattle.es_steps.specs.Printable.{is_bad_name, is_bad_label_name, is_bad_label, is_bad_literal, tails_fit, is_bad_template, lacks_cooked, is_uncooked, any_uncooked, has_uncooked, is_bare_string, has_bare_string, is_directive_of, is_bad_directive, is_directive, has_late_directive, are_names, is_strict_with_patterns, has_bad_prologue, count, is_kind_of, is_default, is_function_expression, is_identifier_name, name_of_part, shorthand_name, has_id, is_suspending, is_bad_property, is_spelled, is_bad_method, is_bad_field, is_meta_property, only_named, are_behind_default, are_specifiers, is_declaration_body, is_lexical_body, ends_open, part_ends_open, is_bad_if, is_super_part, has_optional, part_has_optional, is_spine_kind, any_optional, behind_first, has_stray_optional, is_bad_form, is_bad_node, is_default_export, is_module, is_declaration_without_name, is_bad_in, has_bad, bad_at, bad_in, Jumps, no_jumps, is_label_among, is_stray, is_looping, part_is_looping, jumps_inside, has_stray, stray_at, stray_in, is_printable}
+use Rattle.es_steps.specs.Reserved.{no_words}
 use Rattle.es_steps.specs.Strict.{directives}
 use Rattle.es_steps.specs.Values.{String}
 use Rattle.es_steps.proofs.KeptNodesMapped.{statement_list-mapped}
 use Rattle.es_steps.proofs.Mapped.{mapped, mapped_part, mapped_parts}
 use Rattle.es_steps.proofs.PartsMapped.{cond-mapped, at-mapped, items_at-mapped, string_at-mapped, is_true_at-mapped, is_present_at-mapped}
+use Rattle.es_steps.proofs.ReservedMapped.{has_reserved-mapped}
 use Rattle.es_steps.proofs.ScopesMapped.{is_declaring-mapped}
 use Rattle.es_steps.proofs.StrictMapped.{body_strict-mapped, directives_at-mapped}
 
@@ -347,4 +349,4 @@ module _ (f : ℕ → ℕ) where
     stray_in-mapped j (more p ps) = ap₂ (λ a b. a || b) (stray_at-mapped j p) (stray_in-mapped j ps)
 
   pub is_printable-mapped : (t : Tree) → is_printable (mapped f t) ≡ is_printable t
-  is_printable-mapped t = ap not (ap₂ (λ a b. a || b) (has_bad-mapped false false t) (has_stray-mapped (no_jumps false) t))
+  is_printable-mapped t = ap not (ap₂ (λ a b. a || b) (has_bad-mapped false false t) (ap₂ (λ a b. a || b) (has_stray-mapped (no_jumps false) t) (has_reserved-mapped f no_words t)))

@@ -33,8 +33,8 @@ module _ {first : ℕ} {f : ℕ → ℕ} (r : Renames first f) (c : Context) (e 
   statement_code-mapped Kind.WhileStatement m ps = held_from-mapped f 0 Kind.WhileStatement m ps
   statement_code-mapped Kind.DoWhileStatement m ps = held_from-mapped f 0 Kind.DoWhileStatement m ps
   statement_code-mapped Kind.ForStatement m ps = held_from-mapped f 1 Kind.ForStatement m ps
-  statement_code-mapped Kind.ForInStatement m ps = for_each_code-mapped f Kind.ForInStatement m ps
-  statement_code-mapped Kind.ForOfStatement m ps = for_each_code-mapped f Kind.ForOfStatement m ps
+  statement_code-mapped Kind.ForInStatement m ps = for_each_code-mapped r c e Kind.ForInStatement m ps
+  statement_code-mapped Kind.ForOfStatement m ps = for_each_code-mapped r c e Kind.ForOfStatement m ps
   statement_code-mapped Kind.DebuggerStatement m ps = operation_of-mapped f Kind.DebuggerStatement m ps
   statement_code-mapped Kind.ReturnStatement m ps = return_code-mapped r c e m ps
   statement_code-mapped Kind.ThrowStatement m ps = operation_of-mapped f Kind.ThrowStatement m ps

@@ -1,5 +1,5 @@
 -- What references refer to, and which bindings are written, follow a change of numbers.
-use Rattle.std.specs.Prelude.{◌≡◌, ℕ, suc, List, [], ◌∷◌, ◌++◌, ◌||◌, map, Bool, true, false, bytes_eq, Option, Some, None}
+use Rattle.std.specs.Prelude.{◌≡◌, ℕ, suc, List, [], ◌∷◌, ◌++◌, ◌||◌, map, Bool, true, false, bytes_eq, codes, Option, Some, None}
 use Rattle.std.proofs.Common.{refl, ap, ap₂, ◌∙◌}
 use Rattle.es_base.specs.Conforms.{is_among}
 use Rattle.es_base.specs.Preorder.{preorder}
@@ -7,12 +7,12 @@ use Rattle.es_base.specs.Table.{Field, members_of}
 use Rattle.es_base.specs.Tree.{Tree, Part, Parts, Node, end, more, child, list}
 use Rattle.es_base.specs.declared.kind.Kind.{Kind}
 use Rattle.es_steps.specs.Parts.{at, items, string_of}
-use Rattle.es_steps.specs.References.{unless_class, names_no_class, declared, referent, Reference, is_target, is_reference, reference, references, references_in, part_references, item_references, resolve, has_number, numbers_of, if_bound, assigned, is_declared, repeated, is_for_each, written_by, written_by_all, written, imported_by, imported_by_all, imported, caught_again, caught_again_in, bound_spelling, function_name, function_names, case_functions, inner_functions, meant, catches_a_name, names_around, given_around, given_in, given_at, given_of, changed_otherwise, gives_inside, changes_free, varying, is_free, writes_free}
-use Rattle.es_steps.specs.Scopes.{ClassName, declares, own_name, let_names, Declaration, no_class, bound_part, names_at, is_body_part, scope_form, scope_names, var_part}
+use Rattle.es_steps.specs.References.{declared, referent, Reference, is_target, is_reference, reference, references, references_in, part_references, item_references, resolve, has_number, numbers_of, if_bound, assigned, is_declared, repeated, is_for_each, written_by, written_by_all, written, named_arguments, changing_by, changing_in, caught_again, caught_again_in, bound_spelling, function_name, function_names, case_functions, inner_functions, meant, catches_a_name, names_around, given_around, given_in, given_at, given_of, changed_otherwise, gives_inside, changes_free, varying, is_free, writes_free}
+use Rattle.es_steps.specs.Scopes.{Declaration, no_class, bound_part, names_at, is_body_part, scope_form, scope_names, var_part}
 use Rattle.es_steps.specs.Values.{String, Referent, Bound, Free}
-use Rattle.es_steps.proofs.Mapped.{mapped_class_name, mapped, mapped_part, mapped_parts, mapped_declaration, mapped_declarations, mapped_option, mapped_reference, mapped_referent, Renames}
+use Rattle.es_steps.proofs.Mapped.{mapped, mapped_part, mapped_parts, mapped_declaration, mapped_declarations, mapped_option, mapped_reference, mapped_referent, Renames}
 use Rattle.es_steps.proofs.PartsMapped.{cond-mapped, append-mapped, at-mapped, items_at-mapped, string_at-mapped, is_true_at-mapped, preorder-mapped}
-use Rattle.es_steps.proofs.ScopesMapped.{bound_part-mapped, is_declaring_at-mapped, names_at-mapped, scope_names-mapped, var_part-mapped}
+use Rattle.es_steps.proofs.ScopesMapped.{bound_part-mapped, bound_at-mapped, is_declaring_at-mapped, names_at-mapped, scope_names-mapped, var_part-mapped}
 
 module _ (f : ℕ → ℕ) where
   -- ---- resolution
@@ -98,13 +98,30 @@ module _ (f : ℕ → ℕ) where
       (ap assigned (resolve-mapped t) ∙ assigned-mapped (resolve t))
       (ap written_by_all (preorder-mapped f t) ∙ written_by_all-mapped (preorder t))
 
-  imported_by-mapped : (t : Tree) → imported_by (mapped f t) ≡ map f (imported_by t)
-  imported_by-mapped (Node Kind.ImportDeclaration m span semantic_id ps) = rw (at-mapped f 0 ps, bound_part-mapped f no_class (at 0 ps)) (numbers_of-mapped (bound_part no_class (at 0 ps)))
-  imported_by-mapped t = refl
+  named_arguments-mapped : (ds : List Declaration) → named_arguments (mapped_declarations f ds) ≡ map f (named_arguments ds)
+  named_arguments-mapped [] = refl
+  named_arguments-mapped (d ∷ ds) = append-mapped f _ _ (cond-mapped (map f) (bytes_eq d.spelling (codes "arguments")) (d.number ∷ []) [] refl refl) (named_arguments-mapped ds)
 
-  imported_by_all-mapped : (ts : List Tree) → imported_by_all (map (mapped f) ts) ≡ map f (imported_by_all ts)
-  imported_by_all-mapped [] = refl
-  imported_by_all-mapped (t ∷ ts) = append-mapped f _ _ (imported_by-mapped t) (imported_by_all-mapped ts)
+  arguments_at-mapped : (i : ℕ) (ps : Parts) → named_arguments (bound_part no_class (at i (mapped_parts f ps))) ≡ map f (named_arguments (bound_part no_class (at i ps)))
+  arguments_at-mapped i ps = ap named_arguments (bound_at-mapped f no_class i ps) ∙ named_arguments-mapped (bound_part no_class (at i ps))
+
+  function_arguments-mapped : (ps : Parts) → named_arguments (bound_part no_class (at 0 (mapped_parts f ps)) ++ bound_part no_class (at 1 (mapped_parts f ps))) ≡ map f (named_arguments (bound_part no_class (at 0 ps) ++ bound_part no_class (at 1 ps)))
+  function_arguments-mapped ps =
+      ap named_arguments (append-mapped (mapped_declaration f) _ _ (bound_at-mapped f no_class 0 ps) (bound_at-mapped f no_class 1 ps))
+      ∙ named_arguments-mapped (bound_part no_class (at 0 ps) ++ bound_part no_class (at 1 ps))
+
+  changing_by-mapped : (t : Tree) → changing_by (mapped f t) ≡ map f (changing_by t)
+  changing_by-mapped (Node Kind.ImportDeclaration m span semantic_id ps) = rw (at-mapped f 0 ps, bound_part-mapped f no_class (at 0 ps)) (numbers_of-mapped (bound_part no_class (at 0 ps)))
+  changing_by-mapped (Node Kind.VariableDeclarator m span semantic_id ps) = arguments_at-mapped 0 ps
+  changing_by-mapped (Node Kind.FunctionDeclaration m span semantic_id ps) = function_arguments-mapped ps
+  changing_by-mapped (Node Kind.FunctionExpression m span semantic_id ps) = function_arguments-mapped ps
+  changing_by-mapped (Node Kind.ArrowFunctionExpression m span semantic_id ps) = arguments_at-mapped 0 ps
+  changing_by-mapped (Node Kind.CatchClause m span semantic_id ps) = arguments_at-mapped 0 ps
+  changing_by-mapped t = refl
+
+  changing_in-mapped : (ts : List Tree) → changing_in (map (mapped f) ts) ≡ map f (changing_in ts)
+  changing_in-mapped [] = refl
+  changing_in-mapped (t ∷ ts) = append-mapped f _ _ (changing_by-mapped t) (changing_in-mapped ts)
 
   caught_again-mapped : (t : Tree) → caught_again (mapped f t) ≡ map f (caught_again t)
   caught_again-mapped (Node Kind.CatchClause m span semantic_id ps) =
@@ -145,21 +162,11 @@ module _ (f : ℕ → ℕ) where
   inner_functions-mapped is_body Kind.IfStatement ps = rw (at-mapped f 1 ps, at-mapped f 2 ps, function_name-mapped (at 1 ps), function_name-mapped (at 2 ps)) refl
   inner_functions-mapped is_body kind ps = refl
 
-  names_no_class-mapped : (c : ClassName) → names_no_class (mapped_class_name f c) ≡ names_no_class c
-  names_no_class-mapped no_class = refl
-  names_no_class-mapped (declares n) = refl
-  names_no_class-mapped (own_name n) = refl
-  names_no_class-mapped (let_names m n) = refl
-
-  unless_class-mapped : (d : Option Declaration) → unless_class (mapped_option (mapped_declaration f) d) ≡ map f (unless_class d)
-  unless_class-mapped None = refl
-  unless_class-mapped (Some d) = rw (names_no_class-mapped d.class_name) (cond-mapped (map f) (names_no_class d.class_name) (d.number ∷ []) [] refl refl)
-
   meant-mapped : (names : List Declaration) (ss : List String) → meant (mapped_declarations f names) ss ≡ map f (meant names ss)
   meant-mapped names [] = refl
   meant-mapped names (s ∷ ss) =
       append-mapped f _ _
-      (rw (declared-mapped s names) (unless_class-mapped (declared s names)))
+      (rw (declared-mapped s names, referent-mapped s (declared s names)) (if_bound-mapped true (referent s (declared s names))))
       (meant-mapped names ss)
 
   catches_a_name-mapped : (kind : Kind) (ps : Parts) → catches_a_name kind (mapped_parts f ps) ≡ catches_a_name kind ps
@@ -194,8 +201,8 @@ module _ (f : ℕ → ℕ) where
 
   changed_otherwise-mapped : (t : Tree) → changed_otherwise (mapped f t) ≡ map f (changed_otherwise t)
   changed_otherwise-mapped t =
-      append-mapped f (imported t) (caught_again_in (preorder t) ++ given_around [] false t)
-      (ap imported_by_all (preorder-mapped f t) ∙ imported_by_all-mapped (preorder t))
+      append-mapped f (changing_in (preorder t)) (caught_again_in (preorder t) ++ given_around [] false t)
+      (ap changing_in (preorder-mapped f t) ∙ changing_in-mapped (preorder t))
       (append-mapped f (caught_again_in (preorder t)) (given_around [] false t) (ap caught_again_in (preorder-mapped f t) ∙ caught_again_in-mapped (preorder t)) (given_around-mapped [] false t))
 
   pub varying-mapped : (t : Tree) → varying (mapped f t) ≡ map f (varying t)

@@ -64,11 +64,6 @@ module _ (f : ℕ → ℕ) where
   head_targets-mapped m (steps cs) = given_targets-mapped m cs
   head_targets-mapped m c = ap (λ to. one (gives_to (f m) to)) (target_of-mapped f c)
 
-  pub for_each_code-mapped : (kind : Kind) (m : ℕ) (ps : Members) → for_each_code kind (f m) (mapped_members f ps) ≡ mapped_code f (for_each_code kind m ps)
-  for_each_code-mapped kind m ps =
-      rw (from-mapped f 1 ps, details-mapped f (from 1 ps), the_code_at-mapped f 0 ps, head_initializers-mapped (the_code (at 0 ps)), head_targets-mapped m (the_code (at 0 ps)), codes_at-mapped f 1 ps, codes_at-mapped f 2 ps, joined-mapped f (head_initializers (the_code (at 0 ps))) (codes_of (at 1 ps)), joined-mapped f (head_targets m (the_code (at 0 ps))) (codes_of (at 2 ps)))
-      refl
-
   is_other_directive-mapped : (p : Member) → is_other_directive (mapped_member f p) ≡ is_other_directive p
   is_other_directive-mapped (string s) = refl
   is_other_directive-mapped p = refl
@@ -238,6 +233,12 @@ module _ {first : ℕ} {f : ℕ → ℕ} (r : Renames first f) (c : Context) (e 
       let whole : Code = operation m (OfKind Kind.ReturnStatement (details ps)) (operands ps) done in
       rw (here r c e m, details-mapped f ps, operands-mapped f ps, codes_at-mapped f 0 ps)
       (code-cond f (is_new c.first_new m) (new_return (codes_of (at 0 ps))) (cond c.in_new_function no_rule whole) refl (cond-code f c.in_new_function no_rule whole))
+
+  pub for_each_code-mapped : (kind : Kind) (m : ℕ) (ps : Members) → for_each_code there kind (f m) (mapped_members f ps) ≡ mapped_code f (for_each_code c kind m ps)
+  for_each_code-mapped kind m ps =
+      let head : Code = the_code (at 0 ps) in
+      rw (from-mapped f 1 ps, details-mapped f (from 1 ps), flag_at-mapped f 3 ps, the_code_at-mapped f 0 ps, head_initializers-mapped f head, head_targets-mapped f m head, codes_at-mapped f 1 ps, codes_at-mapped f 2 ps, joined-mapped f (head_initializers head) (codes_of (at 1 ps)), joined-mapped f (head_targets m head) (codes_of (at 2 ps)))
+      (cond-code f (c.in_new_function && flag_of (at 3 ps)) no_rule (operation m (OfKind kind (details (from 1 ps))) (joined (head_initializers head) (codes_of (at 1 ps))) (one (steps (joined (head_targets m head) (codes_of (at 2 ps)))))))
 
   pub suspension_code-mapped : (kind : Kind) (m : ℕ) (ps : Members) → suspension_code there kind (f m) (mapped_members f ps) ≡ mapped_code f (suspension_code c kind m ps)
   suspension_code-mapped kind m ps = rw (details-mapped f ps, operands-mapped f ps) (cond-code f c.in_new_function no_rule (operation m (OfKind kind (details ps)) (operands ps) done))

@@ -28,7 +28,7 @@ module _ (f : ℕ → ℕ) where
   pub body_strict-mapped : (i : ℕ) (ps : Parts) → has_use_strict (directives (at i (mapped_parts f ps))) ≡ has_use_strict (directives (at i ps))
   body_strict-mapped i ps = ap has_use_strict (directives_at-mapped i ps) ∙ has_use_strict-mapped (directives (at i ps))
 
-  makes_strict-mapped : (kind : Kind) (ps : Parts) → makes_strict kind (mapped_parts f ps) ≡ makes_strict kind ps
+  pub makes_strict-mapped : (kind : Kind) (ps : Parts) → makes_strict kind (mapped_parts f ps) ≡ makes_strict kind ps
   makes_strict-mapped Kind.Program ps =
       ap₂ (λ s b. bytes_eq s (codes "module") || b) (string_at-mapped f 0 ps) (ap has_use_strict (items_at-mapped f 1 ps) ∙ has_use_strict-mapped (items (at 1 ps)))
   makes_strict-mapped Kind.ClassDeclaration ps = refl

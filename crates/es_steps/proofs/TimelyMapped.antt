@@ -12,7 +12,7 @@ use Rattle.es_steps.specs.HelperCalls.{is_class_body, body_runs}
 use Rattle.es_steps.specs.KeptNodes.{pair_stands, all_pairs_stand}
 use Rattle.es_steps.specs.Parts.{at, string_of}
 use Rattle.es_steps.specs.PrivateNames.{PrivateMember, member_at, is_class, is_element}
-use Rattle.es_steps.specs.Timely.{MarkForm, declares, initializes, hoists, uses, Around, Mark, is_held, is_held_arrow, is_instance_value, runs_later, around_in, mark_by, mark, declared_mark, initialized_mark, marks_before, marks_behind, is_given, is_let_declaration, is_of_class, is_needed_by, needed_names, uses_of, is_called_arrow, marks, marks_in, marks_at, marks_of, key_marks, value_marks, is_later, gives_by, gives_in_time, any_gives, is_dead_by, is_dead, is_skipped_by, is_skipped, is_followed, is_use, comes_first, is_running, is_early_by, is_early, asks, in_time, names_timely}
+use Rattle.es_steps.specs.Timely.{MarkForm, declares, initializes, hoists, uses, Around, Mark, is_held, is_held_arrow, is_instance_value, runs_later, around_in, mark_by, mark, declared_mark, initialized_mark, marks_before, marks_behind, is_given, is_let_declaration, is_of_class, is_needed_by, needed_names, uses_of, is_called_arrow, marks, marks_in, marks_at, marks_of, key_marks, value_marks, is_later, gives_by, gives_in_time, any_gives, is_declaration, is_dead, is_skipped_by, is_skipped, is_followed, is_use, comes_first, is_running, is_early_by, is_early, asks, in_time, names_timely}
 use Rattle.es_steps.specs.Values.{String}
 use Rattle.es_steps.proofs.ContextMapped.{generated_as-mapped}
 use Rattle.es_steps.proofs.DefinitionsMapped.{spelling-mapped}
@@ -242,7 +242,7 @@ module _ {first : ℕ} {f : ℕ → ℕ} (r : Renames first f) where
 
   is_dead-mapped : (m : Mark) (ds : List Mark) → is_dead (mapped_mark f m) (map (mapped_mark f) ds) ≡ is_dead m ds
   is_dead-mapped m [] = refl
-  is_dead-mapped m (d ∷ ds) = ap₂ (λ a b. (bytes_eq m.name d.name && is_dead_by d.form a) || b) (is_later-mapped m.around.later d.around.later) (is_dead-mapped m ds)
+  is_dead-mapped m (d ∷ ds) = ap (λ b. (bytes_eq m.name d.name && is_declaration d.form) || b) (is_dead-mapped m ds)
 
   is_skipped-mapped : (m : Mark) (ds : List Mark) → is_skipped (mapped_mark f m) (map (mapped_mark f) ds) ≡ is_skipped m ds
   is_skipped-mapped m [] = refl

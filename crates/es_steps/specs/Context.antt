@@ -39,7 +39,7 @@ pub record Context : Type 0 where
   pub options : Options
   -- the private members of the source
   pub members : List PrivateMember
-  -- the bindings that are imported or written anywhere in the program, and whether a free `arguments` is written
+  -- the bindings that are written anywhere or change otherwise in the program, and whether a free `arguments` is written
   pub varying : List ℕ
   pub writes_arguments : Bool
   -- the names and the private members that are seen, the nearest first

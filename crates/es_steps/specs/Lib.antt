@@ -28,6 +28,7 @@ pub mod Quiet
 pub mod Reading
 pub mod References
 pub mod Repeated
+pub mod Reserved
 pub mod SameMeanings
 pub mod SameTrees
 pub mod SameValues

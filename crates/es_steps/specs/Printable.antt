@@ -10,6 +10,7 @@ use Rattle.es_steps.specs.Context.{is_constructor, is_function}
 use Rattle.es_steps.specs.KeptNodes.{statement_list}
 use Rattle.es_steps.specs.Parts.{at, items, string_of, is_true, is_present}
 use Rattle.es_steps.specs.Repeated.{is_loop, is_arrow}
+use Rattle.es_steps.specs.Reserved.{no_words, has_reserved}
 use Rattle.es_steps.specs.Scopes.{is_declaring}
 use Rattle.es_steps.specs.Strict.{has_use_strict, directives}
 use Rattle.es_steps.specs.Values.{String}
@@ -541,4 +542,4 @@ abbrev mutual
   stray_in j (more p ps) = stray_at j p || stray_in j ps
 
 abbrev pub is_printable : Tree → Bool
-is_printable t = not (has_bad false false t || has_stray (no_jumps false) t)
+is_printable t = not (has_bad false false t || (has_stray (no_jumps false) t || has_reserved no_words t))

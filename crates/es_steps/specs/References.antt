@@ -1,6 +1,6 @@
 -- Resolution: what each reference of a tree refers to, and which bindings are written. (ECMA-262, 9.1: environment
 -- records; a reference means the nearest scope that holds its spelling.)
-use Rattle.std.specs.Prelude.{ℕ, suc, List, [], ◌∷◌, ◌++◌, map, Bool, true, false, cond, ◌||◌, ◌&&◌, nat_eq, bytes_eq, Option, Some, None}
+use Rattle.std.specs.Prelude.{ℕ, suc, List, [], ◌∷◌, ◌++◌, map, Bool, true, false, cond, ◌||◌, ◌&&◌, nat_eq, bytes_eq, codes, Option, Some, None}
 use Rattle.es_base.specs.Tree.{Tree, Part, Parts, Node, end, more, child, list}
 use Rattle.es_base.specs.Table.{Field, members_of}
 use Rattle.es_base.specs.Conforms.{is_target_place, is_among}
@@ -8,7 +8,7 @@ use Rattle.es_base.specs.Preorder.{preorder}
 use Rattle.es_base.specs.declared.kind.Kind.{Kind}
 use Rattle.es_base.specs.declared.table.Sort.{Sort}
 use Rattle.es_steps.specs.Parts.{at, items, string_of, is_true}
-use Rattle.es_steps.specs.Scopes.{ClassName, Declaration, no_class, bound_part, names_at, is_body_part, is_declaring, scope_form, scope_names, var_part}
+use Rattle.es_steps.specs.Scopes.{Declaration, no_class, bound_part, names_at, is_body_part, is_declaring, scope_form, scope_names, var_part}
 use Rattle.es_steps.specs.Values.{String, Referent, Bound, Free}
 
 -- the first of this spelling: of the nearest scope, and there of the first declaring identifier
@@ -112,10 +112,6 @@ written_by_all (t ∷ ts) = written_by t ++ written_by_all ts
 abbrev pub written : Tree → List ℕ
 written t = assigned (resolve t) ++ written_by_all (preorder t)
 
-abbrev pub names_no_class : ClassName → Bool
-names_no_class no_class = true
-names_no_class name = false
-
 -- ---- names that change without a reference or a scope that says so
 
 -- a `var` in a catch of the name that the catch declares gives its value to that name (B.3.4)
@@ -153,14 +149,9 @@ inner_functions is_body Kind.SwitchStatement ps = case_functions (items (at 1 ps
 inner_functions is_body Kind.IfStatement ps = function_name (at 1 ps) ++ function_name (at 2 ps)
 inner_functions is_body kind ps = []
 
--- a class is no `var`, so such a function stays in its block where its name means one
-abbrev pub unless_class : Option Declaration → List ℕ
-unless_class None = []
-unless_class (Some d) = cond (names_no_class d.class_name) (d.number ∷ []) []
-
 abbrev pub meant : List Declaration → List String → List ℕ
 meant names [] = []
-meant names (s ∷ ss) = unless_class (declared s names) ++ meant names ss
+meant names (s ∷ ss) = if_bound true (referent s (declared s names)) ++ meant names ss
 
 -- the `var` of such a function passes a name that is caught (B.3.4)
 abbrev pub catches_a_name : Kind → Parts → Bool
@@ -187,20 +178,28 @@ abbrev mutual
   given_of names end = []
   given_of names (more p ps) = given_at names false p ++ given_of names ps
 
--- the identifiers that imports declare: what such a name holds changes without a write here (ECMA-262, 9.1.1.5)
-abbrev pub imported_by : Tree → List ℕ
-imported_by (Node Kind.ImportDeclaration m span semantic_id ps) = numbers_of (bound_part no_class (at 0 ps))
-imported_by t = []
+-- an identifier `arguments` that is declared: each function inside has another one (10.2.11)
+abbrev pub named_arguments : List Declaration → List ℕ
+named_arguments [] = []
+named_arguments (d ∷ ds) = cond (bytes_eq d.spelling (codes "arguments")) (d.number ∷ []) [] ++ named_arguments ds
 
-abbrev pub imported_by_all : List Tree → List ℕ
-imported_by_all [] = []
-imported_by_all (t ∷ ts) = imported_by t ++ imported_by_all ts
+-- the names that a node declares which change by themselves: those of imports, since what such a name holds changes without a
+-- write here (9.1.1.5), and `arguments`
+abbrev pub changing_by : Tree → List ℕ
+changing_by (Node Kind.ImportDeclaration m span semantic_id ps) = numbers_of (bound_part no_class (at 0 ps))
+changing_by (Node Kind.VariableDeclarator m span semantic_id ps) = named_arguments (bound_part no_class (at 0 ps))
+changing_by (Node Kind.FunctionDeclaration m span semantic_id ps) = named_arguments (bound_part no_class (at 0 ps) ++ bound_part no_class (at 1 ps))
+changing_by (Node Kind.FunctionExpression m span semantic_id ps) = named_arguments (bound_part no_class (at 0 ps) ++ bound_part no_class (at 1 ps))
+changing_by (Node Kind.ArrowFunctionExpression m span semantic_id ps) = named_arguments (bound_part no_class (at 0 ps))
+changing_by (Node Kind.CatchClause m span semantic_id ps) = named_arguments (bound_part no_class (at 0 ps))
+changing_by t = []
 
-abbrev pub imported : Tree → List ℕ
-imported t = imported_by_all (preorder t)
+abbrev pub changing_in : List Tree → List ℕ
+changing_in [] = []
+changing_in (t ∷ ts) = changing_by t ++ changing_in ts
 
 abbrev pub changed_otherwise : Tree → List ℕ
-changed_otherwise t = imported t ++ (caught_again_in (preorder t) ++ given_around [] false t)
+changed_otherwise t = changing_in (preorder t) ++ (caught_again_in (preorder t) ++ given_around [] false t)
 
 -- the bindings that are written anywhere, and those that change without
 abbrev pub varying : Tree → List ℕ

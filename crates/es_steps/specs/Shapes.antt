@@ -188,9 +188,9 @@ module _ (o : Options) (written : List ℕ) (references : List Reference) where
     reads_twice_of moved (more p ps) = reads_twice_at moved false p || reads_twice_of moved ps
 
 -- a name that changes without a write as a computed key, which has no temporary: that of a field, or one that stays behind keys
--- in front of the class
+-- or static blocks in front of the class
 abbrev pub is_changing_key : Bool → List ℕ → List Reference → Element → Bool
-is_changing_key hoists changed references e = e.computed && (is_written_name changed references e.key && (e.is_field || hoists))
+is_changing_key is_behind changed references e = e.computed && (is_written_name changed references e.key && (e.is_field || is_behind))
 
 abbrev pub has_changing_key : Options → List ℕ → List ℕ → List Reference → ClassAt → Bool
 has_changing_key o written changed references k = any_element (is_changing_key (moves_before_heritage o written references k) changed references) k.elements

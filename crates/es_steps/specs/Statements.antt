@@ -59,11 +59,11 @@ abbrev pub head_targets : ℕ → Code → Codes
 head_targets m (steps cs) = given_targets m cs
 head_targets m c = one (gives_to m (target_of c))
 
--- each time the head is given the next value, and then the body runs
-abbrev pub for_each_code : Kind → ℕ → Members → Code
-for_each_code kind m ps =
+-- each time the head is given the next value, and then the body runs; no `for await` of the source stands in a new function
+abbrev pub for_each_code : Context → Kind → ℕ → Members → Code
+for_each_code c kind m ps =
     let head : Code = the_code (at 0 ps) in
-    operation m (OfKind kind (details (from 1 ps))) (joined (head_initializers head) (codes_of (at 1 ps))) (one (steps (joined (head_targets m head) (codes_of (at 2 ps)))))
+    cond (c.in_new_function && flag_of (at 3 ps)) no_rule (operation m (OfKind kind (details (from 1 ps))) (joined (head_initializers head) (codes_of (at 1 ps))) (one (steps (joined (head_targets m head) (codes_of (at 2 ps))))))
 
 -- a directive that is none of those that a lowering may add
 abbrev pub is_other_directive : Member → Bool

@@ -203,14 +203,14 @@ abbrev pub any_gives : Bool → Mark → List Mark → Bool
 any_gives in_front m [] = false
 any_gives in_front m (i ∷ is) = gives_in_time in_front m i || any_gives in_front m is
 
--- a `let` behind, which m does not run later than
-abbrev pub is_dead_by : MarkForm → Bool → Bool
-is_dead_by declares later = not later
-is_dead_by form later = false
+-- a `let` behind: what stands in front may run, or be called, before it is there
+abbrev pub is_declaration : MarkForm → Bool
+is_declaration declares = true
+is_declaration form = false
 
 abbrev pub is_dead : Mark → List Mark → Bool
 is_dead m [] = false
-is_dead m (d ∷ ds) = (bytes_eq m.name d.name && is_dead_by d.form (is_later m.around.later d.around.later)) || is_dead m ds
+is_dead m (d ∷ ds) = (bytes_eq m.name d.name && is_declaration d.form) || is_dead m ds
 
 -- a `let` in front that may not have run, as in another case
 abbrev pub is_skipped_by : MarkForm → Bool → Bool

@@ -12,5 +12,5 @@ returns g c =
     let o = c.args.options.now in
     let t = c.args.program.now in
     c.any_node.ensures
-    ∙ ap (λ p. list_any (is_lowered_with o (has_changing_key (written p) (changed_otherwise p) (resolve p))) (preorder t)) c.requires
-    ∙ sym (any_lowered o (has_changing_key (written t) (changed_otherwise t) (resolve t)) (preorder t))
+    ∙ ap (λ p. list_any (is_lowered_with o (has_changing_key o (written p) (changed_otherwise p) (resolve p))) (preorder t)) c.requires
+    ∙ sym (any_lowered o (has_changing_key o (written t) (changed_otherwise t) (resolve t)) (preorder t))
