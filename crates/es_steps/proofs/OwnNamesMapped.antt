@@ -5,7 +5,7 @@ use Rattle.es_base.specs.Conforms.{is_among}
 use Rattle.es_base.specs.Preorder.{number_of, preorder, preorder_of_part}
 use Rattle.es_base.specs.Tree.{Tree, Node, end, more, child, absent}
 use Rattle.es_base.specs.declared.kind.Kind.{Kind}
-use Rattle.es_steps.specs.OwnNames.{is_bound_among, references_to, class_name_at, declares_class, are_none, own_name_number, own_name_numbers, identifier_at, identifiers_at, any_stands, loses_name, none_loses_name, class_identifier, class_identifiers, reads_itself, none_reads_itself, own_names_stay}
+use Rattle.es_steps.specs.OwnNames.{is_bound_among, references_to, class_name_at, declares_class, are_none, own_name_number, own_name_numbers, identifier_at, identifiers_at, any_stands, loses_name, none_loses_name, class_identifier, class_identifiers, declares_by, any_declares, reads_itself, none_reads_itself, own_names_stay}
 use Rattle.es_steps.specs.Parts.{at, string_of}
 use Rattle.es_steps.specs.References.{Reference, resolve}
 use Rattle.es_steps.specs.Values.{String, Referent, Bound}
@@ -80,16 +80,24 @@ module _ {first : ℕ} {f : ℕ → ℕ} (r : Renames first f) where
   class_identifiers-mapped [] = refl
   class_identifiers-mapped (t ∷ ts) = append-mapped f _ _ (class_identifier-mapped t) (class_identifiers-mapped ts)
 
-  reads_itself-mapped : (classes : List ℕ) (rs : List Reference) (t : Tree) → reads_itself (map f classes) (map (mapped_reference f) rs) (mapped f t) ≡ reads_itself classes rs t
-  reads_itself-mapped classes rs (Node Kind.VariableDeclarator m span semantic_id (more (child (Node kind b bspan b_semantic_id bs)) (more e end))) =
-      rw (has_number-mapped r b classes, references_to-mapped (b ∷ []) rs, preorder_of_part-mapped f e, any_stands-mapped (references_to (b ∷ []) rs) (preorder_of_part e)) refl
-  reads_itself-mapped classes rs t = refl
+  declares_by-mapped : (m b : ℕ) (t : Tree) → declares_by (f m) (f b) (mapped f t) ≡ declares_by m b t
+  declares_by-mapped m b (Node Kind.VariableDeclarator n span semantic_id (more (child (Node kind k kspan k_semantic_id ks)) rest)) = rw (r.apart m n, r.apart b k) refl
+  declares_by-mapped m b t = refl
 
-  none_reads_itself-mapped : (classes : List ℕ) (rs : List Reference) (ts : List Tree) → none_reads_itself (map f classes) (map (mapped_reference f) rs) (map (mapped f) ts) ≡ none_reads_itself classes rs ts
-  none_reads_itself-mapped classes rs [] = refl
-  none_reads_itself-mapped classes rs (t ∷ ts) = ap₂ (λ a b. not a && b) (reads_itself-mapped classes rs t) (none_reads_itself-mapped classes rs ts)
+  any_declares-mapped : (m b : ℕ) (ts : List Tree) → any_declares (f m) (f b) (map (mapped f) ts) ≡ any_declares m b ts
+  any_declares-mapped m b [] = refl
+  any_declares-mapped m b (t ∷ ts) = ap₂ (λ x y. x || y) (declares_by-mapped m b t) (any_declares-mapped m b ts)
+
+  reads_itself-mapped : (ps : List Tree) (rs : List Reference) (t : Tree) → reads_itself (map (mapped f) ps) (map (mapped_reference f) rs) (mapped f t) ≡ reads_itself ps rs t
+  reads_itself-mapped ps rs (Node Kind.VariableDeclarator m span semantic_id (more (child (Node kind b bspan b_semantic_id bs)) (more e end))) =
+      rw (any_declares-mapped m b ps, class_identifiers-mapped ps, has_number-mapped r b (class_identifiers ps), references_to-mapped (b ∷ []) rs, preorder_of_part-mapped f e, any_stands-mapped (references_to (b ∷ []) rs) (preorder_of_part e)) refl
+  reads_itself-mapped ps rs t = refl
+
+  none_reads_itself-mapped : (ps : List Tree) (rs : List Reference) (ts : List Tree) → none_reads_itself (map (mapped f) ps) (map (mapped_reference f) rs) (map (mapped f) ts) ≡ none_reads_itself ps rs ts
+  none_reads_itself-mapped ps rs [] = refl
+  none_reads_itself-mapped ps rs (t ∷ ts) = ap₂ (λ a b. not a && b) (reads_itself-mapped ps rs t) (none_reads_itself-mapped ps rs ts)
 
   pub own_names_stay-mapped : (p q : Tree) → own_names_stay (mapped f p) (mapped f q) ≡ own_names_stay p q
   own_names_stay-mapped p q =
-      rw (preorder-mapped f p, resolve-mapped f q, preorder-mapped f q, class_identifiers-mapped (preorder p))
-      (ap₂ (λ a b. a && b) (none_loses_name-mapped (preorder p) (resolve q) (preorder q)) (none_reads_itself-mapped (class_identifiers (preorder p)) (resolve q) (preorder q)))
+      rw (preorder-mapped f p, resolve-mapped f q, preorder-mapped f q)
+      (ap₂ (λ a b. a && b) (none_loses_name-mapped (preorder p) (resolve q) (preorder q)) (none_reads_itself-mapped (preorder p) (resolve q) (preorder q)))

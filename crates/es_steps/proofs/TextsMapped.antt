@@ -45,6 +45,8 @@ module _ {first : ℕ} {f : ℕ → ℕ} (r : Renames first f) where
       rw (r.new n, at-mapped f 0 qs, is_plain-mapped f (at 0 qs), is_legacy-mapped f (at 0 qs), is_literal_among-mapped qs ps, stands_equal-mapped r (Node Kind.Literal n span semantic_id qs) ps) refl
   has_its_text-mapped ps (Node Kind.TemplateElement n span semantic_id qs) =
       rw (r.new n, is_string_among-mapped qs ps, stands_equal-mapped r (Node Kind.TemplateElement n span semantic_id qs) ps) refl
+  has_its_text-mapped ps (Node Kind.PrivateIdentifier n span semantic_id qs) =
+      rw (r.new n, string_at-mapped f 0 qs, are_characters-mapped f ps (string_of (at 0 qs)), stands_equal-mapped r (Node Kind.PrivateIdentifier n span semantic_id qs) ps) refl
   has_its_text-mapped ps (Node kind n span semantic_id qs) = ap (has_characters (has_name kind) first (f n) (map (mapped f) ps)) (string_at-mapped f 0 qs) ∙ has_characters-mapped (has_name kind) n ps (string_of (at 0 qs))
 
   all_texts-mapped : (ps ts : List Tree) → all_have_their_texts first (map (mapped f) ps) (map (mapped f) ts) ≡ all_have_their_texts first ps ts

@@ -75,13 +75,24 @@ abbrev pub class_identifiers : List Tree → List ℕ
 class_identifiers [] = []
 class_identifiers (t ∷ ts) = class_identifier t ++ class_identifiers ts
 
-abbrev pub reads_itself : List ℕ → List Reference → Tree → Bool
-reads_itself classes references (Node Kind.VariableDeclarator m span semantic_id (more (child (Node kind b bspan b_semantic_id bs)) (more e end))) = has_number b classes && any_stands (references_to (b ∷ []) references) (preorder_of_part e)
-reads_itself classes references t = false
+-- whether declarator m declares identifier b
+abbrev pub declares_by : ℕ → ℕ → Tree → Bool
+declares_by m b (Node Kind.VariableDeclarator n span semantic_id (more (child (Node kind k kspan k_semantic_id ks)) rest)) = nat_eq m n && nat_eq b k
+declares_by m b t = false
 
-abbrev pub none_reads_itself : List ℕ → List Reference → List Tree → Bool
-none_reads_itself classes references [] = true
-none_reads_itself classes references (t ∷ ts) = not (reads_itself classes references t) && none_reads_itself classes references ts
+abbrev pub any_declares : ℕ → ℕ → List Tree → Bool
+any_declares m b [] = false
+any_declares m b (t ∷ ts) = declares_by m b t || any_declares m b ts
+
+-- ps are the nodes of the source, where no such declarator is
+abbrev pub reads_itself : List Tree → List Reference → Tree → Bool
+reads_itself ps references (Node Kind.VariableDeclarator m span semantic_id (more (child (Node kind b bspan b_semantic_id bs)) (more e end))) =
+    not (any_declares m b ps) && (has_number b (class_identifiers ps) && any_stands (references_to (b ∷ []) references) (preorder_of_part e))
+reads_itself ps references t = false
+
+abbrev pub none_reads_itself : List Tree → List Reference → List Tree → Bool
+none_reads_itself ps references [] = true
+none_reads_itself ps references (t ∷ ts) = not (reads_itself ps references t) && none_reads_itself ps references ts
 
 abbrev pub own_names_stay : Tree → Tree → Bool
-own_names_stay p q = none_loses_name (preorder p) (resolve q) (preorder q) && none_reads_itself (class_identifiers (preorder p)) (resolve q) (preorder q)
+own_names_stay p q = none_loses_name (preorder p) (resolve q) (preorder q) && none_reads_itself (preorder p) (resolve q) (preorder q)

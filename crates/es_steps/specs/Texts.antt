@@ -59,6 +59,7 @@ has_characters is_name first n ts s = not (is_name && is_new first n) || are_cha
 abbrev pub has_its_text : ℕ → List Tree → Tree → Bool
 has_its_text first ps (Node Kind.Literal n span semantic_id qs) = cond (is_new first n) (is_plain (at 0 qs) || (is_literal_among qs ps && not (is_legacy (at 0 qs)))) (stands_equal (Node Kind.Literal n span semantic_id qs) ps)
 has_its_text first ps (Node Kind.TemplateElement n span semantic_id qs) = cond (is_new first n) (is_string_among qs ps) (stands_equal (Node Kind.TemplateElement n span semantic_id qs) ps)
+has_its_text first ps (Node Kind.PrivateIdentifier n span semantic_id qs) = cond (is_new first n) (are_characters ps (string_of (at 0 qs))) (stands_equal (Node Kind.PrivateIdentifier n span semantic_id qs) ps)
 has_its_text first ps (Node kind n span semantic_id qs) = has_characters (has_name kind) first n ps (string_of (at 0 qs))
 
 abbrev pub all_have_their_texts : ℕ → List Tree → List Tree → Bool

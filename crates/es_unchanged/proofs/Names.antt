@@ -1,22 +1,25 @@
 -- In a program that is left as it is no class loses its name, no code becomes strict, and nothing gets into a class.
-use Rattle.std.specs.Prelude.{◌≡◌, ℕ, List, [], ◌∷◌, ◌++◌, map, Bool, true, false, ◌&&◌, ◌||◌, not, nat_eq, Option}
+use Rattle.std.specs.Prelude.{◌≡◌, ℕ, List, [], ◌∷◌, map, Bool, true, false, ◌||◌, not, nat_eq, Option}
 use Rattle.std.specs.List.{IsDistinct, AllByRecursion}
 use Rattle.std.proofs.Common.{refl}
 use Rattle.std.proofs.Math.Bool.{and-false}
 use Rattle.es_base.specs.Numbered.{is_new, EachOnce}
 use Rattle.es_base.specs.Preorder.{number_of, preorder, preorder_of_part}
-use Rattle.es_base.specs.Tree.{Tree, Part, Parts, Node, more, child, absent}
+use Rattle.es_base.specs.Tree.{Tree, Parts, Node, end, more, child, absent}
 use Rattle.es_base.specs.declared.kind.Kind.{Kind}
 use Rattle.es_steps.proofs.Reflexive.{number-same}
-use Rattle.es_steps.specs.HelperCalls.{body_runs}
 use Rattle.es_steps.specs.KeptNodes.{are_new_or_among, numbers_in_class, none_enters, classes_kept}
-use Rattle.es_steps.specs.OwnNames.{is_bound_among, references_to, identifier_at, identifiers_at, any_stands, loses_name, none_loses_name, own_names_stay}
+use Rattle.es_steps.specs.OwnNames.{is_bound_among, references_to, identifier_at, identifiers_at, any_stands, loses_name, none_loses_name, declares_by, any_declares, reads_itself, none_reads_itself, own_names_stay}
 use Rattle.es_steps.specs.Parts.{at}
 use Rattle.es_steps.specs.PrivateNames.{is_class}
 use Rattle.es_steps.specs.References.{Reference, resolve, has_number}
 use Rattle.es_steps.specs.Strict.{strict_numbers, none_becomes_strict}
 use Rattle.es_steps.specs.Values.{Referent, Bound}
 use Rattle.es_unchanged.proofs.Standing.{both, In, here, later, Among, apart-sym}
+
+pub or-true : (a b : Bool) → b ≡ true → (a || b) ≡ true
+or-true true b h = refl
+or-true false b h = h
 
 -- ---- own names
 
@@ -55,21 +58,32 @@ stands-none (t ∷ ts) = stands-none ts
 
 loses-none : (t : Tree) (ts : List Tree) (rs : List Reference) → EachOnce (map number_of ts) → In t ts → loses_name ts rs t ≡ false
 loses-none (Node Kind.ClassExpression n span semantic_id (more absent (more heritage (more body rest)))) ts rs once h =
-    rw (identifiers-none (Node Kind.ClassExpression n span semantic_id (more absent (more heritage (more body rest)))) ts once h refl, references-none rs, stands-none (preorder_of_part body)) (and-false (body_runs body))
+    rw (identifiers-none (Node Kind.ClassExpression n span semantic_id (more absent (more heritage (more body rest)))) ts once h refl, references-none rs, stands-none (preorder_of_part body)) refl
 loses-none t ts rs once h = refl
 
 none-loses : (ts us : List Tree) (rs : List Reference) → EachOnce (map number_of us) → Among ts us → none_loses_name us rs ts ≡ true
 none-loses [] us rs once h = refl
 none-loses (t ∷ ts) us rs once h = rw (loses-none t us rs once (h t here)) (none-loses ts us rs once (λ u i. h u (later i)))
 
+-- each declarator is one of the program
+declares-itself : (t : Tree) (ts : List Tree) (m b : ℕ) → In t ts → declares_by m b t ≡ true → any_declares m b ts ≡ true
+declares-itself t [] m b h e = elim h [ ]
+declares-itself t (u ∷ us) m b here e = rw e refl
+declares-itself t (u ∷ us) m b (later i) e = or-true (declares_by m b u) (any_declares m b us) (declares-itself t us m b i e)
+
+reads-none : (t : Tree) (ts : List Tree) (rs : List Reference) → In t ts → reads_itself ts rs t ≡ false
+reads-none (Node Kind.VariableDeclarator m span semantic_id (more (child (Node kind b bspan b_semantic_id bs)) (more e end))) ts rs h =
+    rw (declares-itself (Node Kind.VariableDeclarator m span semantic_id (more (child (Node kind b bspan b_semantic_id bs)) (more e end))) ts m b h (rw (number-same m, number-same b) refl)) refl
+reads-none t ts rs h = refl
+
+none-reads : (ts us : List Tree) (rs : List Reference) → Among ts us → none_reads_itself us rs ts ≡ true
+none-reads [] us rs h = refl
+none-reads (t ∷ ts) us rs h = rw (reads-none t us rs (h t here)) (none-reads ts us rs (λ u i. h u (later i)))
+
 pub names-stay : (t : Tree) → EachOnce (map number_of (preorder t)) → own_names_stay t t ≡ true
-names-stay t once = none-loses (preorder t) (preorder t) (resolve t) once (λ u i. i)
+names-stay t once = both (none-loses (preorder t) (preorder t) (resolve t) once (λ u i. i)) (none-reads (preorder t) (preorder t) (resolve t) (λ u i. i))
 
 -- ---- strict code
-
-pub or-true : (a b : Bool) → b ≡ true → (a || b) ≡ true
-or-true true b h = refl
-or-true false b h = h
 
 new-or-among : (first : ℕ) (strict ns : List ℕ) → ((k : ℕ) → has_number k ns ≡ true → has_number k strict ≡ true) → are_new_or_among first strict ns ≡ true
 new-or-among first strict [] h = refl

@@ -1,6 +1,6 @@
 -- Without generated names nothing in a program is marked, so each name stands in time.
 use Rattle.std.proofs.Common.{◌≡◌, refl, ℕ, suc, List, [], ◌++◌, Bool, true, false, cond}
-use Rattle.es_base.specs.Tree.{Tree, Part, Parts, Node, end, more, child, absent, list, string, no_string, boolean, literal}
+use Rattle.es_base.specs.Tree.{Tree, Part, Parts, Node, end, more, child, list}
 use Rattle.es_base.specs.declared.kind.Kind.{Kind}
 use Rattle.es_steps.specs.HelperCalls.{is_class_body}
 use Rattle.es_steps.specs.Parts.{at}
