@@ -13,7 +13,7 @@ use Rattle.es_steps.specs.Evaluation.{Environment}
 use Rattle.es_steps.specs.Meaning.{DeclarationKind, ClassDeclared, declared_as, declaring, declaring_items, declared_function, declared_functions, body_of, globals}
 use Rattle.es_steps.specs.Modules.{links_in, exports_in}
 use Rattle.es_steps.specs.PrivateNames.{private_members, members_of_all, elements_members}
-use Rattle.es_steps.specs.References.{Reference, if_bound, is_free, assigned, item_references, resolve, written_by, written_by_all, written, imported_by, imported_by_all, varying, writes_free, caught_again, caught_again_in, given_of, changed_otherwise, inner_functions, function_names, gives_inside, changes_free}
+use Rattle.es_steps.specs.References.{Reference, if_bound, is_free, assigned, item_references, resolve, written_by, written_by_all, written, changing_by, changing_in, varying, writes_free, caught_again, caught_again_in, given_of, changed_otherwise, inner_functions, function_names, gives_inside, changes_free}
 use Rattle.es_steps.specs.Repeated.{Surroundings, places_of, all_places}
 use Rattle.es_steps.specs.Shared.{shared, shared_of}
 use Rattle.es_steps.specs.Scopes.{Declaration, lexical_part, lexical_items, var_part, body_names}
@@ -54,9 +54,9 @@ written_by_all-append : (xs ys : List Tree) → written_by_all (xs ++ ys) ≡ wr
 written_by_all-append [] ys = refl
 written_by_all-append (x ∷ xs) ys = rw (written_by_all-append xs ys) (sym (append_assoc (written_by x) (written_by_all xs) (written_by_all ys)))
 
-imported_by_all-append : (xs ys : List Tree) → imported_by_all (xs ++ ys) ≡ imported_by_all xs ++ imported_by_all ys
-imported_by_all-append [] ys = refl
-imported_by_all-append (x ∷ xs) ys = rw (imported_by_all-append xs ys) (sym (append_assoc (imported_by x) (imported_by_all xs) (imported_by_all ys)))
+changing_in-append : (xs ys : List Tree) → changing_in (xs ++ ys) ≡ changing_in xs ++ changing_in ys
+changing_in-append [] ys = refl
+changing_in-append (x ∷ xs) ys = rw (changing_in-append xs ys) (sym (append_assoc (changing_by x) (changing_in xs) (changing_in ys)))
 
 declared_functions-append : (xs ys : List Tree) → declared_functions [] (xs ++ ys) ≡ declared_functions [] xs ++ declared_functions [] ys
 declared_functions-append [] ys = refl
@@ -71,7 +71,7 @@ pub two_ends : {A : Type 0} (xs ys : List A) → xs ++ [] ++ [] ++ ys ≡ xs ++ 
 two_ends [] ys = refl
 two_ends (x ∷ xs) ys = ap (λ zs. x ∷ zs) (two_ends xs ys)
 
--- ---- in these lists nothing is written or imported, and no function and no private member is declared
+-- ---- in these lists nothing is written or changes by itself, and no function and no private member is declared
 
 caught_again_in-append : (xs ys : List Tree) → caught_again_in (xs ++ ys) ≡ caught_again_in xs ++ caught_again_in ys
 caught_again_in-append [] ys = refl
@@ -105,7 +105,7 @@ pub record Unwritten (ps : Parts) : Type 0 where
   pub assigned : (names : List Declaration) → assigned (item_references names false ps) ≡ []
   pub free : (names : List Declaration) → writes_free (codes "arguments") (item_references names false ps) ≡ false
   pub repeated : written_by_all (preorder_of ps) ≡ []
-  pub imported : imported_by_all (preorder_of ps) ≡ []
+  pub changing : changing_in (preorder_of ps) ≡ []
   pub caught : caught_again_in (preorder_of ps) ≡ []
   pub given : (names : List Declaration) → given_of names ps ≡ []
   pub inside : gives_inside (codes "arguments") (preorder_of ps) ≡ false
@@ -113,19 +113,19 @@ pub record Unwritten (ps : Parts) : Type 0 where
   pub members : members_of_all (preorder_of ps) ≡ []
 
 unwritten-end : Unwritten end
-unwritten-end = record { assigned = λ names. refl; free = λ names. refl; repeated = refl; imported = refl; caught = refl; given = λ names. refl; inside = refl; functions = refl; members = refl }
+unwritten-end = record { assigned = λ names. refl; free = λ names. refl; repeated = refl; changing = refl; caught = refl; given = λ names. refl; inside = refl; functions = refl; members = refl }
 
 fields-unwritten : (es : Parts) → AreFields es → Unwritten es
 fields-unwritten end h = unwritten-end
-fields-unwritten (more p es) (a_field m span semantic_id key v (a_key i ispan i_semantic_id s) no_value, h) = let u : Unwritten es = fields-unwritten es h in record { assigned = u.assigned; free = u.free; repeated = u.repeated; imported = u.imported; caught = u.caught; given = u.given; inside = u.inside; functions = u.functions; members = u.members }
-fields-unwritten (more p es) (a_field m span semantic_id key v (a_key i ispan i_semantic_id s) (a_literal l lspan l_semantic_id w), h) = let u : Unwritten es = fields-unwritten es h in record { assigned = u.assigned; free = u.free; repeated = u.repeated; imported = u.imported; caught = u.caught; given = u.given; inside = u.inside; functions = u.functions; members = u.members }
-fields-unwritten (more p es) (a_field m span semantic_id key v (a_key i ispan i_semantic_id s) (a_reference r rspan r_semantic_id x), h) = let u : Unwritten es = fields-unwritten es h in record { assigned = u.assigned; free = u.free; repeated = u.repeated; imported = u.imported; caught = u.caught; given = u.given; inside = u.inside; functions = u.functions; members = u.members }
+fields-unwritten (more p es) (a_field m span semantic_id key v (a_key i ispan i_semantic_id s) no_value, h) = let u : Unwritten es = fields-unwritten es h in record { assigned = u.assigned; free = u.free; repeated = u.repeated; changing = u.changing; caught = u.caught; given = u.given; inside = u.inside; functions = u.functions; members = u.members }
+fields-unwritten (more p es) (a_field m span semantic_id key v (a_key i ispan i_semantic_id s) (a_literal l lspan l_semantic_id w), h) = let u : Unwritten es = fields-unwritten es h in record { assigned = u.assigned; free = u.free; repeated = u.repeated; changing = u.changing; caught = u.caught; given = u.given; inside = u.inside; functions = u.functions; members = u.members }
+fields-unwritten (more p es) (a_field m span semantic_id key v (a_key i ispan i_semantic_id s) (a_reference r rspan r_semantic_id x), h) = let u : Unwritten es = fields-unwritten es h in record { assigned = u.assigned; free = u.free; repeated = u.repeated; changing = u.changing; caught = u.caught; given = u.given; inside = u.inside; functions = u.functions; members = u.members }
 
 definitions-unwritten : (es : Parts) → AreFields es → (k : ℕ) → Unwritten (trees (definitions_from k es))
 definitions-unwritten end h k = unwritten-end
-definitions-unwritten (more p es) (a_field m span semantic_id key v hk no_value, h) k = let u : Unwritten (trees (definitions_from (k + 9) es)) = definitions-unwritten es h (k + 9) in record { assigned = u.assigned; free = u.free; repeated = u.repeated; imported = u.imported; caught = u.caught; given = u.given; inside = u.inside; functions = u.functions; members = u.members }
-definitions-unwritten (more p es) (a_field m span semantic_id key v hk (a_literal l lspan l_semantic_id w), h) k = let u : Unwritten (trees (definitions_from (k + 7) es)) = definitions-unwritten es h (k + 7) in record { assigned = u.assigned; free = u.free; repeated = u.repeated; imported = u.imported; caught = u.caught; given = u.given; inside = u.inside; functions = u.functions; members = u.members }
-definitions-unwritten (more p es) (a_field m span semantic_id key v hk (a_reference r rspan r_semantic_id x), h) k = let u : Unwritten (trees (definitions_from (k + 7) es)) = definitions-unwritten es h (k + 7) in record { assigned = u.assigned; free = u.free; repeated = u.repeated; imported = u.imported; caught = u.caught; given = u.given; inside = u.inside; functions = u.functions; members = u.members }
+definitions-unwritten (more p es) (a_field m span semantic_id key v hk no_value, h) k = let u : Unwritten (trees (definitions_from (k + 9) es)) = definitions-unwritten es h (k + 9) in record { assigned = u.assigned; free = u.free; repeated = u.repeated; changing = u.changing; caught = u.caught; given = u.given; inside = u.inside; functions = u.functions; members = u.members }
+definitions-unwritten (more p es) (a_field m span semantic_id key v hk (a_literal l lspan l_semantic_id w), h) k = let u : Unwritten (trees (definitions_from (k + 7) es)) = definitions-unwritten es h (k + 7) in record { assigned = u.assigned; free = u.free; repeated = u.repeated; changing = u.changing; caught = u.caught; given = u.given; inside = u.inside; functions = u.functions; members = u.members }
+definitions-unwritten (more p es) (a_field m span semantic_id key v hk (a_reference r rspan r_semantic_id x), h) k = let u : Unwritten (trees (definitions_from (k + 7) es)) = definitions-unwritten es h (k + 7) in record { assigned = u.assigned; free = u.free; repeated = u.repeated; changing = u.changing; caught = u.caught; given = u.given; inside = u.inside; functions = u.functions; members = u.members }
 
 elements-unwritten : (es : Parts) → AreFields es → (k : ℕ) → Unwritten (lowered_elements k es)
 elements-unwritten end h k = unwritten-end
@@ -135,7 +135,7 @@ elements-unwritten (more p es) h k =
       assigned = λ names. rw (names-definitions (more p es) h (k + 4), four_ends (item_references names false ts)) (u.assigned names);
       free = λ names. rw (names-definitions (more p es) h (k + 4), four_ends (item_references names false ts)) (u.free names);
       repeated = rw (names-definitions (more p es) h (k + 4), lexical-definitions (more p es) h (k + 4), four_ends (preorder_of ts)) u.repeated;
-      imported = rw (four_ends (preorder_of ts)) u.imported;
+      changing = rw (four_ends (preorder_of ts)) u.changing;
       caught = rw (four_ends (preorder_of ts)) u.caught;
       given = λ names. four-none (u.given _);
       inside = rw (function-definitions (more p es) h (k + 4), four_ends (preorder_of ts)) u.inside;
@@ -157,7 +157,7 @@ record ClassUnwritten (n : ℕ) (es ps : Parts) : Type 0 where
   assigned : (names : List Declaration) → assigned (item_references names false es ++ [] ++ [] ++ item_references names false ps) ≡ []
   free : (names : List Declaration) → writes_free (codes "arguments") (item_references names false es ++ [] ++ [] ++ item_references names false ps) ≡ false
   repeated : written_by_all (preorder_of es ++ [] ++ [] ++ preorder_of ps) ≡ []
-  imported : imported_by_all (preorder_of es ++ [] ++ [] ++ preorder_of ps) ≡ []
+  changing : changing_in (preorder_of es ++ [] ++ [] ++ preorder_of ps) ≡ []
   caught : caught_again_in (preorder_of es ++ [] ++ [] ++ preorder_of ps) ≡ []
   inside : gives_inside (codes "arguments") (preorder_of es ++ [] ++ [] ++ preorder_of ps) ≡ false
   functions : declared_functions [] (preorder_of es ++ [] ++ [] ++ preorder_of ps) ≡ []
@@ -170,7 +170,7 @@ class-unwritten n es ps a b none =
       assigned = λ names. rw (two_ends (item_references names false es) (item_references names false ps), assigned-append (item_references names false es) (item_references names false ps), a.assigned names) (b.assigned names);
       free = λ names. rw (two_ends (item_references names false es) (item_references names false ps), writes_free-append (codes "arguments") (item_references names false es) (item_references names false ps), a.free names) (b.free names);
       repeated = rw (two_ends xs ys, written_by_all-append xs ys, a.repeated) b.repeated;
-      imported = rw (two_ends xs ys, imported_by_all-append xs ys, a.imported) b.imported;
+      changing = rw (two_ends xs ys, changing_in-append xs ys, a.changing) b.changing;
       caught = rw (two_ends xs ys, caught_again_in-append xs ys, a.caught) b.caught;
       inside = rw (two_ends xs ys, gives_inside-append (codes "arguments") xs ys, a.inside) b.inside;
       functions = rw (two_ends xs ys, declared_functions-append xs ys, a.functions) b.functions;
@@ -182,7 +182,7 @@ classes-unwritten end h = unwritten-end
 classes-unwritten (more p ps) (a_class n span semantic_id id body (a_name i ispan i_semantic_id s free) (a_body m bspan b_semantic_id es he), h) =
     let rest : Unwritten ps = classes-unwritten ps h in
     let u : ClassUnwritten n es ps = class-unwritten n es ps (fields-unwritten es he) rest (fields-no_members n es he) in
-    record { assigned = u.assigned; free = u.free; repeated = u.repeated; imported = u.imported; caught = u.caught; given = λ names. two-none ((fields-unwritten es he).given _) (rest.given names); inside = u.inside; functions = u.functions; members = u.members }
+    record { assigned = u.assigned; free = u.free; repeated = u.repeated; changing = u.changing; caught = u.caught; given = λ names. two-none ((fields-unwritten es he).given _) (rest.given names); inside = u.inside; functions = u.functions; members = u.members }
 
 lowered-unwritten : (ps : Parts) → AreClasses ps → (k : ℕ) → Unwritten (lowered_statements k ps)
 lowered-unwritten end h k = unwritten-end
@@ -190,7 +190,7 @@ lowered-unwritten (more p ps) (a_class n span semantic_id id body (a_name i ispa
     let next : ℕ = k + statement_size p in
     let rest : Unwritten (lowered_statements next ps) = lowered-unwritten ps h next in
     let u : ClassUnwritten n (lowered_elements k es) (lowered_statements next ps) = class-unwritten n (lowered_elements k es) (lowered_statements next ps) (elements-unwritten es he k) rest (lowered-no_members n k es) in
-    record { assigned = u.assigned; free = u.free; repeated = u.repeated; imported = u.imported; caught = u.caught; given = λ names. two-none ((elements-unwritten es he k).given _) (rest.given names); inside = u.inside; functions = u.functions; members = u.members }
+    record { assigned = u.assigned; free = u.free; repeated = u.repeated; changing = u.changing; caught = u.caught; given = λ names. two-none ((elements-unwritten es he k).given _) (rest.given names); inside = u.inside; functions = u.functions; members = u.members }
 
 -- ---- declaring identifiers: those of the classes
 
@@ -316,7 +316,7 @@ written-lowered k t (a_program m span semantic_id s all h) =
 
 -- nothing changes without a write
 changed-none : (m : ℕ) (span : Option (ℕ × ℕ)) (semantic_id : Option ℕ) (s : String) (ps : Parts) → Unwritten ps → changed_otherwise (Node Kind.Program m span semantic_id (more (string s) (more (list ps) end))) ≡ []
-changed-none m span semantic_id s ps u = three-none (rw (append-nil (preorder_of ps)) u.imported) (rw (append-nil (preorder_of ps)) u.caught) (one-none (u.given _))
+changed-none m span semantic_id s ps u = three-none (rw (append-nil (preorder_of ps)) u.changing) (rw (append-nil (preorder_of ps)) u.caught) (one-none (u.given _))
 
 pub varying-lowered : (k : ℕ) (t : Tree) → IsProgram t → varying (lowered_from k t) ≡ varying t
 varying-lowered k t (a_program m span semantic_id s all h) =

@@ -10,7 +10,7 @@ use Rattle.es_base.specs.Tree.{Tree, Node}
 use Rattle.es_base.specs.declared.kind.Kind.{Kind}
 use Rattle.es_steps.specs.Lowered.{is_lowered_kind, kind_of, none_lowered, is_new_const, all_accounted}
 use Rattle.es_steps.specs.Options.{class_properties_alone}
-use Rattle.es_steps.specs.OwnNames.{loses_name, none_loses_name}
+use Rattle.es_steps.specs.OwnNames.{loses_name, none_loses_name, reads_itself, none_reads_itself}
 use Rattle.es_steps.specs.References.{Reference}
 use Rattle.es_steps.specs.Scopes.{is_binding_identifier, is_class_expression}
 use Rattle.es_unchanged.proofs.Standing.{none_of}
@@ -22,6 +22,7 @@ declares_names kind = is_binding_identifier kind
 
 abbrev pub declares_variables : Kind → Bool
 declares_variables Kind.VariableDeclaration = true
+declares_variables Kind.VariableDeclarator = true
 declares_variables kind = false
 
 abbrev pub stays : Kind → Bool
@@ -125,3 +126,13 @@ pub laid-named : {first hi m lo n : ℕ} {ts : List Tree} (ps : List Tree) (rs :
 laid-named ps rs (none lh e) = refl
 laid-named {ts = t ∷ ts} ps rs (kept a b s rest) = rw (not-expression ps rs t (stays-neither (kind_of t) s).0) (laid-named ps rs rest)
 laid-named {ts = t ∷ ts} ps rs (generated e s rest) = rw (not-expression ps rs t (stays-neither (kind_of t) (and_parts (stays (kind_of t)) (not (declares_names (kind_of t))) s).0).0) (laid-named ps rs rest)
+
+-- no variable is declared
+not-declarator : (ps : List Tree) (rs : List Reference) (t : Tree) → declares_variables (kind_of t) ≡ false → reads_itself ps rs t ≡ false
+not-declarator ps rs (Node Kind.VariableDeclarator m span semantic_id qs) e = absurd (true≢false e)
+not-declarator ps rs t e = refl
+
+pub laid-unread : {first hi m lo n : ℕ} {ts : List Tree} (ps : List Tree) (rs : List Reference) → Laid first hi m lo n ts → none_reads_itself ps rs ts ≡ true
+laid-unread ps rs (none lh e) = refl
+laid-unread {ts = t ∷ ts} ps rs (kept a b s rest) = rw (not-declarator ps rs t (stays-neither (kind_of t) s).1) (laid-unread ps rs rest)
+laid-unread {ts = t ∷ ts} ps rs (generated e s rest) = rw (not-declarator ps rs t (stays-neither (kind_of t) (and_parts (stays (kind_of t)) (not (declares_names (kind_of t))) s).0).1) (laid-unread ps rs rest)

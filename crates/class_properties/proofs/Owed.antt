@@ -18,7 +18,7 @@ use Rattle.es_steps.specs.Strict.{none_becomes_strict}
 use Rattle.es_steps.specs.Values.{String}
 use Rattle.class_properties.proofs.Entering.{nothing-enters}
 use Rattle.class_properties.proofs.Fitting.{definitions-fit}
-use Rattle.class_properties.proofs.Laid.{Laid, none, kept, generated, laid-below, laid-append, laid-upto, laid-from, laid-consecutive, laid-once, laid-left, laid-accounted, laid-named}
+use Rattle.class_properties.proofs.Laid.{Laid, none, kept, generated, laid-below, laid-append, laid-upto, laid-from, laid-consecutive, laid-once, laid-left, laid-accounted, laid-named, laid-unread}
 use Rattle.class_properties.proofs.Shaped.{no_value, a_literal, a_reference, a_key, IsField, a_field, AreFields, a_name, IsBody, a_body, IsClass, a_class, AreClasses, IsProgram, a_program, first_form-shaped}
 use Rattle.class_properties.proofs.Numbered.{definitions_from, fields_size, lowered_elements, elements_size, lowered_body, body_size, lowered_statement, statement_size, lowered_statements, lowered_from}
 use Rattle.class_properties.proofs.Numbered as numbered
@@ -27,7 +27,7 @@ use Rattle.class_properties.proofs.Printed.{printable-lowered}
 use Rattle.class_properties.proofs.Remaining.{Remains, remains}
 use Rattle.class_properties.proofs.Strictness.{no-directive, no-lowered_directive, program-strict}
 use Rattle.class_properties.proofs.Written.{texts-stay}
-use Rattle.es_unchanged.proofs.Standing.{temporaries-none}
+use Rattle.es_unchanged.proofs.Standing.{both, temporaries-none}
 use Rattle.es_unchanged.proofs.Unchanged.{numbered-once}
 use Rattle.es_unchanged.proofs.Unmarked.{names-timely}
 use Rattle.class_properties.specs.Lowering.{lowered}
@@ -124,7 +124,7 @@ numbered-owes t p e =
         left = laid-left laid;
         declared = refl;
         accounted = laid-accounted (own_name_numbers t (resolve q) (preorder q)) laid;
-        names = laid-named (preorder t) (resolve q) laid;
+        names = both (laid-named (preorder t) (resolve q) laid) (laid-unread (preorder t) (resolve q) laid);
         strict = numbered-strict t p e;
         texts = texts-stay t p e;
         initialized = refl;

@@ -1,9 +1,13 @@
 -- Where a program of the first form can be printed, what it is lowered to can be.
-use Rattle.std.specs.Prelude.{◌≡◌, ℕ, ◌+◌, Bool, true, false, not, ◌||◌, bytes_eq, codes}
-use Rattle.std.proofs.Common.{refl}
+use Rattle.std.specs.Prelude.{◌≡◌, ℕ, ◌+◌, List, Bool, true, false, not, ◌&&◌, ◌||◌, bytes_eq, codes}
+use Rattle.std.proofs.Common.{refl, subst}
 use Rattle.es_base.specs.Tree.{Tree, Part, Parts, Node, end, more, child, absent, list, trees}
 use Rattle.es_base.specs.declared.kind.Kind.{Kind}
-use Rattle.es_steps.specs.Printable.{any_optional, has_late_directive, has_bad, bad_at, bad_in, Jumps, no_jumps, has_stray, stray_in, is_printable}
+use Rattle.std.proofs.Math.Bool.{and-false}
+use Rattle.es_base.specs.Conforms.{is_among}
+use Rattle.es_steps.specs.Reserved.{Words, no_words, strict_words, is_reserved_word, field_words, strict_if, has_reserved, reserved_in, reserved_at}
+use Rattle.es_steps.specs.Strict.{has_use_strict}
+use Rattle.es_steps.specs.Printable.{any_optional, any_uncooked, has_bare_string, has_late_directive, has_bad, bad_at, bad_in, Jumps, no_jumps, has_stray, stray_in, is_printable}
 use Rattle.class_properties.proofs.Numbered.{definitions_from, lowered_elements, statement_size, lowered_statements, lowered_from}
 use Rattle.class_properties.proofs.Shaped.{no_value, a_literal, a_reference, a_key, a_field, AreFields, a_body, a_name, a_class, AreClasses, IsProgram, a_program}
 use Rattle.es_unchanged.proofs.Standing.{none_of}
@@ -26,7 +30,29 @@ lowered-plain : (ps : Parts) → AreClasses ps → (k : ℕ) → any_optional (l
 lowered-plain end h k = refl
 lowered-plain (more p ps) (a_class n span semantic_id id body hid (a_body j bspan b_semantic_id es he), h) k = lowered-plain ps h _
 
--- ---- no directive
+-- ---- no template without strings that are cooked
+
+fields-cooked : (es : Parts) → AreFields es → any_uncooked es ≡ false
+fields-cooked end h = refl
+fields-cooked (more p es) (a_field m span semantic_id key v hk hv, h) = fields-cooked es h
+
+definitions-cooked : (es : Parts) → AreFields es → (k : ℕ) → any_uncooked (trees (definitions_from k es)) ≡ false
+definitions-cooked end h k = refl
+definitions-cooked (more p es) (a_field m span semantic_id key v hk hv, h) k = definitions-cooked es h _
+
+lowered-cooked : (ps : Parts) → AreClasses ps → (k : ℕ) → any_uncooked (lowered_statements k ps) ≡ false
+lowered-cooked end h k = refl
+lowered-cooked (more p ps) (a_class n span semantic_id id body hid (a_body j bspan b_semantic_id es he), h) k = lowered-cooked ps h _
+
+-- ---- no directive, and no string that is printed as one
+
+definitions-bare : (es : Parts) → AreFields es → (k : ℕ) → has_bare_string (trees (definitions_from k es)) ≡ false
+definitions-bare end h k = refl
+definitions-bare (more p es) (a_field m span semantic_id key v hk hv, h) k = refl
+
+lowered-bare : (ps : Parts) → AreClasses ps → (k : ℕ) → has_bare_string (lowered_statements k ps) ≡ false
+lowered-bare end h k = refl
+lowered-bare (more p ps) (a_class n span semantic_id id body hid (a_body j bspan b_semantic_id es he), h) k = refl
 
 definitions-undirected : (es : Parts) → AreFields es → (k : ℕ) (late : Bool) → has_late_directive late (trees (definitions_from k es)) ≡ false
 definitions-undirected end h k late = refl
@@ -58,7 +84,7 @@ definitions-good (more p es) (a_field m span semantic_id key v (a_key i ispan i_
 
 elements-good : (es : Parts) → AreFields es → (k : ℕ) → bad_in false false es ≡ false → bad_in false false (lowered_elements k es) ≡ false
 elements-good end h k g = refl
-elements-good (more p es) h k g = rw (definitions-undirected (more p es) h (k + 4) false, definitions-plain (more p es) h (k + 4), definitions-good (more p es) h (k + 4) g) refl
+elements-good (more p es) h k g = rw (definitions-undirected (more p es) h (k + 4) false, definitions-bare (more p es) h (k + 4), definitions-cooked (more p es) h (k + 4), definitions-plain (more p es) h (k + 4), definitions-good (more p es) h (k + 4) g) refl
 
 -- ---- classes
 
@@ -68,7 +94,7 @@ classes-good in_module (more p ps) (a_class n span semantic_id id body (a_name i
     let all = none_of (bad_at false in_module p) (bad_in false in_module ps) g in
     let named = none_of (bad_at false false id) (bad_at false false body || false) all.0 in
     let in_body = none_of (bad_at false false body) false named.1 in
-    let elements = none_of ((any_optional es || false) || false) (bad_in false false es || false) in_body.0 in
+    let elements = none_of (((any_optional es || false) || (any_uncooked es || false))) (bad_in false false es || false) in_body.0 in
     let good : bad_in false false (lowered_elements k es) ≡ false = elements-good es he k (none_of (bad_in false false es) false elements.1).0 in
     lowered-good es he named.0 good (classes-good in_module ps h _ all.1)
   where
@@ -94,18 +120,78 @@ classes-stay j (more p ps) (a_class n span semantic_id id body (a_name i ispan i
 program-stays : (k : ℕ) (t : Tree) → IsProgram t → has_stray (no_jumps false) (lowered_from k t) ≡ false
 program-stays k t (a_program m span semantic_id s all h) = rw (classes-stay (no_jumps false) all h k) refl
 
+-- ---- no name is a reserved word
+
+not-reserved : (w : Words) (s : String) → is_among s strict_words ≡ false → bytes_eq s (codes "await") ≡ false → bytes_eq s (codes "yield") ≡ false → is_reserved_word w s ≡ false
+not-reserved w s a b c = rw (a, b, c, and-false w.in_strict, and-false (w.in_module || (w.in_block || w.in_async)), and-false w.in_generator) refl
+
+helper-free : (w : Words) → is_reserved_word w (codes "babelHelpers") ≡ false
+helper-free w = not-reserved w (codes "babelHelpers") refl refl refl
+
+definitions-undirecting : (es : Parts) → AreFields es → (k : ℕ) → has_use_strict (trees (definitions_from k es)) ≡ false
+definitions-undirecting end h k = refl
+definitions-undirecting (more p es) (a_field m span semantic_id key v hk hv, h) k = definitions-undirecting es h _
+
+-- the value of the first field, and the other fields
+value-free : (w : Words) (v : Part) (es : Parts) → ((reserved_at (field_words w 1) v || false) || reserved_in (λ i. w) es) ≡ false → (reserved_at (field_words w 1) v ≡ false) × (reserved_in (λ i. w) es ≡ false)
+value-free w v es h =
+    let both = none_of (reserved_at (field_words w 1) v || false) (reserved_in (λ i. w) es) h in
+    ((none_of (reserved_at (field_words w 1) v) false both.0).0, both.1)
+
+definitions-free : (w : Words) (es : Parts) → AreFields es → (k : ℕ) → reserved_in (λ i. w) es ≡ false → reserved_in (λ i. field_words w 1) (trees (definitions_from k es)) ≡ false
+definitions-free w end h k g = refl
+definitions-free w (more p es) (a_field m span semantic_id key v (a_key i ispan i_semantic_id s) no_value, h) k g =
+    rw (helper-free (field_words w 1)) (definitions-free w es h (k + 9) g)
+definitions-free w (more p es) (a_field m span semantic_id key v (a_key i ispan i_semantic_id s) (a_literal l lspan l_semantic_id x), h) k g =
+    rw (helper-free (field_words w 1)) (definitions-free w es h (k + 7) g)
+definitions-free w (more p es) (a_field m span semantic_id key v (a_key i ispan i_semantic_id s) (a_reference r rspan r_semantic_id x), h) k g =
+    let free = value-free w v es g in rw (helper-free (field_words w 1), free.0) (definitions-free w es h (k + 7) free.1)
+
+elements-free : (w : Words) (es : Parts) → AreFields es → (k : ℕ) → reserved_in (λ i. w) es ≡ false → reserved_in (λ i. w) (lowered_elements k es) ≡ false
+elements-free w end h k g = refl
+elements-free w (more p es) h k g = rw (definitions-undirecting (more p es) h (k + 4), definitions-free w (more p es) h (k + 4) g) refl
+
+classes-free : (w : Words) (ps : Parts) → AreClasses ps → (k : ℕ) → reserved_in (λ i. w) ps ≡ false → reserved_in (λ i. w) (lowered_statements k ps) ≡ false
+classes-free w end h k g = refl
+classes-free w (more p ps) (a_class n span semantic_id id body (a_name i ispan i_semantic_id s free) (a_body j bspan b_semantic_id es he), h) k g =
+    let inside : Words = strict_if true w in
+    let all = none_of (reserved_at w p) (reserved_in (λ i. w) ps) g in
+    let named = none_of (reserved_at inside id) (reserved_at inside body || false) all.0 in
+    let in_body = none_of (reserved_at inside body) false named.1 in
+    let elements = none_of (reserved_in (λ i. inside) es) false in_body.0 in
+    rw (named.0, elements-free inside es he k elements.0) (classes-free w ps h _ all.1)
+
+classes-undirecting : (ps : Parts) → AreClasses ps → has_use_strict ps ≡ false
+classes-undirecting end h = refl
+classes-undirecting (more p ps) (a_class n span semantic_id id body hid hbody, h) = classes-undirecting ps h
+
+lowered-undirecting : (ps : Parts) → AreClasses ps → (k : ℕ) → has_use_strict (lowered_statements k ps) ≡ false
+lowered-undirecting end h k = refl
+lowered-undirecting (more p ps) (a_class n span semantic_id id body hid (a_body j bspan b_semantic_id es he), h) k = lowered-undirecting ps h _
+
+abbrev program_words : List ℕ → Bool → Words
+program_words s has_directive = record (strict_if (bytes_eq s (codes "module") || has_directive) no_words) { in_module = bytes_eq s (codes "module") }
+
+program-free : (k : ℕ) (t : Tree) → IsProgram t → has_reserved no_words t ≡ false → has_reserved no_words (lowered_from k t) ≡ false
+program-free k t (a_program m span semantic_id s all h) g =
+    let all_free : (reserved_in (λ i. program_words s false) all || false) ≡ false = subst (λ b. (reserved_in (λ i. program_words s b) all || false) ≡ false) (classes-undirecting all h) g in
+    rw (lowered-undirecting all h k, classes-free (program_words s false) all h k (none_of (reserved_in (λ i. program_words s false) all) false all_free).0) refl
+
 -- ---- programs
 
-printed : (a b c d : Bool) → (a ≡ false → b ≡ false) → d ≡ false → (not (not (a || c)) || not (b || d)) ≡ true
-printed true b c d h none = refl
-printed false b true d h none = refl
-printed false b false d h none = rw (h refl, none) refl
+printed : (a b c d e f : Bool) → (a ≡ false → b ≡ false) → d ≡ false → (e ≡ false → f ≡ false) → (not (not (a || (c || e))) || not (b || (d || f))) ≡ true
+printed true b c d e f h none i = refl
+printed false b true d e f h none i = refl
+printed false b false d true f h none i = refl
+printed false b false d false f h none i = rw (h refl, none, i refl) refl
 
 program-good : (k : ℕ) (t : Tree) → IsProgram t → has_bad false false t ≡ false → has_bad false false (lowered_from k t) ≡ false
 program-good k t (a_program m span semantic_id s all h) g =
-    let inside = none_of ((has_late_directive false all || (any_optional all || false)) || false) (bad_in false (bytes_eq s (codes "module")) all || false) g in
+    let inside = none_of (((has_late_directive false all || has_bare_string all) || ((any_optional all || false) || (any_uncooked all || false))) || false) (bad_in false (bytes_eq s (codes "module")) all || false) g in
     let good = none_of (bad_in false (bytes_eq s (codes "module")) all) false inside.1 in
-    rw (lowered-undirected all h k false, lowered-plain all h k, classes-good (bytes_eq s (codes "module")) all h k good.0) refl
+    rw (lowered-undirected all h k false, lowered-bare all h k, lowered-cooked all h k, lowered-plain all h k, classes-good (bytes_eq s (codes "module")) all h k good.0) refl
 
 pub printable-lowered : (k : ℕ) (t : Tree) → IsProgram t → (not (is_printable t) || is_printable (lowered_from k t)) ≡ true
-printable-lowered k t h = printed (has_bad false false t) (has_bad false false (lowered_from k t)) (has_stray (no_jumps false) t) (has_stray (no_jumps false) (lowered_from k t)) (program-good k t h) (program-stays k t h)
+printable-lowered k t h =
+    printed (has_bad false false t) (has_bad false false (lowered_from k t)) (has_stray (no_jumps false) t) (has_stray (no_jumps false) (lowered_from k t)) (has_reserved no_words t) (has_reserved no_words (lowered_from k t))
+    (program-good k t h) (program-stays k t h) (program-free k t h)

@@ -8,9 +8,9 @@ use Rattle.es_base.specs.Preorder.{nodes, number_of, preorder, preorder_of, numb
 use Rattle.es_base.specs.Tree.{Tree, Part, Parts, Node, end, more, child, list, string, absent, boolean, literal, trees}
 use Rattle.es_base.specs.declared.kind.Kind.{Kind}
 use Rattle.es_steps.specs.KeptNodes.{stands_equal}
-use Rattle.es_steps.specs.Texts.{has_no_text, all_have_their_texts, texts_stay}
+use Rattle.es_steps.specs.Texts.{all_have_their_texts, texts_stay}
 use Rattle.es_unchanged.proofs.Standing.{In, here, later, in-left, in-right, Among, both, stands-equal}
-use Rattle.es_unchanged.proofs.Unchanged.{Below, numbered-below}
+use Rattle.es_unchanged.proofs.Unchanged.{Below, numbered-below, old-characters}
 use Rattle.class_properties.proofs.Numbered.{definitions_from, lowered_elements, lowered_statements, lowered_from, statement_size}
 use Rattle.class_properties.proofs.Numbered as numbered
 use Rattle.class_properties.proofs.Shaped.{no_value, a_literal, a_reference, a_key, a_field, AreFields, a_name, a_body, a_class, AreClasses, IsProgram, a_program}
@@ -44,7 +44,8 @@ module _ (first : ℕ) (ps : List Tree) where
       let stands = old value (later (later here)) in
       rw (le-leb first (n + 6) (omega (arith, l)), stands.0, stands-equal value ps stands.1) (fields-texts es h (λ t i. old t (later (later (later i)))) (n + 7) (omega (arith, l)))
   fields-texts (more p es) (a_field m span semantic_id k v (a_key km kspan k_semantic_id s) (a_reference vm vspan v_semantic_id x), h) old n l =
-      rw (le-leb first (n + 6) (omega (arith, l))) (fields-texts es h (λ t i. old t (later (later (later i)))) (n + 7) (omega (arith, l)))
+      let value : Tree = Node Kind.IdentifierReference vm vspan v_semantic_id (more (string x) end) in
+      rw (le-leb first (n + 6) (omega (arith, l)), old-characters first true vm ps x (old value (later (later here))).0) (fields-texts es h (λ t i. old t (later (later (later i)))) (n + 7) (omega (arith, l)))
 
   elements-texts : (es : Parts) → AreFields es → OldAmong first (preorder_of es) ps → (n : ℕ) → first ≤ n → all_have_their_texts first ps (preorder_of (lowered_elements n es)) ≡ true
   elements-texts end h old n l = refl
@@ -58,9 +59,10 @@ module _ (first : ℕ) (ps : List Tree) where
       let next : ℕ = n + statement_size p in
       let made : List Tree = preorder_of (lowered_elements n es) in
       let rest : List Tree = preorder_of (lowered_statements next cs) in
-      texts-append first ps ((made ++ []) ++ []) rest
+      rw (old-characters first true i ps s (old (Node Kind.BindingIdentifier i ispan i_semantic_id (more (string s) end)) (later here)).0)
+      (texts-append first ps ((made ++ []) ++ []) rest
       (texts-append first ps (made ++ []) [] (texts-append first ps made [] (elements-texts es he (λ t k. old t (later (later (later (in-left t ((preorder_of es ++ []) ++ []) (preorder_of cs) (in-left t (preorder_of es ++ []) [] (in-left t (preorder_of es) [] k))))))) n l) refl) refl)
-      (classes-texts cs h (λ t k. old t (later (later (later (in-right t ((preorder_of es ++ []) ++ []) (preorder_of cs) k))))) next (omega (arith, l)))
+      (classes-texts cs h (λ t k. old t (later (later (later (in-right t ((preorder_of es ++ []) ++ []) (preorder_of cs) k))))) next (omega (arith, l))))
 
   program-texts : (k : ℕ) (t : Tree) → IsProgram t → OldAmong first (preorder t) ps → first ≤ k → all_have_their_texts first ps (preorder (lowered_from k t)) ≡ true
   program-texts k t (a_program m span semantic_id s all h) old l =

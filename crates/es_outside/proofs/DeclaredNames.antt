@@ -17,7 +17,7 @@ use Rattle.es_binding_faults.proofs.HasNumbers.{has_number-append}
 use Rattle.es_binding_faults.proofs.Hoisting.{var-part}
 use Rattle.es_binding_faults.proofs.Plain.{plain-bound_part}
 use Rattle.es_steps.specs.Parts.{at}
-use Rattle.es_steps.specs.References.{Reference, assigned, if_bound, numbers_of, repeated, is_declared, is_for_each, written_by, written_by_all, imported_by, has_number, is_free, writes_free}
+use Rattle.es_steps.specs.References.{Reference, assigned, if_bound, numbers_of, repeated, is_declared, is_for_each, written_by, written_by_all, has_number, is_free, writes_free}
 use Rattle.es_steps.specs.Scopes.{Declaration, own_name, no_class, bound_part, var_part, ScopeForm, program_scope, function_scope, own_function_scope, arrow_scope, own_class_scope, block_scope, static_block_scope, loop_scope, switch_scope, catch_scope, no_scope, scope_form, scope_names}
 use Rattle.es_steps.specs.Values.{Referent, Bound, Free}
 use Rattle.es_outside.specs.Changing.{if_written, assigned_in}
@@ -71,14 +71,6 @@ pub no_head : (kind : Kind) → (kind ≡ Kind.ForInStatement → ⊥) → (kind
 no_head Kind.ForInStatement for_in for_of = absurd (for_in refl)
 no_head Kind.ForOfStatement for_in for_of = absurd (for_of refl)
 no_head kind for_in for_of = refl
-
-pub imports_bound : (t : Tree) → kind_of t ≡ Kind.ImportDeclaration → imported_by t ≡ numbers_of (bound_part no_class (at 0 (parts_in t)))
-imports_bound (Node Kind.ImportDeclaration m span semantic_id ps) is = refl
-imports_bound (Node kind m span semantic_id ps) is = absurd (cc)
-
-pub no_import : (t : Tree) → (kind_of t ≡ Kind.ImportDeclaration → ⊥) → imported_by t ≡ []
-no_import (Node Kind.ImportDeclaration m span semantic_id ps) other = absurd (other refl)
-no_import (Node kind m span semantic_id ps) other = refl
 
 -- ---- what references write
 

@@ -8,3 +8,4 @@ pub mod InnerNames
 pub mod PrivateSets
 pub mod PrivateTargets
 pub mod Resolving
+pub mod ChangingNames

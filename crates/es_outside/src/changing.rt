@@ -1,6 +1,6 @@
 // The bindings that change without a reference that writes them, and those that are assigned to.
 
-ghost use Rattle.std.specs.Prelude.{◌≡◌, ℕ, ◌++◌, ◌||◌, [], ◌∷◌, cond, IfOk, OnOk};
+ghost use Rattle.std.specs.Prelude.{◌≡◌, ℕ, ◌++◌, ◌||◌, [], ◌∷◌, bytes_eq, codes, cond, IfOk, OnOk};
 ghost use Rattle.std.specs.Str.{chars};
 ghost use Rattle.es_base.specs.Conforms.{is_among};
 ghost use Rattle.es_binding_faults.specs.Named.{named};
@@ -17,6 +17,7 @@ ghost use Rattle.es_outside.specs.Meant.{write_arguments, writes_arguments};
 use crate::references::Meant;
 use es_base::ids::NodeId;
 use es_base::kind::Kind;
+use es_base::strings::is_word;
 use es_binding_faults::bound::Declared;
 use es_binding_faults::hoisted::{Hoist, add_bound_at};
 use es_binding_faults::scopes::{add_hoisted_at, add_scope_names, scope_form};
@@ -163,33 +164,93 @@ fn add_numbers(names: &[Declared], bindings: &mut Vec<NodeId>) -> Result<(), All
     Ok(())
 }
 
-// ---- imported
+// ---- what changes by itself
 
-/// The bindings that imports declare. Fails on allocation failure alone.
-pub fn imported(alloc: Global, nodes: &[&Node]) -> Result<Vec<NodeId>, AllocError>
-    ensures { IfOk result (λ r. ids r.items ≡ spec.imported_by_all (seen nodes.now)) }
+/// The bindings that imports declare, and those that are named `arguments`. Fails on allocation failure alone.
+pub fn changing(alloc: Global, nodes: &[&Node]) -> Result<Vec<NodeId>, AllocError>
+    ensures { IfOk result (λ r. ids r.items ≡ spec.changing_in (seen nodes.now)) }
 {
     let mut bindings = Vec::new(alloc);
     for node in nodes {
-        add_imported(alloc, node, &mut bindings)?;
+        add_changing(alloc, node, &mut bindings)?;
     }
     Ok(bindings)
 }
 
 /// Adds those of one node.
-#[tactic(auto, using(crate::proofs::DeclaredNames::imports_bound, crate::proofs::DeclaredNames::no_import))]
-fn add_imported(alloc: Global, node: &Node, bindings: &mut Vec<NodeId>) -> Result<(), AllocError>
-    ensures { OnOk result (ids bindings.new.items ≡ ids bindings.old.items ++ spec.imported_by node.now) }
+#[tactic(auto, using(crate::proofs::ChangingNames::by_import, crate::proofs::ChangingNames::by_declarator, crate::proofs::ChangingNames::by_function, crate::proofs::ChangingNames::by_function_expression, crate::proofs::ChangingNames::by_arrow, crate::proofs::ChangingNames::by_catch, crate::proofs::ChangingNames::by_none))]
+fn add_changing(alloc: Global, node: &Node, bindings: &mut Vec<NodeId>) -> Result<(), AllocError>
+    ensures { OnOk result (ids bindings.new.items ≡ ids bindings.old.items ++ spec.changing_by node.now) }
 {
     match node.kind() {
         // import { a } from "m";
-        Kind::ImportDeclaration => {
-            let mut names = Vec::new(alloc);
-            add_bound_at(node.parts(), 0, &mut names)?;
-            add_numbers(names.as_slice(), bindings)
-        }
+        Kind::ImportDeclaration => add_imported(alloc, node, bindings),
+        // var arguments;
+        Kind::VariableDeclarator => add_arguments_bound(alloc, node, bindings),
+        // function f(arguments) {}
+        Kind::FunctionDeclaration => add_arguments_of_function(alloc, node, bindings),
+        Kind::FunctionExpression => add_arguments_of_function(alloc, node, bindings),
+        // arguments => 1
+        Kind::ArrowFunctionExpression => add_arguments_bound(alloc, node, bindings),
+        // catch (arguments) {}
+        Kind::CatchClause => add_arguments_bound(alloc, node, bindings),
         _ => Ok(()),
     }
+}
+
+/// Adds the names that the first part of a node binds.
+fn add_imported(alloc: Global, node: &Node, bindings: &mut Vec<NodeId>) -> Result<(), AllocError>
+    ensures { OnOk result (ids bindings.new.items ≡ ids bindings.old.items ++ numbers_of (bound_part no_class (at 0 (parts_in node.now)))) }
+{
+    let mut names = Vec::new(alloc);
+    add_bound_at(node.parts(), 0, &mut names)?;
+    add_numbers(names.as_slice(), bindings)
+}
+
+/// Adds those named `arguments` that the first part of a node binds.
+fn add_arguments_bound(
+    alloc: Global,
+    node: &Node,
+    bindings: &mut Vec<NodeId>,
+) -> Result<(), AllocError>
+    ensures { OnOk result (ids bindings.new.items ≡ ids bindings.old.items ++ spec.named_arguments (bound_part no_class (at 0 (parts_in node.now)))) }
+{
+    let mut names = Vec::new(alloc);
+    add_bound_at(node.parts(), 0, &mut names)?;
+    add_arguments(names.as_slice(), bindings)
+}
+
+/// Adds those named `arguments` among the name and the parameters of a function.
+fn add_arguments_of_function(
+    alloc: Global,
+    node: &Node,
+    bindings: &mut Vec<NodeId>,
+) -> Result<(), AllocError>
+    ensures { OnOk result (ids bindings.new.items ≡ ids bindings.old.items ++ spec.named_arguments (bound_part no_class (at 0 (parts_in node.now)) ++ bound_part no_class (at 1 (parts_in node.now)))) }
+{
+    let mut names = Vec::new(alloc);
+    add_bound_at(node.parts(), 0, &mut names)?;
+    add_bound_at(node.parts(), 1, &mut names)?;
+    add_arguments(names.as_slice(), bindings)
+}
+
+/// Adds those of these that are named `arguments`.
+fn add_arguments(names: &[Declared], bindings: &mut Vec<NodeId>) -> Result<(), AllocError>
+    ensures { OnOk result (ids bindings.new.items ≡ ids bindings.old.items ++ spec.named_arguments (named names.now)) }
+{
+    for declared in names {
+        add_if_arguments(*declared, bindings)?;
+    }
+    Ok(())
+}
+
+fn add_if_arguments(declared: Declared, bindings: &mut Vec<NodeId>) -> Result<(), AllocError>
+    ensures { OnOk result (ids bindings.new.items ≡ ids bindings.old.items ++ cond (bytes_eq (codes "arguments") (chars declared.entry.name.now)) (declared.entry.node.0 ∷ []) []) }
+{
+    if is_word(declared.name, "arguments") {
+        bindings.push(declared.node)?;
+    }
+    Ok(())
 }
 
 // ---- caught again

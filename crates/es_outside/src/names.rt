@@ -3,7 +3,7 @@
 ghost use Rattle.std.specs.Prelude.{◌≡◌, ◌||◌, [], ℕ, codes, false, IfOk};
 ghost use Rattle.es_shapes.specs.Names.{bound_number};
 ghost use Rattle.es_steps.specs.LoweredClasses.{referent_of};
-ghost use Rattle.es_steps.specs.References.{has_number, resolve, written_by_all, imported_by_all, caught_again_in, given_around, changes_free};
+ghost use Rattle.es_steps.specs.References.{has_number, resolve, written_by_all, changing_in, caught_again_in, given_around, changes_free};
 ghost use Rattle.es_steps.specs.References as spec;
 ghost use Rattle.es_base.specs.Preorder.{preorder};
 ghost use Rattle.es_binding_faults.specs.Seen.{seen};
@@ -44,7 +44,8 @@ pub struct ProgramNames<'a> {
 #[derive(Drop)]
 struct Unwritten<'a> {
     program: &'a Node,
-    imported: Numbers,
+    /// Those of imports, and those named `arguments`.
+    changing: Numbers,
     /// Those of a catch that a `var` declares again.
     caught_again: Numbers,
     /// Those that a function in a block gives a value to.
@@ -52,7 +53,7 @@ struct Unwritten<'a> {
     /// Whether a free name `arguments` is given a value: by a reference, or by a function in a block.
     arguments: bool,
 
-    ghost imported_are: { (n : ℕ) → has_number n imported ≡ has_number n (spec.imported program.now) },
+    ghost changing_are: { (n : ℕ) → has_number n changing ≡ has_number n (changing_in (preorder program.now)) },
     ghost caught_again_are: { (n : ℕ) → has_number n caught_again ≡ has_number n (caught_again_in (preorder program.now)) },
     ghost given_are: { (n : ℕ) → has_number n given ≡ has_number n (given_around [] false program.now) },
     ghost arguments_are: { arguments ≡ changes_free (codes "arguments") program.now },
@@ -71,13 +72,13 @@ impl<'a> Unwritten<'a> {
         requires nodes { seen nodes.now ≡ preorder program.now }
         ensures { IfOk result (λ u. u.program.now ≡ program.now) }
     {
-        let imported = imported(alloc, nodes)?;
+        let changing = changing_numbers(alloc, nodes)?;
         let caught_again = caught_again(alloc, nodes)?;
         let given = given_numbers(alloc, program)?;
         let arguments = change_arguments(alloc, references, nodes)?;
         Ok(Unwritten {
             program,
-            imported,
+            changing,
             caught_again,
             given,
             arguments,
@@ -89,7 +90,7 @@ impl<'a> Unwritten<'a> {
     fn has(&self, binding: NodeId) -> bool
         ensures { result ≡ has_number binding.0 (spec.changed_otherwise self.now.program.now) }
     {
-        self.imported.has(binding) || self.caught_again.has(binding) || self.given.has(binding)
+        self.changing.has(binding) || self.caught_again.has(binding) || self.given.has(binding)
     }
 }
 
@@ -117,11 +118,11 @@ impl<'a> ProgramNames<'a> {
     }
 }
 
-/// The names that imports declare. Fails on allocation failure alone.
-fn imported(alloc: Global, nodes: &[&Node]) -> Result<Numbers, AllocError>
-    ensures { IfOk result (λ r. (n : ℕ) → has_number n r ≡ has_number n (imported_by_all (seen nodes.now))) }
+/// The names that change by themselves: those of imports, and those named `arguments`. Fails on allocation failure alone.
+fn changing_numbers(alloc: Global, nodes: &[&Node]) -> Result<Numbers, AllocError>
+    ensures { IfOk result (λ r. (n : ℕ) → has_number n r ≡ has_number n (changing_in (seen nodes.now))) }
 {
-    let bindings = changing::imported(alloc, nodes)?;
+    let bindings = changing::changing(alloc, nodes)?;
     Numbers::of(alloc, bindings.as_slice())
 }
 

@@ -100,7 +100,7 @@ module _ (f : ℕ → ℕ) where
 
   named_arguments-mapped : (ds : List Declaration) → named_arguments (mapped_declarations f ds) ≡ map f (named_arguments ds)
   named_arguments-mapped [] = refl
-  named_arguments-mapped (d ∷ ds) = append-mapped f _ _ (cond-mapped (map f) (bytes_eq d.spelling (codes "arguments")) (d.number ∷ []) [] refl refl) (named_arguments-mapped ds)
+  named_arguments-mapped (d ∷ ds) = append-mapped f _ _ (cond-mapped (map f) (bytes_eq (codes "arguments") d.spelling) (d.number ∷ []) [] refl refl) (named_arguments-mapped ds)
 
   arguments_at-mapped : (i : ℕ) (ps : Parts) → named_arguments (bound_part no_class (at i (mapped_parts f ps))) ≡ map f (named_arguments (bound_part no_class (at i ps)))
   arguments_at-mapped i ps = ap named_arguments (bound_at-mapped f no_class i ps) ∙ named_arguments-mapped (bound_part no_class (at i ps))

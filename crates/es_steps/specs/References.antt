@@ -181,7 +181,7 @@ abbrev mutual
 -- an identifier `arguments` that is declared: each function inside has another one (10.2.11)
 abbrev pub named_arguments : List Declaration → List ℕ
 named_arguments [] = []
-named_arguments (d ∷ ds) = cond (bytes_eq d.spelling (codes "arguments")) (d.number ∷ []) [] ++ named_arguments ds
+named_arguments (d ∷ ds) = cond (bytes_eq (codes "arguments") d.spelling) (d.number ∷ []) [] ++ named_arguments ds
 
 -- the names that a node declares which change by themselves: those of imports, since what such a name holds changes without a
 -- write here (9.1.1.5), and `arguments`

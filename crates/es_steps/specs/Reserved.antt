@@ -28,7 +28,7 @@ is_reserved_word w s = (w.in_strict && is_among s strict_words) || (((w.in_modul
 
 abbrev pub is_reserved : Words → Kind → Parts → Bool
 is_reserved w Kind.IdentifierReference ps = is_reserved_word w (string_of (at 0 ps))
-is_reserved w Kind.BindingIdentifier ps = is_reserved_word w (string_of (at 0 ps))
+is_reserved w Kind.BindingIdentifier ps = is_reserved_word w (string_of (at 0 ps)) || (w.in_strict && is_among (string_of (at 0 ps)) (codes "eval" ∷ codes "arguments" ∷ []))
 is_reserved w kind ps = false
 
 -- the name of a declaration stands around its function

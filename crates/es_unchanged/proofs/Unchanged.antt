@@ -24,10 +24,10 @@ use Rattle.es_steps.specs.Printable.{is_printable}
 use Rattle.es_steps.specs.PrivateNames.{private_members, is_class}
 use Rattle.es_steps.specs.References.{resolve}
 use Rattle.es_steps.specs.Scopes.{is_binding_identifier}
-use Rattle.es_steps.specs.Texts.{has_name, has_characters, has_its_text, all_have_their_texts}
+use Rattle.es_steps.specs.Texts.{are_characters, has_name, has_characters, has_its_text, all_have_their_texts}
 use Rattle.es_steps.specs.Values.{String}
 use Rattle.es_steps.specs.declared.options.Options.{Options}
-use Rattle.es_unchanged.proofs.Names.{number-apart, names-stay, strict-stays, classes-stay}
+use Rattle.es_unchanged.proofs.Names.{or-true, number-apart, names-stay, strict-stays, classes-stay}
 use Rattle.es_unchanged.proofs.Standing.{stands-equal, both, none_of, In, here, later, in-left, in-right, Among, among-append, all-equal, all-stand, within-more, within-both, within-same, within-append, all_within-append, apart-sym, home-same, temporaries-none}
 use Rattle.es_unchanged.proofs.Unmarked.{names-timely}
 
@@ -489,16 +489,16 @@ keys-stand : (b : Bool) → (not b || true) ≡ true
 keys-stand true = refl
 keys-stand false = refl
 
-old-characters : (first : ℕ) (is_name : Bool) (n : ℕ) (us : List Tree) (s : List ℕ) → n < first → has_characters is_name first n us s ≡ true
-old-characters first true n us s l = rw (lt-leb first n l) refl
-old-characters first false n us s l = refl
+pub old-characters : (first : ℕ) (is_name : Bool) (n : ℕ) (us : List Tree) (s : List ℕ) → is_new first n ≡ false → has_characters is_name first n us s ≡ true
+old-characters first true n us s e = or-true (are_characters us s) (not (is_new first n)) (rw e refl)
+old-characters first false n us s e = or-true (are_characters us s) true refl
 
 -- each literal has its text
 old-text : (first : ℕ) (t : Tree) (us : List Tree) → number_of t < first → In t us → has_its_text first us t ≡ true
 old-text first (Node Kind.Literal n span semantic_id qs) us l i = rw (lt-leb first n l) (stands-equal (Node Kind.Literal n span semantic_id qs) us i)
 old-text first (Node Kind.TemplateElement n span semantic_id qs) us l i = rw (lt-leb first n l) (stands-equal (Node Kind.TemplateElement n span semantic_id qs) us i)
 old-text first (Node Kind.PrivateIdentifier n span semantic_id qs) us l i = rw (lt-leb first n l) (stands-equal (Node Kind.PrivateIdentifier n span semantic_id qs) us i)
-old-text first (Node kind n span semantic_id qs) us l i = old-characters first (has_name kind) n us (string_of (at 0 qs)) l
+old-text first (Node kind n span semantic_id qs) us l i = old-characters first (has_name kind) n us (string_of (at 0 qs)) (lt-leb first n l)
 
 old-texts : (first : ℕ) (ts us : List Tree) → Below first ts → Among ts us → all_have_their_texts first us ts ≡ true
 old-texts first [] us b h = refl
