@@ -268,6 +268,8 @@ module _ {first : ℕ} {f : ℕ → ℕ} (r : Renames first f) where
         rw (spelled_at-mapped f s 0 ps, is_class_kind-mapped m g) (cond-mapped (map (mapped_initialization f)) (spelled_as s (at 0 ps)) ((m, is_class_kind m g) ∷ []) [] refl refl)
     initialization_at-mapped s g Kind.ClassExpression m ps =
         rw (spelled_at-mapped f s 0 ps, is_class_kind-mapped m g) (cond-mapped (map (mapped_initialization f)) (spelled_as s (at 0 ps)) ((m, is_class_kind m g) ∷ []) [] refl refl)
+    initialization_at-mapped s g Kind.FunctionExpression m ps =
+        rw (spelled_at-mapped f s 0 ps) (cond-mapped (map (mapped_initialization f)) (spelled_as s (at 0 ps)) ((m, false) ∷ []) [] refl refl)
     initialization_at-mapped s g kind m ps = refl
 
     initializations-mapped : (s : String) (g : GeneratedKind) (ts : List Tree) → initializations first (mapped_ledger f ledger) (mapped f q) s (mapped_generated f g) (map (mapped f) ts) ≡ map (mapped_initialization f) (initializations first ledger q s g ts)

@@ -1,5 +1,5 @@
 -- That generated names stand in time does not depend on numbers.
-use Rattle.std.specs.Prelude.{◌≡◌, ℕ, suc, List, [], ◌∷◌, ◌++◌, map, Bool, true, false, cond, not, ◌&&◌, ◌||◌, nat_eq, bytes_eq, Option, Some, None}
+use Rattle.std.specs.Prelude.{◌≡◌, ℕ, suc, List, [], ◌∷◌, ◌++◌, map, Bool, true, false, cond, not, ◌&&◌, ◌||◌, nat_eq, bytes_eq, Option, Some, None, is_some}
 use Rattle.std.proofs.Common.{refl, ap, ap₂, ◌∙◌}
 use Rattle.es_base.specs.Tree.{Tree, Part, Parts, Node, end, more, child, list}
 use Rattle.es_base.specs.declared.kind.Kind.{Kind}
@@ -12,7 +12,7 @@ use Rattle.es_steps.specs.HelperCalls.{is_class_body, body_runs}
 use Rattle.es_steps.specs.KeptNodes.{pair_stands, all_pairs_stand}
 use Rattle.es_steps.specs.Parts.{at, string_of}
 use Rattle.es_steps.specs.PrivateNames.{PrivateMember, member_at, is_class, is_element}
-use Rattle.es_steps.specs.Timely.{MarkForm, declares, initializes, hoists, uses, Around, Mark, is_held, is_held_arrow, is_instance_value, runs_later, around_in, mark_by, mark, declared_mark, initialized_mark, marks_before, marks_behind, is_given, is_let_declaration, is_of_class, is_needed_by, needed_names, uses_of, is_called_arrow, marks, marks_in, marks_at, marks_of, key_marks, value_marks, is_later, gives_by, gives_in_time, any_gives, is_declaration, is_dead, is_skipped_by, is_skipped, is_followed, is_use, comes_first, is_running, is_early_by, is_early, asks, in_time, names_timely}
+use Rattle.es_steps.specs.Timely.{MarkForm, declares, initializes, hoists, uses, Around, Mark, is_held, is_held_arrow, is_instance_value, runs_later, around_in, mark_by, mark, declared_mark, initialized_mark, marks_before, marks_behind, is_given, is_let_declaration, is_of_class, is_needed_by, needed_names, uses_of, is_called_arrow, marks, marks_in, marks_at, marks_of, key_marks, value_marks, is_hoisted, is_around, is_called_early, is_later, gives_by, gives_in_time, any_gives, is_declaration, is_dead, is_skipped_by, is_skipped, is_followed, is_use, comes_first, is_running, is_early_by, is_early, asks, in_time, names_timely}
 use Rattle.es_steps.specs.Values.{String}
 use Rattle.es_steps.proofs.ContextMapped.{generated_as-mapped}
 use Rattle.es_steps.proofs.DefinitionsMapped.{spelling-mapped}
@@ -26,11 +26,14 @@ module _ (f : ℕ → ℕ) where
   abbrev mapped_held : ℕ × ℕ → ℕ × ℕ
   mapped_held p = (f p.0, p.1)
 
+  abbrev mapped_later : ℕ × Bool → ℕ × Bool
+  mapped_later p = (f p.0, p.1)
+
   abbrev mapped_running : ℕ × String → ℕ × String
   mapped_running p = (f p.0, p.1)
 
   abbrev pub mapped_around : Around → Around
-  mapped_around x = record { held = map mapped_held x.held; later = map f x.later; is_called = x.is_called; running = map mapped_running x.running }
+  mapped_around x = record { held = map mapped_held x.held; later = map mapped_later x.later; is_called = x.is_called; running = map mapped_running x.running }
 
   abbrev pub mapped_mark : Mark → Mark
   mapped_mark m = record { name = m.name; form = m.form; around = mapped_around m.around }
@@ -79,8 +82,16 @@ module _ {first : ℕ} {f : ℕ → ℕ} (r : Renames first f) where
       rw (is_held-mapped kind ps i, is_held_arrow-mapped x kind m, is_instance_value-mapped f kind ps i)
       (cond-mapped (map (mapped_held f)) (is_held kind ps i || (is_held_arrow first x kind m || is_instance_value kind ps i)) ((m, i) ∷ x.held) x.held refl refl)
 
-  later_in-mapped : (x : Around) (kind : Kind) (m : ℕ) (ps : Parts) (i : ℕ) → cond (runs_later first kind (f m) (mapped_parts f ps) i) (f m ∷ map f x.later) (map f x.later) ≡ map f (cond (runs_later first kind m ps i) (m ∷ x.later) x.later)
-  later_in-mapped x kind m ps i = rw (runs_later-mapped kind m ps i) (cond-mapped (map f) (runs_later first kind m ps i) (m ∷ x.later) x.later refl refl)
+  is_named-mapped : (g : Option GeneratedKind) → is_some (mapped_option (mapped_generated f) g) ≡ is_some g
+  is_named-mapped None = refl
+  is_named-mapped (Some g) = refl
+
+  is_hoisted-mapped : (ledger : List LedgerEntry) (kind : Kind) (ps : Parts) → is_hoisted (mapped_ledger f ledger) kind (mapped_parts f ps) ≡ is_hoisted ledger kind ps
+  is_hoisted-mapped ledger Kind.FunctionDeclaration ps = rw (spelling_at-mapped f 0 ps, generated_as-mapped f (spelling (at 0 ps)) ledger, is_named-mapped (generated_as (spelling (at 0 ps)) ledger)) refl
+  is_hoisted-mapped ledger kind ps = refl
+
+  later_in-mapped : (ledger : List LedgerEntry) (x : Around) (kind : Kind) (m : ℕ) (ps : Parts) (i : ℕ) → cond (runs_later first kind (f m) (mapped_parts f ps) i) ((f m, is_hoisted (mapped_ledger f ledger) kind (mapped_parts f ps)) ∷ map (mapped_later f) x.later) (map (mapped_later f) x.later) ≡ map (mapped_later f) (cond (runs_later first kind m ps i) ((m, is_hoisted ledger kind ps) ∷ x.later) x.later)
+  later_in-mapped ledger x kind m ps i = rw (runs_later-mapped kind m ps i, is_hoisted-mapped ledger kind ps) (cond-mapped (map (mapped_later f)) (runs_later first kind m ps i) ((m, is_hoisted ledger kind ps) ∷ x.later) x.later refl refl)
 
   body_at-mapped : (i : ℕ) (ps : Parts) → body_runs (at i (mapped_parts f ps)) ≡ body_runs (at i ps)
   body_at-mapped i ps = ap body_runs (at-mapped f i ps) ∙ body_runs-mapped f (at i ps)
@@ -90,8 +101,8 @@ module _ {first : ℕ} {f : ℕ → ℕ} (r : Renames first f) where
       rw (body_at-mapped 2 ps, spelling_at-mapped f 0 ps)
       (cond-mapped (map (mapped_running f)) (is_class kind && body_runs (at 2 ps)) ((m, spelling (at 0 ps)) ∷ x.running) x.running refl refl)
 
-  around_in-mapped : (x : Around) (kind : Kind) (m : ℕ) (ps : Parts) (i : ℕ) → around_in first (mapped_around f x) kind (f m) (mapped_parts f ps) i ≡ mapped_around f (around_in first x kind m ps i)
-  around_in-mapped x kind m ps i = rw (held_in-mapped x kind m ps i, later_in-mapped x kind m ps i, running_in-mapped x kind m ps) refl
+  around_in-mapped : (ledger : List LedgerEntry) (x : Around) (kind : Kind) (m : ℕ) (ps : Parts) (i : ℕ) → around_in first (mapped_ledger f ledger) (mapped_around f x) kind (f m) (mapped_parts f ps) i ≡ mapped_around f (around_in first ledger x kind m ps i)
+  around_in-mapped ledger x kind m ps i = rw (held_in-mapped x kind m ps i, later_in-mapped ledger x kind m ps i, running_in-mapped x kind m ps) refl
 
   -- ---- what a class needs
 
@@ -177,8 +188,8 @@ module _ {first : ℕ} {f : ℕ → ℕ} (r : Renames first f) where
       marks-mapped x b (Node kind m span semantic_id ps) =
           append-mapped (mapped_mark f) _ _
           (append-mapped (mapped_mark f) _ _ (marks_before-mapped x kind m ps)
-          (ap (λ last. marks_in first there others last (is_class_body kind) (around_in first (mapped_around f x) kind (f m) (mapped_parts f ps)) (is_given first there others kind (mapped_parts f ps)) (is_let_declaration first there others kind (mapped_parts f ps)) (mapped_parts f ps)) (is_called_arrow-mapped kind ps)
-          ∙ marks_in-mapped (is_called_arrow kind ps) (is_class_body kind) _ (around_in first x kind m ps) (around_in-mapped x kind m ps) _ (is_given first ledger members kind ps) (is_given-mapped f first there ledger others members kind ps) _ (is_let_declaration first ledger members kind ps) (is_let_declaration-mapped f first there ledger others members kind ps) ps))
+          (ap (λ last. marks_in first there others last (is_class_body kind) (around_in first there (mapped_around f x) kind (f m) (mapped_parts f ps)) (is_given first there others kind (mapped_parts f ps)) (is_let_declaration first there others kind (mapped_parts f ps)) (mapped_parts f ps)) (is_called_arrow-mapped kind ps)
+          ∙ marks_in-mapped (is_called_arrow kind ps) (is_class_body kind) _ (around_in first ledger x kind m ps) (around_in-mapped ledger x kind m ps) _ (is_given first ledger members kind ps) (is_given-mapped f first there ledger others members kind ps) _ (is_let_declaration first ledger members kind ps) (is_let_declaration-mapped f first there ledger others members kind ps) ps))
           (marks_behind-mapped x b kind ps)
 
       marks_in-mapped : (last is_body : Bool) (y x : ℕ → Around) → ((i : ℕ) → y i ≡ mapped_around f (x i)) → (g h : ℕ → Bool) → ((i : ℕ) → g i ≡ h i) → (b c : Bool) → b ≡ c → (ps : Parts) → marks_in first there others last is_body y g b (mapped_parts f ps) ≡ moved (marks_in first ledger members last is_body x h c ps)
@@ -203,8 +214,8 @@ module _ {first : ℕ} {f : ℕ → ℕ} (r : Renames first f) where
       key_marks-mapped x end = refl
       key_marks-mapped x (more (child (Node kind m span semantic_id (more k ps))) es) =
           append-mapped (mapped_mark f) _ _
-          (cond-mapped moved (is_element kind) (marks_at first ledger members false (around_in first x kind m (more k ps) 0) false k) []
-          (ap (λ y. marks_at first there others false y false (mapped_part f k)) (around_in-mapped x kind m (more k ps) 0) ∙ marks_at-mapped false (around_in first x kind m (more k ps) 0) false k) refl)
+          (cond-mapped moved (is_element kind) (marks_at first ledger members false (around_in first ledger x kind m (more k ps) 0) false k) []
+          (ap (λ y. marks_at first there others false y false (mapped_part f k)) (around_in-mapped ledger x kind m (more k ps) 0) ∙ marks_at-mapped false (around_in first ledger x kind m (more k ps) 0) false k) refl)
           (key_marks-mapped x es)
       key_marks-mapped x (more p es) = key_marks-mapped x es
 
@@ -213,9 +224,9 @@ module _ {first : ℕ} {f : ℕ → ℕ} (r : Renames first f) where
       value_marks-mapped x (more (child (Node kind m span semantic_id (more k ps))) es) =
           append-mapped (mapped_mark f) _ _
           (append-mapped (mapped_mark f) _ _
-          (cond-mapped moved (is_element kind) [] (marks_at first ledger members false (around_in first x kind m (more k ps) 0) false k) refl
-          (ap (λ y. marks_at first there others false y false (mapped_part f k)) (around_in-mapped x kind m (more k ps) 0) ∙ marks_at-mapped false (around_in first x kind m (more k ps) 0) false k))
-          (marks_in-mapped false false _ (λ i. around_in first x kind m (more k ps) (suc i)) (λ i. around_in-mapped x kind m (more k ps) (suc i)) _ (λ i. false) (λ i. refl) false false refl ps))
+          (cond-mapped moved (is_element kind) [] (marks_at first ledger members false (around_in first ledger x kind m (more k ps) 0) false k) refl
+          (ap (λ y. marks_at first there others false y false (mapped_part f k)) (around_in-mapped ledger x kind m (more k ps) 0) ∙ marks_at-mapped false (around_in first ledger x kind m (more k ps) 0) false k))
+          (marks_in-mapped false false _ (λ i. around_in first ledger x kind m (more k ps) (suc i)) (λ i. around_in-mapped ledger x kind m (more k ps) (suc i)) _ (λ i. false) (λ i. refl) false false refl ps))
           (value_marks-mapped x es)
       value_marks-mapped x (more p es) = value_marks-mapped x es
 
@@ -229,12 +240,20 @@ module _ {first : ℕ} {f : ℕ → ℕ} (r : Renames first f) where
   all_pairs_stand-mapped [] qs = refl
   all_pairs_stand-mapped (p ∷ ps) qs = ap₂ (λ a b. a && b) (pair_stands-mapped p qs) (all_pairs_stand-mapped ps qs)
 
-  is_later-mapped : (fs gs : List ℕ) → is_later (map f fs) (map f gs) ≡ is_later fs gs
+  is_around-mapped : (n : ℕ) (gs : List (ℕ × Bool)) → is_around (f n) (map (mapped_later f) gs) ≡ is_around n gs
+  is_around-mapped n [] = refl
+  is_around-mapped n (g ∷ gs) = rw (r.apart n g.0, is_around-mapped n gs) refl
+
+  is_later-mapped : (fs gs : List (ℕ × Bool)) → is_later (map (mapped_later f) fs) (map (mapped_later f) gs) ≡ is_later fs gs
   is_later-mapped [] gs = refl
-  is_later-mapped (n ∷ ns) gs = ap₂ (λ a b. not a || b) (has_number-mapped r n gs) (is_later-mapped ns gs)
+  is_later-mapped (n ∷ ns) gs = ap₂ (λ a b. not a || b) (is_around-mapped n.0 gs) (is_later-mapped ns gs)
+
+  is_called_early-mapped : (fs gs : List (ℕ × Bool)) → is_called_early (map (mapped_later f) fs) (map (mapped_later f) gs) ≡ is_called_early fs gs
+  is_called_early-mapped [] gs = refl
+  is_called_early-mapped (n ∷ ns) gs = rw (is_later-mapped ns gs, is_called_early-mapped ns gs, is_around-mapped n.0 gs) refl
 
   gives_in_time-mapped : (in_front : Bool) (m i : Mark) → gives_in_time in_front (mapped_mark f m) (mapped_mark f i) ≡ gives_in_time in_front m i
-  gives_in_time-mapped in_front m i = ap₂ (λ a b. bytes_eq m.name i.name && (a && gives_by i.form in_front b)) (all_pairs_stand-mapped i.around.held m.around.held) (is_later-mapped m.around.later i.around.later)
+  gives_in_time-mapped in_front m i = rw (all_pairs_stand-mapped i.around.held m.around.held, is_later-mapped m.around.later i.around.later, is_called_early-mapped m.around.later i.around.later) refl
 
   any_gives-mapped : (in_front : Bool) (m : Mark) (is : List Mark) → any_gives in_front (mapped_mark f m) (map (mapped_mark f) is) ≡ any_gives in_front m is
   any_gives-mapped in_front m [] = refl

@@ -242,6 +242,8 @@ module _ (first : ℕ) (ledger : List LedgerEntry) (q : Tree) where
   initialization_at s g Kind.FunctionDeclaration m ps = cond (spelled_as s (at 0 ps)) ((m, is_method_kind g) ∷ []) []
   initialization_at s g Kind.ClassDeclaration m ps = cond (spelled_as s (at 0 ps)) ((m, is_class_kind m g) ∷ []) []
   initialization_at s g Kind.ClassExpression m ps = cond (spelled_as s (at 0 ps)) ((m, is_class_kind m g) ∷ []) []
+  -- the own name of a function is constant
+  initialization_at s g Kind.FunctionExpression m ps = cond (spelled_as s (at 0 ps)) ((m, false) ∷ []) []
   initialization_at s g kind m ps = []
 
   abbrev pub initializations : String → GeneratedKind → List Tree → List (ℕ × Bool)

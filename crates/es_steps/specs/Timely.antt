@@ -1,6 +1,6 @@
 -- Generated names are declared and initialized in front of where they are used. (Our own. Temporaries and parameters are
 -- left to the environment of specs/Evaluation.antt.)
-use Rattle.std.specs.Prelude.{ℕ, suc, List, [], ◌∷◌, ◌++◌, Bool, true, false, cond, not, ◌&&◌, ◌||◌, nat_eq, nat_le, bytes_eq, codes, Option, Some, None}
+use Rattle.std.specs.Prelude.{ℕ, suc, List, [], ◌∷◌, ◌++◌, Bool, true, false, cond, not, ◌&&◌, ◌||◌, nat_eq, nat_le, bytes_eq, codes, Option, Some, None, is_some}
 use Rattle.es_base.specs.Numbered.{is_new}
 use Rattle.es_base.specs.Tree.{Tree, Part, Parts, Node, end, more, child, list}
 use Rattle.es_base.specs.declared.kind.Kind.{Kind}
@@ -27,10 +27,11 @@ pub data MarkForm : Type 0 where
   uses : MarkForm
 
 -- Around a place: the parts that may run or not, or again, each by its node and which part of it it is; the functions that
--- run later, a new arrow aside; and whether what stands here is called.
+-- run later, a new arrow aside, each with whether it may be called in front of where it stands; and whether what stands here is
+-- called.
 pub record Around : Type 0 where
   pub held : List (ℕ × ℕ)
-  pub later : List ℕ
+  pub later : List (ℕ × Bool)
   pub is_called : Bool
   -- classes whose body is around, and has elements that run with the class, each with its own name, which is there
   pub running : List (ℕ × String)
@@ -80,8 +81,13 @@ is_instance_value kind ps i = false
 abbrev pub runs_later : ℕ → Kind → ℕ → Parts → ℕ → Bool
 runs_later first kind m ps i = is_function kind || ((is_arrow kind && not (is_new first m)) || is_instance_value kind ps i)
 
-abbrev pub around_in : ℕ → Around → Kind → ℕ → Parts → ℕ → Around
-around_in first x kind m ps i = record { running = cond (is_class kind && body_runs (at 2 ps)) ((m, spelling (at 0 ps)) ∷ x.running) x.running; is_called = is_callee_of_call kind i; held = cond (is_held kind ps i || (is_held_arrow first x kind m || is_instance_value kind ps i)) ((m, i) ∷ x.held) x.held; later = cond (runs_later first kind m ps i) (m ∷ x.later) x.later }
+-- a function declaration may, but that of a generated name, which its class alone calls
+abbrev pub is_hoisted : List LedgerEntry → Kind → Parts → Bool
+is_hoisted ledger Kind.FunctionDeclaration ps = not (is_some (generated_as (spelling (at 0 ps)) ledger))
+is_hoisted ledger kind ps = false
+
+abbrev pub around_in : ℕ → List LedgerEntry → Around → Kind → ℕ → Parts → ℕ → Around
+around_in first ledger x kind m ps i = record { running = cond (is_class kind && body_runs (at 2 ps)) ((m, spelling (at 0 ps)) ∷ x.running) x.running; is_called = is_callee_of_call kind i; held = cond (is_held kind ps i || (is_held_arrow first x kind m || is_instance_value kind ps i)) ((m, i) ∷ x.held) x.held; later = cond (runs_later first kind m ps i) ((m, is_hoisted ledger kind ps) ∷ x.later) x.later }
 
 abbrev pub is_spelled : String → Bool
 is_spelled [] = false
@@ -153,7 +159,7 @@ module _ (first : ℕ) (ledger : List LedgerEntry) (members : List PrivateMember
   -- an arrow that is called where it stands behind its arguments, and the keys of a class in front of its static elements
   abbrev mutual
     pub marks : Around → Bool → Tree → List Mark
-    marks x in_let (Node kind m span semantic_id ps) = marks_before x kind m ps ++ marks_in (is_called_arrow kind ps) (is_class_body kind) (around_in first x kind m ps) (is_given kind ps) (is_let_declaration kind ps) ps ++ marks_behind x in_let kind ps
+    marks x in_let (Node kind m span semantic_id ps) = marks_before x kind m ps ++ marks_in (is_called_arrow kind ps) (is_class_body kind) (around_in first ledger x kind m ps) (is_given kind ps) (is_let_declaration kind ps) ps ++ marks_behind x in_let kind ps
 
     pub marks_in : Bool → Bool → (ℕ → Around) → (ℕ → Bool) → Bool → Parts → List Mark
     marks_in last is_body x given in_let end = []
@@ -174,30 +180,39 @@ module _ (first : ℕ) (ledger : List LedgerEntry) (members : List PrivateMember
 
     pub key_marks : Around → Parts → List Mark
     key_marks x end = []
-    key_marks x (more (child (Node kind m span semantic_id (more k ps))) es) = cond (is_element kind) (marks_at false (around_in first x kind m (more k ps) 0) false k) [] ++ key_marks x es
+    key_marks x (more (child (Node kind m span semantic_id (more k ps))) es) = cond (is_element kind) (marks_at false (around_in first ledger x kind m (more k ps) 0) false k) [] ++ key_marks x es
     key_marks x (more p es) = key_marks x es
 
     pub value_marks : Around → Parts → List Mark
     value_marks x end = []
-    value_marks x (more (child (Node kind m span semantic_id (more k ps))) es) = cond (is_element kind) [] (marks_at false (around_in first x kind m (more k ps) 0) false k) ++ marks_in false false (λ i. around_in first x kind m (more k ps) (suc i)) (λ i. false) false ps ++ value_marks x es
+    value_marks x (more (child (Node kind m span semantic_id (more k ps))) es) = cond (is_element kind) [] (marks_at false (around_in first ledger x kind m (more k ps) 0) false k) ++ marks_in false false (λ i. around_in first ledger x kind m (more k ps) (suc i)) (λ i. false) false ps ++ value_marks x es
     value_marks x (more p es) = value_marks x es
 
 -- ---- each stands in time
 
 -- a function is around the one that is not around the other
-abbrev pub is_later : List ℕ → List ℕ → Bool
+abbrev pub is_around : ℕ → List (ℕ × Bool) → Bool
+is_around f [] = false
+is_around f (g ∷ gs) = nat_eq f g.0 || is_around f gs
+
+abbrev pub is_later : List (ℕ × Bool) → List (ℕ × Bool) → Bool
 is_later [] there = false
-is_later (f ∷ fs) there = not (has_number f there) || is_later fs there
+is_later (f ∷ fs) there = not (is_around f.0 there) || is_later fs there
+
+-- whether the outermost such function is one that may be called in front of where it stands
+abbrev pub is_called_early : List (ℕ × Bool) → List (ℕ × Bool) → Bool
+is_called_early [] there = false
+is_called_early (f ∷ fs) there = cond (is_later fs there) (is_called_early fs there) (not (is_around f.0 there) && f.1)
 
 -- whether i is an initialization that m may rely on: what may run or not around it is around m too, and it stands in front,
 -- or m runs later, or it is hoisted
-abbrev pub gives_by : MarkForm → Bool → Bool → Bool
-gives_by initializes in_front later = in_front || later
-gives_by hoists in_front later = true
-gives_by form in_front later = false
+abbrev pub gives_by : MarkForm → Bool → Bool → Bool → Bool
+gives_by initializes in_front later early = (in_front || later) && not early
+gives_by hoists in_front later early = true
+gives_by form in_front later early = false
 
 abbrev pub gives_in_time : Bool → Mark → Mark → Bool
-gives_in_time in_front m i = bytes_eq m.name i.name && (all_pairs_stand i.around.held m.around.held && gives_by i.form in_front (is_later m.around.later i.around.later))
+gives_in_time in_front m i = bytes_eq m.name i.name && (all_pairs_stand i.around.held m.around.held && gives_by i.form in_front (is_later m.around.later i.around.later) (is_called_early m.around.later i.around.later))
 
 abbrev pub any_gives : Bool → Mark → List Mark → Bool
 any_gives in_front m [] = false
