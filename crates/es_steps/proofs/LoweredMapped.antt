@@ -1,5 +1,5 @@
 -- What a lowered program owes, under a change of numbers of both programs.
-use Rattle.std.specs.Prelude.{◌≡◌, ℕ, List, [], ◌∷◌, map, Bool, not, ◌&&◌, ◌||◌, bytes_eq, nat_eq, codes, Option, Some, None, is_some}
+use Rattle.std.specs.Prelude.{false, ◌≡◌, ℕ, List, [], ◌∷◌, map, Bool, not, ◌&&◌, ◌||◌, bytes_eq, nat_eq, codes, Option, Some, None, is_some}
 use Rattle.std.proofs.Common.{refl, ap, ap₂, ◌∙◌}
 use Rattle.es_base.specs.Preorder.{preorder, number_of}
 use Rattle.es_base.specs.Tree.{Tree, Part, Parts, Node, end, more, child, list, string}
