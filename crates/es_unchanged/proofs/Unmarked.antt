@@ -46,7 +46,7 @@ module _ (first : ℕ) (members : List PrivateMember) where
   mutual
     tree-unmarked : (x : Around) (in_let : Bool) (t : Tree) → Unmarked (marks first [] members x in_let t)
     tree-unmarked x in_let (Node kind m span semantic_id ps) =
-        rw (before-unmarked x kind m ps, parts-unmarked (is_called_arrow kind ps) (is_class_body kind) (around_in first x kind m ps) (is_given first [] members kind ps) (is_let_declaration first [] members kind ps) ps, behind-unmarked x in_let kind ps) refl
+        rw (before-unmarked x kind m ps, parts-unmarked (is_called_arrow kind ps) (is_class_body kind) (around_in first [] x kind m ps) (is_given first [] members kind ps) (is_let_declaration first [] members kind ps) ps, behind-unmarked x in_let kind ps) refl
 
     parts-unmarked : (last is_body : Bool) (x : ℕ → Around) (given : ℕ → Bool) (in_let : Bool) (ps : Parts) → Unmarked (marks_in first [] members last is_body x given in_let ps)
     parts-unmarked last is_body x given in_let end = refl
@@ -69,13 +69,13 @@ module _ (first : ℕ) (members : List PrivateMember) where
     keys-unmarked : (x : Around) (ps : Parts) → Unmarked (key_marks first [] members x ps)
     keys-unmarked x end = refl
     keys-unmarked x (more (child (Node kind m span semantic_id (more k ps))) es) =
-        rw (unless-neither (is_element kind) (marks_at first [] members false (around_in first x kind m (more k ps) 0) false k) (part-unmarked false (around_in first x kind m (more k ps) 0) false k), keys-unmarked x es) refl
+        rw (unless-neither (is_element kind) (marks_at first [] members false (around_in first [] x kind m (more k ps) 0) false k) (part-unmarked false (around_in first [] x kind m (more k ps) 0) false k), keys-unmarked x es) refl
     keys-unmarked x (more p es) = keys-unmarked x es
 
     values-unmarked : (x : Around) (ps : Parts) → Unmarked (value_marks first [] members x ps)
     values-unmarked x end = refl
     values-unmarked x (more (child (Node kind m span semantic_id (more k ps))) es) =
-        rw (unless-unmarked (is_element kind) (marks_at first [] members false (around_in first x kind m (more k ps) 0) false k) (part-unmarked false (around_in first x kind m (more k ps) 0) false k), parts-unmarked false false (λ i. around_in first x kind m (more k ps) (suc i)) (λ i. false) false ps, values-unmarked x es) refl
+        rw (unless-unmarked (is_element kind) (marks_at first [] members false (around_in first [] x kind m (more k ps) 0) false k) (part-unmarked false (around_in first [] x kind m (more k ps) 0) false k), parts-unmarked false false (λ i. around_in first [] x kind m (more k ps) (suc i)) (λ i. false) false ps, values-unmarked x es) refl
     values-unmarked x (more p es) = values-unmarked x es
 
 pub names-timely : (first : ℕ) (members : List PrivateMember) (q : Tree) → names_timely first [] members q ≡ true
