@@ -6,7 +6,7 @@ use Rattle.es_steps.proofs.PlainClasses.{IsPlain, a_value, a_name, fixed, changi
 use Rattle.es_steps.proofs.Reflexive.{value-same}
 use Rattle.es_steps.specs.Code.{Code, Codes, Opened, defines, value, name, define, steps, new_function, class_code, field, constructor, done, and}
 use Rattle.es_steps.specs.Context.{Fixed, Changing, MeansClass}
-use Rattle.es_steps.specs.Entries.{Entries, ClassEntry, plain_form, constructor_form, constructor_parameters, methods_in, keys_stay, ev_construction, entries, all_entries, key_entries, static_entries, field_entries, function_entries}
+use Rattle.es_steps.specs.Entries.{behind_leading, elements_start, Entries, ClassEntry, plain_form, constructor_form, constructor_parameters, methods_in, keys_stay, ev_construction, entries, all_entries, key_entries, static_entries, field_entries, function_entries}
 use Rattle.es_steps.specs.Evaluation.{Environment, Evaluation, Run, gives, bind, has_instance_methods, declared_first, ev, ev_all, ev_keys, ev_statics, ev_fields, ev_initializers}
 use Rattle.es_steps.specs.Events.{Events, none, then, ReadName, Define, InitializeClass, throws, behind, value_behind}
 use Rattle.es_steps.specs.Meaning.{private_function_by}
@@ -172,9 +172,16 @@ module _ (opens : Opened → Evaluation) where
     abbrev class_entries : ℕ → Option ℕ → Fields → Entries
     class_entries n declared fs = (n, Some (ClassEntry declared None [] plain_form [] (record { events = events n fs; value = Undefined }))) ∷ []
 
+    leading-none : (n : ℕ) (fs : Fields) → behind_leading opens first [] n [] (field_codes fs) ≡ []
+    leading-none n no_fields = refl
+    leading-none n (with_field s v fs) = leading-none n fs
+
+    start-none : (n : ℕ) (fs : Fields) → elements_start opens first [] n [] [] (field_codes fs) ≡ []
+    start-none n fs = rw (leading-none n fs) refl
+
     source-entries : (n : ℕ) (declared : Option ℕ) (fs : Fields) → ArePlain fs → entries opens first [] [] (class_code n declared done (field_codes fs)) ≡ class_entries n declared fs
     source-entries n declared fs h =
-        rw (source_construction n fs fs, source-runs n fs [] h, field-methods fs, form-fields fs, parameters-fields fs, value_behind-undefined (events n fs), stays fs, keys-run fs (λ ks. gives Undefined) none Undefined refl, keys-none fs [], statics-none n fs [], fields-none n fs h []) (ap (λ es. class_entries n declared fs ++ es) (functions-none _ _ fs))
+        rw (keys-run fs (λ ks. gives Undefined) none Undefined refl, start-none n fs, source_construction n fs fs, source-runs n fs [] h, field-methods fs, form-fields fs, parameters-fields fs, value_behind-undefined (events n fs), stays fs, keys-none fs [], statics-none n fs [], fields-none n fs h []) (ap (λ es. class_entries n declared fs ++ es) (functions-none _ _ fs))
 
     lowered-entries : (n : ℕ) (declared : Option ℕ) (fs : Fields) (cs : Codes) → AreLowered n fs cs → ArePlain fs → entries opens first [] [] (class_code n declared done cs) ≡ class_entries n declared fs
     lowered-entries n declared fs cs no_constructor h = refl

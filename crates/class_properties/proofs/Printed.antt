@@ -94,7 +94,7 @@ classes-good in_module (more p ps) (a_class n span semantic_id id body (a_name i
     let all = none_of (bad_at false in_module p) (bad_in false in_module ps) g in
     let named = none_of (bad_at false false id) (bad_at false false body || false) all.0 in
     let in_body = none_of (bad_at false false body) false named.1 in
-    let elements = none_of (((any_optional es || false) || (any_uncooked es || false))) (bad_in false false es || false) in_body.0 in
+    let elements = none_of (((any_optional es || false) || (any_uncooked es || false)) || false) (bad_in false false es || false) in_body.0 in
     let good : bad_in false false (lowered_elements k es) ≡ false = elements-good es he k (none_of (bad_in false false es) false elements.1).0 in
     lowered-good es he named.0 good (classes-good in_module ps h _ all.1)
   where
@@ -122,7 +122,7 @@ program-stays k t (a_program m span semantic_id s all h) = rw (classes-stay (no_
 
 -- ---- no name is a reserved word
 
-not-reserved : (w : Words) (s : String) → is_among s strict_words ≡ false → bytes_eq s (codes "await") ≡ false → bytes_eq s (codes "yield") ≡ false → is_reserved_word w s ≡ false
+not-reserved : (w : Words) (s : List ℕ) → is_among s strict_words ≡ false → bytes_eq s (codes "await") ≡ false → bytes_eq s (codes "yield") ≡ false → is_reserved_word w s ≡ false
 not-reserved w s a b c = rw (a, b, c, and-false w.in_strict, and-false (w.in_module || (w.in_block || w.in_async)), and-false w.in_generator) refl
 
 helper-free : (w : Words) → is_reserved_word w (codes "babelHelpers") ≡ false
@@ -132,20 +132,26 @@ definitions-undirecting : (es : Parts) → AreFields es → (k : ℕ) → has_us
 definitions-undirecting end h k = refl
 definitions-undirecting (more p es) (a_field m span semantic_id key v hk hv, h) k = definitions-undirecting es h _
 
+-- where the constructor has the values
+abbrev constructor_words : Words → Words
+constructor_words w = record w { in_block = false; in_element = false; in_async = false; in_generator = false }
+
 -- the value of the first field, and the other fields
 value-free : (w : Words) (v : Part) (es : Parts) → ((reserved_at (field_words w 1) v || false) || reserved_in (λ i. w) es) ≡ false → (reserved_at (field_words w 1) v ≡ false) × (reserved_in (λ i. w) es ≡ false)
 value-free w v es h =
     let both = none_of (reserved_at (field_words w 1) v || false) (reserved_in (λ i. w) es) h in
     ((none_of (reserved_at (field_words w 1) v) false both.0).0, both.1)
 
-definitions-free : (w : Words) (es : Parts) → AreFields es → (k : ℕ) → reserved_in (λ i. w) es ≡ false → reserved_in (λ i. field_words w 1) (trees (definitions_from k es)) ≡ false
+definitions-free : (w : Words) (es : Parts) → AreFields es → (k : ℕ) → reserved_in (λ i. w) es ≡ false → reserved_in (λ i. constructor_words w) (trees (definitions_from k es)) ≡ false
 definitions-free w end h k g = refl
 definitions-free w (more p es) (a_field m span semantic_id key v (a_key i ispan i_semantic_id s) no_value, h) k g =
-    rw (helper-free (field_words w 1)) (definitions-free w es h (k + 9) g)
+    rw (helper-free (constructor_words w)) (definitions-free w es h (k + 9) g)
 definitions-free w (more p es) (a_field m span semantic_id key v (a_key i ispan i_semantic_id s) (a_literal l lspan l_semantic_id x), h) k g =
-    rw (helper-free (field_words w 1)) (definitions-free w es h (k + 7) g)
+    rw (helper-free (constructor_words w)) (definitions-free w es h (k + 7) g)
 definitions-free w (more p es) (a_field m span semantic_id key v (a_key i ispan i_semantic_id s) (a_reference r rspan r_semantic_id x), h) k g =
-    let free = value-free w v es g in rw (helper-free (field_words w 1), free.0) (definitions-free w es h (k + 7) free.1)
+    let free = value-free w v es g in
+    let named = none_of (is_reserved_word (field_words w 1) x || bytes_eq x (codes "arguments")) false free.0 in
+    rw (helper-free (constructor_words w), (none_of (is_reserved_word (field_words w 1) x) (bytes_eq x (codes "arguments")) named.0).0) (definitions-free w es h (k + 7) free.1)
 
 elements-free : (w : Words) (es : Parts) → AreFields es → (k : ℕ) → reserved_in (λ i. w) es ≡ false → reserved_in (λ i. w) (lowered_elements k es) ≡ false
 elements-free w end h k g = refl

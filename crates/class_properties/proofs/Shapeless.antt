@@ -78,14 +78,14 @@ no_keys : (names : List ℕ) (rs : List Reference) (es : Parts) → AreFields es
 no_keys names rs end h = refl
 no_keys names rs (more p es) (a_field m span semantic_id key v hk hv, h) = no_keys names rs es h
 
-no_changing : (hoists : Bool) (is : List ℕ) (rs : List Reference) (es : Parts) → AreFields es → any_element (is_changing_key hoists is rs) (elements_in es) ≡ false
-no_changing hoists is rs end h = refl
-no_changing hoists is rs (more p es) (a_field m span semantic_id key v hk hv, h) = no_changing hoists is rs es h
+no_changing : (is_behind : Bool) (is : List ℕ) (rs : List Reference) (es : Parts) → AreFields es → any_element (is_changing_key is_behind is rs) (elements_in es) ≡ false
+no_changing is_behind is rs end h = refl
+no_changing is_behind is rs (more p es) (a_field m span semantic_id key v hk hv, h) = no_changing is_behind is rs es h
 
 -- ---- shapes by classes
 
-changing-none : (ws is : List ℕ) (rs : List Reference) (k : ClassAt) → IsPlainAt k → has_changing_key ws is rs k ≡ false
-changing-none ws is rs k (plain_at n j span semantic_id id es h) = no_changing (any_element (is_hoisted_key ws rs) (elements_in es)) is rs es h
+changing-none : (o : Options) (ws is : List ℕ) (rs : List Reference) (k : ClassAt) → IsPlainAt k → has_changing_key o ws is rs k ≡ false
+changing-none o ws is rs k (plain_at n j span semantic_id id es h) = no_changing _ is rs es h
 
 late-none : (k : ClassAt) → IsPlainAt k → is_late_class k ≡ false
 late-none k (plain_at n j span semantic_id id es h) = rw (no_constructor es h) (and-false (any_element initializes_instances (elements_in es)))
@@ -192,7 +192,7 @@ program-shapes o t p =
     (rw (q.heritages o t) (and-false (lowers_fields o)))
     (rw (no_class is_late_class late-none ks plain) (and-false (lowers_fields o)))
     (rw (no_class keeps_block block-none ks plain, and-false (not (lowers_blocks o))) (and-false (lowers_fields o)))
-    (rw (q.twice o (varying t) (resolve t), no_class (has_changing_key (written t) (changed_otherwise t) (resolve t)) (changing-none (written t) (changed_otherwise t) (resolve t)) ks plain) (and-false (lowers_fields o)))
+    (rw (q.twice o (varying t) (resolve t), no_class (has_changing_key o (written t) (changed_otherwise t) (resolve t)) (changing-none o (written t) (changed_otherwise t) (resolve t)) ks plain) (and-false (lowers_fields o)))
     (rw q.unwritable (and-false (lowers_fields o)))
     (q.writes (class_names ks ++ suspended_names o (preorder t)))
     named

@@ -1,5 +1,5 @@
 -- In a lowered program of the first form each literal has its text: the values are those of the source, the keys have none.
-use Rattle.std.specs.Prelude.{◌≡◌, ℕ, ◌+◌, ◌≤◌, List, [], ◌∷◌, ◌++◌, map, Bool, true, false, cond, ◌&&◌, Option}
+use Rattle.std.specs.Prelude.{◌≡◌, ℕ, ◌+◌, ◌≤◌, List, [], ◌∷◌, ◌++◌, map, Bool, true, false, cond, not, codes, ◌&&◌, Option}
 use Rattle.std.proofs.Common.{refl, sym, subst, arith}
 use Rattle.std.proofs.lemmas.Bool.{le-leb, lt-leb, and_parts}
 use Rattle.std.proofs.lemmas.List.{append-nil}
@@ -8,8 +8,9 @@ use Rattle.es_base.specs.Preorder.{nodes, number_of, preorder, preorder_of, numb
 use Rattle.es_base.specs.Tree.{Tree, Part, Parts, Node, end, more, child, list, string, absent, boolean, literal, trees}
 use Rattle.es_base.specs.declared.kind.Kind.{Kind}
 use Rattle.es_steps.specs.KeptNodes.{stands_equal}
-use Rattle.es_steps.specs.Texts.{all_have_their_texts, texts_stay}
+use Rattle.es_steps.specs.Texts.{are_characters, has_characters, all_have_their_texts, texts_stay}
 use Rattle.es_unchanged.proofs.Standing.{In, here, later, in-left, in-right, Among, both, stands-equal}
+use Rattle.es_unchanged.proofs.Names.{or-true}
 use Rattle.es_unchanged.proofs.Unchanged.{Below, numbered-below, old-characters}
 use Rattle.class_properties.proofs.Numbered.{definitions_from, lowered_elements, lowered_statements, lowered_from, statement_size}
 use Rattle.class_properties.proofs.Numbered as numbered
@@ -35,23 +36,33 @@ module _ (first : ℕ) (ps : List Tree) where
   old-text : (t : Tree) (b : Bool) → is_new first (number_of t) ≡ false → In t ps → cond (is_new first (number_of t)) b (stands_equal t ps) ≡ true
   old-text t b e i = rw e (stands-equal t ps i)
 
+  -- a new name of characters of ASCII, as the helper, its member and the constructor have
+  new-characters : (n : ℕ) (s : List ℕ) → are_characters ps s ≡ true → has_characters true first n ps s ≡ true
+  new-characters n s h = or-true (not (is_new first n)) (are_characters ps s) h
+
+  helper-characters : (n : ℕ) → has_characters true first n ps (codes "babelHelpers") ≡ true
+  helper-characters n = new-characters n (codes "babelHelpers") refl
+
+  member-characters : (n : ℕ) → has_characters true first n ps (codes "defineProperty") ≡ true
+  member-characters n = new-characters n (codes "defineProperty") refl
+
   fields-texts : (es : Parts) → AreFields es → OldAmong first (preorder_of es) ps → (n : ℕ) → first ≤ n → all_have_their_texts first ps (preorder_of (trees (definitions_from n es))) ≡ true
   fields-texts end h old n l = refl
   fields-texts (more p es) (a_field m span semantic_id k v (a_key km kspan k_semantic_id s) no_value, h) old n l =
-      rw (le-leb first (n + 6) (omega (arith, l)), le-leb first (n + 7 + 1) (omega (arith, l))) (fields-texts es h (λ t i. old t (later (later i))) (n + 9) (omega (arith, l)))
+      rw (helper-characters (n + 3), member-characters (n + 4), le-leb first (n + 6) (omega (arith, l)), le-leb first (n + 7 + 1) (omega (arith, l))) (fields-texts es h (λ t i. old t (later (later i))) (n + 9) (omega (arith, l)))
   fields-texts (more p es) (a_field m span semantic_id k v (a_key km kspan k_semantic_id s) (a_literal vm vspan v_semantic_id x), h) old n l =
       let value : Tree = Node Kind.Literal vm vspan v_semantic_id (more (literal x) end) in
       let stands = old value (later (later here)) in
-      rw (le-leb first (n + 6) (omega (arith, l)), stands.0, stands-equal value ps stands.1) (fields-texts es h (λ t i. old t (later (later (later i)))) (n + 7) (omega (arith, l)))
+      rw (helper-characters (n + 3), member-characters (n + 4), le-leb first (n + 6) (omega (arith, l)), stands.0, stands-equal value ps stands.1) (fields-texts es h (λ t i. old t (later (later (later i)))) (n + 7) (omega (arith, l)))
   fields-texts (more p es) (a_field m span semantic_id k v (a_key km kspan k_semantic_id s) (a_reference vm vspan v_semantic_id x), h) old n l =
       let value : Tree = Node Kind.IdentifierReference vm vspan v_semantic_id (more (string x) end) in
-      rw (le-leb first (n + 6) (omega (arith, l)), old-characters first true vm ps x (old value (later (later here))).0) (fields-texts es h (λ t i. old t (later (later (later i)))) (n + 7) (omega (arith, l)))
+      rw (helper-characters (n + 3), member-characters (n + 4), le-leb first (n + 6) (omega (arith, l)), old-characters first true vm ps x (old value (later (later here))).0) (fields-texts es h (λ t i. old t (later (later (later i)))) (n + 7) (omega (arith, l)))
 
   elements-texts : (es : Parts) → AreFields es → OldAmong first (preorder_of es) ps → (n : ℕ) → first ≤ n → all_have_their_texts first ps (preorder_of (lowered_elements n es)) ≡ true
   elements-texts end h old n l = refl
   elements-texts (more p es) h old n l =
       let made : List Tree = preorder_of (trees (definitions_from (n + 4) (more p es))) in
-      rw (append-nil made, append-nil made, append-nil made, append-nil made) (fields-texts (more p es) h old (n + 4) (omega (arith, l)))
+      rw (new-characters (n + 1) (codes "constructor") refl, append-nil made, append-nil made, append-nil made, append-nil made) (fields-texts (more p es) h old (n + 4) (omega (arith, l)))
 
   classes-texts : (cs : Parts) → AreClasses cs → OldAmong first (preorder_of cs) ps → (n : ℕ) → first ≤ n → all_have_their_texts first ps (preorder_of (lowered_statements n cs)) ≡ true
   classes-texts end h old n l = refl

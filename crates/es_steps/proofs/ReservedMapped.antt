@@ -11,7 +11,7 @@ use Rattle.es_steps.proofs.StrictMapped.{makes_strict-mapped}
 
 module _ (f : ℕ → ℕ) where
   is_reserved-mapped : (w : Words) (kind : Kind) (ps : Parts) → is_reserved w kind (mapped_parts f ps) ≡ is_reserved w kind ps
-  is_reserved-mapped w Kind.IdentifierReference ps = ap (is_reserved_word w) (string_at-mapped f 0 ps)
+  is_reserved-mapped w Kind.IdentifierReference ps = rw (string_at-mapped f 0 ps) refl
   is_reserved-mapped w Kind.BindingIdentifier ps = rw (string_at-mapped f 0 ps) refl
   is_reserved-mapped w kind ps = refl
 

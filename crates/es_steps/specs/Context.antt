@@ -201,10 +201,10 @@ in_function (constructor_of n) f ps c = record c { this = ThisOf n; new_target =
 in_function (method_on home) f ps c = record c { this = ThisOf f; new_target = NewTargetOf f; arguments = ArgumentsOf f; home = Some home; constructs = None; in_new_function = new_here c f; rest_name = rest_among (items (at 1 ps)) }
 in_function (super_function_of n) f ps c = record c { this = ThisOf n; new_target = Undefined; arguments = ArgumentsOf f; home = None; constructs = None; in_new_function = new_here c f; rest_name = rest_among (items (at 1 ps)) }
 
--- in the value of a field or in a static block, where `new.target` is undefined, and no `arguments`, `await` or `yield` of the code around
+-- in the value of a field or in a static block, where `new.target` is undefined, and no `await` or `yield` of the code around
 -- can stand (15.7.1): as in a new function
 abbrev pub in_element : Bool → Context → Context
-in_element is_static c = record c { this = cond is_static (ClassOf c.class) (ThisOf c.class); new_target = Undefined; arguments = Undefined; home = Some (cond is_static (OfClass c.class) (OfPrototype c.class)); constructs = None; in_new_function = true }
+in_element is_static c = record c { this = cond is_static (ClassOf c.class) (ThisOf c.class); new_target = Undefined; arguments = ArgumentsOf c.class; home = Some (cond is_static (OfClass c.class) (OfPrototype c.class)); constructs = None; in_new_function = true }
 
 abbrev pub is_constructor : String → Bool
 is_constructor s = bytes_eq s (codes "constructor")

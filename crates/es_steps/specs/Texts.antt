@@ -53,7 +53,7 @@ are_characters ts [] = true
 are_characters ts (c ∷ cs) = (nat_le c 127 || is_character_among c ts) && are_characters ts cs
 
 abbrev pub has_characters : Bool → ℕ → ℕ → List Tree → List ℕ → Bool
-has_characters is_name first n ts s = are_characters ts s || not (is_name && is_new first n)
+has_characters is_name first n ts s = not (is_name && is_new first n) || are_characters ts s
 
 -- ps are the nodes of the source
 abbrev pub has_its_text : ℕ → List Tree → Tree → Bool

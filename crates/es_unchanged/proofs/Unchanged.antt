@@ -490,8 +490,8 @@ keys-stand true = refl
 keys-stand false = refl
 
 pub old-characters : (first : ℕ) (is_name : Bool) (n : ℕ) (us : List Tree) (s : List ℕ) → is_new first n ≡ false → has_characters is_name first n us s ≡ true
-old-characters first true n us s e = or-true (are_characters us s) (not (is_new first n)) (rw e refl)
-old-characters first false n us s e = or-true (are_characters us s) true refl
+old-characters first true n us s e = rw e refl
+old-characters first false n us s e = refl
 
 -- each literal has its text
 old-text : (first : ℕ) (t : Tree) (us : List Tree) → number_of t < first → In t us → has_its_text first us t ≡ true
