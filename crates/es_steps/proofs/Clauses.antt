@@ -1,5 +1,5 @@
 -- What a lowered program owes is kept where its new numbers are given anew.
-use Rattle.std.specs.Prelude.{◌≡◌, ℕ, List, map, Bool, true, not, ◌||◌, None}
+use Rattle.std.specs.Prelude.{◌≡◌, ℕ, List, map, Bool, true, None}
 use Rattle.std.proofs.Common.{refl, sym, ap, ap₂, ◌∙◌}
 use Rattle.std.proofs.lemmas.Bool.{and_parts}
 use Rattle.std.proofs.lemmas.List.{map-append}
@@ -14,7 +14,7 @@ use Rattle.es_steps.specs.KeptNodes.{nodes_kept, classes_kept, statements_kept, 
 use Rattle.es_steps.specs.Law.{ClausesLaw}
 use Rattle.es_steps.specs.Lowered.{nothing_left, names_declared, declarations_accounted, initializations_stand, keys_stand}
 use Rattle.es_steps.specs.OwnNames.{own_names_stay}
-use Rattle.es_steps.specs.Printable.{is_printable}
+use Rattle.es_steps.specs.Printable.{stays_printable}
 use Rattle.es_steps.specs.PrivateNames.{PrivateMember, members_of_all, private_members}
 use Rattle.es_steps.specs.Standing.{all_numbers, ledger_numbers, all_pass, all_old}
 use Rattle.es_steps.specs.Strict.{none_becomes_strict}
@@ -33,7 +33,7 @@ use Rattle.es_steps.proofs.LoweredMapped.{nothing_left-mapped, names_declared-ma
 use Rattle.es_steps.proofs.Mapped.{Renames, mapped, mapped_part, mapped_parts, mapped_ledger, mapped_privates}
 use Rattle.es_steps.proofs.OwnNamesMapped.{own_names_stay-mapped}
 use Rattle.es_steps.proofs.PartsMapped.{preorder-mapped}
-use Rattle.es_steps.proofs.PrintableMapped.{is_printable-mapped}
+use Rattle.es_steps.proofs.PrintableMapped.{stays_printable-mapped}
 use Rattle.es_steps.proofs.Renaming.{same, renaming, renaming-renames, renaming-renumbers, EachOnce-filter}
 use Rattle.es_steps.proofs.Renumbering.{same-renames, members_of_all-mapped, anything, anything-passes}
 use Rattle.es_steps.proofs.Still.{in_two, ledger-still}
@@ -115,8 +115,8 @@ module _ (first : ℕ) (o : Options) where
       ap (λ ks. helper_calls_fit first (mapped_ledger f l) ks (mapped f q)) (all_computed_keys-mapped f p)
       ∙ helper_calls_fit-mapped r l (computed_keys (preorder p)) q
 
-  printable-unchanging : Unchanging first (λ l p q. not (is_printable p) || is_printable q)
-  printable-unchanging f r l p q = ap₂ (λ a b. not a || b) (is_printable-mapped f p) (is_printable-mapped f q)
+  printable-unchanging : Unchanging first (λ l p q. stays_printable p q)
+  printable-unchanging f r l p q = stays_printable-mapped r p q
 
 pub clauses_law : ClausesLaw
 clauses_law first o ledger p q once old generated met = record {
@@ -140,6 +140,6 @@ clauses_law first o ledger p q once old generated met = record {
     definitions = kept first ledger p q once old generated (λ l p q. definitions_stand first o l (private_members p) p q) (definitions-unchanging first o) met.definitions;
     elements = kept first ledger p q once old generated (λ l p q. elements_kept o (preorder p) (preorder q)) (elements-unchanging first o) met.elements;
     calls = kept first ledger p q once old generated (λ l p q. helper_calls_fit first l (computed_keys (preorder p)) q) (calls-unchanging first o) met.calls;
-    printable = kept first ledger p q once old generated (λ l p q. not (is_printable p) || is_printable q) (printable-unchanging first o) met.printable;
+    printable = kept first ledger p q once old generated (λ l p q. stays_printable p q) (printable-unchanging first o) met.printable;
   };
 }

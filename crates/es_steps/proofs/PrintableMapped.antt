@@ -1,19 +1,20 @@
 -- Whether a tree can be printed does not depend on its numbers.
-use Rattle.std.specs.Prelude.{◌≡◌, ℕ, suc, Bool, false, cond, not, ◌&&◌, ◌||◌, codes, List}
+use Rattle.std.specs.Prelude.{◌≡◌, ℕ, suc, Bool, false, cond, not, ◌&&◌, ◌||◌, codes, List, [], ◌∷◌, map}
 use Rattle.std.proofs.Common.{refl, ap, ap₂, ◌∙◌}
 use Rattle.es_base.specs.Conforms.{is_among}
+use Rattle.es_base.specs.Preorder.{preorder}
 use Rattle.es_base.specs.Tree.{Tree, Part, Parts, Node, end, more, child, absent, list, string, boolean, literal}
 use Rattle.es_base.specs.declared.kind.Kind.{Kind}
 use Rattle.es_base.specs.declared.literal.LiteralValue.TheVariants as literal_value
 use Rattle.es_steps.specs.KeptNodes.{statement_list}
 use Rattle.es_steps.specs.Parts.{at, items, is_present}
-use Rattle.es_steps.specs.Printable.{is_bad_name, is_bad_label_name, is_bad_label, is_bad_literal, tails_fit, is_bad_template, lacks_cooked, is_uncooked, any_uncooked, has_uncooked, is_bare_string, has_bare_string, is_directive_of, is_bad_directive, is_directive, has_late_directive, are_names, is_strict_with_patterns, has_bad_prologue, count, is_kind_of, is_default, is_function_expression, is_identifier_name, name_of_part, shorthand_name, has_id, is_suspending, is_bad_property, is_spelled, is_bad_method, is_bad_field, is_meta_property, only_named, are_behind_default, are_specifiers, is_declaration_body, is_lexical_body, ends_open, part_ends_open, is_bad_if, is_super_part, has_optional, part_has_optional, is_spine_kind, any_optional, behind_first, has_stray_optional, is_bad_form, is_bad_node, is_default_export, is_module, is_declaration_without_name, is_bad_in, has_bad, bad_at, bad_in, Jumps, no_jumps, is_label_among, is_stray, is_looping, part_is_looping, jumps_inside, has_stray, stray_at, stray_in, is_printable}
+use Rattle.es_steps.specs.Printable.{is_bad_name, is_bad_label_name, is_bad_label, is_bad_literal, tails_fit, is_bad_template, lacks_cooked, is_uncooked, any_uncooked, has_uncooked, is_bare_string, is_directive_of, is_bad_directive, is_directive, has_late_directive, are_names, is_strict_with_patterns, has_bad_prologue, count, is_kind_of, is_default, is_function_expression, is_identifier_name, name_of_part, shorthand_name, has_id, is_suspending, is_bad_property, is_spelled, is_bad_method, is_bad_field, is_meta_property, only_named, are_behind_default, are_specifiers, is_declaration_body, is_lexical_body, ends_open, part_ends_open, is_bad_if, is_super_part, has_optional, part_has_optional, is_spine_kind, any_optional, behind_first, has_stray_optional, is_bad_form, is_bad_node, is_default_export, is_module, is_declaration_without_name, is_bad_in, has_bad, bad_at, bad_in, Jumps, no_jumps, is_label_among, is_stray, is_looping, part_is_looping, jumps_inside, has_stray, stray_at, stray_in, prologue, statement_number, bare_in, bare_strings, all_among, is_printable, stays_printable}
 use Rattle.es_steps.specs.Reserved.{no_words}
-use Rattle.es_steps.specs.Strict.{directives}
 use Rattle.es_steps.specs.Values.{String}
 use Rattle.es_steps.proofs.KeptNodesMapped.{statement_list-mapped}
-use Rattle.es_steps.proofs.Mapped.{mapped, mapped_part, mapped_parts}
-use Rattle.es_steps.proofs.PartsMapped.{cond-mapped, at-mapped, items_at-mapped, string_at-mapped, is_true_at-mapped, is_present_at-mapped}
+use Rattle.es_steps.proofs.Mapped.{Renames, mapped, mapped_part, mapped_parts}
+use Rattle.es_steps.proofs.PartsMapped.{append-mapped, number_of-mapped, preorder-mapped, cond-mapped, at-mapped, items_at-mapped, string_at-mapped, is_true_at-mapped, is_present_at-mapped}
+use Rattle.es_steps.proofs.ReferencesMapped.{has_number-mapped}
 use Rattle.es_steps.proofs.ReservedMapped.{has_reserved-mapped}
 use Rattle.es_steps.proofs.ScopesMapped.{is_declaring-mapped}
 use Rattle.es_steps.proofs.StrictMapped.{body_strict-mapped, directives_at-mapped}
@@ -100,24 +101,10 @@ module _ (f : ℕ → ℕ) where
       ap not (is_directive-mapped (child (Node Kind.ExpressionStatement m span semantic_id (more absent (more directive end)))))
   is_bare_string-mapped p = refl
 
-  has_bare_string-mapped : (ps : Parts) → has_bare_string (mapped_parts f ps) ≡ has_bare_string ps
-  has_bare_string-mapped end = refl
-  has_bare_string-mapped (more p ps) = rw (is_bare_string-mapped p, is_directive-mapped p, has_bare_string-mapped ps) refl
-
-  bare_items-mapped : (i : ℕ) (ps : Parts) → has_bare_string (items (at i (mapped_parts f ps))) ≡ has_bare_string (items (at i ps))
-  bare_items-mapped i ps = ap has_bare_string (items_at-mapped f i ps) ∙ has_bare_string-mapped (items (at i ps))
-
-  bare_body-mapped : (i : ℕ) (ps : Parts) → has_bare_string (directives (at i (mapped_parts f ps))) ≡ has_bare_string (directives (at i ps))
-  bare_body-mapped i ps = ap has_bare_string (directives_at-mapped f i ps) ∙ has_bare_string-mapped (directives (at i ps))
-
-  late_items-mapped : (i : ℕ) (ps : Parts) → has_late_directive false (items (at i (mapped_parts f ps))) ≡ has_late_directive false (items (at i ps))
-  late_items-mapped i ps = ap (has_late_directive false) (items_at-mapped f i ps) ∙ has_late_directive-mapped false (items (at i ps))
-
   has_bad_prologue-mapped : (kind : Kind) (ps : Parts) → has_bad_prologue kind (mapped_parts f ps) ≡ has_bad_prologue kind ps
-  has_bad_prologue-mapped Kind.Program ps = ap₂ (λ a b. a || b) (late_items-mapped 1 ps) (bare_items-mapped 1 ps)
-  has_bad_prologue-mapped Kind.FunctionDeclaration ps = ap₂ (λ a b. a || b) (strict_with_patterns-mapped 1 2 ps) (bare_body-mapped 2 ps)
-  has_bad_prologue-mapped Kind.FunctionExpression ps = ap₂ (λ a b. a || b) (strict_with_patterns-mapped 1 2 ps) (bare_body-mapped 2 ps)
-  has_bad_prologue-mapped Kind.ArrowFunctionExpression ps = ap₂ (λ a b. a || b) (strict_with_patterns-mapped 0 1 ps) (bare_body-mapped 1 ps)
+  has_bad_prologue-mapped Kind.FunctionDeclaration ps = strict_with_patterns-mapped 1 2 ps
+  has_bad_prologue-mapped Kind.FunctionExpression ps = strict_with_patterns-mapped 1 2 ps
+  has_bad_prologue-mapped Kind.ArrowFunctionExpression ps = strict_with_patterns-mapped 0 1 ps
   has_bad_prologue-mapped kind ps = late_in-mapped kind ps
 
   count-mapped : (ps : Parts) → count (mapped_parts f ps) ≡ count ps
@@ -350,3 +337,36 @@ module _ (f : ℕ → ℕ) where
 
   pub is_printable-mapped : (t : Tree) → is_printable (mapped f t) ≡ is_printable t
   is_printable-mapped t = ap not (ap₂ (λ a b. a || b) (has_bad-mapped false false t) (ap₂ (λ a b. a || b) (has_stray-mapped (no_jumps false) t) (has_reserved-mapped f no_words t)))
+
+  prologue-mapped : (kind : Kind) (ps : Parts) → prologue kind (mapped_parts f ps) ≡ mapped_parts f (prologue kind ps)
+  prologue-mapped Kind.Program ps = items_at-mapped f 1 ps
+  prologue-mapped Kind.FunctionDeclaration ps = directives_at-mapped f 2 ps
+  prologue-mapped Kind.FunctionExpression ps = directives_at-mapped f 2 ps
+  prologue-mapped Kind.ArrowFunctionExpression ps = directives_at-mapped f 1 ps
+  prologue-mapped kind ps = refl
+
+  statement_number-mapped : (p : Part) → statement_number (mapped_part f p) ≡ map f (statement_number p)
+  statement_number-mapped (child t) = ap (λ n. n ∷ []) (number_of-mapped f t)
+  statement_number-mapped p = refl
+
+  bare_in-mapped : (ps : Parts) → bare_in (mapped_parts f ps) ≡ map f (bare_in ps)
+  bare_in-mapped end = refl
+  bare_in-mapped (more p ps) =
+      rw (is_bare_string-mapped p, is_directive-mapped p)
+      (cond-mapped (map f) (is_bare_string p) _ _
+       (append-mapped f _ _ (statement_number-mapped p) (bare_in-mapped ps))
+       (cond-mapped (map f) (is_directive p) (bare_in ps) [] (bare_in-mapped ps) refl))
+
+  bare_strings-mapped : (ts : List Tree) → bare_strings (map (mapped f) ts) ≡ map f (bare_strings ts)
+  bare_strings-mapped [] = refl
+  bare_strings-mapped (Node kind m span semantic_id ps ∷ ts) =
+      append-mapped f _ _ (ap bare_in (prologue-mapped kind ps) ∙ bare_in-mapped (prologue kind ps)) (bare_strings-mapped ts)
+
+module _ {first : ℕ} {f : ℕ → ℕ} (r : Renames first f) where
+  all_among-mapped : (ns ks : List ℕ) → all_among (map f ns) (map f ks) ≡ all_among ns ks
+  all_among-mapped [] ks = refl
+  all_among-mapped (n ∷ ns) ks = ap₂ (λ a b. a && b) (has_number-mapped r n ks) (all_among-mapped ns ks)
+
+  pub stays_printable-mapped : (p q : Tree) → stays_printable (mapped f p) (mapped f q) ≡ stays_printable p q
+  stays_printable-mapped p q =
+      rw (is_printable-mapped f p, is_printable-mapped f q, preorder-mapped f p, preorder-mapped f q, bare_strings-mapped f (preorder p), bare_strings-mapped f (preorder q), all_among-mapped (bare_strings (preorder q)) (bare_strings (preorder p))) refl

@@ -3,7 +3,7 @@ use Rattle.std.specs.Prelude.{◌≡◌, ℕ, zero, suc, ◌||◌}
 use Rattle.std.proofs.Common.{refl, ap, ap₂, ◌∙◌}
 use Rattle.es_base.specs.Tree.{Tree, Part, Parts, Node, end, more, child, list}
 use Rattle.es_base.specs.declared.kind.Kind.{Kind}
-use Rattle.es_steps.specs.Reserved.{Words, is_reserved_word, is_reserved, function_words, declaration_words, arrow_words, words_inside, strict_if, has_reserved, reserved_in, reserved_at}
+use Rattle.es_steps.specs.Reserved.{Words, is_reserved, function_words, declaration_words, arrow_words, words_inside, strict_if, has_reserved, reserved_in, reserved_at}
 use Rattle.es_steps.specs.Strict.{makes_strict}
 use Rattle.es_steps.proofs.Mapped.{mapped, mapped_part, mapped_parts}
 use Rattle.es_steps.proofs.PartsMapped.{string_at-mapped, is_true_at-mapped}

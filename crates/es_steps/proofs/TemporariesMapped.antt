@@ -12,7 +12,7 @@ use Rattle.es_steps.specs.Parts.{at}
 use Rattle.es_steps.specs.References.{is_target}
 use Rattle.es_steps.specs.Repeated.{around_program}
 use Rattle.es_steps.specs.Scopes.{binds, is_body_part}
-use Rattle.es_steps.specs.Temporaries.{Touch, Spot, touch_of, is_bare, declaration_in, is_block, is_of_class, home_in, spot_in, touches, touches_in, touches_at, touches_of, all_touches, chosen, all_touched, is_none, declarations_of, gifts_of, reads_of, is_steady, is_at_call, is_near, is_steady_name, all_steady, temporaries_steady}
+use Rattle.es_steps.specs.Temporaries.{Touch, Spot, touch_of, is_bare, declaration_in, is_block, is_of_class, home_in, spot_in, touches, touches_in, touches_at, touches_of, all_touches, chosen, all_touched, is_none, declarations_of, gifts_of, reads_of, is_steady, is_at_most_one, is_at_call, is_near, is_steady_name, all_steady, temporaries_steady}
 use Rattle.es_steps.specs.Values.{String}
 use Rattle.es_steps.proofs.Mapped.{Renames, mapped, mapped_part, mapped_parts, mapped_option, mapped_generated, mapped_ledger}
 use Rattle.es_steps.proofs.PartsMapped.{cond-mapped, append-mapped, at-mapped, string_at-mapped, is_present_at-mapped, number_of-mapped}
@@ -113,9 +113,13 @@ module _ {first : ℕ} {f : ℕ → ℕ} (r : Renames first f) where
       ap₂ (λ a b. a && b) (at_place-mapped g gs)
       (ap₂ (λ a b. a || b) (at_place-mapped g reads) (ap₂ (λ a b. a && b) (is_none-mapped f gs) (all_touched-mapped f _ _ (λ t. r.apart g.declaration t.declaration) reads)))
 
+  is_at_most_one-mapped : (ts : List Touch) → is_at_most_one (map (mapped_touch f) ts) ≡ is_at_most_one ts
+  is_at_most_one-mapped [] = refl
+  is_at_most_one-mapped (t ∷ ts) = is_none-mapped f ts
+
   is_at_call-mapped : (gifts reads : List Touch) → is_at_call (map (mapped_touch f) gifts) (map (mapped_touch f) reads) ≡ is_at_call gifts reads
   is_at_call-mapped [] reads = refl
-  is_at_call-mapped (g ∷ gs) reads = ap₂ (λ a b. a && b) (is_none-mapped f gs) (at_place-mapped g reads)
+  is_at_call-mapped (g ∷ gs) reads = ap₂ (λ a b. a && b) (is_none-mapped f gs) (ap₂ (λ a b. a && b) (at_place-mapped g reads) (is_at_most_one-mapped reads))
 
   is_near-mapped : (ds gifts : List Touch) → is_near (map (mapped_touch f) ds) (map (mapped_touch f) gifts) ≡ is_near ds gifts
   is_near-mapped [] gifts = refl

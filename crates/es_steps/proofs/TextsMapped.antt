@@ -2,7 +2,7 @@
 use Rattle.std.specs.Prelude.{◌≡◌, ℕ, List, [], ◌∷◌, map, Bool, ◌&&◌, ◌||◌}
 use Rattle.std.proofs.Common.{refl, ap, ap₂, ◌∙◌}
 use Rattle.es_base.specs.Preorder.{preorder}
-use Rattle.es_base.specs.Tree.{Tree, Part, Parts, Node, literal}
+use Rattle.es_base.specs.Tree.{Tree, Part, Parts, Node, end, more, string, literal}
 use Rattle.es_base.specs.declared.kind.Kind.{Kind}
 use Rattle.es_steps.specs.Parts.{at, string_of}
 use Rattle.es_steps.specs.Texts.{is_plain, is_legacy, has_name, is_character_among, are_characters, has_characters, is_literal_among, is_string_among, has_its_text, all_have_their_texts, texts_stay}
@@ -45,6 +45,8 @@ module _ {first : ℕ} {f : ℕ → ℕ} (r : Renames first f) where
       rw (r.new n, at-mapped f 0 qs, is_plain-mapped f (at 0 qs), is_legacy-mapped f (at 0 qs), is_literal_among-mapped qs ps, stands_equal-mapped r (Node Kind.Literal n span semantic_id qs) ps) refl
   has_its_text-mapped ps (Node Kind.TemplateElement n span semantic_id qs) =
       rw (r.new n, is_string_among-mapped qs ps, stands_equal-mapped r (Node Kind.TemplateElement n span semantic_id qs) ps) refl
+  has_its_text-mapped ps (Node Kind.ExpressionStatement n span semantic_id (more e (more (string s) end))) =
+      ap₂ (λ a b. a || b) (r.new n) (stands_equal-mapped r (Node Kind.ExpressionStatement n span semantic_id (more e (more (string s) end))) ps)
   has_its_text-mapped ps (Node Kind.PrivateIdentifier n span semantic_id qs) =
       rw (r.new n, string_at-mapped f 0 qs, are_characters-mapped f ps (string_of (at 0 qs)), stands_equal-mapped r (Node Kind.PrivateIdentifier n span semantic_id qs) ps) refl
   has_its_text-mapped ps (Node kind n span semantic_id qs) = ap (has_characters (has_name kind) first (f n) (map (mapped f) ps)) (string_at-mapped f 0 qs) ∙ has_characters-mapped (has_name kind) n ps (string_of (at 0 qs))

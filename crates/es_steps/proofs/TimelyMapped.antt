@@ -32,7 +32,7 @@ module _ (f : ℕ → ℕ) where
   mapped_running p = (f p.0, p.1)
 
   abbrev pub mapped_around : Around → Around
-  mapped_around x = record { held = map mapped_held x.held; later = map mapped_later x.later; is_called = x.is_called; running = map mapped_running x.running }
+  mapped_around x = record { held = map mapped_held x.held; later = map mapped_later x.later; is_called = x.is_called; running = map mapped_running x.running; class_name = x.class_name }
 
   abbrev pub mapped_mark : Mark → Mark
   mapped_mark m = record { name = m.name; form = m.form; around = mapped_around m.around }
@@ -101,7 +101,7 @@ module _ {first : ℕ} {f : ℕ → ℕ} (r : Renames first f) where
       (cond-mapped (map (mapped_running f)) (is_class kind && body_runs (at 2 ps)) ((m, spelling (at 0 ps)) ∷ x.running) x.running refl refl)
 
   around_in-mapped : (ledger : List LedgerEntry) (x : Around) (kind : Kind) (m : ℕ) (ps : Parts) (i : ℕ) → around_in first (mapped_ledger f ledger) (mapped_around f x) kind (f m) (mapped_parts f ps) i ≡ mapped_around f (around_in first ledger x kind m ps i)
-  around_in-mapped ledger x kind m ps i = rw (held_in-mapped x kind m ps i, later_in-mapped ledger x kind m ps i, running_in-mapped x kind m ps) refl
+  around_in-mapped ledger x kind m ps i = rw (held_in-mapped x kind m ps i, later_in-mapped ledger x kind m ps i, running_in-mapped x kind m ps, spelling_at-mapped f 0 ps) refl
 
   -- ---- what a class needs
 
@@ -158,15 +158,13 @@ module _ {first : ℕ} {f : ℕ → ℕ} (r : Renames first f) where
     initialized_mark-mapped x id (child t) = rw (spelling-mapped f id) (mark-mapped x initializes (spelling id))
     initialized_mark-mapped x id p = refl
 
-    class_marks-mapped : (x : Around) (m : ℕ) (ps : Parts) → uses_of (mapped_around f x) (needed_names (f m) others there) ++ mark first there others (mapped_around f x) initializes (spelling (at 0 (mapped_parts f ps))) ≡ moved (uses_of x (needed_names m members ledger) ++ mark first ledger members x initializes (spelling (at 0 ps)))
-    class_marks-mapped x m ps =
-        append-mapped (mapped_mark f) _ _ (ap (uses_of (mapped_around f x)) (needed_names-mapped m members ledger) ∙ uses_of-mapped x (needed_names m members ledger))
-        (ap (mark first there others (mapped_around f x) initializes) (spelling_at-mapped f 0 ps) ∙ mark-mapped x initializes (spelling (at 0 ps)))
+    class_uses-mapped : (x : Around) (m : ℕ) → uses_of (mapped_around f x) (needed_names (f m) others there) ≡ moved (uses_of x (needed_names m members ledger))
+    class_uses-mapped x m = ap (uses_of (mapped_around f x)) (needed_names-mapped m members ledger) ∙ uses_of-mapped x (needed_names m members ledger)
 
     marks_before-mapped : (x : Around) (kind : Kind) (m : ℕ) (ps : Parts) → marks_before first there others (mapped_around f x) kind (f m) (mapped_parts f ps) ≡ moved (marks_before first ledger members x kind m ps)
     marks_before-mapped x Kind.IdentifierReference m ps = rw (string_at-mapped f 0 ps) (mark-mapped x uses (string_of (at 0 ps)))
-    marks_before-mapped x Kind.ClassDeclaration m ps = class_marks-mapped x m ps
-    marks_before-mapped x Kind.ClassExpression m ps = class_marks-mapped x m ps
+    marks_before-mapped x Kind.ClassDeclaration m ps = class_uses-mapped x m
+    marks_before-mapped x Kind.ClassExpression m ps = class_uses-mapped x m
     marks_before-mapped x Kind.FunctionDeclaration m ps = rw (spelling_at-mapped f 0 ps) (mark-mapped x hoists (spelling (at 0 ps)))
     marks_before-mapped x kind m ps = refl
 
@@ -201,7 +199,7 @@ module _ {first : ℕ} {f : ℕ → ℕ} (r : Renames first f) where
       marks_at-mapped : (is_body : Bool) (x : Around) (b : Bool) (p : Part) → marks_at first there others is_body (mapped_around f x) b (mapped_part f p) ≡ moved (marks_at first ledger members is_body x b p)
       marks_at-mapped is_body x b (child t) = marks-mapped x b t
       marks_at-mapped false x b (list ps) = marks_of-mapped x b ps
-      marks_at-mapped true x b (list ps) = append-mapped (mapped_mark f) _ _ (key_marks-mapped x ps) (value_marks-mapped x ps)
+      marks_at-mapped true x b (list ps) = append-mapped (mapped_mark f) _ _ (key_marks-mapped x ps) (append-mapped (mapped_mark f) _ _ (mark-mapped x initializes x.class_name) (value_marks-mapped x ps))
       marks_at-mapped true x b p = refl
       marks_at-mapped false x b p = refl
 
@@ -292,5 +290,5 @@ module _ {first : ℕ} {f : ℕ → ℕ} (r : Renames first f) where
 
   pub names_timely-mapped : (ledger : List LedgerEntry) (members : List PrivateMember) (q : Tree) → names_timely first (mapped_ledger f ledger) (mapped_privates f members) (mapped f q) ≡ names_timely first ledger members q
   names_timely-mapped ledger members q =
-      ap (in_time (mapped_ledger f ledger) []) (marks-mapped ledger members (record { held = []; later = []; is_called = false; running = [] }) false q)
-      ∙ in_time-mapped ledger [] (marks first ledger members (record { held = []; later = []; is_called = false; running = [] }) false q)
+      ap (in_time (mapped_ledger f ledger) []) (marks-mapped ledger members (record { held = []; later = []; is_called = false; running = []; class_name = [] }) false q)
+      ∙ in_time-mapped ledger [] (marks first ledger members (record { held = []; later = []; is_called = false; running = []; class_name = [] }) false q)

@@ -17,7 +17,7 @@ use Rattle.es_steps.specs.LoweredClasses.{has_lowered_class}
 use Rattle.es_steps.specs.Options.{lowers_fields, lowers_blocks}
 use Rattle.es_steps.specs.OwnNames.{own_name_numbers, own_names_stay}
 use Rattle.es_steps.specs.Parts.{at, items, string_of, is_present}
-use Rattle.es_steps.specs.Printable.{is_printable}
+use Rattle.es_steps.specs.Printable.{stays_printable}
 use Rattle.es_steps.specs.PrivateNames.{PrivateMember, private_members, member_at, is_a_field}
 use Rattle.es_steps.specs.References.{Reference, resolve, has_number}
 use Rattle.es_steps.specs.Scopes.{is_binding_identifier, class_in}
@@ -351,7 +351,7 @@ pub record MeetsClauses (first : ℕ) (o : Options) (ledger : List LedgerEntry) 
   pub definitions : definitions_stand first o ledger (private_members p) p q ≡ true
   pub elements : elements_kept o (preorder p) (preorder q) ≡ true
   pub calls : helper_calls_fit first ledger (computed_keys (preorder p)) q ≡ true
-  pub printable : (not (is_printable p) || is_printable q) ≡ true
+  pub printable : stays_printable p q ≡ true
 
 -- what a lowered program owes
 pub record IsLowered (first : ℕ) (o : Options) (ledger : List LedgerEntry) (p q : Tree) : Type 0 where

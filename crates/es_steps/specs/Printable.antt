@@ -1,7 +1,8 @@
 -- Trees that can be printed as JavaScript: a table of those that cannot. (ECMA-262, 12: names, literals, templates,
 -- directives; the rest is what no source text is read as.)
-use Rattle.std.specs.Prelude.{ℕ, zero, suc, List, [], ◌∷◌, Bool, true, false, cond, not, ◌&&◌, ◌||◌, nat_eq, nat_le, codes, bytes_eq, Option, Some, None}
+use Rattle.std.specs.Prelude.{ℕ, zero, suc, List, [], ◌∷◌, ◌++◌, Bool, true, false, cond, not, ◌&&◌, ◌||◌, nat_eq, nat_le, codes, bytes_eq, Option, Some, None}
 use Rattle.es_base.specs.Conforms.{is_among}
+use Rattle.es_base.specs.Preorder.{number_of, preorder}
 use Rattle.es_base.specs.Tree.{Tree, Part, Parts, Node, end, more, child, absent, list, string, boolean, literal}
 use Rattle.es_base.specs.declared.kind.Kind.{Kind}
 use Rattle.es_base.specs.declared.literal.LiteralValue.{LiteralValue}
@@ -10,6 +11,7 @@ use Rattle.es_steps.specs.Context.{is_constructor, is_function}
 use Rattle.es_steps.specs.KeptNodes.{statement_list}
 use Rattle.es_steps.specs.Parts.{at, items, string_of, is_true, is_present}
 use Rattle.es_steps.specs.Repeated.{is_loop, is_arrow}
+use Rattle.es_steps.specs.References.{has_number}
 use Rattle.es_steps.specs.Reserved.{no_words, has_reserved}
 use Rattle.es_steps.specs.Scopes.{is_declaring}
 use Rattle.es_steps.specs.Strict.{has_use_strict, directives}
@@ -142,7 +144,7 @@ only_digits (c ∷ cs) = is_digit c && only_digits cs
 abbrev pub is_bigint : String → Bool
 is_bigint [] = false
 is_bigint (c ∷ []) = is_digit c
-is_bigint (c ∷ cs) = not (nat_eq c 48) && (is_digit c && only_digits cs)
+is_bigint (c ∷ d ∷ cs) = cond (nat_eq c 48) (is_based d cs) (is_digit c && only_digits (d ∷ cs))
 
 -- ---- regular expressions: outside classes no `/` without a backslash, no open class, no backslash at the end
 
@@ -207,14 +209,14 @@ abbrev pub has_uncooked : Kind → Parts → Bool
 has_uncooked Kind.TaggedTemplateExpression ps = is_uncooked (at 0 ps)
 has_uncooked kind ps = any_uncooked ps
 
--- ---- directives: as their string is, without `"`, backslash and line end
+-- ---- directives: as their string is; one with a `"`, a backslash or a line end is one of the source (`Texts.antt`)
 
 abbrev pub is_plain_directive : List ℕ → Bool
 is_plain_directive [] = true
 is_plain_directive (c ∷ cs) = not (nat_eq c 34 || (nat_eq c 92 || is_line_end c)) && is_plain_directive cs
 
 abbrev pub is_directive_of : String → Part → Bool
-is_directive_of s (child (Node Kind.Literal m span semantic_id (more (literal (literal_value.String t raw)) end))) = bytes_eq s t && is_plain_directive s
+is_directive_of s (child (Node Kind.Literal m span semantic_id (more (literal (literal_value.String t raw)) end))) = bytes_eq s t || not (is_plain_directive s)
 is_directive_of s p = false
 
 abbrev pub is_bad_directive : Kind → Parts → Bool
@@ -243,15 +245,10 @@ abbrev pub is_bare_string : Part → Bool
 is_bare_string (child (Node Kind.ExpressionStatement m span semantic_id (more (child (Node Kind.Literal k kspan k_semantic_id (more (literal (literal_value.String s raw)) end))) (more directive end)))) = not (is_directive (child (Node Kind.ExpressionStatement m span semantic_id (more absent (more directive end)))))
 is_bare_string p = false
 
-abbrev pub has_bare_string : Parts → Bool
-has_bare_string end = false
-has_bare_string (more p ps) = is_bare_string p || (is_directive p && has_bare_string ps)
-
 abbrev pub has_bad_prologue : Kind → Parts → Bool
-has_bad_prologue Kind.Program ps = has_late_directive false (items (at 1 ps)) || has_bare_string (items (at 1 ps))
-has_bad_prologue Kind.FunctionDeclaration ps = is_strict_with_patterns (at 1 ps) (at 2 ps) || has_bare_string (directives (at 2 ps))
-has_bad_prologue Kind.FunctionExpression ps = is_strict_with_patterns (at 1 ps) (at 2 ps) || has_bare_string (directives (at 2 ps))
-has_bad_prologue Kind.ArrowFunctionExpression ps = is_strict_with_patterns (at 0 ps) (at 1 ps) || has_bare_string (directives (at 1 ps))
+has_bad_prologue Kind.FunctionDeclaration ps = is_strict_with_patterns (at 1 ps) (at 2 ps)
+has_bad_prologue Kind.FunctionExpression ps = is_strict_with_patterns (at 1 ps) (at 2 ps)
+has_bad_prologue Kind.ArrowFunctionExpression ps = is_strict_with_patterns (at 0 ps) (at 1 ps)
 has_bad_prologue kind ps = has_late_directive false (statement_list kind ps)
 
 -- ---- forms
@@ -541,5 +538,37 @@ abbrev mutual
   stray_in j end = false
   stray_in j (more p ps) = stray_at j p || stray_in j ps
 
+-- ---- strings that are printed as directives
+
+-- the statements that the directives of a node begin
+abbrev pub prologue : Kind → Parts → Parts
+prologue Kind.Program ps = items (at 1 ps)
+prologue Kind.FunctionDeclaration ps = directives (at 2 ps)
+prologue Kind.FunctionExpression ps = directives (at 2 ps)
+prologue Kind.ArrowFunctionExpression ps = directives (at 1 ps)
+prologue kind ps = end
+
+abbrev pub statement_number : Part → List ℕ
+statement_number (child t) = number_of t ∷ []
+statement_number p = []
+
+-- the strings among the first statements that are no directives
+abbrev pub bare_in : Parts → List ℕ
+bare_in end = []
+bare_in (more p ps) = cond (is_bare_string p) (statement_number p ++ bare_in ps) (cond (is_directive p) (bare_in ps) [])
+
+abbrev pub bare_strings : List Tree → List ℕ
+bare_strings [] = []
+bare_strings (Node kind m span semantic_id ps ∷ ts) = bare_in (prologue kind ps) ++ bare_strings ts
+
+abbrev pub all_among : List ℕ → List ℕ → Bool
+all_among [] ks = true
+all_among (n ∷ ns) ks = has_number n ks && all_among ns ks
+
 abbrev pub is_printable : Tree → Bool
 is_printable t = not (has_bad false false t || (has_stray (no_jumps false) t || has_reserved no_words t))
+
+-- what p was lowered to can be printed where p can, and those strings stood there in p: a printer that writes them as they are
+-- makes directives of them in both
+abbrev pub stays_printable : Tree → Tree → Bool
+stays_printable p q = (not (is_printable p) || is_printable q) && all_among (bare_strings (preorder q)) (bare_strings (preorder p))

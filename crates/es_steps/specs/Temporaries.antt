@@ -113,10 +113,15 @@ abbrev pub is_steady : List Touch → List Touch → Bool
 is_steady [] reads = true
 is_steady (g ∷ gs) reads = all_touched (λ t. nat_eq g.place t.place) gs && (all_touched (λ t. nat_eq g.place t.place) reads || (is_none gs && all_touched (λ t. nat_eq g.declaration t.declaration) reads))
 
--- a parameter that stands for an argument is read where its arrow is called
+abbrev pub is_at_most_one : List Touch → Bool
+is_at_most_one [] = true
+is_at_most_one (t ∷ ts) = is_none ts
+
+-- a parameter that stands for an argument is read where its arrow is called, and once at most: it may stand for a regular
+-- expression, which is another one each time
 abbrev pub is_at_call : List Touch → List Touch → Bool
 is_at_call [] reads = true
-is_at_call (g ∷ gs) reads = is_none gs && all_touched (λ t. nat_eq g.place t.place) reads
+is_at_call (g ∷ gs) reads = is_none gs && (all_touched (λ t. nat_eq g.place t.place) reads && is_at_most_one reads)
 
 -- a name is declared in the body in which it is given
 abbrev pub is_near : List Touch → List Touch → Bool

@@ -1,8 +1,8 @@
--- Literals and strings of templates are written as they were: a printer may write the source text that one has. (Our own.)
+-- Literals, strings of templates, directives and private names are written as they were: a printer may write the source text that one has. (Our own.)
 use Rattle.std.specs.Prelude.{ℕ, List, [], ◌∷◌, Bool, true, false, cond, not, nat_eq, nat_le, ◌&&◌, ◌||◌, Some}
 use Rattle.es_base.specs.Numbered.{is_new}
 use Rattle.es_base.specs.Preorder.{preorder}
-use Rattle.es_base.specs.Tree.{Tree, Part, Parts, Node, literal}
+use Rattle.es_base.specs.Tree.{Tree, Part, Parts, Node, end, more, string, literal}
 use Rattle.es_base.specs.declared.kind.Kind.{Kind}
 use Rattle.es_base.specs.declared.literal.LiteralValue.TheVariants as literal_value
 use Rattle.es_steps.specs.KeptNodes.{stands_equal}
@@ -59,6 +59,7 @@ has_characters is_name first n ts s = not (is_name && is_new first n) || are_cha
 abbrev pub has_its_text : ℕ → List Tree → Tree → Bool
 has_its_text first ps (Node Kind.Literal n span semantic_id qs) = cond (is_new first n) (is_plain (at 0 qs) || (is_literal_among qs ps && not (is_legacy (at 0 qs)))) (stands_equal (Node Kind.Literal n span semantic_id qs) ps)
 has_its_text first ps (Node Kind.TemplateElement n span semantic_id qs) = cond (is_new first n) (is_string_among qs ps) (stands_equal (Node Kind.TemplateElement n span semantic_id qs) ps)
+has_its_text first ps (Node Kind.ExpressionStatement n span semantic_id (more e (more (string s) end))) = is_new first n || stands_equal (Node Kind.ExpressionStatement n span semantic_id (more e (more (string s) end))) ps
 has_its_text first ps (Node Kind.PrivateIdentifier n span semantic_id qs) = cond (is_new first n) (are_characters ps (string_of (at 0 qs))) (stands_equal (Node Kind.PrivateIdentifier n span semantic_id qs) ps)
 has_its_text first ps (Node kind n span semantic_id qs) = has_characters (has_name kind) first n ps (string_of (at 0 qs))
 

@@ -34,6 +34,8 @@ pub record Around : Type 0 where
   pub is_called : Bool
   -- classes whose body is around, and has elements that run with the class, each with its own name, which is there
   pub running : List (ℕ × String)
+  -- the own name of the nearest class
+  pub class_name : String
 
 pub record Mark : Type 0 where
   pub name : String
@@ -86,7 +88,7 @@ is_hoisted ledger Kind.FunctionDeclaration ps = not (is_some (generated_as (spel
 is_hoisted ledger kind ps = false
 
 abbrev pub around_in : ℕ → List LedgerEntry → Around → Kind → ℕ → Parts → ℕ → Around
-around_in first ledger x kind m ps i = record { running = cond (is_class kind && body_runs (at 2 ps)) ((m, spelling (at 0 ps)) ∷ x.running) x.running; is_called = is_callee_of_call kind i; held = cond (is_held kind ps i || (is_held_arrow first x kind m || is_instance_value kind ps i)) ((m, i) ∷ x.held) x.held; later = cond (runs_later first kind m ps i) ((m, is_hoisted ledger kind ps) ∷ x.later) x.later }
+around_in first ledger x kind m ps i = record { class_name = cond (is_class kind) (spelling (at 0 ps)) x.class_name; running = cond (is_class kind && body_runs (at 2 ps)) ((m, spelling (at 0 ps)) ∷ x.running) x.running; is_called = is_callee_of_call kind i; held = cond (is_held kind ps i || (is_held_arrow first x kind m || is_instance_value kind ps i)) ((m, i) ∷ x.held) x.held; later = cond (runs_later first kind m ps i) ((m, is_hoisted ledger kind ps) ∷ x.later) x.later }
 
 abbrev pub is_spelled : String → Bool
 is_spelled [] = false
@@ -136,8 +138,8 @@ module _ (first : ℕ) (ledger : List LedgerEntry) (members : List PrivateMember
   -- in front of the marks of its parts, and behind them
   abbrev pub marks_before : Around → Kind → ℕ → Parts → List Mark
   marks_before x Kind.IdentifierReference m ps = mark x uses (string_of (at 0 ps))
-  marks_before x Kind.ClassDeclaration m ps = uses_of x (needed_names m members ledger) ++ mark x initializes (spelling (at 0 ps))
-  marks_before x Kind.ClassExpression m ps = uses_of x (needed_names m members ledger) ++ mark x initializes (spelling (at 0 ps))
+  marks_before x Kind.ClassDeclaration m ps = uses_of x (needed_names m members ledger)
+  marks_before x Kind.ClassExpression m ps = uses_of x (needed_names m members ledger)
   marks_before x Kind.FunctionDeclaration m ps = mark x hoists (spelling (at 0 ps))
   marks_before x kind m ps = []
 
@@ -155,7 +157,7 @@ module _ (first : ℕ) (ledger : List LedgerEntry) (members : List PrivateMember
   is_let_declaration Kind.VariableDeclaration ps = is_let ps
   is_let_declaration kind ps = false
 
-  -- an arrow that is called where it stands behind its arguments, and the keys of a class in front of its static elements
+  -- an arrow that is called where it stands behind its arguments, and the keys of a class in front of its own name and its static elements
   abbrev mutual
     pub marks : Around → Bool → Tree → List Mark
     marks x in_let (Node kind m span semantic_id ps) = marks_before x kind m ps ++ marks_in (is_called_arrow kind ps) (is_class_body kind) (around_in first ledger x kind m ps) (is_given kind ps) (is_let_declaration kind ps) ps ++ marks_behind x in_let kind ps
@@ -170,7 +172,7 @@ module _ (first : ℕ) (ledger : List LedgerEntry) (members : List PrivateMember
     pub marks_at : Bool → Around → Bool → Part → List Mark
     marks_at is_body x in_let (child t) = marks x in_let t
     marks_at false x in_let (list ps) = marks_of x in_let ps
-    marks_at true x in_let (list ps) = key_marks x ps ++ value_marks x ps
+    marks_at true x in_let (list ps) = key_marks x ps ++ (mark x initializes x.class_name ++ value_marks x ps)
     marks_at is_body x in_let p = []
 
     pub marks_of : Around → Bool → Parts → List Mark
@@ -273,4 +275,4 @@ module _ (ledger : List LedgerEntry) where
   in_time front (m ∷ ms) = not (is_early m || (is_dead m ms || is_skipped m front)) && ((not (asks m) || (any_gives true m front || (not (comes_first (generated_as m.name ledger)) && any_gives false m ms))) && in_time (m ∷ front) ms)
 
 abbrev pub names_timely : ℕ → List LedgerEntry → List PrivateMember → Tree → Bool
-names_timely first ledger members q = in_time ledger [] (marks first ledger members (record { held = []; later = []; is_called = false; running = [] }) false q)
+names_timely first ledger members q = in_time ledger [] (marks first ledger members (record { held = []; later = []; is_called = false; running = []; class_name = [] }) false q)

@@ -20,7 +20,7 @@ use Rattle.es_steps.specs.LoweredClasses.{Element, elements_of, is_lowered_eleme
 use Rattle.es_steps.specs.Options.{lowers_fields, lowers_blocks}
 use Rattle.es_steps.specs.OwnNames.{own_name_numbers}
 use Rattle.es_steps.specs.Parts.{at, items, string_of}
-use Rattle.es_steps.specs.Printable.{is_printable}
+use Rattle.es_steps.specs.Printable.{is_printable, bare_strings, all_among}
 use Rattle.es_steps.specs.PrivateNames.{private_members, is_class}
 use Rattle.es_steps.specs.References.{resolve}
 use Rattle.es_steps.specs.Scopes.{is_binding_identifier}
@@ -489,6 +489,13 @@ keys-stand : (b : Bool) → (not b || true) ≡ true
 keys-stand true = refl
 keys-stand false = refl
 
+among-all : (ns ks : List ℕ) → ((n : ℕ) → has_number n ns ≡ true → has_number n ks ≡ true) → all_among ns ks ≡ true
+among-all [] ks h = refl
+among-all (n ∷ ns) ks h = both (h n (rw (number-same n) refl)) (among-all ns ks (λ k i. h k (or-true (nat_eq k n) (has_number k ns) i)))
+
+all-among : (ns : List ℕ) → all_among ns ns ≡ true
+all-among ns = among-all ns ns (λ n h. h)
+
 pub old-characters : (first : ℕ) (is_name : Bool) (n : ℕ) (us : List Tree) (s : List ℕ) → is_new first n ≡ false → has_characters is_name first n us s ≡ true
 old-characters first true n us s e = rw e refl
 old-characters first false n us s e = refl
@@ -497,6 +504,7 @@ old-characters first false n us s e = refl
 old-text : (first : ℕ) (t : Tree) (us : List Tree) → number_of t < first → In t us → has_its_text first us t ≡ true
 old-text first (Node Kind.Literal n span semantic_id qs) us l i = rw (lt-leb first n l) (stands-equal (Node Kind.Literal n span semantic_id qs) us i)
 old-text first (Node Kind.TemplateElement n span semantic_id qs) us l i = rw (lt-leb first n l) (stands-equal (Node Kind.TemplateElement n span semantic_id qs) us i)
+old-text first (Node Kind.ExpressionStatement n span semantic_id (more e (more (string s) end))) us l i = or-true (is_new first n) (stands_equal (Node Kind.ExpressionStatement n span semantic_id (more e (more (string s) end))) us) (stands-equal (Node Kind.ExpressionStatement n span semantic_id (more e (more (string s) end))) us i)
 old-text first (Node Kind.PrivateIdentifier n span semantic_id qs) us l i = rw (lt-leb first n l) (stands-equal (Node Kind.PrivateIdentifier n span semantic_id qs) us i)
 old-text first (Node kind n span semantic_id qs) us l i = old-characters first (has_name kind) n us (string_of (at 0 qs)) (lt-leb first n l)
 
@@ -528,6 +536,6 @@ unchanged-owes o t e h left =
         definitions = definitions-stand o t turn.below h;
         elements = elements-stand o (preorder t) (preorder t) h (λ u i. i) turn.once;
         calls = calls-fit (nodes t) (computed_keys (preorder t)) none_around t turn.below;
-        printable = same_or (is_printable t);
+        printable = both (same_or (is_printable t)) (all-among (bare_strings (preorder t)));
       };
     }
