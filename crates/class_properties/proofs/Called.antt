@@ -4,7 +4,7 @@ use Rattle.std.proofs.Common.{refl}
 use Rattle.std.proofs.Math.Bool.{and-false}
 use Rattle.es_base.specs.Numbered.{is_new}
 use Rattle.es_base.specs.Tree.{Tree, Parts, end, more, trees}
-use Rattle.es_steps.specs.HelperCalls.{StaticKey, Naming, naming_of_element, calls_of, calls_of_body, helper_calls_fit}
+use Rattle.es_steps.specs.HelperCalls.{StaticKey, Naming, calls_of, calls_of_body, helper_calls_fit}
 use Rattle.class_properties.proofs.Numbered.{definitions_from, lowered_elements, statement_size, lowered_statements, lowered_from}
 use Rattle.class_properties.proofs.Shaped.{no_value, a_literal, a_reference, a_field, AreFields, a_body, a_name, a_class, AreClasses, IsProgram, a_program}
 

@@ -6,7 +6,7 @@ use Rattle.std.proofs.lemmas.List.{append-nil}
 use Rattle.es_base.specs.Preorder.{preorder, preorder_of}
 use Rattle.es_base.specs.Conforms.{is_among}
 use Rattle.es_base.specs.declared.kind.Kind.{Kind}
-use Rattle.es_base.specs.Tree.{Tree, Parts, end, more, trees, Node, string, list, child}
+use Rattle.es_base.specs.Tree.{Tree, Parts, end, more, trees, Node, string, list}
 use Rattle.es_steps.proofs.FirstMeaning.{members_of_all-append}
 use Rattle.es_steps.specs.Context.{Context}
 use Rattle.es_steps.specs.Evaluation.{Environment}

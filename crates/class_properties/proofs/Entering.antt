@@ -1,17 +1,17 @@
 -- Nothing gets into a class of a lowered program of the first form: what stands in its body is new, or stood there.
-use Rattle.std.specs.Prelude.{◌≡◌, ℕ, ◌+◌, ◌≤◌, List, [], ◌∷◌, ◌++◌, map, Bool, true, false, ◌&&◌, ◌||◌, not, nat_eq, Option}
+use Rattle.std.specs.Prelude.{◌≡◌, ℕ, ◌+◌, ◌≤◌, List, [], ◌∷◌, ◌++◌, map, true, ◌||◌, nat_eq}
 use Rattle.std.proofs.Common.{refl, ap, ◌∙◌, arith}
 use Rattle.std.proofs.lemmas.Bool.{le-leb, and_parts}
 use Rattle.std.proofs.lemmas.List.{append-nil}
 use Rattle.es_base.specs.Numbered.{is_new, EachOnce}
-use Rattle.es_base.specs.Preorder.{number_of, preorder, preorder_of, preorder_of_part}
-use Rattle.es_base.specs.Tree.{Tree, Part, Parts, Node, end, more, child, list, string, absent, literal, trees}
+use Rattle.es_base.specs.Preorder.{number_of, preorder, preorder_of}
+use Rattle.es_base.specs.Tree.{Tree, Parts, Node, end, more, absent, trees}
 use Rattle.es_base.specs.declared.kind.Kind.{Kind}
 use Rattle.es_steps.proofs.Reflexive.{number-same}
 use Rattle.es_steps.specs.KeptNodes.{are_new_or_among, numbers_in_class, none_enters, classes_kept}
 use Rattle.es_steps.specs.References.{has_number}
 use Rattle.es_unchanged.proofs.Names.{or-true, class-numbers}
-use Rattle.es_unchanged.proofs.Standing.{In, here, later, in-left, in-right, Among, both}
+use Rattle.es_unchanged.proofs.Standing.{here, later, in-left, in-right, Among, both}
 use Rattle.class_properties.proofs.Numbered.{definitions_from, lowered_elements, lowered_statements, lowered_from, statement_size}
 use Rattle.class_properties.proofs.Shaped.{no_value, a_literal, a_reference, a_key, a_field, AreFields, a_name, a_body, a_class, AreClasses, IsProgram, a_program}
 

@@ -23,7 +23,7 @@ use Rattle.class_properties.proofs.Shaped.{no_value, a_literal, a_reference, a_k
 use Rattle.class_properties.proofs.Numbered.{definitions_from, fields_size, lowered_elements, elements_size, lowered_body, body_size, lowered_statement, statement_size, lowered_statements, lowered_from}
 use Rattle.class_properties.proofs.Numbered as numbered
 use Rattle.class_properties.proofs.Renumbered.{lowered-numbered}
-use Rattle.class_properties.proofs.Printed.{printable-lowered}
+use Rattle.class_properties.proofs.Printed.{lowered-stays_printable}
 use Rattle.class_properties.proofs.Remaining.{Remains, remains}
 use Rattle.class_properties.proofs.Strictness.{no-directive, no-lowered_directive, program-strict}
 use Rattle.class_properties.proofs.Written.{texts-stay}
@@ -139,7 +139,7 @@ numbered-owes t p e =
         definitions = definitions-fit first (private_members t) t p e;
         elements = rest.elements;
         calls = rest.calls (computed_keys (preorder t));
-        printable = printable-lowered first t p;
+        printable = lowered-stays_printable first t p;
       };
     }
 

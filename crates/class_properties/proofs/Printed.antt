@@ -1,13 +1,16 @@
 -- Where a program of the first form can be printed, what it is lowered to can be.
-use Rattle.std.specs.Prelude.{◌≡◌, ℕ, ◌+◌, List, Bool, true, false, not, ◌&&◌, ◌||◌, bytes_eq, codes}
-use Rattle.std.proofs.Common.{refl, subst}
+use Rattle.std.specs.Prelude.{◌≡◌, ℕ, ◌+◌, List, [], ◌∷◌, ◌++◌, Bool, true, false, not, ◌||◌, bytes_eq, codes}
+use Rattle.std.proofs.Common.{refl, sym, subst}
 use Rattle.es_base.specs.Tree.{Tree, Part, Parts, Node, end, more, child, absent, list, trees}
 use Rattle.es_base.specs.declared.kind.Kind.{Kind}
 use Rattle.std.proofs.Math.Bool.{and-false}
+use Rattle.std.proofs.lemmas.List.{append-nil}
+use Rattle.std.proofs.Common.{append_assoc}
+use Rattle.es_base.specs.Preorder.{preorder, preorder_of}
 use Rattle.es_base.specs.Conforms.{is_among}
 use Rattle.es_steps.specs.Reserved.{Words, no_words, strict_words, is_reserved_word, field_words, strict_if, has_reserved, reserved_in, reserved_at}
 use Rattle.es_steps.specs.Strict.{has_use_strict}
-use Rattle.es_steps.specs.Printable.{any_optional, any_uncooked, has_bare_string, has_late_directive, has_bad, bad_at, bad_in, Jumps, no_jumps, has_stray, stray_in, is_printable}
+use Rattle.es_steps.specs.Printable.{any_optional, any_uncooked, bare_in, bare_strings, prologue, stays_printable, has_late_directive, has_bad, bad_at, bad_in, Jumps, no_jumps, has_stray, stray_in, is_printable}
 use Rattle.class_properties.proofs.Numbered.{definitions_from, lowered_elements, statement_size, lowered_statements, lowered_from}
 use Rattle.class_properties.proofs.Shaped.{no_value, a_literal, a_reference, a_key, a_field, AreFields, a_body, a_name, a_class, AreClasses, IsProgram, a_program}
 use Rattle.es_unchanged.proofs.Standing.{none_of}
@@ -46,13 +49,40 @@ lowered-cooked (more p ps) (a_class n span semantic_id id body hid (a_body j bsp
 
 -- ---- no directive, and no string that is printed as one
 
-definitions-bare : (es : Parts) → AreFields es → (k : ℕ) → has_bare_string (trees (definitions_from k es)) ≡ false
+definitions-bare : (es : Parts) → AreFields es → (k : ℕ) → bare_in (trees (definitions_from k es)) ≡ []
 definitions-bare end h k = refl
 definitions-bare (more p es) (a_field m span semantic_id key v hk hv, h) k = refl
 
-lowered-bare : (ps : Parts) → AreClasses ps → (k : ℕ) → has_bare_string (lowered_statements k ps) ≡ false
+lowered-bare : (ps : Parts) → AreClasses ps → (k : ℕ) → bare_in (lowered_statements k ps) ≡ []
 lowered-bare end h k = refl
 lowered-bare (more p ps) (a_class n span semantic_id id body hid (a_body j bspan b_semantic_id es he), h) k = refl
+
+bare-append : (ts us : List Tree) → bare_strings (ts ++ us) ≡ bare_strings ts ++ bare_strings us
+bare-append [] us = refl
+bare-append (Node kind m span semantic_id ps ∷ ts) us = rw (bare-append ts us) (sym (append_assoc (bare_in (prologue kind ps)) (bare_strings ts) (bare_strings us)))
+
+all-bare-definitions : (es : Parts) → AreFields es → (k : ℕ) → bare_strings (preorder_of (trees (definitions_from k es))) ≡ []
+all-bare-definitions end h k = refl
+all-bare-definitions (more p es) (a_field m span semantic_id key v (a_key i ispan i_semantic_id s) no_value, h) k = all-bare-definitions es h (k + 9)
+all-bare-definitions (more p es) (a_field m span semantic_id key v (a_key i ispan i_semantic_id s) (a_literal l lspan l_semantic_id x), h) k = all-bare-definitions es h (k + 7)
+all-bare-definitions (more p es) (a_field m span semantic_id key v (a_key i ispan i_semantic_id s) (a_reference r rspan r_semantic_id x), h) k = all-bare-definitions es h (k + 7)
+
+all-bare-elements : (es : Parts) → AreFields es → (k : ℕ) → bare_strings (preorder_of (lowered_elements k es)) ≡ []
+all-bare-elements end h k = refl
+all-bare-elements (more p es) h k =
+    let made : List Tree = preorder_of (trees (definitions_from (k + 4) (more p es))) in
+    rw (definitions-bare (more p es) h (k + 4), append-nil made, append-nil made, append-nil made, append-nil made) (all-bare-definitions (more p es) h (k + 4))
+
+all-bare-classes : (ps : Parts) → AreClasses ps → (k : ℕ) → bare_strings (preorder_of (lowered_statements k ps)) ≡ []
+all-bare-classes end h k = refl
+all-bare-classes (more p ps) (a_class n span semantic_id id body (a_name i ispan i_semantic_id s free) (a_body j bspan b_semantic_id es he), h) k =
+    let made : List Tree = preorder_of (lowered_elements k es) in
+    let rest : List Tree = preorder_of (lowered_statements (k + statement_size p) ps) in
+    rw (append-nil made, append-nil made, bare-append made rest, all-bare-elements es he k) (all-bare-classes ps h _)
+
+no-bare : (k : ℕ) (t : Tree) → IsProgram t → bare_strings (preorder (lowered_from k t)) ≡ []
+no-bare k t (a_program m span semantic_id s all h) =
+    rw (lowered-bare all h k, append-nil (preorder_of (lowered_statements k all))) (all-bare-classes all h k)
 
 definitions-undirected : (es : Parts) → AreFields es → (k : ℕ) (late : Bool) → has_late_directive late (trees (definitions_from k es)) ≡ false
 definitions-undirected end h k late = refl
@@ -84,7 +114,7 @@ definitions-good (more p es) (a_field m span semantic_id key v (a_key i ispan i_
 
 elements-good : (es : Parts) → AreFields es → (k : ℕ) → bad_in false false es ≡ false → bad_in false false (lowered_elements k es) ≡ false
 elements-good end h k g = refl
-elements-good (more p es) h k g = rw (definitions-undirected (more p es) h (k + 4) false, definitions-bare (more p es) h (k + 4), definitions-cooked (more p es) h (k + 4), definitions-plain (more p es) h (k + 4), definitions-good (more p es) h (k + 4) g) refl
+elements-good (more p es) h k g = rw (definitions-undirected (more p es) h (k + 4) false, definitions-cooked (more p es) h (k + 4), definitions-plain (more p es) h (k + 4), definitions-good (more p es) h (k + 4) g) refl
 
 -- ---- classes
 
@@ -193,11 +223,14 @@ printed false b false d false f h none i = rw (h refl, none, i refl) refl
 
 program-good : (k : ℕ) (t : Tree) → IsProgram t → has_bad false false t ≡ false → has_bad false false (lowered_from k t) ≡ false
 program-good k t (a_program m span semantic_id s all h) g =
-    let inside = none_of (((has_late_directive false all || has_bare_string all) || ((any_optional all || false) || (any_uncooked all || false))) || false) (bad_in false (bytes_eq s (codes "module")) all || false) g in
+    let inside = none_of ((has_late_directive false all || ((any_optional all || false) || (any_uncooked all || false))) || false) (bad_in false (bytes_eq s (codes "module")) all || false) g in
     let good = none_of (bad_in false (bytes_eq s (codes "module")) all) false inside.1 in
-    rw (lowered-undirected all h k false, lowered-bare all h k, lowered-cooked all h k, lowered-plain all h k, classes-good (bytes_eq s (codes "module")) all h k good.0) refl
+    rw (lowered-undirected all h k false, lowered-cooked all h k, lowered-plain all h k, classes-good (bytes_eq s (codes "module")) all h k good.0) refl
 
-pub printable-lowered : (k : ℕ) (t : Tree) → IsProgram t → (not (is_printable t) || is_printable (lowered_from k t)) ≡ true
+printable-lowered : (k : ℕ) (t : Tree) → IsProgram t → (not (is_printable t) || is_printable (lowered_from k t)) ≡ true
 printable-lowered k t h =
     printed (has_bad false false t) (has_bad false false (lowered_from k t)) (has_stray (no_jumps false) t) (has_stray (no_jumps false) (lowered_from k t)) (has_reserved no_words t) (has_reserved no_words (lowered_from k t))
     (program-good k t h) (program-stays k t h) (program-free k t h)
+
+pub lowered-stays_printable : (k : ℕ) (t : Tree) → IsProgram t → stays_printable t (lowered_from k t) ≡ true
+lowered-stays_printable k t h = rw (printable-lowered k t h, no-bare k t h) refl

@@ -10,7 +10,7 @@ use Rattle.es_base.specs.declared.kind.Kind.{Kind}
 use Rattle.es_base.specs.declared.shape.Shape.{Shape}
 use Rattle.es_base.specs.declared.table.Place.{Place}
 use Rattle.es_steps.specs.FirstForm.{is_first_form}
-use Rattle.es_steps.specs.LoweredClasses.{elements_in, any_element, is_lowered_class, constructor_function, is_hoisted_key}
+use Rattle.es_steps.specs.LoweredClasses.{elements_in, any_element, is_lowered_class, constructor_function}
 use Rattle.es_steps.specs.Options.{lowers_fields, lowers_blocks}
 use Rattle.es_steps.specs.Parts.{at}
 use Rattle.es_steps.specs.PrivateNames.{PrivateMember, elements_members}

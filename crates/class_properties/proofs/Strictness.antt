@@ -1,13 +1,12 @@
 -- A lowered program of the first form has no code that becomes strict: its classes were strict, and nothing else is.
-use Rattle.std.specs.Prelude.{◌≡◌, ℕ, zero, suc, ◌+◌, ◌<◌, ◌≤◌, List, [], ◌∷◌, ◌++◌, map, Bool, true, false, ◌&&◌, ◌||◌, nat_eq, Option}
-use Rattle.std.proofs.Common.{refl, sym, ap, ap₂, ◌∙◌, subst, arith, ◌⊎◌, inl, inr}
+use Rattle.std.specs.Prelude.{◌≡◌, ℕ, ◌+◌, ◌<◌, ◌≤◌, List, [], ◌∷◌, ◌++◌, map, Bool, true, false, ◌||◌, nat_eq}
+use Rattle.std.proofs.Common.{refl, sym, ap, ap₂, ◌∙◌, arith, ◌⊎◌, inl, inr}
 use Rattle.std.proofs.lemmas.Bool.{le-leb, true≢false}
 use Rattle.std.proofs.lemmas.List.{map-append}
 use Rattle.es_base.specs.Numbered.{is_new}
 use Rattle.es_base.specs.Preorder.{nodes, nodes_of, nodes_of_part, number_of, preorder, preorder_of, preorder_of_part, numbered_from, numbered_part, numbered_parts}
 use Rattle.es_base.specs.Tree.{Tree, Part, Parts, Node, end, more, child, absent, list, string, no_string, boolean, literal}
 use Rattle.es_base.specs.declared.kind.Kind.{Kind}
-use Rattle.es_steps.proofs.Reflexive.{number-same}
 use Rattle.es_steps.specs.KeptNodes.{are_new_or_among}
 use Rattle.es_steps.specs.References.{has_number}
 use Rattle.es_steps.specs.Strict.{if_strict, strict_numbers, strict_in, strict_at, has_use_strict}

@@ -1,15 +1,15 @@
 -- In a lowered program of the first form each literal has its text: the values are those of the source, the keys have none.
-use Rattle.std.specs.Prelude.{◌≡◌, ℕ, ◌+◌, ◌≤◌, List, [], ◌∷◌, ◌++◌, map, Bool, true, false, cond, not, codes, ◌&&◌, Option}
+use Rattle.std.specs.Prelude.{◌≡◌, ℕ, ◌+◌, ◌≤◌, List, [], ◌∷◌, ◌++◌, Bool, true, false, cond, not, codes}
 use Rattle.std.proofs.Common.{refl, sym, subst, arith}
 use Rattle.std.proofs.lemmas.Bool.{le-leb, lt-leb, and_parts}
 use Rattle.std.proofs.lemmas.List.{append-nil}
 use Rattle.es_base.specs.Numbered.{is_new}
 use Rattle.es_base.specs.Preorder.{nodes, number_of, preorder, preorder_of, numbered_from}
-use Rattle.es_base.specs.Tree.{Tree, Part, Parts, Node, end, more, child, list, string, absent, boolean, literal, trees}
+use Rattle.es_base.specs.Tree.{Tree, Parts, Node, end, more, string, literal, trees}
 use Rattle.es_base.specs.declared.kind.Kind.{Kind}
 use Rattle.es_steps.specs.KeptNodes.{stands_equal}
 use Rattle.es_steps.specs.Texts.{are_characters, has_characters, all_have_their_texts, texts_stay}
-use Rattle.es_unchanged.proofs.Standing.{In, here, later, in-left, in-right, Among, both, stands-equal}
+use Rattle.es_unchanged.proofs.Standing.{In, here, later, in-left, in-right, both, stands-equal}
 use Rattle.es_unchanged.proofs.Names.{or-true}
 use Rattle.es_unchanged.proofs.Unchanged.{Below, numbered-below, old-characters}
 use Rattle.class_properties.proofs.Numbered.{definitions_from, lowered_elements, lowered_statements, lowered_from, statement_size}
