@@ -8,6 +8,18 @@ returns-clause-block_of_a_binding c = (refl, refl, lowered refl, refl)
 pub returns-clause-block_of_an_arrow : goal.returns-clause-block_of_an_arrow
 returns-clause-block_of_an_arrow c = (refl, refl, lowered refl, refl)
 
+pub returns-clause-class_named_await : goal.returns-clause-class_named_await
+returns-clause-class_named_await c = (refl, refl, lowered refl, refl)
+
+pub returns-clause-class_that_suspends : goal.returns-clause-class_that_suspends
+returns-clause-class_that_suspends c = (refl, refl, lowered refl, refl)
+
+pub returns-clause-classes_that_suspend : goal.returns-clause-classes_that_suspend
+returns-clause-classes_that_suspend c = (refl, refl, lowered refl, refl)
+
+pub returns-clause-nameless_class_that_suspends : goal.returns-clause-nameless_class_that_suspends
+returns-clause-nameless_class_that_suspends c = (refl, refl, lowered refl, refl)
+
 pub returns-clause-own_name_that_nothing_means : goal.returns-clause-own_name_that_nothing_means
 returns-clause-own_name_that_nothing_means c = (refl, refl, lowered refl, refl)
 
