@@ -181,6 +181,16 @@ function spellPrivate(t, from, to) {
 const suspendingField = (name, key, suspends, closure, block) => `[${key} = B.toPropertyKey(${suspends})] = (() => { var ${closure}; return (({ [${name}.#_]: class { static #_ = ${closure} = () => (${block}, this); } })[${name}.#_], ${closure}()); })();`;
 const suspending = (name, key, ...more) => `class ${name} { static #_ = ${key}; ${suspendingField(name, key, ...more)} }`;
 const suspendingNumbers = { 4: 99, 5: 99, 6: 99, 7: 99, 8: 99, 9: 5, 10: 4, 11: 99, 12: 6, 13: 99, 14: 99, 16: 7, 23: 8, 24: 9, 39: 10, 40: 11, 47: 14 };
+// the generated name that the program declares, as the own name of the function expression
+function nameFunction(t) {
+  const [made] = t.body.splice(0, 1);
+  found(t, n => n.type === 'FunctionExpression' && n.params.length > 0).id = made.declarations[0].id;
+}
+// a class in a function that is called in front of it; the first statement of that function, in front of it
+const calledBefore = (element, made, given, behind = '', options = ['--class-properties']) => ({ options, source: `F(); function F() { class A { ${element} } return new A(); }`, output: `F(); function F() { ${made} class A { constructor() { ${given} } } ${behind} return new A(); }` });
+function outOfItsFunction(t) {
+  t.body.splice(1, 0, t.body[1].body.body.shift());
+}
 
 const witnesses = [
   pair('parameters_exchanged', 'the parameters of a constructor', 'class A { constructor(a, b) { f(a, b); } }', 'class A { constructor(b, a) { f(a, b); } }', { 7: 8, 8: 7 }),
@@ -569,6 +579,14 @@ const witnesses = [
   right('nameless_class_that_suspends', 'a class that suspends and has a generated own name, which a static element names it by', { options: ['--static-block'], source: 'function* g() { return class { [yield 1] = class { static { a; } }; }; }',
     output: `function* g() { let _key; return class _Class { static #_ = (B.setFunctionName(this, ""), _key); ${suspendingField('_Class', '_key', 'yield 1', '_staticBlock', 'a')} }; }`, numbers: { 4: 99, 5: 99, 6: 99, 7: 4, 8: 5, 9: 99, 10: 6, 11: 99, 12: 99, 13: 99, 14: 99, 21: 7, 28: 8, 29: 9, 44: 10, 45: 11, 52: 14 } },
     q => {}, [{ name: '_key', kind: 'Temp' }, { name: '_staticBlock', kind: 'Closure' }, { name: '_Class', kind: 'ClassTemp', number: 5 }, { name: '_', kind: 'Private', number: 5 }, { name: '_', kind: 'Private', number: 10 }]),
+  // generated names that the function around names, or that are given outside of it
+  clause('class_temporary_of_a_function_expression', 'the name of a class given to the own name of a function expression, which is constant', { options: ['--class-properties'], source: 'f(function (a = class { static x = 1; }) { return a; });', output: 'var _Class; f(function (a = (_Class = class {}, B.defineProperty(_Class, "x", 1), _Class)) { return a; });' }, q => nameFunction(q)),
+  clause('map_of_a_function_expression', 'a map given to the own name of a function expression', { options: ['--class-properties'], source: 'f(function (a = class { #x = 1; }) { return a; });', output: 'var _x; f(function (a = (_x = new WeakMap(), class { constructor() { B.classPrivateFieldInitSpec(this, _x, 1); } })) { return a; });' }, q => nameFunction(q)),
+  clause('map_outside_of_a_called_function', 'a map made behind a call of the function that its class stands in', calledBefore('#x = 1;', 'var _x = new WeakMap();', 'B.classPrivateFieldInitSpec(this, _x, 1);'), q => outOfItsFunction(q)),
+  clause('brand_outside_of_a_called_function', 'a brand made behind a call of the function that its class stands in', calledBefore('#m() {}', 'var _A_brand = new WeakSet();', 'B.classPrivateMethodInitSpec(this, _A_brand);', 'function _m() {}'), q => outOfItsFunction(q)),
+  clause('key_outside_of_a_called_function', 'the key of a private field, which is kept as a property, made behind a call of the function that its class stands in', calledBefore('#x = 1;', 'var _x = B.classPrivateFieldLooseKey("x");', 'Object.defineProperty(this, _x, { writable: true, value: 1 });', '', ['--class-properties', '--loose']), q => outOfItsFunction(q)),
+  clause('method_outside_of_a_called_function', 'the function of a private method given behind a call of the function that its class stands in', calledBefore('#m() {}', 'var _A_brand = new WeakSet();', 'B.classPrivateMethodInitSpec(this, _A_brand);', 'function _m() {}'),
+    q => { const body = q.body[1].body.body, [f] = body.splice(2, 1), s = statement(q, 'var _m = function() {};'); Object.assign(s.declarations[0].init, { num: f.num, body: f.body, params: f.params }); q.body.splice(1, 0, s); }),
 ];
 
 // a row that `match.js` has no reading of; `numbers` are those that differ from the place in preorder

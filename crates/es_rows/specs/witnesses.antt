@@ -30,6 +30,7 @@ pub mod BodyInAnArrow
 pub mod BoundBeforeItsTest
 pub mod BranchOfAKey
 pub mod BranchOfAKeyOfAnother
+pub mod BrandOutsideOfACalledFunction
 pub mod BreakInAnArrow
 pub mod BreakInAnArrowBesideAwait
 pub mod CaughtKey
@@ -51,6 +52,7 @@ pub mod ClassOfARightSide
 pub mod ClassRenamed
 pub mod ClassTemporaryBeforeItsClass
 pub mod ClassTemporaryInItsClass
+pub mod ClassTemporaryOfAFunctionExpression
 pub mod ClassTemporaryOfAnotherCase
 pub mod ClassThatSuspends
 pub mod ClassesThatSuspend
@@ -124,6 +126,7 @@ pub mod KeyHeadsExchanged
 pub mod KeyOfABindingForAName
 pub mod KeyOfABindingInATemporary
 pub mod KeyOfAMethod
+pub mod KeyOutsideOfACalledFunction
 pub mod KeyReadLate
 pub mod KeyReadTwice
 pub mod KeyThatABranchGives
@@ -148,10 +151,13 @@ pub mod LooseMemberReadOnce
 pub mod MapMadeInABranch
 pub mod MapMadeInACalledArrow
 pub mod MapMadeInAPattern
+pub mod MapOfAFunctionExpression
+pub mod MapOutsideOfACalledFunction
 pub mod MapsInLooseMode
 pub mod MemberOfAnObject
 pub mod MethodAssignedInAnotherFunction
 pub mod MethodGivenBehindItsCalls
+pub mod MethodOutsideOfACalledFunction
 pub mod MethodWithoutBrand
 pub mod NameGivenBehindAField
 pub mod NameGivenInAClosure

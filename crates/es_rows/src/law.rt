@@ -132,6 +132,7 @@ ghost use Rattle.es_rows.specs.witnesses.BodyInAnArrow.{source_body_in_an_arrow,
 ghost use Rattle.es_rows.specs.witnesses.BoundBeforeItsTest.{source_bound_before_its_test, output_bound_before_its_test, generated_bound_before_its_test, options_bound_before_its_test};
 ghost use Rattle.es_rows.specs.witnesses.BranchOfAKey.{source_branch_of_a_key, output_branch_of_a_key, generated_branch_of_a_key, options_branch_of_a_key};
 ghost use Rattle.es_rows.specs.witnesses.BranchOfAKeyOfAnother.{source_branch_of_a_key_of_another, output_branch_of_a_key_of_another, generated_branch_of_a_key_of_another, options_branch_of_a_key_of_another};
+ghost use Rattle.es_rows.specs.witnesses.BrandOutsideOfACalledFunction.{source_brand_outside_of_a_called_function, output_brand_outside_of_a_called_function, generated_brand_outside_of_a_called_function, options_brand_outside_of_a_called_function};
 ghost use Rattle.es_rows.specs.witnesses.BreakInAnArrow.{source_break_in_an_arrow, output_break_in_an_arrow, generated_break_in_an_arrow, options_break_in_an_arrow};
 ghost use Rattle.es_rows.specs.witnesses.BreakInAnArrowBesideAwait.{source_break_in_an_arrow_beside_await, output_break_in_an_arrow_beside_await, generated_break_in_an_arrow_beside_await, options_break_in_an_arrow_beside_await};
 ghost use Rattle.es_rows.specs.witnesses.CaughtKey.{first_caught_key, second_caught_key, options_caught_key};
@@ -153,6 +154,7 @@ ghost use Rattle.es_rows.specs.witnesses.ClassOfARightSide.{source_class_of_a_ri
 ghost use Rattle.es_rows.specs.witnesses.ClassRenamed.{source_class_renamed, output_class_renamed, generated_class_renamed, options_class_renamed};
 ghost use Rattle.es_rows.specs.witnesses.ClassTemporaryBeforeItsClass.{source_class_temporary_before_its_class, output_class_temporary_before_its_class, generated_class_temporary_before_its_class, options_class_temporary_before_its_class};
 ghost use Rattle.es_rows.specs.witnesses.ClassTemporaryInItsClass.{source_class_temporary_in_its_class, output_class_temporary_in_its_class, generated_class_temporary_in_its_class, options_class_temporary_in_its_class};
+ghost use Rattle.es_rows.specs.witnesses.ClassTemporaryOfAFunctionExpression.{source_class_temporary_of_a_function_expression, output_class_temporary_of_a_function_expression, generated_class_temporary_of_a_function_expression, options_class_temporary_of_a_function_expression};
 ghost use Rattle.es_rows.specs.witnesses.ClassTemporaryOfAnotherCase.{source_class_temporary_of_another_case, output_class_temporary_of_another_case, generated_class_temporary_of_another_case, options_class_temporary_of_another_case};
 ghost use Rattle.es_rows.specs.witnesses.ClassThatSuspends.{source_class_that_suspends, output_class_that_suspends, generated_class_that_suspends, options_class_that_suspends};
 ghost use Rattle.es_rows.specs.witnesses.ClassesThatSuspend.{source_classes_that_suspend, output_classes_that_suspend, generated_classes_that_suspend, options_classes_that_suspend};
@@ -224,6 +226,7 @@ ghost use Rattle.es_rows.specs.witnesses.KeyHeadsExchanged.{first_key_heads_exch
 ghost use Rattle.es_rows.specs.witnesses.KeyOfABindingForAName.{source_key_of_a_binding_for_a_name, output_key_of_a_binding_for_a_name, generated_key_of_a_binding_for_a_name, options_key_of_a_binding_for_a_name};
 ghost use Rattle.es_rows.specs.witnesses.KeyOfABindingInATemporary.{source_key_of_a_binding_in_a_temporary, output_key_of_a_binding_in_a_temporary, generated_key_of_a_binding_in_a_temporary, options_key_of_a_binding_in_a_temporary};
 ghost use Rattle.es_rows.specs.witnesses.KeyOfAMethod.{first_key_of_a_method, second_key_of_a_method, options_key_of_a_method};
+ghost use Rattle.es_rows.specs.witnesses.KeyOutsideOfACalledFunction.{source_key_outside_of_a_called_function, output_key_outside_of_a_called_function, generated_key_outside_of_a_called_function, options_key_outside_of_a_called_function};
 ghost use Rattle.es_rows.specs.witnesses.KeyReadLate.{source_key_read_late, output_key_read_late, generated_key_read_late, options_key_read_late};
 ghost use Rattle.es_rows.specs.witnesses.KeyReadTwice.{source_key_read_twice, output_key_read_twice, generated_key_read_twice, options_key_read_twice};
 ghost use Rattle.es_rows.specs.witnesses.KeyThatABranchGives.{first_key_that_a_branch_gives, second_key_that_a_branch_gives, options_key_that_a_branch_gives};
@@ -248,10 +251,13 @@ ghost use Rattle.es_rows.specs.witnesses.LooseMemberReadOnce.{first_loose_member
 ghost use Rattle.es_rows.specs.witnesses.MapMadeInABranch.{source_map_made_in_a_branch, output_map_made_in_a_branch, generated_map_made_in_a_branch, options_map_made_in_a_branch};
 ghost use Rattle.es_rows.specs.witnesses.MapMadeInACalledArrow.{source_map_made_in_a_called_arrow, output_map_made_in_a_called_arrow, generated_map_made_in_a_called_arrow, options_map_made_in_a_called_arrow};
 ghost use Rattle.es_rows.specs.witnesses.MapMadeInAPattern.{source_map_made_in_a_pattern, output_map_made_in_a_pattern, generated_map_made_in_a_pattern, options_map_made_in_a_pattern};
+ghost use Rattle.es_rows.specs.witnesses.MapOfAFunctionExpression.{source_map_of_a_function_expression, output_map_of_a_function_expression, generated_map_of_a_function_expression, options_map_of_a_function_expression};
+ghost use Rattle.es_rows.specs.witnesses.MapOutsideOfACalledFunction.{source_map_outside_of_a_called_function, output_map_outside_of_a_called_function, generated_map_outside_of_a_called_function, options_map_outside_of_a_called_function};
 ghost use Rattle.es_rows.specs.witnesses.MapsInLooseMode.{source_maps_in_loose_mode, output_maps_in_loose_mode, generated_maps_in_loose_mode, options_maps_in_loose_mode};
 ghost use Rattle.es_rows.specs.witnesses.MemberOfAnObject.{source_member_of_an_object, output_member_of_an_object, generated_member_of_an_object, options_member_of_an_object};
 ghost use Rattle.es_rows.specs.witnesses.MethodAssignedInAnotherFunction.{source_method_assigned_in_another_function, output_method_assigned_in_another_function, generated_method_assigned_in_another_function, options_method_assigned_in_another_function};
 ghost use Rattle.es_rows.specs.witnesses.MethodGivenBehindItsCalls.{source_method_given_behind_its_calls, output_method_given_behind_its_calls, generated_method_given_behind_its_calls, options_method_given_behind_its_calls};
+ghost use Rattle.es_rows.specs.witnesses.MethodOutsideOfACalledFunction.{source_method_outside_of_a_called_function, output_method_outside_of_a_called_function, generated_method_outside_of_a_called_function, options_method_outside_of_a_called_function};
 ghost use Rattle.es_rows.specs.witnesses.MethodWithoutBrand.{source_method_without_brand, output_method_without_brand, generated_method_without_brand, options_method_without_brand};
 ghost use Rattle.es_rows.specs.witnesses.NameGivenBehindAField.{source_name_given_behind_a_field, output_name_given_behind_a_field, generated_name_given_behind_a_field, options_name_given_behind_a_field};
 ghost use Rattle.es_rows.specs.witnesses.NameGivenInAClosure.{source_name_given_in_a_closure, output_name_given_in_a_closure, generated_name_given_in_a_closure, options_name_given_in_a_closure};
@@ -635,6 +641,7 @@ pub fn clauses_are_not_met()
     ensures block_without_a_function { homes_kept (nodes source_block_without_a_function) options_block_without_a_function source_block_without_a_function output_block_without_a_function ≡ false }
     ensures body_dropped { definitions_stand (nodes source_body_dropped) options_body_dropped generated_body_dropped (private_members source_body_dropped) source_body_dropped output_body_dropped ≡ false }
     ensures body_in_an_arrow { homes_kept (nodes source_body_in_an_arrow) options_body_in_an_arrow source_body_in_an_arrow output_body_in_an_arrow ≡ false }
+    ensures brand_outside_of_a_called_function { names_timely (nodes source_brand_outside_of_a_called_function) generated_brand_outside_of_a_called_function (private_members source_brand_outside_of_a_called_function) output_brand_outside_of_a_called_function ≡ false }
     ensures break_in_an_arrow { is_printable output_break_in_an_arrow ≡ false }
     ensures break_in_an_arrow_beside_await { not (is_printable source_break_in_an_arrow_beside_await) || is_printable output_break_in_an_arrow_beside_await ≡ false }
     ensures character_of_no_name { texts_stay (nodes source_character_of_no_name) source_character_of_no_name output_character_of_no_name ≡ false }
@@ -646,6 +653,7 @@ pub fn clauses_are_not_met()
     ensures class_named_let { not (is_printable source_class_named_let) || is_printable output_class_named_let ≡ false }
     ensures class_temporary_before_its_class { names_timely (nodes source_class_temporary_before_its_class) generated_class_temporary_before_its_class (private_members source_class_temporary_before_its_class) output_class_temporary_before_its_class ≡ false }
     ensures class_temporary_in_its_class { names_timely (nodes source_class_temporary_in_its_class) generated_class_temporary_in_its_class (private_members source_class_temporary_in_its_class) output_class_temporary_in_its_class ≡ false }
+    ensures class_temporary_of_a_function_expression { initializations_stand (nodes source_class_temporary_of_a_function_expression) generated_class_temporary_of_a_function_expression (private_members source_class_temporary_of_a_function_expression) output_class_temporary_of_a_function_expression generated_class_temporary_of_a_function_expression ≡ false }
     ensures class_temporary_of_another_case { names_timely (nodes source_class_temporary_of_another_case) generated_class_temporary_of_another_case (private_members source_class_temporary_of_another_case) output_class_temporary_of_another_case ≡ false }
     ensures closure_before_its_class { names_timely (nodes source_closure_before_its_class) generated_closure_before_its_class (private_members source_closure_before_its_class) output_closure_before_its_class ≡ false }
     ensures closure_called_in_a_key { names_timely (nodes source_closure_called_in_a_key) generated_closure_called_in_a_key (private_members source_closure_called_in_a_key) output_closure_called_in_a_key ≡ false }
@@ -668,6 +676,7 @@ pub fn clauses_are_not_met()
     ensures function_out_of_its_block { lists_kept options_function_out_of_its_block source_function_out_of_its_block output_function_out_of_its_block ≡ false }
     ensures hidden_body { conforms Place.Program output_hidden_body ≡ false }
     ensures key_given_again { initializations_stand (nodes source_key_given_again) generated_key_given_again (private_members source_key_given_again) output_key_given_again generated_key_given_again ≡ false }
+    ensures key_outside_of_a_called_function { names_timely (nodes source_key_outside_of_a_called_function) generated_key_outside_of_a_called_function (private_members source_key_outside_of_a_called_function) output_key_outside_of_a_called_function ≡ false }
     ensures let_behind_a_constructor { names_timely (nodes source_let_behind_a_constructor) generated_let_behind_a_constructor (private_members source_let_behind_a_constructor) output_let_behind_a_constructor ≡ false }
     ensures let_behind_a_field { names_timely (nodes source_let_behind_a_field) generated_let_behind_a_field (private_members source_let_behind_a_field) output_let_behind_a_field ≡ false }
     ensures let_behind_an_arrow { names_timely (nodes source_let_behind_an_arrow) generated_let_behind_an_arrow (private_members source_let_behind_an_arrow) output_let_behind_an_arrow ≡ false }
@@ -678,8 +687,11 @@ pub fn clauses_are_not_met()
     ensures map_made_in_a_branch { names_timely (nodes source_map_made_in_a_branch) generated_map_made_in_a_branch (private_members source_map_made_in_a_branch) output_map_made_in_a_branch ≡ false }
     ensures map_made_in_a_called_arrow { names_timely (nodes source_map_made_in_a_called_arrow) generated_map_made_in_a_called_arrow (private_members source_map_made_in_a_called_arrow) output_map_made_in_a_called_arrow ≡ false }
     ensures map_made_in_a_pattern { names_timely (nodes source_map_made_in_a_pattern) generated_map_made_in_a_pattern (private_members source_map_made_in_a_pattern) output_map_made_in_a_pattern ≡ false }
+    ensures map_of_a_function_expression { initializations_stand (nodes source_map_of_a_function_expression) generated_map_of_a_function_expression (private_members source_map_of_a_function_expression) output_map_of_a_function_expression generated_map_of_a_function_expression ≡ false }
+    ensures map_outside_of_a_called_function { names_timely (nodes source_map_outside_of_a_called_function) generated_map_outside_of_a_called_function (private_members source_map_outside_of_a_called_function) output_map_outside_of_a_called_function ≡ false }
     ensures method_assigned_in_another_function { names_timely (nodes source_method_assigned_in_another_function) generated_method_assigned_in_another_function (private_members source_method_assigned_in_another_function) output_method_assigned_in_another_function ≡ false }
     ensures method_given_behind_its_calls { initializations_stand (nodes source_method_given_behind_its_calls) generated_method_given_behind_its_calls (private_members source_method_given_behind_its_calls) output_method_given_behind_its_calls generated_method_given_behind_its_calls ≡ false }
+    ensures method_outside_of_a_called_function { names_timely (nodes source_method_outside_of_a_called_function) generated_method_outside_of_a_called_function (private_members source_method_outside_of_a_called_function) output_method_outside_of_a_called_function ≡ false }
     ensures name_given_behind_a_field { helper_calls_fit (nodes source_name_given_behind_a_field) generated_name_given_behind_a_field (computed_keys (preorder source_name_given_behind_a_field)) output_name_given_behind_a_field ≡ false }
     ensures name_given_in_a_closure { helper_calls_fit (nodes source_name_given_in_a_closure) generated_name_given_in_a_closure (computed_keys (preorder source_name_given_in_a_closure)) output_name_given_in_a_closure ≡ false }
     ensures name_in_a_static_block { classes_kept (nodes source_name_in_a_static_block) source_name_in_a_static_block output_name_in_a_static_block ≡ false }

@@ -19,6 +19,9 @@ returns-clause-body_dropped c = refl
 pub returns-clause-body_in_an_arrow : goal.returns-clause-body_in_an_arrow
 returns-clause-body_in_an_arrow c = refl
 
+pub returns-clause-brand_outside_of_a_called_function : goal.returns-clause-brand_outside_of_a_called_function
+returns-clause-brand_outside_of_a_called_function c = refl
+
 pub returns-clause-break_in_an_arrow : goal.returns-clause-break_in_an_arrow
 returns-clause-break_in_an_arrow c = refl
 
@@ -51,6 +54,9 @@ returns-clause-class_temporary_before_its_class c = refl
 
 pub returns-clause-class_temporary_in_its_class : goal.returns-clause-class_temporary_in_its_class
 returns-clause-class_temporary_in_its_class c = refl
+
+pub returns-clause-class_temporary_of_a_function_expression : goal.returns-clause-class_temporary_of_a_function_expression
+returns-clause-class_temporary_of_a_function_expression c = refl
 
 pub returns-clause-class_temporary_of_another_case : goal.returns-clause-class_temporary_of_another_case
 returns-clause-class_temporary_of_another_case c = refl
@@ -118,6 +124,9 @@ returns-clause-hidden_body c = refl
 pub returns-clause-key_given_again : goal.returns-clause-key_given_again
 returns-clause-key_given_again c = refl
 
+pub returns-clause-key_outside_of_a_called_function : goal.returns-clause-key_outside_of_a_called_function
+returns-clause-key_outside_of_a_called_function c = refl
+
 pub returns-clause-let_behind_a_constructor : goal.returns-clause-let_behind_a_constructor
 returns-clause-let_behind_a_constructor c = refl
 
@@ -148,11 +157,20 @@ returns-clause-map_made_in_a_called_arrow c = refl
 pub returns-clause-map_made_in_a_pattern : goal.returns-clause-map_made_in_a_pattern
 returns-clause-map_made_in_a_pattern c = refl
 
+pub returns-clause-map_of_a_function_expression : goal.returns-clause-map_of_a_function_expression
+returns-clause-map_of_a_function_expression c = refl
+
+pub returns-clause-map_outside_of_a_called_function : goal.returns-clause-map_outside_of_a_called_function
+returns-clause-map_outside_of_a_called_function c = refl
+
 pub returns-clause-method_assigned_in_another_function : goal.returns-clause-method_assigned_in_another_function
 returns-clause-method_assigned_in_another_function c = refl
 
 pub returns-clause-method_given_behind_its_calls : goal.returns-clause-method_given_behind_its_calls
 returns-clause-method_given_behind_its_calls c = refl
+
+pub returns-clause-method_outside_of_a_called_function : goal.returns-clause-method_outside_of_a_called_function
+returns-clause-method_outside_of_a_called_function c = refl
 
 pub returns-clause-name_given_behind_a_field : goal.returns-clause-name_given_behind_a_field
 returns-clause-name_given_behind_a_field c = refl
