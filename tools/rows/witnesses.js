@@ -159,11 +159,14 @@ function withoutNames(s) {
 const classTemporary = { name: '_C', kind: 'ClassTemp', number: 1 };
 const nameBeside = (source, output) => ({ options: ['--class-properties'], source, output });
 const namelessClass = nameBeside('f(class { x = 1; });', 'f(class { constructor() { B.defineProperty(this, "x", 1); } });');
+// the first class expression, with a new own name
 function ownName(t, name) {
-  const id = fresh(t, tree('class A {}').body[0].id);
+  const id = fresh(t, tree('class A {}').body[0].id), c = found(t, n => n.type === 'ClassExpression');
   id.name = name;
-  found(t, n => n.type === 'ClassExpression').id = id;
+  c.id = id;
+  return c;
 }
+const ownTemporary = { name: '_Class', kind: 'ClassTemp', number: 4 };
 // `this.#x++`
 const updated = '(B.classPrivateFieldSet2(_x, this, (_t = B.classPrivateFieldGet2(_x, this), _u = _t++, _t)), _u)';
 // the declaration of `_t` as a `let` at the end of its list
@@ -587,6 +590,10 @@ const witnesses = [
   clause('key_outside_of_a_called_function', 'the key of a private field, which is kept as a property, made behind a call of the function that its class stands in', calledBefore('#x = 1;', 'var _x = B.classPrivateFieldLooseKey("x");', 'Object.defineProperty(this, _x, { writable: true, value: 1 });', '', ['--class-properties', '--loose']), q => outOfItsFunction(q)),
   clause('method_outside_of_a_called_function', 'the function of a private method given behind a call of the function that its class stands in', calledBefore('#m() {}', 'var _A_brand = new WeakSet();', 'B.classPrivateMethodInitSpec(this, _A_brand);', 'function _m() {}'),
     q => { const body = q.body[1].body.body, [f] = body.splice(2, 1), s = statement(q, 'var _m = function() {};'); Object.assign(s.declarations[0].init, { num: f.num, body: f.body, params: f.params }); q.body.splice(1, 0, s); }),
+  clause('own_name_in_a_heritage', 'the generated own name of a class read in its heritage', { options: ['--static-block'], source: 'f(class extends k() { static { g(); } });', output: 'var _s; f((class extends k() { static #_ = _s = () => (g(), this); }, _s()));' },
+    q => { const c = ownName(q, '_Class'); c.superClass = sequence(q, fresh(q, expression('_Class')), c.superClass); }, [ownTemporary]),
+  clause('own_name_in_a_key', 'the generated own name of a class read in the key of a method', { options: ['--static-block'], source: 'f(class { [k()]() {} static { g(); } });', output: 'var _s; f((class { [k()]() {} static #_ = _s = () => (g(), this); }, _s()));' },
+    q => { const m = ownName(q, '_Class').body.body[0]; m.key = sequence(q, fresh(q, expression('_Class')), m.key); }, [ownTemporary]),
 ];
 
 // a row that `match.js` has no reading of; `numbers` are those that differ from the place in preorder

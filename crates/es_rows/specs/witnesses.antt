@@ -176,6 +176,8 @@ pub mod NewTargetOfAProgram
 pub mod NumberThatStrictCodeHasNot
 pub mod ObjectEvaluatedTwice
 pub mod OddConstructor
+pub mod OwnNameInAHeritage
+pub mod OwnNameInAKey
 pub mod OwnNameOfAClassBehindAWrite
 pub mod OwnNameOfADeclarationWritten
 pub mod OwnNameOfADeclarationWrittenLater

@@ -275,6 +275,8 @@ ghost use Rattle.es_rows.specs.witnesses.NewTargetOfAProgram.{source_new_target_
 ghost use Rattle.es_rows.specs.witnesses.NumberThatStrictCodeHasNot.{source_number_that_strict_code_has_not, output_number_that_strict_code_has_not, generated_number_that_strict_code_has_not, options_number_that_strict_code_has_not};
 ghost use Rattle.es_rows.specs.witnesses.ObjectEvaluatedTwice.{source_object_evaluated_twice, output_object_evaluated_twice, generated_object_evaluated_twice, options_object_evaluated_twice};
 ghost use Rattle.es_rows.specs.witnesses.OddConstructor.{source_odd_constructor, output_odd_constructor, generated_odd_constructor, options_odd_constructor};
+ghost use Rattle.es_rows.specs.witnesses.OwnNameInAHeritage.{source_own_name_in_a_heritage, output_own_name_in_a_heritage, generated_own_name_in_a_heritage, options_own_name_in_a_heritage};
+ghost use Rattle.es_rows.specs.witnesses.OwnNameInAKey.{source_own_name_in_a_key, output_own_name_in_a_key, generated_own_name_in_a_key, options_own_name_in_a_key};
 ghost use Rattle.es_rows.specs.witnesses.OwnNameOfAClassBehindAWrite.{first_own_name_of_a_class_behind_a_write, second_own_name_of_a_class_behind_a_write, options_own_name_of_a_class_behind_a_write};
 ghost use Rattle.es_rows.specs.witnesses.OwnNameOfADeclarationWritten.{first_own_name_of_a_declaration_written, second_own_name_of_a_declaration_written, options_own_name_of_a_declaration_written};
 ghost use Rattle.es_rows.specs.witnesses.OwnNameOfADeclarationWrittenLater.{first_own_name_of_a_declaration_written_later, second_own_name_of_a_declaration_written_later, options_own_name_of_a_declaration_written_later};
@@ -701,6 +703,8 @@ pub fn clauses_are_not_met()
     ensures name_twice { names_declared (nodes source_name_twice) generated_name_twice output_name_twice ≡ false }
     ensures name_without_a_sign { names_declared (nodes source_name_without_a_sign) generated_name_without_a_sign output_name_without_a_sign ≡ false }
     ensures number_that_strict_code_has_not { texts_stay (nodes source_number_that_strict_code_has_not) source_number_that_strict_code_has_not output_number_that_strict_code_has_not ≡ false }
+    ensures own_name_in_a_heritage { names_timely (nodes source_own_name_in_a_heritage) generated_own_name_in_a_heritage (private_members source_own_name_in_a_heritage) output_own_name_in_a_heritage ≡ false }
+    ensures own_name_in_a_key { names_timely (nodes source_own_name_in_a_key) generated_own_name_in_a_key (private_members source_own_name_in_a_key) output_own_name_in_a_key ≡ false }
     ensures own_name_that_is_meant { declarations_accounted (nodes source_own_name_that_is_meant) generated_own_name_that_is_meant source_own_name_that_is_meant output_own_name_that_is_meant ≡ false }
     ensures parameter_read_later { temporaries_steady (nodes source_parameter_read_later) generated_parameter_read_later output_parameter_read_later ≡ false }
     ensures parameter_renamed { homes_kept (nodes source_parameter_renamed) options_parameter_renamed source_parameter_renamed output_parameter_renamed ≡ false }

@@ -199,6 +199,12 @@ returns-clause-name_without_a_sign c = refl
 pub returns-clause-number_that_strict_code_has_not : goal.returns-clause-number_that_strict_code_has_not
 returns-clause-number_that_strict_code_has_not c = refl
 
+pub returns-clause-own_name_in_a_heritage : goal.returns-clause-own_name_in_a_heritage
+returns-clause-own_name_in_a_heritage c = refl
+
+pub returns-clause-own_name_in_a_key : goal.returns-clause-own_name_in_a_key
+returns-clause-own_name_in_a_key c = refl
+
 pub returns-clause-own_name_that_is_meant : goal.returns-clause-own_name_that_is_meant
 returns-clause-own_name_that_is_meant c = refl
 
