@@ -594,6 +594,8 @@ const witnesses = [
     q => { const c = ownName(q, '_Class'); c.superClass = sequence(q, fresh(q, expression('_Class')), c.superClass); }, [ownTemporary]),
   clause('own_name_in_a_key', 'the generated own name of a class read in the key of a method', { options: ['--static-block'], source: 'f(class { [k()]() {} static { g(); } });', output: 'var _s; f((class { [k()]() {} static #_ = _s = () => (g(), this); }, _s()));' },
     q => { const m = ownName(q, '_Class').body.body[0]; m.key = sequence(q, fresh(q, expression('_Class')), m.key); }, [ownTemporary]),
+  clause('regular_expression_read_twice', 'a regular expression that a parameter of a new arrow stands for, read twice for two of them', { options: ['--class-properties'], source: 'f(/a/, /a/, class { x = 1; });', output: 'f(/a/, /a/, class { constructor() { B.defineProperty(this, "x", 1); } });' },
+    q => { const s = q.body[0], call = s.expression, made = fresh(q, expression('((_p) => 0)(1)')), [e] = call.arguments; call.arguments.splice(0, 2, ...[1, 2].map(() => fresh(q, expression('_p')))); made.callee.body = call; made.arguments = [e]; s.expression = made; }, [{ name: '_p', kind: 'Param' }]),
 ];
 
 // a row that `match.js` has no reading of; `numbers` are those that differ from the place in preorder

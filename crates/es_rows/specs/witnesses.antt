@@ -212,6 +212,7 @@ pub mod ReceiverOfAConditional
 pub mod ReceiverOfAPrivateCall
 pub mod ReceiverOfASuperCall
 pub mod RegularExpressionInATemporary
+pub mod RegularExpressionReadTwice
 pub mod RestDropped
 pub mod ResultOfTheSetter
 pub mod ReturnInAnArrow

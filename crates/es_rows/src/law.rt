@@ -311,6 +311,7 @@ ghost use Rattle.es_rows.specs.witnesses.ReceiverOfAConditional.{source_receiver
 ghost use Rattle.es_rows.specs.witnesses.ReceiverOfAPrivateCall.{source_receiver_of_a_private_call, output_receiver_of_a_private_call, generated_receiver_of_a_private_call, options_receiver_of_a_private_call};
 ghost use Rattle.es_rows.specs.witnesses.ReceiverOfASuperCall.{source_receiver_of_a_super_call, output_receiver_of_a_super_call, generated_receiver_of_a_super_call, options_receiver_of_a_super_call};
 ghost use Rattle.es_rows.specs.witnesses.RegularExpressionInATemporary.{source_regular_expression_in_a_temporary, output_regular_expression_in_a_temporary, generated_regular_expression_in_a_temporary, options_regular_expression_in_a_temporary};
+ghost use Rattle.es_rows.specs.witnesses.RegularExpressionReadTwice.{source_regular_expression_read_twice, output_regular_expression_read_twice, generated_regular_expression_read_twice, options_regular_expression_read_twice};
 ghost use Rattle.es_rows.specs.witnesses.RestDropped.{first_rest_dropped, second_rest_dropped, options_rest_dropped};
 ghost use Rattle.es_rows.specs.witnesses.ResultOfTheSetter.{source_result_of_the_setter, output_result_of_the_setter, generated_result_of_the_setter, options_result_of_the_setter};
 ghost use Rattle.es_rows.specs.witnesses.ReturnInAnArrow.{source_return_in_an_arrow, output_return_in_an_arrow, generated_return_in_an_arrow, options_return_in_an_arrow};
@@ -714,6 +715,7 @@ pub fn clauses_are_not_met()
     ensures private_name_twice { names_declared (nodes source_private_name_twice) generated_private_name_twice output_private_name_twice ≡ false }
     ensures raw_of_a_string { texts_stay (nodes source_raw_of_a_string) source_raw_of_a_string output_raw_of_a_string ≡ false }
     ensures raw_of_a_template { texts_stay (nodes source_raw_of_a_template) source_raw_of_a_template output_raw_of_a_template ≡ false }
+    ensures regular_expression_read_twice { temporaries_steady (nodes source_regular_expression_read_twice) generated_regular_expression_read_twice output_regular_expression_read_twice ≡ false }
     ensures strict_arrow { none_becomes_strict (nodes source_strict_arrow) source_strict_arrow output_strict_arrow ≡ false }
     ensures strict_rest { is_printable output_strict_rest ≡ false }
     ensures string_that_a_printer_makes_a_directive { not (is_printable source_string_that_a_printer_makes_a_directive) || is_printable output_string_that_a_printer_makes_a_directive ≡ false }

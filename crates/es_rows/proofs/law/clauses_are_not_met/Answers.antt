@@ -232,6 +232,9 @@ returns-clause-raw_of_a_string c = refl
 pub returns-clause-raw_of_a_template : goal.returns-clause-raw_of_a_template
 returns-clause-raw_of_a_template c = refl
 
+pub returns-clause-regular_expression_read_twice : goal.returns-clause-regular_expression_read_twice
+returns-clause-regular_expression_read_twice c = refl
+
 pub returns-clause-strict_arrow : goal.returns-clause-strict_arrow
 returns-clause-strict_arrow c = refl
 
