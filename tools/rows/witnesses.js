@@ -194,6 +194,8 @@ const calledBefore = (element, made, given, behind = '', options = ['--class-pro
 function outOfItsFunction(t) {
   t.body.splice(1, 0, t.body[1].body.body.shift());
 }
+// a lowered class behind other code
+const behindCode = code => ({ options: ['--class-properties'], source: `${code} class A { x = 1; }`, output: `${code} class A { constructor() { B.defineProperty(this, "x", 1); } }` });
 
 const witnesses = [
   pair('parameters_exchanged', 'the parameters of a constructor', 'class A { constructor(a, b) { f(a, b); } }', 'class A { constructor(b, a) { f(a, b); } }', { 7: 8, 8: 7 }),
@@ -596,6 +598,15 @@ const witnesses = [
     q => { const m = ownName(q, '_Class').body.body[0]; m.key = sequence(q, fresh(q, expression('_Class')), m.key); }, [ownTemporary]),
   clause('regular_expression_read_twice', 'a regular expression that a parameter of a new arrow stands for, read twice for two of them', { options: ['--class-properties'], source: 'f(/a/, /a/, class { x = 1; });', output: 'f(/a/, /a/, class { constructor() { B.defineProperty(this, "x", 1); } });' },
     q => { const s = q.body[0], call = s.expression, made = fresh(q, expression('((_p) => 0)(1)')), [e] = call.arguments; call.arguments.splice(0, 2, ...[1, 2].map(() => fresh(q, expression('_p')))); made.callee.body = call; made.arguments = [e]; s.expression = made; }, [{ name: '_p', kind: 'Param' }]),
+  // sources that look as if they could not be printed
+  right('string_in_parentheses', 'a string in front that is no directive', behindCode('("a");'), q => {}),
+  right('directive_with_an_escape', 'a directive with an escape', behindCode('"a\\\\b";'), q => {}),
+  right('hexadecimal_bigint', 'a bigint that is no decimal', behindCode('y = 0xFn;'), q => {}),
+  clause('nothing_declared_behind_a_string', 'a new `var` without a name, where a string in front is no directive', behindCode('("a");'), q => { q.body.push(withoutNames(statement(q, 'var a;'))); }),
+  clause('nothing_declared_behind_a_directive', 'a new `var` without a name, where a directive has an escape', behindCode('"a\\\\b";'), q => { q.body.push(withoutNames(statement(q, 'var a;'))); }),
+  clause('nothing_declared_behind_a_bigint', 'a new `var` without a name, where a bigint is no decimal', behindCode('y = 0xFn;'), q => { q.body.push(withoutNames(statement(q, 'var a;'))); }),
+  clause('second_string_that_a_printer_makes_a_directive', 'a new string `"use strict"` that is no directive, at the head of a function, where one of the source stands in front', { options: ['--class-properties'], source: '("a"); function F() { class A { static x = 1; } return this; }', output: '("a"); function F() { class A {} B.defineProperty(A, "x", 1); return this; }' },
+    q => { q.body[1].body.body.unshift(statement(q, '("use strict");')); }),
 ];
 
 // a row that `match.js` has no reading of; `numbers` are those that differ from the place in preorder

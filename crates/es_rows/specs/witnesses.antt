@@ -78,6 +78,7 @@ pub mod DefinitionsNested
 pub mod DeleteOfAName
 pub mod DeletedKey
 pub mod DirectiveBehindAName
+pub mod DirectiveWithAnEscape
 pub mod ElementsDropped
 pub mod ElementsOfAWrittenClassDropped
 pub mod FieldBeforeSuper
@@ -110,6 +111,7 @@ pub mod GetterMadeAMethod
 pub mod GetterOrMethod
 pub mod GlobalRenamed
 pub mod HeritageReadLate
+pub mod HexadecimalBigint
 pub mod HiddenBody
 pub mod HoleInAPattern
 pub mod ImportReadEarly
@@ -173,6 +175,9 @@ pub mod NamesOfAConstructor
 pub mod NestedClasses
 pub mod NewImport
 pub mod NewTargetOfAProgram
+pub mod NothingDeclaredBehindABigint
+pub mod NothingDeclaredBehindADirective
+pub mod NothingDeclaredBehindAString
 pub mod NumberThatStrictCodeHasNot
 pub mod ObjectEvaluatedTwice
 pub mod OddConstructor
@@ -217,6 +222,7 @@ pub mod RestDropped
 pub mod ResultOfTheSetter
 pub mod ReturnInAnArrow
 pub mod ScriptInAnArrow
+pub mod SecondStringThatAPrinterMakesADirective
 pub mod SharedParameters
 pub mod SpreadForAParameter
 pub mod StatementOfAnIf
@@ -231,6 +237,7 @@ pub mod StaticPrivateMethodOfAnotherClass
 pub mod StrictArrow
 pub mod StrictFunctionOfAMethod
 pub mod StrictRest
+pub mod StringInParentheses
 pub mod StringThatAPrinterMakesADirective
 pub mod SuperFunctionBehindACall
 pub mod SuperFunctionBehindItsCalls

@@ -179,6 +179,7 @@ ghost use Rattle.es_rows.specs.witnesses.DefinitionsNested.{source_definitions_n
 ghost use Rattle.es_rows.specs.witnesses.DeleteOfAName.{first_delete_of_a_name, second_delete_of_a_name, options_delete_of_a_name};
 ghost use Rattle.es_rows.specs.witnesses.DeletedKey.{source_deleted_key, output_deleted_key, generated_deleted_key, options_deleted_key};
 ghost use Rattle.es_rows.specs.witnesses.DirectiveBehindAName.{source_directive_behind_a_name, output_directive_behind_a_name, generated_directive_behind_a_name, options_directive_behind_a_name};
+ghost use Rattle.es_rows.specs.witnesses.DirectiveWithAnEscape.{source_directive_with_an_escape, output_directive_with_an_escape, generated_directive_with_an_escape, options_directive_with_an_escape};
 ghost use Rattle.es_rows.specs.witnesses.ElementsDropped.{source_elements_dropped, output_elements_dropped, generated_elements_dropped, options_elements_dropped};
 ghost use Rattle.es_rows.specs.witnesses.ElementsOfAWrittenClassDropped.{source_elements_of_a_written_class_dropped, output_elements_of_a_written_class_dropped, generated_elements_of_a_written_class_dropped, options_elements_of_a_written_class_dropped};
 ghost use Rattle.es_rows.specs.witnesses.FieldBeforeSuper.{source_field_before_super, output_field_before_super, generated_field_before_super, options_field_before_super};
@@ -210,6 +211,7 @@ ghost use Rattle.es_rows.specs.witnesses.GetterMadeAMethod.{source_getter_made_a
 ghost use Rattle.es_rows.specs.witnesses.GetterOrMethod.{first_getter_or_method, second_getter_or_method, options_getter_or_method};
 ghost use Rattle.es_rows.specs.witnesses.GlobalRenamed.{first_global_renamed, second_global_renamed, options_global_renamed};
 ghost use Rattle.es_rows.specs.witnesses.HeritageReadLate.{source_heritage_read_late, output_heritage_read_late, generated_heritage_read_late, options_heritage_read_late};
+ghost use Rattle.es_rows.specs.witnesses.HexadecimalBigint.{source_hexadecimal_bigint, output_hexadecimal_bigint, generated_hexadecimal_bigint, options_hexadecimal_bigint};
 ghost use Rattle.es_rows.specs.witnesses.HiddenBody.{source_hidden_body, output_hidden_body, generated_hidden_body, options_hidden_body};
 ghost use Rattle.es_rows.specs.witnesses.HoleInAPattern.{first_hole_in_a_pattern, second_hole_in_a_pattern, options_hole_in_a_pattern};
 ghost use Rattle.es_rows.specs.witnesses.ImportReadEarly.{source_import_read_early, output_import_read_early, generated_import_read_early, options_import_read_early};
@@ -272,6 +274,9 @@ ghost use Rattle.es_rows.specs.witnesses.NamelessClassThatSuspends.{source_namel
 ghost use Rattle.es_rows.specs.witnesses.NamesOfAConstructor.{source_names_of_a_constructor, output_names_of_a_constructor, generated_names_of_a_constructor, options_names_of_a_constructor};
 ghost use Rattle.es_rows.specs.witnesses.NewImport.{source_new_import, output_new_import, generated_new_import, options_new_import};
 ghost use Rattle.es_rows.specs.witnesses.NewTargetOfAProgram.{source_new_target_of_a_program, output_new_target_of_a_program, generated_new_target_of_a_program, options_new_target_of_a_program};
+ghost use Rattle.es_rows.specs.witnesses.NothingDeclaredBehindABigint.{source_nothing_declared_behind_a_bigint, output_nothing_declared_behind_a_bigint, generated_nothing_declared_behind_a_bigint, options_nothing_declared_behind_a_bigint};
+ghost use Rattle.es_rows.specs.witnesses.NothingDeclaredBehindADirective.{source_nothing_declared_behind_a_directive, output_nothing_declared_behind_a_directive, generated_nothing_declared_behind_a_directive, options_nothing_declared_behind_a_directive};
+ghost use Rattle.es_rows.specs.witnesses.NothingDeclaredBehindAString.{source_nothing_declared_behind_a_string, output_nothing_declared_behind_a_string, generated_nothing_declared_behind_a_string, options_nothing_declared_behind_a_string};
 ghost use Rattle.es_rows.specs.witnesses.NumberThatStrictCodeHasNot.{source_number_that_strict_code_has_not, output_number_that_strict_code_has_not, generated_number_that_strict_code_has_not, options_number_that_strict_code_has_not};
 ghost use Rattle.es_rows.specs.witnesses.ObjectEvaluatedTwice.{source_object_evaluated_twice, output_object_evaluated_twice, generated_object_evaluated_twice, options_object_evaluated_twice};
 ghost use Rattle.es_rows.specs.witnesses.OddConstructor.{source_odd_constructor, output_odd_constructor, generated_odd_constructor, options_odd_constructor};
@@ -316,6 +321,7 @@ ghost use Rattle.es_rows.specs.witnesses.RestDropped.{first_rest_dropped, second
 ghost use Rattle.es_rows.specs.witnesses.ResultOfTheSetter.{source_result_of_the_setter, output_result_of_the_setter, generated_result_of_the_setter, options_result_of_the_setter};
 ghost use Rattle.es_rows.specs.witnesses.ReturnInAnArrow.{source_return_in_an_arrow, output_return_in_an_arrow, generated_return_in_an_arrow, options_return_in_an_arrow};
 ghost use Rattle.es_rows.specs.witnesses.ScriptInAnArrow.{source_script_in_an_arrow, output_script_in_an_arrow, generated_script_in_an_arrow, options_script_in_an_arrow};
+ghost use Rattle.es_rows.specs.witnesses.SecondStringThatAPrinterMakesADirective.{source_second_string_that_a_printer_makes_a_directive, output_second_string_that_a_printer_makes_a_directive, generated_second_string_that_a_printer_makes_a_directive, options_second_string_that_a_printer_makes_a_directive};
 ghost use Rattle.es_rows.specs.witnesses.SharedParameters.{first_shared_parameters, second_shared_parameters, options_shared_parameters};
 ghost use Rattle.es_rows.specs.witnesses.SpreadForAParameter.{source_spread_for_a_parameter, output_spread_for_a_parameter, generated_spread_for_a_parameter, options_spread_for_a_parameter};
 ghost use Rattle.es_rows.specs.witnesses.StatementOfAnIf.{first_statement_of_an_if, second_statement_of_an_if, options_statement_of_an_if};
@@ -330,6 +336,7 @@ ghost use Rattle.es_rows.specs.witnesses.StaticPrivateMethodOfAnotherClass.{firs
 ghost use Rattle.es_rows.specs.witnesses.StrictArrow.{source_strict_arrow, output_strict_arrow, generated_strict_arrow, options_strict_arrow};
 ghost use Rattle.es_rows.specs.witnesses.StrictFunctionOfAMethod.{source_strict_function_of_a_method, output_strict_function_of_a_method, generated_strict_function_of_a_method, options_strict_function_of_a_method};
 ghost use Rattle.es_rows.specs.witnesses.StrictRest.{source_strict_rest, output_strict_rest, generated_strict_rest, options_strict_rest};
+ghost use Rattle.es_rows.specs.witnesses.StringInParentheses.{source_string_in_parentheses, output_string_in_parentheses, generated_string_in_parentheses, options_string_in_parentheses};
 ghost use Rattle.es_rows.specs.witnesses.StringThatAPrinterMakesADirective.{source_string_that_a_printer_makes_a_directive, output_string_that_a_printer_makes_a_directive, generated_string_that_a_printer_makes_a_directive, options_string_that_a_printer_makes_a_directive};
 ghost use Rattle.es_rows.specs.witnesses.SuperFunctionBehindACall.{source_super_function_behind_a_call, output_super_function_behind_a_call, generated_super_function_behind_a_call, options_super_function_behind_a_call};
 ghost use Rattle.es_rows.specs.witnesses.SuperFunctionBehindItsCalls.{source_super_function_behind_its_calls, output_super_function_behind_its_calls, generated_super_function_behind_its_calls, options_super_function_behind_its_calls};
@@ -703,6 +710,9 @@ pub fn clauses_are_not_met()
     ensures name_of_no_member { initializations_stand (nodes source_name_of_no_member) generated_name_of_no_member (private_members source_name_of_no_member) output_name_of_no_member generated_name_of_no_member ≡ false }
     ensures name_twice { names_declared (nodes source_name_twice) generated_name_twice output_name_twice ≡ false }
     ensures name_without_a_sign { names_declared (nodes source_name_without_a_sign) generated_name_without_a_sign output_name_without_a_sign ≡ false }
+    ensures nothing_declared_behind_a_bigint { not (is_printable source_nothing_declared_behind_a_bigint) || is_printable output_nothing_declared_behind_a_bigint ≡ false }
+    ensures nothing_declared_behind_a_directive { not (is_printable source_nothing_declared_behind_a_directive) || is_printable output_nothing_declared_behind_a_directive ≡ false }
+    ensures nothing_declared_behind_a_string { not (is_printable source_nothing_declared_behind_a_string) || is_printable output_nothing_declared_behind_a_string ≡ false }
     ensures number_that_strict_code_has_not { texts_stay (nodes source_number_that_strict_code_has_not) source_number_that_strict_code_has_not output_number_that_strict_code_has_not ≡ false }
     ensures own_name_in_a_heritage { names_timely (nodes source_own_name_in_a_heritage) generated_own_name_in_a_heritage (private_members source_own_name_in_a_heritage) output_own_name_in_a_heritage ≡ false }
     ensures own_name_in_a_key { names_timely (nodes source_own_name_in_a_key) generated_own_name_in_a_key (private_members source_own_name_in_a_key) output_own_name_in_a_key ≡ false }
@@ -716,6 +726,7 @@ pub fn clauses_are_not_met()
     ensures raw_of_a_string { texts_stay (nodes source_raw_of_a_string) source_raw_of_a_string output_raw_of_a_string ≡ false }
     ensures raw_of_a_template { texts_stay (nodes source_raw_of_a_template) source_raw_of_a_template output_raw_of_a_template ≡ false }
     ensures regular_expression_read_twice { temporaries_steady (nodes source_regular_expression_read_twice) generated_regular_expression_read_twice output_regular_expression_read_twice ≡ false }
+    ensures second_string_that_a_printer_makes_a_directive { not (is_printable source_second_string_that_a_printer_makes_a_directive) || is_printable output_second_string_that_a_printer_makes_a_directive ≡ false }
     ensures strict_arrow { none_becomes_strict (nodes source_strict_arrow) source_strict_arrow output_strict_arrow ≡ false }
     ensures strict_rest { is_printable output_strict_rest ≡ false }
     ensures string_that_a_printer_makes_a_directive { not (is_printable source_string_that_a_printer_makes_a_directive) || is_printable output_string_that_a_printer_makes_a_directive ≡ false }
@@ -752,9 +763,12 @@ pub fn outputs_owe_nothing()
     ensures class_named_await { Kept options_class_named_await generated_class_named_await source_class_named_await output_class_named_await [] }
     ensures class_that_suspends { Kept options_class_that_suspends generated_class_that_suspends source_class_that_suspends output_class_that_suspends [] }
     ensures classes_that_suspend { Kept options_classes_that_suspend generated_classes_that_suspend source_classes_that_suspend output_classes_that_suspend [] }
+    ensures directive_with_an_escape { Kept options_directive_with_an_escape generated_directive_with_an_escape source_directive_with_an_escape output_directive_with_an_escape [] }
+    ensures hexadecimal_bigint { Kept options_hexadecimal_bigint generated_hexadecimal_bigint source_hexadecimal_bigint output_hexadecimal_bigint [] }
     ensures nameless_class_that_suspends { Kept options_nameless_class_that_suspends generated_nameless_class_that_suspends source_nameless_class_that_suspends output_nameless_class_that_suspends [] }
     ensures own_name_that_nothing_means { Kept options_own_name_that_nothing_means generated_own_name_that_nothing_means source_own_name_that_nothing_means output_own_name_that_nothing_means [] }
     ensures strict_function_of_a_method { Kept options_strict_function_of_a_method generated_strict_function_of_a_method source_strict_function_of_a_method output_strict_function_of_a_method [] }
+    ensures string_in_parentheses { Kept options_string_in_parentheses generated_string_in_parentheses source_string_in_parentheses output_string_in_parentheses [] }
     ensures tested_name_of_a_class { Kept options_tested_name_of_a_class generated_tested_name_of_a_class source_tested_name_of_a_class output_tested_name_of_a_class [] }
 {}
 

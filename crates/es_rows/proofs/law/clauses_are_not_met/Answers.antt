@@ -196,6 +196,15 @@ returns-clause-name_twice c = refl
 pub returns-clause-name_without_a_sign : goal.returns-clause-name_without_a_sign
 returns-clause-name_without_a_sign c = refl
 
+pub returns-clause-nothing_declared_behind_a_bigint : goal.returns-clause-nothing_declared_behind_a_bigint
+returns-clause-nothing_declared_behind_a_bigint c = refl
+
+pub returns-clause-nothing_declared_behind_a_directive : goal.returns-clause-nothing_declared_behind_a_directive
+returns-clause-nothing_declared_behind_a_directive c = refl
+
+pub returns-clause-nothing_declared_behind_a_string : goal.returns-clause-nothing_declared_behind_a_string
+returns-clause-nothing_declared_behind_a_string c = refl
+
 pub returns-clause-number_that_strict_code_has_not : goal.returns-clause-number_that_strict_code_has_not
 returns-clause-number_that_strict_code_has_not c = refl
 
@@ -234,6 +243,9 @@ returns-clause-raw_of_a_template c = refl
 
 pub returns-clause-regular_expression_read_twice : goal.returns-clause-regular_expression_read_twice
 returns-clause-regular_expression_read_twice c = refl
+
+pub returns-clause-second_string_that_a_printer_makes_a_directive : goal.returns-clause-second_string_that_a_printer_makes_a_directive
+returns-clause-second_string_that_a_printer_makes_a_directive c = refl
 
 pub returns-clause-strict_arrow : goal.returns-clause-strict_arrow
 returns-clause-strict_arrow c = refl
