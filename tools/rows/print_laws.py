@@ -169,6 +169,8 @@ NOT_MET = {
     'await_in_an_async_function': PRINTED,
     'await_in_a_static_block': PRINTED,
     'let_in_strict_code': PRINTED,
+    'arguments_in_a_static_block': PRINTED,
+    'arguments_of_a_static_field': PRINTED,
     'class_named_eval': PRINTED,
     'class_named_arguments': PRINTED,
     'class_named_let': PRINTED,
@@ -199,7 +201,7 @@ RIGHT = ('private_name_beside_a_name', 'branch_of_a_key', 'class_in_a_case', 'ke
 # outputs that owe nothing either
 OWING_NOTHING = ('tested_name_of_a_class', 'block_of_a_binding', 'own_name_that_nothing_means', 'strict_function_of_a_method', 'block_of_an_arrow', 'class_named_await', 'class_that_suspends', 'classes_that_suspend', 'nameless_class_that_suspends', 'string_in_parentheses', 'directive_with_an_escape', 'hexadecimal_bigint')
 # wrong outputs that have a meaning, and those of programs whose parameters come before their fields
-OTHER = ('branch_of_a_key_of_another', 'elements_dropped', 'static_field_dropped', 'block_dropped', 'block_behind_a_kept_field', 'read_moved', 'import_read_early', 'statements_of_a_case_exchanged', 'statement_of_another_case', 'arrow_moved_into_parameters', 'functions_of_a_block_exchanged', 'default_function_expression', 'let_out_of_a_head', 'class_of_a_head', 'class_of_a_right_side', 'conversions_of_a_template', 'let_beside_a_caught_name', 'arguments_of_a_static_field', 'arguments_in_a_static_block', 'arguments_of_a_function_around')
+OTHER = ('branch_of_a_key_of_another', 'elements_dropped', 'static_field_dropped', 'block_dropped', 'block_behind_a_kept_field', 'read_moved', 'import_read_early', 'statements_of_a_case_exchanged', 'statement_of_another_case', 'arrow_moved_into_parameters', 'functions_of_a_block_exchanged', 'default_function_expression', 'let_out_of_a_head', 'class_of_a_head', 'class_of_a_right_side', 'conversions_of_a_template', 'let_beside_a_caught_name', 'arguments_of_a_function_around')
 AFTER = ('field_behind_parameters_dropped', 'field_behind_parameters_doubled', 'fields_behind_parameters_exchanged', 'another_literal_behind_parameters')
 pairs, wrong, kept, not_met, shaped, right, owing_nothing, other, after = [], [], [], [], [], [], [], [], []
 folder = f'{CRATE}/specs/witnesses'

@@ -4,6 +4,12 @@ use Rattle.es_rows.proofs.law.clauses_are_not_met.Goals as goal
 pub returns-clause-another_literal_of_a_written_class : goal.returns-clause-another_literal_of_a_written_class
 returns-clause-another_literal_of_a_written_class c = refl
 
+pub returns-clause-arguments_in_a_static_block : goal.returns-clause-arguments_in_a_static_block
+returns-clause-arguments_in_a_static_block c = refl
+
+pub returns-clause-arguments_of_a_static_field : goal.returns-clause-arguments_of_a_static_field
+returns-clause-arguments_of_a_static_field c = refl
+
 pub returns-clause-await_in_a_static_block : goal.returns-clause-await_in_a_static_block
 returns-clause-await_in_a_static_block c = refl
 

@@ -1,14 +1,8 @@
 use Rattle.std.specs.Prelude.{refl}
 use Rattle.es_rows.proofs.law.wrong_outputs_mean_another_program.Goals as goal
 
-pub returns-clause-arguments_in_a_static_block : goal.returns-clause-arguments_in_a_static_block
-returns-clause-arguments_in_a_static_block c = (refl, refl)
-
 pub returns-clause-arguments_of_a_function_around : goal.returns-clause-arguments_of_a_function_around
 returns-clause-arguments_of_a_function_around c = (refl, refl)
-
-pub returns-clause-arguments_of_a_static_field : goal.returns-clause-arguments_of_a_static_field
-returns-clause-arguments_of_a_static_field c = (refl, refl)
 
 pub returns-clause-arrow_moved_into_parameters : goal.returns-clause-arrow_moved_into_parameters
 returns-clause-arrow_moved_into_parameters c = (refl, refl)
