@@ -81,7 +81,7 @@ TIMELY = 'names_timely (nodes source_{n}) generated_{n} (private_members source_
 CALLS = 'helper_calls_fit (nodes source_{n}) generated_{n} (computed_keys (preorder source_{n})) output_{n}'
 HOMES = 'homes_kept (nodes source_{n}) options_{n} source_{n} output_{n}'
 PRINTABLE = 'is_printable output_{n}'
-PRINTED = 'not (is_printable source_{n}) || is_printable output_{n}'
+PRINTED = 'stays_printable source_{n} output_{n}'
 NAMED = 'names_declared (nodes source_{n}) generated_{n} output_{n}'
 STEADY = 'temporaries_steady (nodes source_{n}) generated_{n} output_{n}'
 INITIALIZED = 'initializations_stand (nodes source_{n}) generated_{n} (private_members source_{n}) output_{n} generated_{n}'
@@ -251,7 +251,7 @@ listed('the_same_in_other_words', 'A template and a string are one key; the own 
 
 text = '''// Worked rows and witnesses: functions that do nothing. Printed by tools/rows/print_laws.py.
 
-ghost use Rattle.std.specs.Prelude.{◌≡◌, [], ◌∷◌, false, not, ◌||◌};
+ghost use Rattle.std.specs.Prelude.{◌≡◌, [], ◌∷◌, false};
 ghost use Rattle.es_rows.specs.Owed.{Kept, KeptAfter, Owed, TellsApart, Refused, MeansOther, RefusedAfter, Means, HaveShapes};
 ghost use Rattle.es_steps.specs.Definitions.{definitions_stand};
 ghost use Rattle.es_base.specs.Conforms.{conforms};
@@ -262,7 +262,7 @@ ghost use Rattle.es_steps.specs.KeptNodes.{classes_kept, lists_kept, homes_kept}
 ghost use Rattle.es_steps.specs.Lowered.{names_declared, declarations_accounted, initializations_stand};
 ghost use Rattle.es_steps.specs.Meaning.{source_means};
 ghost use Rattle.es_steps.specs.OwnNames.{own_names_stay};
-ghost use Rattle.es_steps.specs.Printable.{is_printable};
+ghost use Rattle.es_steps.specs.Printable.{is_printable, stays_printable};
 ghost use Rattle.es_steps.specs.PrivateNames.{private_members};
 ghost use Rattle.es_steps.specs.Strict.{none_becomes_strict};
 ghost use Rattle.es_steps.specs.Temporaries.{temporaries_steady};

@@ -1,6 +1,6 @@
 // Worked rows and witnesses: functions that do nothing. Printed by tools/rows/print_laws.py.
 
-ghost use Rattle.std.specs.Prelude.{◌≡◌, [], ◌∷◌, false, not, ◌||◌};
+ghost use Rattle.std.specs.Prelude.{◌≡◌, [], ◌∷◌, false};
 ghost use Rattle.es_rows.specs.Owed.{Kept, KeptAfter, Owed, TellsApart, Refused, MeansOther, RefusedAfter, Means, HaveShapes};
 ghost use Rattle.es_steps.specs.Definitions.{definitions_stand};
 ghost use Rattle.es_base.specs.Conforms.{conforms};
@@ -11,7 +11,7 @@ ghost use Rattle.es_steps.specs.KeptNodes.{classes_kept, lists_kept, homes_kept}
 ghost use Rattle.es_steps.specs.Lowered.{names_declared, declarations_accounted, initializations_stand};
 ghost use Rattle.es_steps.specs.Meaning.{source_means};
 ghost use Rattle.es_steps.specs.OwnNames.{own_names_stay};
-ghost use Rattle.es_steps.specs.Printable.{is_printable};
+ghost use Rattle.es_steps.specs.Printable.{is_printable, stays_printable};
 ghost use Rattle.es_steps.specs.PrivateNames.{private_members};
 ghost use Rattle.es_steps.specs.Strict.{none_becomes_strict};
 ghost use Rattle.es_steps.specs.Temporaries.{temporaries_steady};
@@ -644,23 +644,23 @@ pub fn wrong_outputs_behind_parameters_are_told_apart()
 /// Wrong outputs that a clause on lowered programs finds, though their meanings may be those of their sources.
 pub fn clauses_are_not_met()
     ensures another_literal_of_a_written_class { definitions_stand (nodes source_another_literal_of_a_written_class) options_another_literal_of_a_written_class generated_another_literal_of_a_written_class (private_members source_another_literal_of_a_written_class) source_another_literal_of_a_written_class output_another_literal_of_a_written_class ≡ false }
-    ensures arguments_in_a_static_block { not (is_printable source_arguments_in_a_static_block) || is_printable output_arguments_in_a_static_block ≡ false }
-    ensures arguments_of_a_static_field { not (is_printable source_arguments_of_a_static_field) || is_printable output_arguments_of_a_static_field ≡ false }
-    ensures await_in_a_static_block { not (is_printable source_await_in_a_static_block) || is_printable output_await_in_a_static_block ≡ false }
-    ensures await_in_an_async_function { not (is_printable source_await_in_an_async_function) || is_printable output_await_in_an_async_function ≡ false }
+    ensures arguments_in_a_static_block { stays_printable source_arguments_in_a_static_block output_arguments_in_a_static_block ≡ false }
+    ensures arguments_of_a_static_field { stays_printable source_arguments_of_a_static_field output_arguments_of_a_static_field ≡ false }
+    ensures await_in_a_static_block { stays_printable source_await_in_a_static_block output_await_in_a_static_block ≡ false }
+    ensures await_in_an_async_function { stays_printable source_await_in_an_async_function output_await_in_an_async_function ≡ false }
     ensures block_without_a_function { homes_kept (nodes source_block_without_a_function) options_block_without_a_function source_block_without_a_function output_block_without_a_function ≡ false }
     ensures body_dropped { definitions_stand (nodes source_body_dropped) options_body_dropped generated_body_dropped (private_members source_body_dropped) source_body_dropped output_body_dropped ≡ false }
     ensures body_in_an_arrow { homes_kept (nodes source_body_in_an_arrow) options_body_in_an_arrow source_body_in_an_arrow output_body_in_an_arrow ≡ false }
     ensures brand_outside_of_a_called_function { names_timely (nodes source_brand_outside_of_a_called_function) generated_brand_outside_of_a_called_function (private_members source_brand_outside_of_a_called_function) output_brand_outside_of_a_called_function ≡ false }
     ensures break_in_an_arrow { is_printable output_break_in_an_arrow ≡ false }
-    ensures break_in_an_arrow_beside_await { not (is_printable source_break_in_an_arrow_beside_await) || is_printable output_break_in_an_arrow_beside_await ≡ false }
+    ensures break_in_an_arrow_beside_await { stays_printable source_break_in_an_arrow_beside_await output_break_in_an_arrow_beside_await ≡ false }
     ensures character_of_no_name { texts_stay (nodes source_character_of_no_name) source_character_of_no_name output_character_of_no_name ≡ false }
     ensures class_behind_its_use { lists_kept options_class_behind_its_use source_class_behind_its_use output_class_behind_its_use ≡ false }
     ensures class_in_a_constructor { lists_kept options_class_in_a_constructor source_class_in_a_constructor output_class_in_a_constructor ≡ false }
-    ensures class_named_arguments { not (is_printable source_class_named_arguments) || is_printable output_class_named_arguments ≡ false }
-    ensures class_named_await_in_an_async_function { not (is_printable source_class_named_await_in_an_async_function) || is_printable output_class_named_await_in_an_async_function ≡ false }
-    ensures class_named_eval { not (is_printable source_class_named_eval) || is_printable output_class_named_eval ≡ false }
-    ensures class_named_let { not (is_printable source_class_named_let) || is_printable output_class_named_let ≡ false }
+    ensures class_named_arguments { stays_printable source_class_named_arguments output_class_named_arguments ≡ false }
+    ensures class_named_await_in_an_async_function { stays_printable source_class_named_await_in_an_async_function output_class_named_await_in_an_async_function ≡ false }
+    ensures class_named_eval { stays_printable source_class_named_eval output_class_named_eval ≡ false }
+    ensures class_named_let { stays_printable source_class_named_let output_class_named_let ≡ false }
     ensures class_temporary_before_its_class { names_timely (nodes source_class_temporary_before_its_class) generated_class_temporary_before_its_class (private_members source_class_temporary_before_its_class) output_class_temporary_before_its_class ≡ false }
     ensures class_temporary_in_its_class { names_timely (nodes source_class_temporary_in_its_class) generated_class_temporary_in_its_class (private_members source_class_temporary_in_its_class) output_class_temporary_in_its_class ≡ false }
     ensures class_temporary_of_a_function_expression { initializations_stand (nodes source_class_temporary_of_a_function_expression) generated_class_temporary_of_a_function_expression (private_members source_class_temporary_of_a_function_expression) output_class_temporary_of_a_function_expression generated_class_temporary_of_a_function_expression ≡ false }
@@ -671,10 +671,10 @@ pub fn clauses_are_not_met()
     ensures conversion_of_no_key { helper_calls_fit (nodes source_conversion_of_no_key) generated_conversion_of_no_key (computed_keys (preorder source_conversion_of_no_key)) output_conversion_of_no_key ≡ false }
     ensures copy_of_a_number { texts_stay (nodes source_copy_of_a_number) source_copy_of_a_number output_copy_of_a_number ≡ false }
     ensures dead_temporary { names_timely (nodes source_dead_temporary) generated_dead_temporary (private_members source_dead_temporary) output_dead_temporary ≡ false }
-    ensures declaration_of_nothing { not (is_printable source_declaration_of_nothing) || is_printable output_declaration_of_nothing ≡ false }
+    ensures declaration_of_nothing { stays_printable source_declaration_of_nothing output_declaration_of_nothing ≡ false }
     ensures declaration_without_its_name { own_names_stay source_declaration_without_its_name output_declaration_without_its_name ≡ false }
     ensures declaration_without_its_name_in_a_method { own_names_stay source_declaration_without_its_name_in_a_method output_declaration_without_its_name_in_a_method ≡ false }
-    ensures declaration_without_its_names { not (is_printable source_declaration_without_its_names) || is_printable output_declaration_without_its_names ≡ false }
+    ensures declaration_without_its_names { stays_printable source_declaration_without_its_names output_declaration_without_its_names ≡ false }
     ensures declarator_in_a_const { declarations_accounted (nodes source_declarator_in_a_const) generated_declarator_in_a_const source_declarator_in_a_const output_declarator_in_a_const ≡ false }
     ensures directive_behind_a_name { is_printable output_directive_behind_a_name ≡ false }
     ensures elements_of_a_written_class_dropped { definitions_stand (nodes source_elements_of_a_written_class_dropped) options_elements_of_a_written_class_dropped generated_elements_of_a_written_class_dropped (private_members source_elements_of_a_written_class_dropped) source_elements_of_a_written_class_dropped output_elements_of_a_written_class_dropped ≡ false }
@@ -690,7 +690,7 @@ pub fn clauses_are_not_met()
     ensures let_behind_a_constructor { names_timely (nodes source_let_behind_a_constructor) generated_let_behind_a_constructor (private_members source_let_behind_a_constructor) output_let_behind_a_constructor ≡ false }
     ensures let_behind_a_field { names_timely (nodes source_let_behind_a_field) generated_let_behind_a_field (private_members source_let_behind_a_field) output_let_behind_a_field ≡ false }
     ensures let_behind_an_arrow { names_timely (nodes source_let_behind_an_arrow) generated_let_behind_an_arrow (private_members source_let_behind_an_arrow) output_let_behind_an_arrow ≡ false }
-    ensures let_in_strict_code { not (is_printable source_let_in_strict_code) || is_printable output_let_in_strict_code ≡ false }
+    ensures let_in_strict_code { stays_printable source_let_in_strict_code output_let_in_strict_code ≡ false }
     ensures let_of_another_case { names_timely (nodes source_let_of_another_case) generated_let_of_another_case (private_members source_let_of_another_case) output_let_of_another_case ≡ false }
     ensures let_out_of_its_block { lists_kept options_let_out_of_its_block source_let_out_of_its_block output_let_out_of_its_block ≡ false }
     ensures let_read_in_its_value { own_names_stay source_let_read_in_its_value output_let_read_in_its_value ≡ false }
@@ -710,9 +710,9 @@ pub fn clauses_are_not_met()
     ensures name_of_no_member { initializations_stand (nodes source_name_of_no_member) generated_name_of_no_member (private_members source_name_of_no_member) output_name_of_no_member generated_name_of_no_member ≡ false }
     ensures name_twice { names_declared (nodes source_name_twice) generated_name_twice output_name_twice ≡ false }
     ensures name_without_a_sign { names_declared (nodes source_name_without_a_sign) generated_name_without_a_sign output_name_without_a_sign ≡ false }
-    ensures nothing_declared_behind_a_bigint { not (is_printable source_nothing_declared_behind_a_bigint) || is_printable output_nothing_declared_behind_a_bigint ≡ false }
-    ensures nothing_declared_behind_a_directive { not (is_printable source_nothing_declared_behind_a_directive) || is_printable output_nothing_declared_behind_a_directive ≡ false }
-    ensures nothing_declared_behind_a_string { not (is_printable source_nothing_declared_behind_a_string) || is_printable output_nothing_declared_behind_a_string ≡ false }
+    ensures nothing_declared_behind_a_bigint { stays_printable source_nothing_declared_behind_a_bigint output_nothing_declared_behind_a_bigint ≡ false }
+    ensures nothing_declared_behind_a_directive { stays_printable source_nothing_declared_behind_a_directive output_nothing_declared_behind_a_directive ≡ false }
+    ensures nothing_declared_behind_a_string { stays_printable source_nothing_declared_behind_a_string output_nothing_declared_behind_a_string ≡ false }
     ensures number_that_strict_code_has_not { texts_stay (nodes source_number_that_strict_code_has_not) source_number_that_strict_code_has_not output_number_that_strict_code_has_not ≡ false }
     ensures own_name_in_a_heritage { names_timely (nodes source_own_name_in_a_heritage) generated_own_name_in_a_heritage (private_members source_own_name_in_a_heritage) output_own_name_in_a_heritage ≡ false }
     ensures own_name_in_a_key { names_timely (nodes source_own_name_in_a_key) generated_own_name_in_a_key (private_members source_own_name_in_a_key) output_own_name_in_a_key ≡ false }
@@ -726,10 +726,10 @@ pub fn clauses_are_not_met()
     ensures raw_of_a_string { texts_stay (nodes source_raw_of_a_string) source_raw_of_a_string output_raw_of_a_string ≡ false }
     ensures raw_of_a_template { texts_stay (nodes source_raw_of_a_template) source_raw_of_a_template output_raw_of_a_template ≡ false }
     ensures regular_expression_read_twice { temporaries_steady (nodes source_regular_expression_read_twice) generated_regular_expression_read_twice output_regular_expression_read_twice ≡ false }
-    ensures second_string_that_a_printer_makes_a_directive { not (is_printable source_second_string_that_a_printer_makes_a_directive) || is_printable output_second_string_that_a_printer_makes_a_directive ≡ false }
+    ensures second_string_that_a_printer_makes_a_directive { stays_printable source_second_string_that_a_printer_makes_a_directive output_second_string_that_a_printer_makes_a_directive ≡ false }
     ensures strict_arrow { none_becomes_strict (nodes source_strict_arrow) source_strict_arrow output_strict_arrow ≡ false }
     ensures strict_rest { is_printable output_strict_rest ≡ false }
-    ensures string_that_a_printer_makes_a_directive { not (is_printable source_string_that_a_printer_makes_a_directive) || is_printable output_string_that_a_printer_makes_a_directive ≡ false }
+    ensures string_that_a_printer_makes_a_directive { stays_printable source_string_that_a_printer_makes_a_directive output_string_that_a_printer_makes_a_directive ≡ false }
     ensures super_function_behind_a_call { names_timely (nodes source_super_function_behind_a_call) generated_super_function_behind_a_call (private_members source_super_function_behind_a_call) output_super_function_behind_a_call ≡ false }
     ensures super_function_behind_its_calls { names_timely (nodes source_super_function_behind_its_calls) generated_super_function_behind_its_calls (private_members source_super_function_behind_its_calls) output_super_function_behind_its_calls ≡ false }
     ensures temporary_given_again { temporaries_steady (nodes source_temporary_given_again) generated_temporary_given_again output_temporary_given_again ≡ false }
@@ -742,10 +742,10 @@ pub fn clauses_are_not_met()
     ensures two_functions { names_declared (nodes source_two_functions) generated_two_functions output_two_functions ≡ false }
     ensures two_maps { names_declared (nodes source_two_maps) generated_two_maps output_two_maps ≡ false }
     ensures unconverted_name_of_a_class { helper_calls_fit (nodes source_unconverted_name_of_a_class) generated_unconverted_name_of_a_class (computed_keys (preorder source_unconverted_name_of_a_class)) output_unconverted_name_of_a_class ≡ false }
-    ensures uncooked_template { not (is_printable source_uncooked_template) || is_printable output_uncooked_template ≡ false }
+    ensures uncooked_template { stays_printable source_uncooked_template output_uncooked_template ≡ false }
     ensures untested_name_of_a_class { helper_calls_fit (nodes source_untested_name_of_a_class) generated_untested_name_of_a_class (computed_keys (preorder source_untested_name_of_a_class)) output_untested_name_of_a_class ≡ false }
     ensures weak_map_in_another_function { names_timely (nodes source_weak_map_in_another_function) generated_weak_map_in_another_function (private_members source_weak_map_in_another_function) output_weak_map_in_another_function ≡ false }
-    ensures yield_in_a_generator { not (is_printable source_yield_in_a_generator) || is_printable output_yield_in_a_generator ≡ false }
+    ensures yield_in_a_generator { stays_printable source_yield_in_a_generator output_yield_in_a_generator ≡ false }
 {}
 
 /// Outputs that mean what their sources mean, though a name or a value in them looks like another one.
