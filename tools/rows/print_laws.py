@@ -81,13 +81,14 @@ TIMELY = 'names_timely (nodes source_{n}) generated_{n} (private_members source_
 CALLS = 'helper_calls_fit (nodes source_{n}) generated_{n} (computed_keys (preorder source_{n})) output_{n}'
 HOMES = 'homes_kept (nodes source_{n}) options_{n} source_{n} output_{n}'
 PRINTABLE = 'is_printable output_{n}'
-PRINTED = 'not (is_printable source_{n}) || is_printable output_{n}'
+PRINTED = 'stays_printable source_{n} output_{n}'
 NAMED = 'names_declared (nodes source_{n}) generated_{n} output_{n}'
 STEADY = 'temporaries_steady (nodes source_{n}) generated_{n} output_{n}'
 INITIALIZED = 'initializations_stand (nodes source_{n}) generated_{n} (private_members source_{n}) output_{n} generated_{n}'
 ACCOUNTED = 'declarations_accounted (nodes source_{n}) generated_{n} source_{n} output_{n}'
 STRICT = 'none_becomes_strict (nodes source_{n}) source_{n} output_{n}'
 TEXTS = 'texts_stay (nodes source_{n}) source_{n} output_{n}'
+OWN_NAMES = 'own_names_stay source_{n} output_{n}'
 NOT_MET = {
     'temporary_given_again': STEADY,
     'temporary_given_again_in_a_loop': STEADY,
@@ -143,7 +144,7 @@ NOT_MET = {
     'name_given_in_a_closure': CALLS,
     'break_in_an_arrow_beside_await': PRINTED,
     'own_name_that_is_meant': ACCOUNTED,
-    'declaration_without_its_name': 'own_names_stay source_{n} output_{n}',
+    'declaration_without_its_name': OWN_NAMES,
     'name_of_a_class_with_a_block': CALLS,
     'strict_arrow': STRICT,
     'declarator_in_a_const': ACCOUNTED,
@@ -153,15 +154,54 @@ NOT_MET = {
     'function_in_a_class': STRICT,
     'name_given_behind_a_field': CALLS,
     'let_out_of_its_block': LISTS,
+    'pattern_of_no_regular_expression': TEXTS,
+    'flags_of_no_regular_expression': TEXTS,
+    'number_that_strict_code_has_not': TEXTS,
+    'copy_of_a_number': TEXTS,
+    'character_of_no_name': TEXTS,
+    'private_name_of_another_member': TEXTS,
+    'private_name_constructor': TEXTS,
+    'uncooked_template': PRINTED,
+    'declaration_of_nothing': PRINTED,
+    'declaration_without_its_names': PRINTED,
+    'string_that_a_printer_makes_a_directive': PRINTED,
+    'yield_in_a_generator': PRINTED,
+    'await_in_an_async_function': PRINTED,
+    'await_in_a_static_block': PRINTED,
+    'let_in_strict_code': PRINTED,
+    'arguments_in_a_static_block': PRINTED,
+    'arguments_of_a_static_field': PRINTED,
+    'class_named_eval': PRINTED,
+    'class_named_arguments': PRINTED,
+    'class_named_let': PRINTED,
+    'class_named_await_in_an_async_function': PRINTED,
+    'declaration_without_its_name_in_a_method': OWN_NAMES,
+    'let_read_in_its_value': OWN_NAMES,
+    'let_behind_a_constructor': TIMELY,
+    'let_behind_a_field': TIMELY,
+    'let_behind_an_arrow': TIMELY,
+    'class_temporary_of_a_function_expression': INITIALIZED,
+    'map_of_a_function_expression': INITIALIZED,
+    'map_outside_of_a_called_function': TIMELY,
+    'brand_outside_of_a_called_function': TIMELY,
+    'key_outside_of_a_called_function': TIMELY,
+    'method_outside_of_a_called_function': TIMELY,
+    'own_name_in_a_heritage': TIMELY,
+    'own_name_in_a_key': TIMELY,
+    'regular_expression_read_twice': STEADY,
+    'nothing_declared_behind_a_string': PRINTED,
+    'nothing_declared_behind_a_directive': PRINTED,
+    'nothing_declared_behind_a_bigint': PRINTED,
+    'second_string_that_a_printer_makes_a_directive': PRINTED,
 }
 # the shapes of the two programs
-SHAPES = {'loose_member_read_once': ('[]', '4 ∷ []'), 'super_key_that_stays': ('[]', '4 ∷ []'), 'suspended_class_written': ('6 ∷ []', '[]'), 'imported_object': ('4 ∷ []', '[]'), 'imported_key': ('4 ∷ []', '[]'), 'imported_key_of_a_method': ('4 ∷ []', '[]'), 'key_that_a_function_in_a_block_gives': ('4 ∷ []', '[]'), 'caught_key': ('4 ∷ []', '[]'), 'key_that_a_branch_gives': ('4 ∷ []', '[]'), 'key_that_a_catch_gives': ('4 ∷ []', '[]')}
+SHAPES = {'loose_member_read_once': ('[]', '4 ∷ []'), 'super_key_that_stays': ('[]', '4 ∷ []'), 'suspended_class_written': ('6 ∷ []', '[]'), 'imported_object': ('4 ∷ []', '[]'), 'imported_key': ('4 ∷ []', '[]'), 'imported_key_of_a_method': ('4 ∷ []', '[]'), 'key_that_a_function_in_a_block_gives': ('4 ∷ []', '[]'), 'caught_key': ('4 ∷ []', '[]'), 'key_that_a_branch_gives': ('4 ∷ []', '[]'), 'key_that_a_catch_gives': ('4 ∷ []', '[]'), 'imported_key_behind_a_block': ('4 ∷ []', '[]'), 'changing_key_behind_a_block': ('4 ∷ []', '[]'), 'key_that_is_arguments': ('4 ∷ []', '[]'), 'key_that_is_a_parameter_arguments': ('4 ∷ []', '[]')}
 # outputs that mean what their sources mean
 RIGHT = ('private_name_beside_a_name', 'branch_of_a_key', 'class_in_a_case', 'key_of_a_binding_for_a_name')
 # outputs that owe nothing either
-OWING_NOTHING = ('tested_name_of_a_class', 'block_of_a_binding', 'own_name_that_nothing_means', 'strict_function_of_a_method', 'block_of_an_arrow')
+OWING_NOTHING = ('tested_name_of_a_class', 'block_of_a_binding', 'own_name_that_nothing_means', 'strict_function_of_a_method', 'block_of_an_arrow', 'class_named_await', 'class_that_suspends', 'classes_that_suspend', 'nameless_class_that_suspends', 'string_in_parentheses', 'directive_with_an_escape', 'hexadecimal_bigint')
 # wrong outputs that have a meaning, and those of programs whose parameters come before their fields
-OTHER = ('branch_of_a_key_of_another', 'elements_dropped', 'static_field_dropped', 'block_dropped', 'block_behind_a_kept_field', 'read_moved', 'import_read_early', 'statements_of_a_case_exchanged', 'statement_of_another_case', 'arrow_moved_into_parameters', 'functions_of_a_block_exchanged', 'default_function_expression', 'let_out_of_a_head', 'class_of_a_head', 'class_of_a_right_side', 'conversions_of_a_template', 'let_beside_a_caught_name')
+OTHER = ('branch_of_a_key_of_another', 'elements_dropped', 'static_field_dropped', 'block_dropped', 'block_behind_a_kept_field', 'read_moved', 'import_read_early', 'statements_of_a_case_exchanged', 'statement_of_another_case', 'arrow_moved_into_parameters', 'functions_of_a_block_exchanged', 'default_function_expression', 'let_out_of_a_head', 'class_of_a_head', 'class_of_a_right_side', 'conversions_of_a_template', 'let_beside_a_caught_name', 'arguments_of_a_function_around')
 AFTER = ('field_behind_parameters_dropped', 'field_behind_parameters_doubled', 'fields_behind_parameters_exchanged', 'another_literal_behind_parameters')
 pairs, wrong, kept, not_met, shaped, right, owing_nothing, other, after = [], [], [], [], [], [], [], [], []
 folder = f'{CRATE}/specs/witnesses'
@@ -211,7 +251,7 @@ listed('the_same_in_other_words', 'A template and a string are one key; the own 
 
 text = '''// Worked rows and witnesses: functions that do nothing. Printed by tools/rows/print_laws.py.
 
-ghost use Rattle.std.specs.Prelude.{◌≡◌, [], ◌∷◌, false, not, ◌||◌};
+ghost use Rattle.std.specs.Prelude.{◌≡◌, [], ◌∷◌, false};
 ghost use Rattle.es_rows.specs.Owed.{Kept, KeptAfter, Owed, TellsApart, Refused, MeansOther, RefusedAfter, Means, HaveShapes};
 ghost use Rattle.es_steps.specs.Definitions.{definitions_stand};
 ghost use Rattle.es_base.specs.Conforms.{conforms};
@@ -222,7 +262,7 @@ ghost use Rattle.es_steps.specs.KeptNodes.{classes_kept, lists_kept, homes_kept}
 ghost use Rattle.es_steps.specs.Lowered.{names_declared, declarations_accounted, initializations_stand};
 ghost use Rattle.es_steps.specs.Meaning.{source_means};
 ghost use Rattle.es_steps.specs.OwnNames.{own_names_stay};
-ghost use Rattle.es_steps.specs.Printable.{is_printable};
+ghost use Rattle.es_steps.specs.Printable.{is_printable, stays_printable};
 ghost use Rattle.es_steps.specs.PrivateNames.{private_members};
 ghost use Rattle.es_steps.specs.Strict.{none_becomes_strict};
 ghost use Rattle.es_steps.specs.Temporaries.{temporaries_steady};

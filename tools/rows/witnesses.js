@@ -141,6 +141,61 @@ const privateMethod = { options: ['--class-properties'], source: 'class A { #m()
 const blockNamed = { options: ['--static-block'], source: 'let D = class { static x = 1; static name = 2; static { a; } };', output: 'var _staticBlock; let D = (class { static x = 1; static name = ((_value) => (_staticBlock = () => (a, this), _value))(2); }, _staticBlock());' };
 // an arrow whose body becomes a block, in which a name is declared
 const arrowBlock = { options: ['--class-properties'], source: 'const f = () => class { static x = 1; };', output: 'const f = () => { var _Class; return (_Class = class {}, B.defineProperty(_Class, "x", 1), _Class); };', numbers: { 5: 50, 6: 51, 7: 52, 8: 53, 9: 54, 13: 5, 14: 6, 21: 9 }, generated: [{ name: '_Class', kind: 'ClassTemp', number: 5 }] };
+// new statements that can't be printed, or not there
+function pattern(t, source, flags) {
+  const made = statement(t, '/a/;');
+  Object.assign(made.expression.literal, { pattern: source, flags });
+  return made;
+}
+function octal(t) {
+  const made = statement(t, '1;');
+  made.expression.literal.raw = '010';
+  return made;
+}
+function withoutNames(s) {
+  s.declarations = [];
+  return s;
+}
+const classTemporary = { name: '_C', kind: 'ClassTemp', number: 1 };
+const nameBeside = (source, output) => ({ options: ['--class-properties'], source, output });
+const namelessClass = nameBeside('f(class { x = 1; });', 'f(class { constructor() { B.defineProperty(this, "x", 1); } });');
+// the first class expression, with a new own name
+function ownName(t, name) {
+  const id = fresh(t, tree('class A {}').body[0].id), c = found(t, n => n.type === 'ClassExpression');
+  id.name = name;
+  c.id = id;
+  return c;
+}
+const ownTemporary = { name: '_Class', kind: 'ClassTemp', number: 4 };
+// `this.#x++`
+const updated = '(B.classPrivateFieldSet2(_x, this, (_t = B.classPrivateFieldGet2(_x, this), _u = _t++, _t)), _u)';
+// the declaration of `_t` as a `let` at the end of its list
+function letBehind(t) {
+  const declares = s => s.type === 'VariableDeclaration' && s.declarations[0].id.name === '_t';
+  const list = found(t, n => Array.isArray(n.body) && n.body.some(declares)).body, [made] = list.splice(list.findIndex(declares), 1);
+  made.kind = 'let';
+  list.push(made);
+}
+const privateNames = { options: ['--static-block'], source: 'class A { #x = 1; #y = 2; static { g(); } m() { return this.#x; } }', output: 'var _staticBlock; let A = (class A { #x = 1; #y = 2; m() { return this.#x; } static #_ = _staticBlock = () => (g(), this); }, _staticBlock());' };
+function spellPrivate(t, from, to) {
+  for (const n of nodes(t, n => n.nodeKind === 'PrivateIdentifier' && n.name === from)) n.name = to;
+}
+// a field whose key suspends and whose value is a class with a static block; a class with it
+const suspendingField = (name, key, suspends, closure, block) => `[${key} = B.toPropertyKey(${suspends})] = (() => { var ${closure}; return (({ [${name}.#_]: class { static #_ = ${closure} = () => (${block}, this); } })[${name}.#_], ${closure}()); })();`;
+const suspending = (name, key, ...more) => `class ${name} { static #_ = ${key}; ${suspendingField(name, key, ...more)} }`;
+const suspendingNumbers = { 4: 99, 5: 99, 6: 99, 7: 99, 8: 99, 9: 5, 10: 4, 11: 99, 12: 6, 13: 99, 14: 99, 16: 7, 23: 8, 24: 9, 39: 10, 40: 11, 47: 14 };
+// the generated name that the program declares, as the own name of the function expression
+function nameFunction(t) {
+  const [made] = t.body.splice(0, 1);
+  found(t, n => n.type === 'FunctionExpression' && n.params.length > 0).id = made.declarations[0].id;
+}
+// a class in a function that is called in front of it; the first statement of that function, in front of it
+const calledBefore = (element, made, given, behind = '', options = ['--class-properties']) => ({ options, source: `F(); function F() { class A { ${element} } return new A(); }`, output: `F(); function F() { ${made} class A { constructor() { ${given} } } ${behind} return new A(); }` });
+function outOfItsFunction(t) {
+  t.body.splice(1, 0, t.body[1].body.body.shift());
+}
+// a lowered class behind other code
+const behindCode = code => ({ options: ['--class-properties'], source: `${code} class A { x = 1; }`, output: `${code} class A { constructor() { B.defineProperty(this, "x", 1); } }` });
 
 const witnesses = [
   pair('parameters_exchanged', 'the parameters of a constructor', 'class A { constructor(a, b) { f(a, b); } }', 'class A { constructor(b, a) { f(a, b); } }', { 7: 8, 8: 7 }),
@@ -469,6 +524,89 @@ const witnesses = [
   wrong('names_of_a_constructor', 'two names of a constructor renamed to one, of which one is hoisted past the other', { options: ['--class-properties'], source: 'class A extends P { x = 1; constructor() { super(); { let a = f(); g(a); { var b; } } } }', output: 'class A extends P { constructor() { super(); B.defineProperty(this, "x", 1); { let a = f(); g(a); { var b; } } } }' },
     q => { for (const n of preorder(q)) if (n.name === 'a' || n.name === 'b') n.name = '_a'; }),
   pair('arguments_of_a_block', '`arguments` behind a function of that name in a block', 'function f() { g(arguments); { function arguments() {} } }', 'function f() { { function arguments() {} } g(arguments); }', { 4: 8, 5: 9, 6: 10, 7: 11, 8: 4, 9: 5, 10: 6, 11: 7 }),
+  // literals, templates and names that a printer can't write, or that mean nothing where they stand
+  clause('pattern_of_no_regular_expression', 'a new regular expression whose pattern is none', row('instance_field'), q => { q.body.push(pattern(q, '(', '')); }),
+  clause('flags_of_no_regular_expression', 'a new regular expression with one flag twice', row('instance_field'), q => { q.body.push(pattern(q, 'a', 'gg')); }),
+  clause('number_that_strict_code_has_not', 'a new number that begins with `0`, in strict code', row('instance_field'), q => { constructorOf(q).push(octal(q)); }),
+  clause('copy_of_a_number', 'a copy of a number that begins with `0`, in strict code', { options: ['--class-properties'], source: 'f(010); class A { x = 1; }', output: 'f(010); class A { constructor() { B.defineProperty(this, "x", 1); } }' }, q => { constructorOf(q).push(octal(q)); }),
+  clause('uncooked_template', 'a copy of a string of a tagged template, which has no cooked form, outside a tag', inMethod('return t`\\u`;', 'return t`\\u`;'),
+    q => { const s = statement(q, '`a`;'); Object.assign(s.expression.quasis[0], { raw: '\\u', cooked: null }); q.body.push(s); }),
+  wrong('new_target_of_a_program', '`new.target` outside of all functions', row('instance_field'), q => { q.body.push(fresh(q, tree('function f() { new.target; }').body[0].body.body[0])); }),
+  clause('arguments_of_a_static_field', '`arguments` in the value of a static field', { options: ['--static-block'], source: 'class A { static { a; } static b = 1; }', output: 'class A { static b = (a, 1); }' },
+    q => { found(q, n => n.type === 'SequenceExpression').expressions.splice(1, 0, fresh(q, expression('arguments'))); }),
+  clause('declaration_of_nothing', 'a new `var` without a name', row('instance_field'), q => { q.body.push(withoutNames(statement(q, 'var a;'))); }),
+  clause('declaration_without_its_names', 'a `var` whose declarator went to a new one', { options: ['--class-properties'], source: 'var C = class { x = 1; };', output: 'var C = class { constructor() { B.defineProperty(this, "x", 1); } };' },
+    q => { const made = statement(q, 'var a;'); made.declarations = q.body[0].declarations; withoutNames(q.body[0]); q.body.unshift(made); }),
+  clause('character_of_no_name', 'a generated name with a character that is in no name of the source', { options: ['--class-properties'], source: 'class A { [k()] = 1; }', output: 'let _k; _k = k(); class A { constructor() { B.defineProperty(this, _k, 1); } }' },
+    q => { for (const n of nodes(q, n => n.name === '_k')) n.name = '_×'; }, [{ name: '_×', kind: 'Temp' }]),
+  clause('string_that_a_printer_makes_a_directive', 'a new string `"use strict"` that is no directive, at the head of a function', { options: ['--class-properties'], source: 'function F() { class A { static x = 1; } return this; }', output: 'function F() { class A {} B.defineProperty(A, "x", 1); return this; }' },
+    q => { q.body[0].body.body.unshift(statement(q, '("use strict");')); }),
+  // a class declaration that becomes a `let`
+  clause('declaration_without_its_name_in_a_method', 'a class declaration that becomes an expression without its name, which a static method reads for a static field', { options: ['--class-properties'], source: 'class C { static x = this.m(); static m() { return C; } } f(C.x);', output: 'var _C; let C = (_C = class { static m() { return C; } }, B.defineProperty(_C, "x", _C.m()), _C); f(C.x);',
+    numbers: { 1: 99, 2: 99, 3: 99, 4: 99, 5: 99, 6: 2, 7: 99, 8: 99, 9: 99, 10: 1, 11: 3, 12: 10, 13: 11, 14: 12, 15: 13, 16: 14, 17: 15, 18: 99, 19: 99, 20: 99, 21: 99, 24: 6, 25: 7, 27: 9, 29: 16, 30: 17, 31: 18, 32: 19, 33: 20, 34: 21 } }, q => {}, [classTemporary]),
+  clause('let_read_in_its_value', 'a class declaration that becomes a `let`, which is read in its own value', { options: ['--class-properties'], source: 'class C { static x = C.y; } f(C.x);', output: 'var _C; let C = (_C = class C {}, B.defineProperty(_C, "x", C.y), _C); f(C.x);',
+    numbers: { 1: 99, 2: 99, 3: 99, 4: 99, 5: 99, 6: 2, 7: 99, 8: 99, 9: 99, 10: 1, 11: 99, 12: 3, 13: 99, 14: 99, 19: 6, 20: 7, 21: 8, 23: 9, 24: 10, 25: 11, 26: 12, 27: 13, 28: 14 } }, q => {}, [classTemporary]),
+  // keys that change without a write, behind static blocks and in other functions
+  pair('imported_key_behind_a_block', 'an imported name as the key of a method, behind a static block that runs in front of the class or stays', 'import { k } from "m"; let D = class { static { a(); } [k]() {} };', 'import { k } from "m"; let D = class { static { a(); } ["k"]() {} };', {}, { type: 'module', options: ['--class-properties', '--static-block'] }),
+  pair('changing_key_behind_a_block', 'the key of a method, which a function in a block gives a value, behind a static block', 'var k = "a"; let D = class { static { a(); } [k]() {} }; { function k() {} }', 'var k = "a"; let D = class { static { a(); } [k]() {} }; { function j() {} }', {}, { options: ['--class-properties', '--static-block'] }),
+  pair('key_that_is_arguments', 'a `var arguments` as the key of a field', 'var arguments = "a"; class A { [arguments] = 1; } f(new A());', 'var a = "a"; class A { [a] = 1; } f(new A());', {}, { options: ['--class-properties'] }),
+  pair('key_that_is_a_parameter_arguments', 'a parameter `arguments` as the key of a field', 'function F(arguments) { class A { [arguments] = 1; } return new A(); }', 'function F(a) { class A { [a] = 1; } return new A(); }', {}, { options: ['--class-properties'] }),
+  pair('arguments_of_an_inner_function', '`arguments` in a function, where a `var` around is spelled so', 'function f() { var arguments = 1; function g() { return arguments; } }', 'function f() { var a = 1; function g() { return a; } }', {}),
+  wrong('arguments_of_a_function_around', '`arguments` of a method, read in front of the class, where a `var` is spelled so', beside('m() { h(arguments); }', 'var arguments = 1;'),
+    q => { const h = callOf(q, 'h'), s = statement(q, '_t = 1;'); s.expression.right = h.arguments[0]; h.arguments[0] = fresh(q, expression('_t')); q.body.splice(1, 0, statement(q, 'var _t;'), s); }, [temporary]),
+  wrong('for_await_in_an_arrow', 'a `for await` in a new arrow', { options: ['--class-properties'], source: 'async function F() { for await (x of y) f(class { x = 1; }); }', output: 'async function F() { for await (x of y) f(class { constructor() { B.defineProperty(this, "x", 1); } }); }' },
+    q => { const body = q.body[0].body.body, s = statement(q, '(() => { 1; })();'); s.expression.callee.body.body = [body[0]]; body[0] = s; }),
+  // words that are reserved where they stand
+  clause('yield_in_a_generator', 'a new name `yield` in a generator', nameBeside('var yield = 1; function* F() { f(class { x = 1; }); }', 'var yield = 1; function* F() { f(class { constructor() { B.defineProperty(this, "x", 1); } }); }'), q => { q.body[1].body.body.unshift(statement(q, 'yield;')); }),
+  clause('await_in_an_async_function', 'a new name `await` in an async function', nameBeside('var await = 1; async function F() { f(class { x = 1; }); }', 'var await = 1; async function F() { f(class { constructor() { B.defineProperty(this, "x", 1); } }); }'), q => { q.body[1].body.body.unshift(statement(q, 'await;')); }),
+  clause('await_in_a_static_block', 'a new name `await` in a static block', nameBeside('var await = 1; class A { x = 1; static { g(); } }', 'var await = 1; class A { constructor() { B.defineProperty(this, "x", 1); } static { g(); } }'), q => { found(q, n => n.type === 'StaticBlock').body.unshift(statement(q, 'await;')); }),
+  clause('let_in_strict_code', 'a new name `let` in a method', nameBeside('var let = 1; class A { x = 1; m() { return 1; } }', 'var let = 1; class A { constructor() { B.defineProperty(this, "x", 1); } m() { return 1; } }'), q => { methodOf(q, 'm').unshift(statement(q, 'let;')); }),
+  clause('arguments_in_a_static_block', 'a new name `arguments` in a static block', nameBeside('var arguments = 1; class A { x = 1; static { g(); } }', 'var arguments = 1; class A { constructor() { B.defineProperty(this, "x", 1); } static { g(); } }'), q => { found(q, n => n.type === 'StaticBlock').body.unshift(statement(q, 'arguments;')); }),
+  right('class_named_await', 'a class of a script that is named `await`, by which its static field is defined', nameBeside('class await { static x = 1; }', 'class await {} B.defineProperty(await, "x", 1);'), q => {}),
+  clause('class_named_eval', 'a new own name `eval`', namelessClass, q => ownName(q, 'eval')),
+  clause('class_named_arguments', 'a new own name `arguments`', namelessClass, q => ownName(q, 'arguments')),
+  clause('class_named_let', 'a new own name `let`', namelessClass, q => ownName(q, 'let')),
+  clause('class_named_await_in_an_async_function', 'a new own name `await` in an async function', { options: ['--class-properties'], source: 'async function F() { f(class { x = 1; }); }', output: 'async function F() { f(class { constructor() { B.defineProperty(this, "x", 1); } }); }' }, q => ownName(q, 'await')),
+  // a `let` of a temporary behind what uses it when it is called
+  clause('let_behind_a_constructor', 'a `let` of a temporary of a constructor, behind a call of it', { options: ['--class-properties'], source: 'class A { #x = 1; constructor() { f(this.#x++); } } new A();', output: `var _x = new WeakMap(); var _t, _u; class A { constructor() { B.classPrivateFieldInitSpec(this, _x, 1); f(${updated}); } } new A();` }, q => letBehind(q)),
+  clause('let_behind_a_field', 'a `let` of a temporary of a field, behind a call of its constructor', { options: ['--class-properties'], source: 'class A { #x = 1; y = this.#x++; } new A();', output: `var _x = new WeakMap(); var _t, _u; class A { constructor() { B.classPrivateFieldInitSpec(this, _x, 1); B.defineProperty(this, "y", ${updated}); } } new A();` }, q => letBehind(q)),
+  clause('let_behind_an_arrow', 'a `let` of a temporary of an arrow, behind a call of it', { options: ['--class-properties'], source: 'class A { #x = 1; m() { const g = () => this.#x++; g(); } }', output: `var _x = new WeakMap(); class A { constructor() { B.classPrivateFieldInitSpec(this, _x, 1); } m() { var _t, _u; const g = () => ${updated}; g(); } }` }, q => letBehind(q)),
+  // private names that stay
+  clause('private_name_of_another_member', 'a private name spelled as that of another member', privateNames, q => spellPrivate(q, 'y', 'x')),
+  clause('private_name_constructor', 'a private name spelled `#constructor`', privateNames, q => spellPrivate(q, 'x', 'constructor')),
+  // a class whose key suspends and whose value has a static block: a generated element gives its name
+  right('class_that_suspends', 'a class that suspends in the key of a field, whose value is a class with a static block, which has a private name of that spelling', { options: ['--static-block'], source: 'function* g() { class A { [yield 1] = class { static { a; } }; } }',
+    output: `function* g() { let _key; let A = ${suspending('A', '_key', 'yield 1', '_staticBlock', 'a')}; }`, numbers: suspendingNumbers },
+    q => {}, [{ name: '_key', kind: 'Temp' }, { name: '_staticBlock', kind: 'Closure' }, { name: '_', kind: 'Private', number: 4 }, { name: '_', kind: 'Private', number: 10 }]),
+  right('classes_that_suspend', 'two such classes, each with private names of that spelling', { options: ['--static-block'], source: 'function* g() { class A { [yield 1] = class { static { a; } }; } class C { [yield 2] = class { static { c; } }; } }',
+    output: `function* g() { let _key, _key2; let A = ${suspending('A', '_key', 'yield 1', '_staticBlock', 'a')}; let C = ${suspending('C', '_key2', 'yield 2', '_staticBlock2', 'c')}; }`, numbers: { 4: 99, 5: 99, 6: 99, 7: 99, 8: 99, 9: 99, 10: 99, 11: 5, 12: 4, 13: 99, 14: 6, 15: 99, 16: 99, 17: 99, 18: 7, 19: 99, 20: 99, 21: 99, 22: 99, 23: 99, 24: 99, 25: 8, 26: 9, 41: 10, 42: 11, 49: 14, 58: 16, 59: 15, 61: 17, 65: 18, 72: 19, 73: 20, 88: 21, 89: 22, 96: 25 } },
+    q => {}, [{ name: '_key', kind: 'Temp' }, { name: '_key2', kind: 'Temp' }, { name: '_staticBlock', kind: 'Closure' }, { name: '_staticBlock2', kind: 'Closure' }, ...[4, 10, 15, 21].map(number => ({ name: '_', kind: 'Private', number }))]),
+  right('nameless_class_that_suspends', 'a class that suspends and has a generated own name, which a static element names it by', { options: ['--static-block'], source: 'function* g() { return class { [yield 1] = class { static { a; } }; }; }',
+    output: `function* g() { let _key; return class _Class { static #_ = (B.setFunctionName(this, ""), _key); ${suspendingField('_Class', '_key', 'yield 1', '_staticBlock', 'a')} }; }`, numbers: { 4: 99, 5: 99, 6: 99, 7: 4, 8: 5, 9: 99, 10: 6, 11: 99, 12: 99, 13: 99, 14: 99, 21: 7, 28: 8, 29: 9, 44: 10, 45: 11, 52: 14 } },
+    q => {}, [{ name: '_key', kind: 'Temp' }, { name: '_staticBlock', kind: 'Closure' }, { name: '_Class', kind: 'ClassTemp', number: 5 }, { name: '_', kind: 'Private', number: 5 }, { name: '_', kind: 'Private', number: 10 }]),
+  // generated names that the function around names, or that are given outside of it
+  clause('class_temporary_of_a_function_expression', 'the name of a class given to the own name of a function expression, which is constant', { options: ['--class-properties'], source: 'f(function (a = class { static x = 1; }) { return a; });', output: 'var _Class; f(function (a = (_Class = class {}, B.defineProperty(_Class, "x", 1), _Class)) { return a; });' }, q => nameFunction(q)),
+  clause('map_of_a_function_expression', 'a map given to the own name of a function expression', { options: ['--class-properties'], source: 'f(function (a = class { #x = 1; }) { return a; });', output: 'var _x; f(function (a = (_x = new WeakMap(), class { constructor() { B.classPrivateFieldInitSpec(this, _x, 1); } })) { return a; });' }, q => nameFunction(q)),
+  clause('map_outside_of_a_called_function', 'a map made behind a call of the function that its class stands in', calledBefore('#x = 1;', 'var _x = new WeakMap();', 'B.classPrivateFieldInitSpec(this, _x, 1);'), q => outOfItsFunction(q)),
+  clause('brand_outside_of_a_called_function', 'a brand made behind a call of the function that its class stands in', calledBefore('#m() {}', 'var _A_brand = new WeakSet();', 'B.classPrivateMethodInitSpec(this, _A_brand);', 'function _m() {}'), q => outOfItsFunction(q)),
+  clause('key_outside_of_a_called_function', 'the key of a private field, which is kept as a property, made behind a call of the function that its class stands in', calledBefore('#x = 1;', 'var _x = B.classPrivateFieldLooseKey("x");', 'Object.defineProperty(this, _x, { writable: true, value: 1 });', '', ['--class-properties', '--loose']), q => outOfItsFunction(q)),
+  clause('method_outside_of_a_called_function', 'the function of a private method given behind a call of the function that its class stands in', calledBefore('#m() {}', 'var _A_brand = new WeakSet();', 'B.classPrivateMethodInitSpec(this, _A_brand);', 'function _m() {}'),
+    q => { const body = q.body[1].body.body, [f] = body.splice(2, 1), s = statement(q, 'var _m = function() {};'); Object.assign(s.declarations[0].init, { num: f.num, body: f.body, params: f.params }); q.body.splice(1, 0, s); }),
+  clause('own_name_in_a_heritage', 'the generated own name of a class read in its heritage', { options: ['--static-block'], source: 'f(class extends k() { static { g(); } });', output: 'var _s; f((class extends k() { static #_ = _s = () => (g(), this); }, _s()));' },
+    q => { const c = ownName(q, '_Class'); c.superClass = sequence(q, fresh(q, expression('_Class')), c.superClass); }, [ownTemporary]),
+  clause('own_name_in_a_key', 'the generated own name of a class read in the key of a method', { options: ['--static-block'], source: 'f(class { [k()]() {} static { g(); } });', output: 'var _s; f((class { [k()]() {} static #_ = _s = () => (g(), this); }, _s()));' },
+    q => { const m = ownName(q, '_Class').body.body[0]; m.key = sequence(q, fresh(q, expression('_Class')), m.key); }, [ownTemporary]),
+  clause('regular_expression_read_twice', 'a regular expression that a parameter of a new arrow stands for, read twice for two of them', { options: ['--class-properties'], source: 'f(/a/, /a/, class { x = 1; });', output: 'f(/a/, /a/, class { constructor() { B.defineProperty(this, "x", 1); } });' },
+    q => { const s = q.body[0], call = s.expression, made = fresh(q, expression('((_p) => 0)(1)')), [e] = call.arguments; call.arguments.splice(0, 2, ...[1, 2].map(() => fresh(q, expression('_p')))); made.callee.body = call; made.arguments = [e]; s.expression = made; }, [{ name: '_p', kind: 'Param' }]),
+  // sources that look as if they could not be printed
+  right('string_in_parentheses', 'a string in front that is no directive', behindCode('("a");'), q => {}),
+  right('directive_with_an_escape', 'a directive with an escape', behindCode('"a\\\\b";'), q => {}),
+  right('hexadecimal_bigint', 'a bigint that is no decimal', behindCode('y = 0xFn;'), q => {}),
+  clause('nothing_declared_behind_a_string', 'a new `var` without a name, where a string in front is no directive', behindCode('("a");'), q => { q.body.push(withoutNames(statement(q, 'var a;'))); }),
+  clause('nothing_declared_behind_a_directive', 'a new `var` without a name, where a directive has an escape', behindCode('"a\\\\b";'), q => { q.body.push(withoutNames(statement(q, 'var a;'))); }),
+  clause('nothing_declared_behind_a_bigint', 'a new `var` without a name, where a bigint is no decimal', behindCode('y = 0xFn;'), q => { q.body.push(withoutNames(statement(q, 'var a;'))); }),
+  clause('second_string_that_a_printer_makes_a_directive', 'a new string `"use strict"` that is no directive, at the head of a function, where one of the source stands in front', { options: ['--class-properties'], source: '("a"); function F() { class A { static x = 1; } return this; }', output: '("a"); function F() { class A {} B.defineProperty(A, "x", 1); return this; }' },
+    q => { q.body[1].body.body.unshift(statement(q, '("use strict");')); }),
 ];
 
 // a row that `match.js` has no reading of; `numbers` are those that differ from the place in preorder

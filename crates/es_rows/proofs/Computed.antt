@@ -12,7 +12,7 @@ use Rattle.es_steps.specs.HelperCalls.{computed_keys, helper_calls_fit}
 use Rattle.es_steps.specs.KeptNodes.{nodes_kept, classes_kept, statements_kept, lists_kept, homes_kept}
 use Rattle.es_steps.specs.Lowered.{nothing_left, names_declared, declarations_accounted, initializations_stand, keys_stand, IsLowered}
 use Rattle.es_steps.specs.OwnNames.{own_names_stay}
-use Rattle.es_steps.specs.Printable.{is_printable}
+use Rattle.es_steps.specs.Printable.{stays_printable}
 use Rattle.es_steps.specs.PrivateNames.{private_members}
 use Rattle.es_steps.specs.References.{has_number}
 use Rattle.es_steps.specs.Strict.{none_becomes_strict}
@@ -54,7 +54,7 @@ clauses o ledger p q =
     ∷ definitions_stand (nodes p) o ledger (private_members p) p q
     ∷ elements_kept o (preorder p) (preorder q)
     ∷ helper_calls_fit (nodes p) ledger (computed_keys (preorder p)) q
-    ∷ (not (is_printable p) || is_printable q)
+    ∷ stays_printable p q
     ∷ []
 
 abbrev all_met : List Bool

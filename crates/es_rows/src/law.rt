@@ -1,6 +1,6 @@
 // Worked rows and witnesses: functions that do nothing. Printed by tools/rows/print_laws.py.
 
-ghost use Rattle.std.specs.Prelude.{◌≡◌, [], ◌∷◌, false, not, ◌||◌};
+ghost use Rattle.std.specs.Prelude.{◌≡◌, [], ◌∷◌, false};
 ghost use Rattle.es_rows.specs.Owed.{Kept, KeptAfter, Owed, TellsApart, Refused, MeansOther, RefusedAfter, Means, HaveShapes};
 ghost use Rattle.es_steps.specs.Definitions.{definitions_stand};
 ghost use Rattle.es_base.specs.Conforms.{conforms};
@@ -11,7 +11,7 @@ ghost use Rattle.es_steps.specs.KeptNodes.{classes_kept, lists_kept, homes_kept}
 ghost use Rattle.es_steps.specs.Lowered.{names_declared, declarations_accounted, initializations_stand};
 ghost use Rattle.es_steps.specs.Meaning.{source_means};
 ghost use Rattle.es_steps.specs.OwnNames.{own_names_stay};
-ghost use Rattle.es_steps.specs.Printable.{is_printable};
+ghost use Rattle.es_steps.specs.Printable.{is_printable, stays_printable};
 ghost use Rattle.es_steps.specs.PrivateNames.{private_members};
 ghost use Rattle.es_steps.specs.Strict.{none_becomes_strict};
 ghost use Rattle.es_steps.specs.Temporaries.{temporaries_steady};
@@ -105,14 +105,20 @@ ghost use Rattle.es_rows.specs.witnesses.AnotherLiteral.{source_another_literal,
 ghost use Rattle.es_rows.specs.witnesses.AnotherLiteralBehindParameters.{source_another_literal_behind_parameters, output_another_literal_behind_parameters, generated_another_literal_behind_parameters, options_another_literal_behind_parameters};
 ghost use Rattle.es_rows.specs.witnesses.AnotherLiteralOfAWrittenClass.{source_another_literal_of_a_written_class, output_another_literal_of_a_written_class, generated_another_literal_of_a_written_class, options_another_literal_of_a_written_class};
 ghost use Rattle.es_rows.specs.witnesses.ArgumentsBehindAWrite.{first_arguments_behind_a_write, second_arguments_behind_a_write, options_arguments_behind_a_write};
+ghost use Rattle.es_rows.specs.witnesses.ArgumentsInAStaticBlock.{source_arguments_in_a_static_block, output_arguments_in_a_static_block, generated_arguments_in_a_static_block, options_arguments_in_a_static_block};
 ghost use Rattle.es_rows.specs.witnesses.ArgumentsOfABlock.{first_arguments_of_a_block, second_arguments_of_a_block, options_arguments_of_a_block};
+ghost use Rattle.es_rows.specs.witnesses.ArgumentsOfAFunctionAround.{source_arguments_of_a_function_around, output_arguments_of_a_function_around, generated_arguments_of_a_function_around, options_arguments_of_a_function_around};
+ghost use Rattle.es_rows.specs.witnesses.ArgumentsOfAStaticField.{source_arguments_of_a_static_field, output_arguments_of_a_static_field, generated_arguments_of_a_static_field, options_arguments_of_a_static_field};
+ghost use Rattle.es_rows.specs.witnesses.ArgumentsOfAnInnerFunction.{first_arguments_of_an_inner_function, second_arguments_of_an_inner_function, options_arguments_of_an_inner_function};
 ghost use Rattle.es_rows.specs.witnesses.ArgumentsOfAnother.{source_arguments_of_another, output_arguments_of_another, generated_arguments_of_another, options_arguments_of_another};
 ghost use Rattle.es_rows.specs.witnesses.ArrowMovedIntoParameters.{source_arrow_moved_into_parameters, output_arrow_moved_into_parameters, generated_arrow_moved_into_parameters, options_arrow_moved_into_parameters};
 ghost use Rattle.es_rows.specs.witnesses.ArrowOutOfALoop.{source_arrow_out_of_a_loop, output_arrow_out_of_a_loop, generated_arrow_out_of_a_loop, options_arrow_out_of_a_loop};
 ghost use Rattle.es_rows.specs.witnesses.ArrowThatGivesAnother.{source_arrow_that_gives_another, output_arrow_that_gives_another, generated_arrow_that_gives_another, options_arrow_that_gives_another};
 ghost use Rattle.es_rows.specs.witnesses.ArrowWithoutItsReturn.{source_arrow_without_its_return, output_arrow_without_its_return, generated_arrow_without_its_return, options_arrow_without_its_return};
 ghost use Rattle.es_rows.specs.witnesses.AsyncConstructor.{source_async_constructor, output_async_constructor, generated_async_constructor, options_async_constructor};
+ghost use Rattle.es_rows.specs.witnesses.AwaitInAStaticBlock.{source_await_in_a_static_block, output_await_in_a_static_block, generated_await_in_a_static_block, options_await_in_a_static_block};
 ghost use Rattle.es_rows.specs.witnesses.AwaitInAStaticElement.{source_await_in_a_static_element, output_await_in_a_static_element, generated_await_in_a_static_element, options_await_in_a_static_element};
+ghost use Rattle.es_rows.specs.witnesses.AwaitInAnAsyncFunction.{source_await_in_an_async_function, output_await_in_an_async_function, generated_await_in_an_async_function, options_await_in_an_async_function};
 ghost use Rattle.es_rows.specs.witnesses.BindingInATemporary.{source_binding_in_a_temporary, output_binding_in_a_temporary, generated_binding_in_a_temporary, options_binding_in_a_temporary};
 ghost use Rattle.es_rows.specs.witnesses.BindingNotRenamed.{source_binding_not_renamed, output_binding_not_renamed, generated_binding_not_renamed, options_binding_not_renamed};
 ghost use Rattle.es_rows.specs.witnesses.BlockBehindAKeptField.{source_block_behind_a_kept_field, output_block_behind_a_kept_field, generated_block_behind_a_kept_field, options_block_behind_a_kept_field};
@@ -126,29 +132,44 @@ ghost use Rattle.es_rows.specs.witnesses.BodyInAnArrow.{source_body_in_an_arrow,
 ghost use Rattle.es_rows.specs.witnesses.BoundBeforeItsTest.{source_bound_before_its_test, output_bound_before_its_test, generated_bound_before_its_test, options_bound_before_its_test};
 ghost use Rattle.es_rows.specs.witnesses.BranchOfAKey.{source_branch_of_a_key, output_branch_of_a_key, generated_branch_of_a_key, options_branch_of_a_key};
 ghost use Rattle.es_rows.specs.witnesses.BranchOfAKeyOfAnother.{source_branch_of_a_key_of_another, output_branch_of_a_key_of_another, generated_branch_of_a_key_of_another, options_branch_of_a_key_of_another};
+ghost use Rattle.es_rows.specs.witnesses.BrandOutsideOfACalledFunction.{source_brand_outside_of_a_called_function, output_brand_outside_of_a_called_function, generated_brand_outside_of_a_called_function, options_brand_outside_of_a_called_function};
 ghost use Rattle.es_rows.specs.witnesses.BreakInAnArrow.{source_break_in_an_arrow, output_break_in_an_arrow, generated_break_in_an_arrow, options_break_in_an_arrow};
 ghost use Rattle.es_rows.specs.witnesses.BreakInAnArrowBesideAwait.{source_break_in_an_arrow_beside_await, output_break_in_an_arrow_beside_await, generated_break_in_an_arrow_beside_await, options_break_in_an_arrow_beside_await};
 ghost use Rattle.es_rows.specs.witnesses.CaughtKey.{first_caught_key, second_caught_key, options_caught_key};
 ghost use Rattle.es_rows.specs.witnesses.CaughtNamesExchanged.{first_caught_names_exchanged, second_caught_names_exchanged, options_caught_names_exchanged};
+ghost use Rattle.es_rows.specs.witnesses.ChangingKeyBehindABlock.{first_changing_key_behind_a_block, second_changing_key_behind_a_block, options_changing_key_behind_a_block};
+ghost use Rattle.es_rows.specs.witnesses.CharacterOfNoName.{source_character_of_no_name, output_character_of_no_name, generated_character_of_no_name, options_character_of_no_name};
 ghost use Rattle.es_rows.specs.witnesses.ClassBehindItsUse.{source_class_behind_its_use, output_class_behind_its_use, generated_class_behind_its_use, options_class_behind_its_use};
 ghost use Rattle.es_rows.specs.witnesses.ClassInACase.{source_class_in_a_case, output_class_in_a_case, generated_class_in_a_case, options_class_in_a_case};
 ghost use Rattle.es_rows.specs.witnesses.ClassInAConstructor.{source_class_in_a_constructor, output_class_in_a_constructor, generated_class_in_a_constructor, options_class_in_a_constructor};
 ghost use Rattle.es_rows.specs.witnesses.ClassInFrontOfItsUse.{source_class_in_front_of_its_use, output_class_in_front_of_its_use, generated_class_in_front_of_its_use, options_class_in_front_of_its_use};
+ghost use Rattle.es_rows.specs.witnesses.ClassNamedArguments.{source_class_named_arguments, output_class_named_arguments, generated_class_named_arguments, options_class_named_arguments};
+ghost use Rattle.es_rows.specs.witnesses.ClassNamedAwait.{source_class_named_await, output_class_named_await, generated_class_named_await, options_class_named_await};
+ghost use Rattle.es_rows.specs.witnesses.ClassNamedAwaitInAnAsyncFunction.{source_class_named_await_in_an_async_function, output_class_named_await_in_an_async_function, generated_class_named_await_in_an_async_function, options_class_named_await_in_an_async_function};
+ghost use Rattle.es_rows.specs.witnesses.ClassNamedEval.{source_class_named_eval, output_class_named_eval, generated_class_named_eval, options_class_named_eval};
+ghost use Rattle.es_rows.specs.witnesses.ClassNamedLet.{source_class_named_let, output_class_named_let, generated_class_named_let, options_class_named_let};
 ghost use Rattle.es_rows.specs.witnesses.ClassNamedOtherwise.{first_class_named_otherwise, second_class_named_otherwise, options_class_named_otherwise};
 ghost use Rattle.es_rows.specs.witnesses.ClassOfAHead.{source_class_of_a_head, output_class_of_a_head, generated_class_of_a_head, options_class_of_a_head};
 ghost use Rattle.es_rows.specs.witnesses.ClassOfARightSide.{source_class_of_a_right_side, output_class_of_a_right_side, generated_class_of_a_right_side, options_class_of_a_right_side};
 ghost use Rattle.es_rows.specs.witnesses.ClassRenamed.{source_class_renamed, output_class_renamed, generated_class_renamed, options_class_renamed};
 ghost use Rattle.es_rows.specs.witnesses.ClassTemporaryBeforeItsClass.{source_class_temporary_before_its_class, output_class_temporary_before_its_class, generated_class_temporary_before_its_class, options_class_temporary_before_its_class};
 ghost use Rattle.es_rows.specs.witnesses.ClassTemporaryInItsClass.{source_class_temporary_in_its_class, output_class_temporary_in_its_class, generated_class_temporary_in_its_class, options_class_temporary_in_its_class};
+ghost use Rattle.es_rows.specs.witnesses.ClassTemporaryOfAFunctionExpression.{source_class_temporary_of_a_function_expression, output_class_temporary_of_a_function_expression, generated_class_temporary_of_a_function_expression, options_class_temporary_of_a_function_expression};
 ghost use Rattle.es_rows.specs.witnesses.ClassTemporaryOfAnotherCase.{source_class_temporary_of_another_case, output_class_temporary_of_another_case, generated_class_temporary_of_another_case, options_class_temporary_of_another_case};
+ghost use Rattle.es_rows.specs.witnesses.ClassThatSuspends.{source_class_that_suspends, output_class_that_suspends, generated_class_that_suspends, options_class_that_suspends};
+ghost use Rattle.es_rows.specs.witnesses.ClassesThatSuspend.{source_classes_that_suspend, output_classes_that_suspend, generated_classes_that_suspend, options_classes_that_suspend};
 ghost use Rattle.es_rows.specs.witnesses.ClosureBeforeItsClass.{source_closure_before_its_class, output_closure_before_its_class, generated_closure_before_its_class, options_closure_before_its_class};
 ghost use Rattle.es_rows.specs.witnesses.ClosureCalledInAKey.{source_closure_called_in_a_key, output_closure_called_in_a_key, generated_closure_called_in_a_key, options_closure_called_in_a_key};
 ghost use Rattle.es_rows.specs.witnesses.ConstantTemporary.{source_constant_temporary, output_constant_temporary, generated_constant_temporary, options_constant_temporary};
 ghost use Rattle.es_rows.specs.witnesses.ConstructorOfAnotherKey.{source_constructor_of_another_key, output_constructor_of_another_key, generated_constructor_of_another_key, options_constructor_of_another_key};
 ghost use Rattle.es_rows.specs.witnesses.ConversionOfNoKey.{source_conversion_of_no_key, output_conversion_of_no_key, generated_conversion_of_no_key, options_conversion_of_no_key};
 ghost use Rattle.es_rows.specs.witnesses.ConversionsOfATemplate.{source_conversions_of_a_template, output_conversions_of_a_template, generated_conversions_of_a_template, options_conversions_of_a_template};
+ghost use Rattle.es_rows.specs.witnesses.CopyOfANumber.{source_copy_of_a_number, output_copy_of_a_number, generated_copy_of_a_number, options_copy_of_a_number};
 ghost use Rattle.es_rows.specs.witnesses.DeadTemporary.{source_dead_temporary, output_dead_temporary, generated_dead_temporary, options_dead_temporary};
+ghost use Rattle.es_rows.specs.witnesses.DeclarationOfNothing.{source_declaration_of_nothing, output_declaration_of_nothing, generated_declaration_of_nothing, options_declaration_of_nothing};
 ghost use Rattle.es_rows.specs.witnesses.DeclarationWithoutItsName.{source_declaration_without_its_name, output_declaration_without_its_name, generated_declaration_without_its_name, options_declaration_without_its_name};
+ghost use Rattle.es_rows.specs.witnesses.DeclarationWithoutItsNameInAMethod.{source_declaration_without_its_name_in_a_method, output_declaration_without_its_name_in_a_method, generated_declaration_without_its_name_in_a_method, options_declaration_without_its_name_in_a_method};
+ghost use Rattle.es_rows.specs.witnesses.DeclarationWithoutItsNames.{source_declaration_without_its_names, output_declaration_without_its_names, generated_declaration_without_its_names, options_declaration_without_its_names};
 ghost use Rattle.es_rows.specs.witnesses.DeclaratorInAConst.{source_declarator_in_a_const, output_declarator_in_a_const, generated_declarator_in_a_const, options_declarator_in_a_const};
 ghost use Rattle.es_rows.specs.witnesses.DeclaratorOutOfItsBlock.{source_declarator_out_of_its_block, output_declarator_out_of_its_block, generated_declarator_out_of_its_block, options_declarator_out_of_its_block};
 ghost use Rattle.es_rows.specs.witnesses.DefaultExports.{first_default_exports, second_default_exports, options_default_exports};
@@ -158,6 +179,7 @@ ghost use Rattle.es_rows.specs.witnesses.DefinitionsNested.{source_definitions_n
 ghost use Rattle.es_rows.specs.witnesses.DeleteOfAName.{first_delete_of_a_name, second_delete_of_a_name, options_delete_of_a_name};
 ghost use Rattle.es_rows.specs.witnesses.DeletedKey.{source_deleted_key, output_deleted_key, generated_deleted_key, options_deleted_key};
 ghost use Rattle.es_rows.specs.witnesses.DirectiveBehindAName.{source_directive_behind_a_name, output_directive_behind_a_name, generated_directive_behind_a_name, options_directive_behind_a_name};
+ghost use Rattle.es_rows.specs.witnesses.DirectiveWithAnEscape.{source_directive_with_an_escape, output_directive_with_an_escape, generated_directive_with_an_escape, options_directive_with_an_escape};
 ghost use Rattle.es_rows.specs.witnesses.ElementsDropped.{source_elements_dropped, output_elements_dropped, generated_elements_dropped, options_elements_dropped};
 ghost use Rattle.es_rows.specs.witnesses.ElementsOfAWrittenClassDropped.{source_elements_of_a_written_class_dropped, output_elements_of_a_written_class_dropped, generated_elements_of_a_written_class_dropped, options_elements_of_a_written_class_dropped};
 ghost use Rattle.es_rows.specs.witnesses.FieldBeforeSuper.{source_field_before_super, output_field_before_super, generated_field_before_super, options_field_before_super};
@@ -171,6 +193,8 @@ ghost use Rattle.es_rows.specs.witnesses.FieldOfAWrittenClassDropped.{source_fie
 ghost use Rattle.es_rows.specs.witnesses.FieldsBehindParametersExchanged.{source_fields_behind_parameters_exchanged, output_fields_behind_parameters_exchanged, generated_fields_behind_parameters_exchanged, options_fields_behind_parameters_exchanged};
 ghost use Rattle.es_rows.specs.witnesses.FieldsExchanged.{source_fields_exchanged, output_fields_exchanged, generated_fields_exchanged, options_fields_exchanged};
 ghost use Rattle.es_rows.specs.witnesses.FieldsOfAWrittenClassExchanged.{source_fields_of_a_written_class_exchanged, output_fields_of_a_written_class_exchanged, generated_fields_of_a_written_class_exchanged, options_fields_of_a_written_class_exchanged};
+ghost use Rattle.es_rows.specs.witnesses.FlagsOfNoRegularExpression.{source_flags_of_no_regular_expression, output_flags_of_no_regular_expression, generated_flags_of_no_regular_expression, options_flags_of_no_regular_expression};
+ghost use Rattle.es_rows.specs.witnesses.ForAwaitInAnArrow.{source_for_await_in_an_arrow, output_for_await_in_an_arrow, generated_for_await_in_an_arrow, options_for_await_in_an_arrow};
 ghost use Rattle.es_rows.specs.witnesses.FunctionInABlockOfAnotherName.{first_function_in_a_block_of_another_name, second_function_in_a_block_of_another_name, options_function_in_a_block_of_another_name};
 ghost use Rattle.es_rows.specs.witnesses.FunctionInABranchOfABlock.{first_function_in_a_branch_of_a_block, second_function_in_a_branch_of_a_block, options_function_in_a_branch_of_a_block};
 ghost use Rattle.es_rows.specs.witnesses.FunctionInACatch.{first_function_in_a_catch, second_function_in_a_catch, options_function_in_a_catch};
@@ -187,10 +211,12 @@ ghost use Rattle.es_rows.specs.witnesses.GetterMadeAMethod.{source_getter_made_a
 ghost use Rattle.es_rows.specs.witnesses.GetterOrMethod.{first_getter_or_method, second_getter_or_method, options_getter_or_method};
 ghost use Rattle.es_rows.specs.witnesses.GlobalRenamed.{first_global_renamed, second_global_renamed, options_global_renamed};
 ghost use Rattle.es_rows.specs.witnesses.HeritageReadLate.{source_heritage_read_late, output_heritage_read_late, generated_heritage_read_late, options_heritage_read_late};
+ghost use Rattle.es_rows.specs.witnesses.HexadecimalBigint.{source_hexadecimal_bigint, output_hexadecimal_bigint, generated_hexadecimal_bigint, options_hexadecimal_bigint};
 ghost use Rattle.es_rows.specs.witnesses.HiddenBody.{source_hidden_body, output_hidden_body, generated_hidden_body, options_hidden_body};
 ghost use Rattle.es_rows.specs.witnesses.HoleInAPattern.{first_hole_in_a_pattern, second_hole_in_a_pattern, options_hole_in_a_pattern};
 ghost use Rattle.es_rows.specs.witnesses.ImportReadEarly.{source_import_read_early, output_import_read_early, generated_import_read_early, options_import_read_early};
 ghost use Rattle.es_rows.specs.witnesses.ImportedKey.{first_imported_key, second_imported_key, options_imported_key};
+ghost use Rattle.es_rows.specs.witnesses.ImportedKeyBehindABlock.{first_imported_key_behind_a_block, second_imported_key_behind_a_block, options_imported_key_behind_a_block};
 ghost use Rattle.es_rows.specs.witnesses.ImportedKeyOfAMethod.{first_imported_key_of_a_method, second_imported_key_of_a_method, options_imported_key_of_a_method};
 ghost use Rattle.es_rows.specs.witnesses.ImportedObject.{first_imported_object, second_imported_object, options_imported_object};
 ghost use Rattle.es_rows.specs.witnesses.ImportsExchanged.{first_imports_exchanged, second_imports_exchanged, options_imports_exchanged};
@@ -202,27 +228,38 @@ ghost use Rattle.es_rows.specs.witnesses.KeyHeadsExchanged.{first_key_heads_exch
 ghost use Rattle.es_rows.specs.witnesses.KeyOfABindingForAName.{source_key_of_a_binding_for_a_name, output_key_of_a_binding_for_a_name, generated_key_of_a_binding_for_a_name, options_key_of_a_binding_for_a_name};
 ghost use Rattle.es_rows.specs.witnesses.KeyOfABindingInATemporary.{source_key_of_a_binding_in_a_temporary, output_key_of_a_binding_in_a_temporary, generated_key_of_a_binding_in_a_temporary, options_key_of_a_binding_in_a_temporary};
 ghost use Rattle.es_rows.specs.witnesses.KeyOfAMethod.{first_key_of_a_method, second_key_of_a_method, options_key_of_a_method};
+ghost use Rattle.es_rows.specs.witnesses.KeyOutsideOfACalledFunction.{source_key_outside_of_a_called_function, output_key_outside_of_a_called_function, generated_key_outside_of_a_called_function, options_key_outside_of_a_called_function};
 ghost use Rattle.es_rows.specs.witnesses.KeyReadLate.{source_key_read_late, output_key_read_late, generated_key_read_late, options_key_read_late};
 ghost use Rattle.es_rows.specs.witnesses.KeyReadTwice.{source_key_read_twice, output_key_read_twice, generated_key_read_twice, options_key_read_twice};
 ghost use Rattle.es_rows.specs.witnesses.KeyThatABranchGives.{first_key_that_a_branch_gives, second_key_that_a_branch_gives, options_key_that_a_branch_gives};
 ghost use Rattle.es_rows.specs.witnesses.KeyThatACatchGives.{first_key_that_a_catch_gives, second_key_that_a_catch_gives, options_key_that_a_catch_gives};
 ghost use Rattle.es_rows.specs.witnesses.KeyThatAFunctionInABlockGives.{first_key_that_a_function_in_a_block_gives, second_key_that_a_function_in_a_block_gives, options_key_that_a_function_in_a_block_gives};
+ghost use Rattle.es_rows.specs.witnesses.KeyThatIsAParameterArguments.{first_key_that_is_a_parameter_arguments, second_key_that_is_a_parameter_arguments, options_key_that_is_a_parameter_arguments};
+ghost use Rattle.es_rows.specs.witnesses.KeyThatIsArguments.{first_key_that_is_arguments, second_key_that_is_arguments, options_key_that_is_arguments};
 ghost use Rattle.es_rows.specs.witnesses.LabelledFunctionInABlock.{first_labelled_function_in_a_block, second_labelled_function_in_a_block, options_labelled_function_in_a_block};
+ghost use Rattle.es_rows.specs.witnesses.LetBehindAConstructor.{source_let_behind_a_constructor, output_let_behind_a_constructor, generated_let_behind_a_constructor, options_let_behind_a_constructor};
+ghost use Rattle.es_rows.specs.witnesses.LetBehindAField.{source_let_behind_a_field, output_let_behind_a_field, generated_let_behind_a_field, options_let_behind_a_field};
+ghost use Rattle.es_rows.specs.witnesses.LetBehindAnArrow.{source_let_behind_an_arrow, output_let_behind_an_arrow, generated_let_behind_an_arrow, options_let_behind_an_arrow};
 ghost use Rattle.es_rows.specs.witnesses.LetBesideACaughtName.{source_let_beside_a_caught_name, output_let_beside_a_caught_name, generated_let_beside_a_caught_name, options_let_beside_a_caught_name};
+ghost use Rattle.es_rows.specs.witnesses.LetInStrictCode.{source_let_in_strict_code, output_let_in_strict_code, generated_let_in_strict_code, options_let_in_strict_code};
 ghost use Rattle.es_rows.specs.witnesses.LetOfAHead.{first_let_of_a_head, second_let_of_a_head, options_let_of_a_head};
 ghost use Rattle.es_rows.specs.witnesses.LetOfAnotherCase.{source_let_of_another_case, output_let_of_another_case, generated_let_of_another_case, options_let_of_another_case};
 ghost use Rattle.es_rows.specs.witnesses.LetOutOfAHead.{source_let_out_of_a_head, output_let_out_of_a_head, generated_let_out_of_a_head, options_let_out_of_a_head};
 ghost use Rattle.es_rows.specs.witnesses.LetOutOfALoop.{first_let_out_of_a_loop, second_let_out_of_a_loop, options_let_out_of_a_loop};
 ghost use Rattle.es_rows.specs.witnesses.LetOutOfItsBlock.{source_let_out_of_its_block, output_let_out_of_its_block, generated_let_out_of_its_block, options_let_out_of_its_block};
+ghost use Rattle.es_rows.specs.witnesses.LetReadInItsValue.{source_let_read_in_its_value, output_let_read_in_its_value, generated_let_read_in_its_value, options_let_read_in_its_value};
 ghost use Rattle.es_rows.specs.witnesses.LoopHeadsExchanged.{first_loop_heads_exchanged, second_loop_heads_exchanged, options_loop_heads_exchanged};
 ghost use Rattle.es_rows.specs.witnesses.LooseMemberReadOnce.{first_loose_member_read_once, second_loose_member_read_once, options_loose_member_read_once};
 ghost use Rattle.es_rows.specs.witnesses.MapMadeInABranch.{source_map_made_in_a_branch, output_map_made_in_a_branch, generated_map_made_in_a_branch, options_map_made_in_a_branch};
 ghost use Rattle.es_rows.specs.witnesses.MapMadeInACalledArrow.{source_map_made_in_a_called_arrow, output_map_made_in_a_called_arrow, generated_map_made_in_a_called_arrow, options_map_made_in_a_called_arrow};
 ghost use Rattle.es_rows.specs.witnesses.MapMadeInAPattern.{source_map_made_in_a_pattern, output_map_made_in_a_pattern, generated_map_made_in_a_pattern, options_map_made_in_a_pattern};
+ghost use Rattle.es_rows.specs.witnesses.MapOfAFunctionExpression.{source_map_of_a_function_expression, output_map_of_a_function_expression, generated_map_of_a_function_expression, options_map_of_a_function_expression};
+ghost use Rattle.es_rows.specs.witnesses.MapOutsideOfACalledFunction.{source_map_outside_of_a_called_function, output_map_outside_of_a_called_function, generated_map_outside_of_a_called_function, options_map_outside_of_a_called_function};
 ghost use Rattle.es_rows.specs.witnesses.MapsInLooseMode.{source_maps_in_loose_mode, output_maps_in_loose_mode, generated_maps_in_loose_mode, options_maps_in_loose_mode};
 ghost use Rattle.es_rows.specs.witnesses.MemberOfAnObject.{source_member_of_an_object, output_member_of_an_object, generated_member_of_an_object, options_member_of_an_object};
 ghost use Rattle.es_rows.specs.witnesses.MethodAssignedInAnotherFunction.{source_method_assigned_in_another_function, output_method_assigned_in_another_function, generated_method_assigned_in_another_function, options_method_assigned_in_another_function};
 ghost use Rattle.es_rows.specs.witnesses.MethodGivenBehindItsCalls.{source_method_given_behind_its_calls, output_method_given_behind_its_calls, generated_method_given_behind_its_calls, options_method_given_behind_its_calls};
+ghost use Rattle.es_rows.specs.witnesses.MethodOutsideOfACalledFunction.{source_method_outside_of_a_called_function, output_method_outside_of_a_called_function, generated_method_outside_of_a_called_function, options_method_outside_of_a_called_function};
 ghost use Rattle.es_rows.specs.witnesses.MethodWithoutBrand.{source_method_without_brand, output_method_without_brand, generated_method_without_brand, options_method_without_brand};
 ghost use Rattle.es_rows.specs.witnesses.NameGivenBehindAField.{source_name_given_behind_a_field, output_name_given_behind_a_field, generated_name_given_behind_a_field, options_name_given_behind_a_field};
 ghost use Rattle.es_rows.specs.witnesses.NameGivenInAClosure.{source_name_given_in_a_closure, output_name_given_in_a_closure, generated_name_given_in_a_closure, options_name_given_in_a_closure};
@@ -233,10 +270,18 @@ ghost use Rattle.es_rows.specs.witnesses.NameOfNoMember.{source_name_of_no_membe
 ghost use Rattle.es_rows.specs.witnesses.NameTwice.{source_name_twice, output_name_twice, generated_name_twice, options_name_twice};
 ghost use Rattle.es_rows.specs.witnesses.NameWithoutASign.{source_name_without_a_sign, output_name_without_a_sign, generated_name_without_a_sign, options_name_without_a_sign};
 ghost use Rattle.es_rows.specs.witnesses.NamedValue.{source_named_value, output_named_value, generated_named_value, options_named_value};
+ghost use Rattle.es_rows.specs.witnesses.NamelessClassThatSuspends.{source_nameless_class_that_suspends, output_nameless_class_that_suspends, generated_nameless_class_that_suspends, options_nameless_class_that_suspends};
 ghost use Rattle.es_rows.specs.witnesses.NamesOfAConstructor.{source_names_of_a_constructor, output_names_of_a_constructor, generated_names_of_a_constructor, options_names_of_a_constructor};
 ghost use Rattle.es_rows.specs.witnesses.NewImport.{source_new_import, output_new_import, generated_new_import, options_new_import};
+ghost use Rattle.es_rows.specs.witnesses.NewTargetOfAProgram.{source_new_target_of_a_program, output_new_target_of_a_program, generated_new_target_of_a_program, options_new_target_of_a_program};
+ghost use Rattle.es_rows.specs.witnesses.NothingDeclaredBehindABigint.{source_nothing_declared_behind_a_bigint, output_nothing_declared_behind_a_bigint, generated_nothing_declared_behind_a_bigint, options_nothing_declared_behind_a_bigint};
+ghost use Rattle.es_rows.specs.witnesses.NothingDeclaredBehindADirective.{source_nothing_declared_behind_a_directive, output_nothing_declared_behind_a_directive, generated_nothing_declared_behind_a_directive, options_nothing_declared_behind_a_directive};
+ghost use Rattle.es_rows.specs.witnesses.NothingDeclaredBehindAString.{source_nothing_declared_behind_a_string, output_nothing_declared_behind_a_string, generated_nothing_declared_behind_a_string, options_nothing_declared_behind_a_string};
+ghost use Rattle.es_rows.specs.witnesses.NumberThatStrictCodeHasNot.{source_number_that_strict_code_has_not, output_number_that_strict_code_has_not, generated_number_that_strict_code_has_not, options_number_that_strict_code_has_not};
 ghost use Rattle.es_rows.specs.witnesses.ObjectEvaluatedTwice.{source_object_evaluated_twice, output_object_evaluated_twice, generated_object_evaluated_twice, options_object_evaluated_twice};
 ghost use Rattle.es_rows.specs.witnesses.OddConstructor.{source_odd_constructor, output_odd_constructor, generated_odd_constructor, options_odd_constructor};
+ghost use Rattle.es_rows.specs.witnesses.OwnNameInAHeritage.{source_own_name_in_a_heritage, output_own_name_in_a_heritage, generated_own_name_in_a_heritage, options_own_name_in_a_heritage};
+ghost use Rattle.es_rows.specs.witnesses.OwnNameInAKey.{source_own_name_in_a_key, output_own_name_in_a_key, generated_own_name_in_a_key, options_own_name_in_a_key};
 ghost use Rattle.es_rows.specs.witnesses.OwnNameOfAClassBehindAWrite.{first_own_name_of_a_class_behind_a_write, second_own_name_of_a_class_behind_a_write, options_own_name_of_a_class_behind_a_write};
 ghost use Rattle.es_rows.specs.witnesses.OwnNameOfADeclarationWritten.{first_own_name_of_a_declaration_written, second_own_name_of_a_declaration_written, options_own_name_of_a_declaration_written};
 ghost use Rattle.es_rows.specs.witnesses.OwnNameOfADeclarationWrittenLater.{first_own_name_of_a_declaration_written_later, second_own_name_of_a_declaration_written_later, options_own_name_of_a_declaration_written_later};
@@ -251,12 +296,15 @@ ghost use Rattle.es_rows.specs.witnesses.ParametersExchanged.{first_parameters_e
 ghost use Rattle.es_rows.specs.witnesses.ParentConstructedTwice.{source_parent_constructed_twice, output_parent_constructed_twice, generated_parent_constructed_twice, options_parent_constructed_twice};
 ghost use Rattle.es_rows.specs.witnesses.ParentNeverConstructed.{source_parent_never_constructed, output_parent_never_constructed, generated_parent_never_constructed, options_parent_never_constructed};
 ghost use Rattle.es_rows.specs.witnesses.PatternKeys.{first_pattern_keys, second_pattern_keys, options_pattern_keys};
+ghost use Rattle.es_rows.specs.witnesses.PatternOfNoRegularExpression.{source_pattern_of_no_regular_expression, output_pattern_of_no_regular_expression, generated_pattern_of_no_regular_expression, options_pattern_of_no_regular_expression};
 ghost use Rattle.es_rows.specs.witnesses.PickedByAnAsyncArrow.{source_picked_by_an_async_arrow, output_picked_by_an_async_arrow, generated_picked_by_an_async_arrow, options_picked_by_an_async_arrow};
 ghost use Rattle.es_rows.specs.witnesses.PrivateFieldDropped.{source_private_field_dropped, output_private_field_dropped, generated_private_field_dropped, options_private_field_dropped};
 ghost use Rattle.es_rows.specs.witnesses.PrivateMethodDropped.{source_private_method_dropped, output_private_method_dropped, generated_private_method_dropped, options_private_method_dropped};
 ghost use Rattle.es_rows.specs.witnesses.PrivateMethodOfAnotherClass.{first_private_method_of_another_class, second_private_method_of_another_class, options_private_method_of_another_class};
 ghost use Rattle.es_rows.specs.witnesses.PrivateNameBesideAName.{source_private_name_beside_a_name, output_private_name_beside_a_name, generated_private_name_beside_a_name, options_private_name_beside_a_name};
+ghost use Rattle.es_rows.specs.witnesses.PrivateNameConstructor.{source_private_name_constructor, output_private_name_constructor, generated_private_name_constructor, options_private_name_constructor};
 ghost use Rattle.es_rows.specs.witnesses.PrivateNameOfAnotherClass.{source_private_name_of_another_class, output_private_name_of_another_class, generated_private_name_of_another_class, options_private_name_of_another_class};
+ghost use Rattle.es_rows.specs.witnesses.PrivateNameOfAnotherMember.{source_private_name_of_another_member, output_private_name_of_another_member, generated_private_name_of_another_member, options_private_name_of_another_member};
 ghost use Rattle.es_rows.specs.witnesses.PrivateNameOfTheOuterClass.{source_private_name_of_the_outer_class, output_private_name_of_the_outer_class, generated_private_name_of_the_outer_class, options_private_name_of_the_outer_class};
 ghost use Rattle.es_rows.specs.witnesses.PrivateNameTwice.{source_private_name_twice, output_private_name_twice, generated_private_name_twice, options_private_name_twice};
 ghost use Rattle.es_rows.specs.witnesses.RawOfAString.{source_raw_of_a_string, output_raw_of_a_string, generated_raw_of_a_string, options_raw_of_a_string};
@@ -268,10 +316,12 @@ ghost use Rattle.es_rows.specs.witnesses.ReceiverOfAConditional.{source_receiver
 ghost use Rattle.es_rows.specs.witnesses.ReceiverOfAPrivateCall.{source_receiver_of_a_private_call, output_receiver_of_a_private_call, generated_receiver_of_a_private_call, options_receiver_of_a_private_call};
 ghost use Rattle.es_rows.specs.witnesses.ReceiverOfASuperCall.{source_receiver_of_a_super_call, output_receiver_of_a_super_call, generated_receiver_of_a_super_call, options_receiver_of_a_super_call};
 ghost use Rattle.es_rows.specs.witnesses.RegularExpressionInATemporary.{source_regular_expression_in_a_temporary, output_regular_expression_in_a_temporary, generated_regular_expression_in_a_temporary, options_regular_expression_in_a_temporary};
+ghost use Rattle.es_rows.specs.witnesses.RegularExpressionReadTwice.{source_regular_expression_read_twice, output_regular_expression_read_twice, generated_regular_expression_read_twice, options_regular_expression_read_twice};
 ghost use Rattle.es_rows.specs.witnesses.RestDropped.{first_rest_dropped, second_rest_dropped, options_rest_dropped};
 ghost use Rattle.es_rows.specs.witnesses.ResultOfTheSetter.{source_result_of_the_setter, output_result_of_the_setter, generated_result_of_the_setter, options_result_of_the_setter};
 ghost use Rattle.es_rows.specs.witnesses.ReturnInAnArrow.{source_return_in_an_arrow, output_return_in_an_arrow, generated_return_in_an_arrow, options_return_in_an_arrow};
 ghost use Rattle.es_rows.specs.witnesses.ScriptInAnArrow.{source_script_in_an_arrow, output_script_in_an_arrow, generated_script_in_an_arrow, options_script_in_an_arrow};
+ghost use Rattle.es_rows.specs.witnesses.SecondStringThatAPrinterMakesADirective.{source_second_string_that_a_printer_makes_a_directive, output_second_string_that_a_printer_makes_a_directive, generated_second_string_that_a_printer_makes_a_directive, options_second_string_that_a_printer_makes_a_directive};
 ghost use Rattle.es_rows.specs.witnesses.SharedParameters.{first_shared_parameters, second_shared_parameters, options_shared_parameters};
 ghost use Rattle.es_rows.specs.witnesses.SpreadForAParameter.{source_spread_for_a_parameter, output_spread_for_a_parameter, generated_spread_for_a_parameter, options_spread_for_a_parameter};
 ghost use Rattle.es_rows.specs.witnesses.StatementOfAnIf.{first_statement_of_an_if, second_statement_of_an_if, options_statement_of_an_if};
@@ -286,6 +336,8 @@ ghost use Rattle.es_rows.specs.witnesses.StaticPrivateMethodOfAnotherClass.{firs
 ghost use Rattle.es_rows.specs.witnesses.StrictArrow.{source_strict_arrow, output_strict_arrow, generated_strict_arrow, options_strict_arrow};
 ghost use Rattle.es_rows.specs.witnesses.StrictFunctionOfAMethod.{source_strict_function_of_a_method, output_strict_function_of_a_method, generated_strict_function_of_a_method, options_strict_function_of_a_method};
 ghost use Rattle.es_rows.specs.witnesses.StrictRest.{source_strict_rest, output_strict_rest, generated_strict_rest, options_strict_rest};
+ghost use Rattle.es_rows.specs.witnesses.StringInParentheses.{source_string_in_parentheses, output_string_in_parentheses, generated_string_in_parentheses, options_string_in_parentheses};
+ghost use Rattle.es_rows.specs.witnesses.StringThatAPrinterMakesADirective.{source_string_that_a_printer_makes_a_directive, output_string_that_a_printer_makes_a_directive, generated_string_that_a_printer_makes_a_directive, options_string_that_a_printer_makes_a_directive};
 ghost use Rattle.es_rows.specs.witnesses.SuperFunctionBehindACall.{source_super_function_behind_a_call, output_super_function_behind_a_call, generated_super_function_behind_a_call, options_super_function_behind_a_call};
 ghost use Rattle.es_rows.specs.witnesses.SuperFunctionBehindItsCalls.{source_super_function_behind_its_calls, output_super_function_behind_its_calls, generated_super_function_behind_its_calls, options_super_function_behind_its_calls};
 ghost use Rattle.es_rows.specs.witnesses.SuperGivesZero.{source_super_gives_zero, output_super_gives_zero, generated_super_gives_zero, options_super_gives_zero};
@@ -313,12 +365,14 @@ ghost use Rattle.es_rows.specs.witnesses.TwoFunctions.{source_two_functions, out
 ghost use Rattle.es_rows.specs.witnesses.TwoMaps.{source_two_maps, output_two_maps, generated_two_maps, options_two_maps};
 ghost use Rattle.es_rows.specs.witnesses.TypeofOfAName.{first_typeof_of_a_name, second_typeof_of_a_name, options_typeof_of_a_name};
 ghost use Rattle.es_rows.specs.witnesses.UnconvertedNameOfAClass.{source_unconverted_name_of_a_class, output_unconverted_name_of_a_class, generated_unconverted_name_of_a_class, options_unconverted_name_of_a_class};
+ghost use Rattle.es_rows.specs.witnesses.UncookedTemplate.{source_uncooked_template, output_uncooked_template, generated_uncooked_template, options_uncooked_template};
 ghost use Rattle.es_rows.specs.witnesses.UntestedNameOfAClass.{source_untested_name_of_a_class, output_untested_name_of_a_class, generated_untested_name_of_a_class, options_untested_name_of_a_class};
 ghost use Rattle.es_rows.specs.witnesses.ValueAsAKey.{source_value_as_a_key, output_value_as_a_key, generated_value_as_a_key, options_value_as_a_key};
 ghost use Rattle.es_rows.specs.witnesses.VarArguments.{first_var_arguments, second_var_arguments, options_var_arguments};
 ghost use Rattle.es_rows.specs.witnesses.VarOfAStaticBlock.{first_var_of_a_static_block, second_var_of_a_static_block, options_var_of_a_static_block};
 ghost use Rattle.es_rows.specs.witnesses.VoidOfATemplate.{first_void_of_a_template, second_void_of_a_template, options_void_of_a_template};
 ghost use Rattle.es_rows.specs.witnesses.WeakMapInAnotherFunction.{source_weak_map_in_another_function, output_weak_map_in_another_function, generated_weak_map_in_another_function, options_weak_map_in_another_function};
+ghost use Rattle.es_rows.specs.witnesses.YieldInAGenerator.{source_yield_in_a_generator, output_yield_in_a_generator, generated_yield_in_a_generator, options_yield_in_a_generator};
 
 /// Instance fields and their keys, defined and set, and what is kept as a property.
 pub fn instance_fields_keep_their_meaning()
@@ -432,6 +486,7 @@ pub fn static_blocks_alone_keep_their_meaning()
 pub fn programs_are_told_apart()
     ensures arguments_behind_a_write { TellsApart options_arguments_behind_a_write first_arguments_behind_a_write second_arguments_behind_a_write }
     ensures arguments_of_a_block { TellsApart options_arguments_of_a_block first_arguments_of_a_block second_arguments_of_a_block }
+    ensures arguments_of_an_inner_function { TellsApart options_arguments_of_an_inner_function first_arguments_of_an_inner_function second_arguments_of_an_inner_function }
     ensures caught_names_exchanged { TellsApart options_caught_names_exchanged first_caught_names_exchanged second_caught_names_exchanged }
     ensures default_exports { TellsApart options_default_exports first_default_exports second_default_exports }
     ensures default_function { TellsApart options_default_function first_default_function second_default_function }
@@ -507,6 +562,7 @@ pub fn wrong_outputs_are_told_apart()
     ensures field_of_a_written_class_dropped { Refused options_field_of_a_written_class_dropped generated_field_of_a_written_class_dropped source_field_of_a_written_class_dropped output_field_of_a_written_class_dropped }
     ensures fields_exchanged { Refused options_fields_exchanged generated_fields_exchanged source_fields_exchanged output_fields_exchanged }
     ensures fields_of_a_written_class_exchanged { Refused options_fields_of_a_written_class_exchanged generated_fields_of_a_written_class_exchanged source_fields_of_a_written_class_exchanged output_fields_of_a_written_class_exchanged }
+    ensures for_await_in_an_arrow { Refused options_for_await_in_an_arrow generated_for_await_in_an_arrow source_for_await_in_an_arrow output_for_await_in_an_arrow }
     ensures generator_constructor { Refused options_generator_constructor generated_generator_constructor source_generator_constructor output_generator_constructor }
     ensures getter_made_a_method { Refused options_getter_made_a_method generated_getter_made_a_method source_getter_made_a_method output_getter_made_a_method }
     ensures heritage_read_late { Refused options_heritage_read_late generated_heritage_read_late source_heritage_read_late output_heritage_read_late }
@@ -521,6 +577,7 @@ pub fn wrong_outputs_are_told_apart()
     ensures named_value { Refused options_named_value generated_named_value source_named_value output_named_value }
     ensures names_of_a_constructor { Refused options_names_of_a_constructor generated_names_of_a_constructor source_names_of_a_constructor output_names_of_a_constructor }
     ensures new_import { Refused options_new_import generated_new_import source_new_import output_new_import }
+    ensures new_target_of_a_program { Refused options_new_target_of_a_program generated_new_target_of_a_program source_new_target_of_a_program output_new_target_of_a_program }
     ensures object_evaluated_twice { Refused options_object_evaluated_twice generated_object_evaluated_twice source_object_evaluated_twice output_object_evaluated_twice }
     ensures odd_constructor { Refused options_odd_constructor generated_odd_constructor source_odd_constructor output_odd_constructor }
     ensures parameter_in_front { Refused options_parameter_in_front generated_parameter_in_front source_parameter_in_front output_parameter_in_front }
@@ -556,6 +613,7 @@ pub fn wrong_outputs_are_told_apart()
 
 /// Wrong outputs of worked rows that have a meaning, which is not that of their sources.
 pub fn wrong_outputs_mean_another_program()
+    ensures arguments_of_a_function_around { MeansOther options_arguments_of_a_function_around generated_arguments_of_a_function_around source_arguments_of_a_function_around output_arguments_of_a_function_around }
     ensures arrow_moved_into_parameters { MeansOther options_arrow_moved_into_parameters generated_arrow_moved_into_parameters source_arrow_moved_into_parameters output_arrow_moved_into_parameters }
     ensures block_behind_a_kept_field { MeansOther options_block_behind_a_kept_field generated_block_behind_a_kept_field source_block_behind_a_kept_field output_block_behind_a_kept_field }
     ensures block_dropped { MeansOther options_block_dropped generated_block_dropped source_block_dropped output_block_dropped }
@@ -586,39 +644,64 @@ pub fn wrong_outputs_behind_parameters_are_told_apart()
 /// Wrong outputs that a clause on lowered programs finds, though their meanings may be those of their sources.
 pub fn clauses_are_not_met()
     ensures another_literal_of_a_written_class { definitions_stand (nodes source_another_literal_of_a_written_class) options_another_literal_of_a_written_class generated_another_literal_of_a_written_class (private_members source_another_literal_of_a_written_class) source_another_literal_of_a_written_class output_another_literal_of_a_written_class ≡ false }
+    ensures arguments_in_a_static_block { stays_printable source_arguments_in_a_static_block output_arguments_in_a_static_block ≡ false }
+    ensures arguments_of_a_static_field { stays_printable source_arguments_of_a_static_field output_arguments_of_a_static_field ≡ false }
+    ensures await_in_a_static_block { stays_printable source_await_in_a_static_block output_await_in_a_static_block ≡ false }
+    ensures await_in_an_async_function { stays_printable source_await_in_an_async_function output_await_in_an_async_function ≡ false }
     ensures block_without_a_function { homes_kept (nodes source_block_without_a_function) options_block_without_a_function source_block_without_a_function output_block_without_a_function ≡ false }
     ensures body_dropped { definitions_stand (nodes source_body_dropped) options_body_dropped generated_body_dropped (private_members source_body_dropped) source_body_dropped output_body_dropped ≡ false }
     ensures body_in_an_arrow { homes_kept (nodes source_body_in_an_arrow) options_body_in_an_arrow source_body_in_an_arrow output_body_in_an_arrow ≡ false }
+    ensures brand_outside_of_a_called_function { names_timely (nodes source_brand_outside_of_a_called_function) generated_brand_outside_of_a_called_function (private_members source_brand_outside_of_a_called_function) output_brand_outside_of_a_called_function ≡ false }
     ensures break_in_an_arrow { is_printable output_break_in_an_arrow ≡ false }
-    ensures break_in_an_arrow_beside_await { not (is_printable source_break_in_an_arrow_beside_await) || is_printable output_break_in_an_arrow_beside_await ≡ false }
+    ensures break_in_an_arrow_beside_await { stays_printable source_break_in_an_arrow_beside_await output_break_in_an_arrow_beside_await ≡ false }
+    ensures character_of_no_name { texts_stay (nodes source_character_of_no_name) source_character_of_no_name output_character_of_no_name ≡ false }
     ensures class_behind_its_use { lists_kept options_class_behind_its_use source_class_behind_its_use output_class_behind_its_use ≡ false }
     ensures class_in_a_constructor { lists_kept options_class_in_a_constructor source_class_in_a_constructor output_class_in_a_constructor ≡ false }
+    ensures class_named_arguments { stays_printable source_class_named_arguments output_class_named_arguments ≡ false }
+    ensures class_named_await_in_an_async_function { stays_printable source_class_named_await_in_an_async_function output_class_named_await_in_an_async_function ≡ false }
+    ensures class_named_eval { stays_printable source_class_named_eval output_class_named_eval ≡ false }
+    ensures class_named_let { stays_printable source_class_named_let output_class_named_let ≡ false }
     ensures class_temporary_before_its_class { names_timely (nodes source_class_temporary_before_its_class) generated_class_temporary_before_its_class (private_members source_class_temporary_before_its_class) output_class_temporary_before_its_class ≡ false }
     ensures class_temporary_in_its_class { names_timely (nodes source_class_temporary_in_its_class) generated_class_temporary_in_its_class (private_members source_class_temporary_in_its_class) output_class_temporary_in_its_class ≡ false }
+    ensures class_temporary_of_a_function_expression { initializations_stand (nodes source_class_temporary_of_a_function_expression) generated_class_temporary_of_a_function_expression (private_members source_class_temporary_of_a_function_expression) output_class_temporary_of_a_function_expression generated_class_temporary_of_a_function_expression ≡ false }
     ensures class_temporary_of_another_case { names_timely (nodes source_class_temporary_of_another_case) generated_class_temporary_of_another_case (private_members source_class_temporary_of_another_case) output_class_temporary_of_another_case ≡ false }
     ensures closure_before_its_class { names_timely (nodes source_closure_before_its_class) generated_closure_before_its_class (private_members source_closure_before_its_class) output_closure_before_its_class ≡ false }
     ensures closure_called_in_a_key { names_timely (nodes source_closure_called_in_a_key) generated_closure_called_in_a_key (private_members source_closure_called_in_a_key) output_closure_called_in_a_key ≡ false }
     ensures constant_temporary { declarations_accounted (nodes source_constant_temporary) generated_constant_temporary source_constant_temporary output_constant_temporary ≡ false }
     ensures conversion_of_no_key { helper_calls_fit (nodes source_conversion_of_no_key) generated_conversion_of_no_key (computed_keys (preorder source_conversion_of_no_key)) output_conversion_of_no_key ≡ false }
+    ensures copy_of_a_number { texts_stay (nodes source_copy_of_a_number) source_copy_of_a_number output_copy_of_a_number ≡ false }
     ensures dead_temporary { names_timely (nodes source_dead_temporary) generated_dead_temporary (private_members source_dead_temporary) output_dead_temporary ≡ false }
+    ensures declaration_of_nothing { stays_printable source_declaration_of_nothing output_declaration_of_nothing ≡ false }
     ensures declaration_without_its_name { own_names_stay source_declaration_without_its_name output_declaration_without_its_name ≡ false }
+    ensures declaration_without_its_name_in_a_method { own_names_stay source_declaration_without_its_name_in_a_method output_declaration_without_its_name_in_a_method ≡ false }
+    ensures declaration_without_its_names { stays_printable source_declaration_without_its_names output_declaration_without_its_names ≡ false }
     ensures declarator_in_a_const { declarations_accounted (nodes source_declarator_in_a_const) generated_declarator_in_a_const source_declarator_in_a_const output_declarator_in_a_const ≡ false }
     ensures directive_behind_a_name { is_printable output_directive_behind_a_name ≡ false }
     ensures elements_of_a_written_class_dropped { definitions_stand (nodes source_elements_of_a_written_class_dropped) options_elements_of_a_written_class_dropped generated_elements_of_a_written_class_dropped (private_members source_elements_of_a_written_class_dropped) source_elements_of_a_written_class_dropped output_elements_of_a_written_class_dropped ≡ false }
     ensures field_of_a_written_class_doubled { definitions_stand (nodes source_field_of_a_written_class_doubled) options_field_of_a_written_class_doubled generated_field_of_a_written_class_doubled (private_members source_field_of_a_written_class_doubled) source_field_of_a_written_class_doubled output_field_of_a_written_class_doubled ≡ false }
     ensures field_of_a_written_class_dropped { definitions_stand (nodes source_field_of_a_written_class_dropped) options_field_of_a_written_class_dropped generated_field_of_a_written_class_dropped (private_members source_field_of_a_written_class_dropped) source_field_of_a_written_class_dropped output_field_of_a_written_class_dropped ≡ false }
     ensures fields_of_a_written_class_exchanged { definitions_stand (nodes source_fields_of_a_written_class_exchanged) options_fields_of_a_written_class_exchanged generated_fields_of_a_written_class_exchanged (private_members source_fields_of_a_written_class_exchanged) source_fields_of_a_written_class_exchanged output_fields_of_a_written_class_exchanged ≡ false }
+    ensures flags_of_no_regular_expression { texts_stay (nodes source_flags_of_no_regular_expression) source_flags_of_no_regular_expression output_flags_of_no_regular_expression ≡ false }
     ensures function_in_a_class { none_becomes_strict (nodes source_function_in_a_class) source_function_in_a_class output_function_in_a_class ≡ false }
     ensures function_out_of_its_block { lists_kept options_function_out_of_its_block source_function_out_of_its_block output_function_out_of_its_block ≡ false }
     ensures hidden_body { conforms Place.Program output_hidden_body ≡ false }
     ensures key_given_again { initializations_stand (nodes source_key_given_again) generated_key_given_again (private_members source_key_given_again) output_key_given_again generated_key_given_again ≡ false }
+    ensures key_outside_of_a_called_function { names_timely (nodes source_key_outside_of_a_called_function) generated_key_outside_of_a_called_function (private_members source_key_outside_of_a_called_function) output_key_outside_of_a_called_function ≡ false }
+    ensures let_behind_a_constructor { names_timely (nodes source_let_behind_a_constructor) generated_let_behind_a_constructor (private_members source_let_behind_a_constructor) output_let_behind_a_constructor ≡ false }
+    ensures let_behind_a_field { names_timely (nodes source_let_behind_a_field) generated_let_behind_a_field (private_members source_let_behind_a_field) output_let_behind_a_field ≡ false }
+    ensures let_behind_an_arrow { names_timely (nodes source_let_behind_an_arrow) generated_let_behind_an_arrow (private_members source_let_behind_an_arrow) output_let_behind_an_arrow ≡ false }
+    ensures let_in_strict_code { stays_printable source_let_in_strict_code output_let_in_strict_code ≡ false }
     ensures let_of_another_case { names_timely (nodes source_let_of_another_case) generated_let_of_another_case (private_members source_let_of_another_case) output_let_of_another_case ≡ false }
     ensures let_out_of_its_block { lists_kept options_let_out_of_its_block source_let_out_of_its_block output_let_out_of_its_block ≡ false }
+    ensures let_read_in_its_value { own_names_stay source_let_read_in_its_value output_let_read_in_its_value ≡ false }
     ensures map_made_in_a_branch { names_timely (nodes source_map_made_in_a_branch) generated_map_made_in_a_branch (private_members source_map_made_in_a_branch) output_map_made_in_a_branch ≡ false }
     ensures map_made_in_a_called_arrow { names_timely (nodes source_map_made_in_a_called_arrow) generated_map_made_in_a_called_arrow (private_members source_map_made_in_a_called_arrow) output_map_made_in_a_called_arrow ≡ false }
     ensures map_made_in_a_pattern { names_timely (nodes source_map_made_in_a_pattern) generated_map_made_in_a_pattern (private_members source_map_made_in_a_pattern) output_map_made_in_a_pattern ≡ false }
+    ensures map_of_a_function_expression { initializations_stand (nodes source_map_of_a_function_expression) generated_map_of_a_function_expression (private_members source_map_of_a_function_expression) output_map_of_a_function_expression generated_map_of_a_function_expression ≡ false }
+    ensures map_outside_of_a_called_function { names_timely (nodes source_map_outside_of_a_called_function) generated_map_outside_of_a_called_function (private_members source_map_outside_of_a_called_function) output_map_outside_of_a_called_function ≡ false }
     ensures method_assigned_in_another_function { names_timely (nodes source_method_assigned_in_another_function) generated_method_assigned_in_another_function (private_members source_method_assigned_in_another_function) output_method_assigned_in_another_function ≡ false }
     ensures method_given_behind_its_calls { initializations_stand (nodes source_method_given_behind_its_calls) generated_method_given_behind_its_calls (private_members source_method_given_behind_its_calls) output_method_given_behind_its_calls generated_method_given_behind_its_calls ≡ false }
+    ensures method_outside_of_a_called_function { names_timely (nodes source_method_outside_of_a_called_function) generated_method_outside_of_a_called_function (private_members source_method_outside_of_a_called_function) output_method_outside_of_a_called_function ≡ false }
     ensures name_given_behind_a_field { helper_calls_fit (nodes source_name_given_behind_a_field) generated_name_given_behind_a_field (computed_keys (preorder source_name_given_behind_a_field)) output_name_given_behind_a_field ≡ false }
     ensures name_given_in_a_closure { helper_calls_fit (nodes source_name_given_in_a_closure) generated_name_given_in_a_closure (computed_keys (preorder source_name_given_in_a_closure)) output_name_given_in_a_closure ≡ false }
     ensures name_in_a_static_block { classes_kept (nodes source_name_in_a_static_block) source_name_in_a_static_block output_name_in_a_static_block ≡ false }
@@ -627,14 +710,26 @@ pub fn clauses_are_not_met()
     ensures name_of_no_member { initializations_stand (nodes source_name_of_no_member) generated_name_of_no_member (private_members source_name_of_no_member) output_name_of_no_member generated_name_of_no_member ≡ false }
     ensures name_twice { names_declared (nodes source_name_twice) generated_name_twice output_name_twice ≡ false }
     ensures name_without_a_sign { names_declared (nodes source_name_without_a_sign) generated_name_without_a_sign output_name_without_a_sign ≡ false }
+    ensures nothing_declared_behind_a_bigint { stays_printable source_nothing_declared_behind_a_bigint output_nothing_declared_behind_a_bigint ≡ false }
+    ensures nothing_declared_behind_a_directive { stays_printable source_nothing_declared_behind_a_directive output_nothing_declared_behind_a_directive ≡ false }
+    ensures nothing_declared_behind_a_string { stays_printable source_nothing_declared_behind_a_string output_nothing_declared_behind_a_string ≡ false }
+    ensures number_that_strict_code_has_not { texts_stay (nodes source_number_that_strict_code_has_not) source_number_that_strict_code_has_not output_number_that_strict_code_has_not ≡ false }
+    ensures own_name_in_a_heritage { names_timely (nodes source_own_name_in_a_heritage) generated_own_name_in_a_heritage (private_members source_own_name_in_a_heritage) output_own_name_in_a_heritage ≡ false }
+    ensures own_name_in_a_key { names_timely (nodes source_own_name_in_a_key) generated_own_name_in_a_key (private_members source_own_name_in_a_key) output_own_name_in_a_key ≡ false }
     ensures own_name_that_is_meant { declarations_accounted (nodes source_own_name_that_is_meant) generated_own_name_that_is_meant source_own_name_that_is_meant output_own_name_that_is_meant ≡ false }
     ensures parameter_read_later { temporaries_steady (nodes source_parameter_read_later) generated_parameter_read_later output_parameter_read_later ≡ false }
     ensures parameter_renamed { homes_kept (nodes source_parameter_renamed) options_parameter_renamed source_parameter_renamed output_parameter_renamed ≡ false }
+    ensures pattern_of_no_regular_expression { texts_stay (nodes source_pattern_of_no_regular_expression) source_pattern_of_no_regular_expression output_pattern_of_no_regular_expression ≡ false }
+    ensures private_name_constructor { texts_stay (nodes source_private_name_constructor) source_private_name_constructor output_private_name_constructor ≡ false }
+    ensures private_name_of_another_member { texts_stay (nodes source_private_name_of_another_member) source_private_name_of_another_member output_private_name_of_another_member ≡ false }
     ensures private_name_twice { names_declared (nodes source_private_name_twice) generated_private_name_twice output_private_name_twice ≡ false }
     ensures raw_of_a_string { texts_stay (nodes source_raw_of_a_string) source_raw_of_a_string output_raw_of_a_string ≡ false }
     ensures raw_of_a_template { texts_stay (nodes source_raw_of_a_template) source_raw_of_a_template output_raw_of_a_template ≡ false }
+    ensures regular_expression_read_twice { temporaries_steady (nodes source_regular_expression_read_twice) generated_regular_expression_read_twice output_regular_expression_read_twice ≡ false }
+    ensures second_string_that_a_printer_makes_a_directive { stays_printable source_second_string_that_a_printer_makes_a_directive output_second_string_that_a_printer_makes_a_directive ≡ false }
     ensures strict_arrow { none_becomes_strict (nodes source_strict_arrow) source_strict_arrow output_strict_arrow ≡ false }
     ensures strict_rest { is_printable output_strict_rest ≡ false }
+    ensures string_that_a_printer_makes_a_directive { stays_printable source_string_that_a_printer_makes_a_directive output_string_that_a_printer_makes_a_directive ≡ false }
     ensures super_function_behind_a_call { names_timely (nodes source_super_function_behind_a_call) generated_super_function_behind_a_call (private_members source_super_function_behind_a_call) output_super_function_behind_a_call ≡ false }
     ensures super_function_behind_its_calls { names_timely (nodes source_super_function_behind_its_calls) generated_super_function_behind_its_calls (private_members source_super_function_behind_its_calls) output_super_function_behind_its_calls ≡ false }
     ensures temporary_given_again { temporaries_steady (nodes source_temporary_given_again) generated_temporary_given_again output_temporary_given_again ≡ false }
@@ -647,8 +742,10 @@ pub fn clauses_are_not_met()
     ensures two_functions { names_declared (nodes source_two_functions) generated_two_functions output_two_functions ≡ false }
     ensures two_maps { names_declared (nodes source_two_maps) generated_two_maps output_two_maps ≡ false }
     ensures unconverted_name_of_a_class { helper_calls_fit (nodes source_unconverted_name_of_a_class) generated_unconverted_name_of_a_class (computed_keys (preorder source_unconverted_name_of_a_class)) output_unconverted_name_of_a_class ≡ false }
+    ensures uncooked_template { stays_printable source_uncooked_template output_uncooked_template ≡ false }
     ensures untested_name_of_a_class { helper_calls_fit (nodes source_untested_name_of_a_class) generated_untested_name_of_a_class (computed_keys (preorder source_untested_name_of_a_class)) output_untested_name_of_a_class ≡ false }
     ensures weak_map_in_another_function { names_timely (nodes source_weak_map_in_another_function) generated_weak_map_in_another_function (private_members source_weak_map_in_another_function) output_weak_map_in_another_function ≡ false }
+    ensures yield_in_a_generator { stays_printable source_yield_in_a_generator output_yield_in_a_generator ≡ false }
 {}
 
 /// Outputs that mean what their sources mean, though a name or a value in them looks like another one.
@@ -663,20 +760,31 @@ pub fn outputs_mean_their_sources()
 pub fn outputs_owe_nothing()
     ensures block_of_a_binding { Kept options_block_of_a_binding generated_block_of_a_binding source_block_of_a_binding output_block_of_a_binding [] }
     ensures block_of_an_arrow { Kept options_block_of_an_arrow generated_block_of_an_arrow source_block_of_an_arrow output_block_of_an_arrow [] }
+    ensures class_named_await { Kept options_class_named_await generated_class_named_await source_class_named_await output_class_named_await [] }
+    ensures class_that_suspends { Kept options_class_that_suspends generated_class_that_suspends source_class_that_suspends output_class_that_suspends [] }
+    ensures classes_that_suspend { Kept options_classes_that_suspend generated_classes_that_suspend source_classes_that_suspend output_classes_that_suspend [] }
+    ensures directive_with_an_escape { Kept options_directive_with_an_escape generated_directive_with_an_escape source_directive_with_an_escape output_directive_with_an_escape [] }
+    ensures hexadecimal_bigint { Kept options_hexadecimal_bigint generated_hexadecimal_bigint source_hexadecimal_bigint output_hexadecimal_bigint [] }
+    ensures nameless_class_that_suspends { Kept options_nameless_class_that_suspends generated_nameless_class_that_suspends source_nameless_class_that_suspends output_nameless_class_that_suspends [] }
     ensures own_name_that_nothing_means { Kept options_own_name_that_nothing_means generated_own_name_that_nothing_means source_own_name_that_nothing_means output_own_name_that_nothing_means [] }
     ensures strict_function_of_a_method { Kept options_strict_function_of_a_method generated_strict_function_of_a_method source_strict_function_of_a_method output_strict_function_of_a_method [] }
+    ensures string_in_parentheses { Kept options_string_in_parentheses generated_string_in_parentheses source_string_in_parentheses output_string_in_parentheses [] }
     ensures tested_name_of_a_class { Kept options_tested_name_of_a_class generated_tested_name_of_a_class source_tested_name_of_a_class output_tested_name_of_a_class [] }
 {}
 
 /// Pairs of programs that have different shapes.
 pub fn shapes_are_told()
     ensures caught_key { HaveShapes options_caught_key first_caught_key (4 ∷ []) second_caught_key ([]) }
+    ensures changing_key_behind_a_block { HaveShapes options_changing_key_behind_a_block first_changing_key_behind_a_block (4 ∷ []) second_changing_key_behind_a_block ([]) }
     ensures imported_key { HaveShapes options_imported_key first_imported_key (4 ∷ []) second_imported_key ([]) }
+    ensures imported_key_behind_a_block { HaveShapes options_imported_key_behind_a_block first_imported_key_behind_a_block (4 ∷ []) second_imported_key_behind_a_block ([]) }
     ensures imported_key_of_a_method { HaveShapes options_imported_key_of_a_method first_imported_key_of_a_method (4 ∷ []) second_imported_key_of_a_method ([]) }
     ensures imported_object { HaveShapes options_imported_object first_imported_object (4 ∷ []) second_imported_object ([]) }
     ensures key_that_a_branch_gives { HaveShapes options_key_that_a_branch_gives first_key_that_a_branch_gives (4 ∷ []) second_key_that_a_branch_gives ([]) }
     ensures key_that_a_catch_gives { HaveShapes options_key_that_a_catch_gives first_key_that_a_catch_gives (4 ∷ []) second_key_that_a_catch_gives ([]) }
     ensures key_that_a_function_in_a_block_gives { HaveShapes options_key_that_a_function_in_a_block_gives first_key_that_a_function_in_a_block_gives (4 ∷ []) second_key_that_a_function_in_a_block_gives ([]) }
+    ensures key_that_is_a_parameter_arguments { HaveShapes options_key_that_is_a_parameter_arguments first_key_that_is_a_parameter_arguments (4 ∷ []) second_key_that_is_a_parameter_arguments ([]) }
+    ensures key_that_is_arguments { HaveShapes options_key_that_is_arguments first_key_that_is_arguments (4 ∷ []) second_key_that_is_arguments ([]) }
     ensures loose_member_read_once { HaveShapes options_loose_member_read_once first_loose_member_read_once ([]) second_loose_member_read_once (4 ∷ []) }
     ensures super_key_that_stays { HaveShapes options_super_key_that_stays first_super_key_that_stays ([]) second_super_key_that_stays (4 ∷ []) }
     ensures suspended_class_written { HaveShapes options_suspended_class_written first_suspended_class_written (6 ∷ []) second_suspended_class_written ([]) }

@@ -4,6 +4,18 @@ use Rattle.es_rows.proofs.law.clauses_are_not_met.Goals as goal
 pub returns-clause-another_literal_of_a_written_class : goal.returns-clause-another_literal_of_a_written_class
 returns-clause-another_literal_of_a_written_class c = refl
 
+pub returns-clause-arguments_in_a_static_block : goal.returns-clause-arguments_in_a_static_block
+returns-clause-arguments_in_a_static_block c = refl
+
+pub returns-clause-arguments_of_a_static_field : goal.returns-clause-arguments_of_a_static_field
+returns-clause-arguments_of_a_static_field c = refl
+
+pub returns-clause-await_in_a_static_block : goal.returns-clause-await_in_a_static_block
+returns-clause-await_in_a_static_block c = refl
+
+pub returns-clause-await_in_an_async_function : goal.returns-clause-await_in_an_async_function
+returns-clause-await_in_an_async_function c = refl
+
 pub returns-clause-block_without_a_function : goal.returns-clause-block_without_a_function
 returns-clause-block_without_a_function c = refl
 
@@ -13,11 +25,17 @@ returns-clause-body_dropped c = refl
 pub returns-clause-body_in_an_arrow : goal.returns-clause-body_in_an_arrow
 returns-clause-body_in_an_arrow c = refl
 
+pub returns-clause-brand_outside_of_a_called_function : goal.returns-clause-brand_outside_of_a_called_function
+returns-clause-brand_outside_of_a_called_function c = refl
+
 pub returns-clause-break_in_an_arrow : goal.returns-clause-break_in_an_arrow
 returns-clause-break_in_an_arrow c = refl
 
 pub returns-clause-break_in_an_arrow_beside_await : goal.returns-clause-break_in_an_arrow_beside_await
 returns-clause-break_in_an_arrow_beside_await c = refl
+
+pub returns-clause-character_of_no_name : goal.returns-clause-character_of_no_name
+returns-clause-character_of_no_name c = refl
 
 pub returns-clause-class_behind_its_use : goal.returns-clause-class_behind_its_use
 returns-clause-class_behind_its_use c = refl
@@ -25,11 +43,26 @@ returns-clause-class_behind_its_use c = refl
 pub returns-clause-class_in_a_constructor : goal.returns-clause-class_in_a_constructor
 returns-clause-class_in_a_constructor c = refl
 
+pub returns-clause-class_named_arguments : goal.returns-clause-class_named_arguments
+returns-clause-class_named_arguments c = refl
+
+pub returns-clause-class_named_await_in_an_async_function : goal.returns-clause-class_named_await_in_an_async_function
+returns-clause-class_named_await_in_an_async_function c = refl
+
+pub returns-clause-class_named_eval : goal.returns-clause-class_named_eval
+returns-clause-class_named_eval c = refl
+
+pub returns-clause-class_named_let : goal.returns-clause-class_named_let
+returns-clause-class_named_let c = refl
+
 pub returns-clause-class_temporary_before_its_class : goal.returns-clause-class_temporary_before_its_class
 returns-clause-class_temporary_before_its_class c = refl
 
 pub returns-clause-class_temporary_in_its_class : goal.returns-clause-class_temporary_in_its_class
 returns-clause-class_temporary_in_its_class c = refl
+
+pub returns-clause-class_temporary_of_a_function_expression : goal.returns-clause-class_temporary_of_a_function_expression
+returns-clause-class_temporary_of_a_function_expression c = refl
 
 pub returns-clause-class_temporary_of_another_case : goal.returns-clause-class_temporary_of_another_case
 returns-clause-class_temporary_of_another_case c = refl
@@ -46,11 +79,23 @@ returns-clause-constant_temporary c = refl
 pub returns-clause-conversion_of_no_key : goal.returns-clause-conversion_of_no_key
 returns-clause-conversion_of_no_key c = refl
 
+pub returns-clause-copy_of_a_number : goal.returns-clause-copy_of_a_number
+returns-clause-copy_of_a_number c = refl
+
 pub returns-clause-dead_temporary : goal.returns-clause-dead_temporary
 returns-clause-dead_temporary c = refl
 
+pub returns-clause-declaration_of_nothing : goal.returns-clause-declaration_of_nothing
+returns-clause-declaration_of_nothing c = refl
+
 pub returns-clause-declaration_without_its_name : goal.returns-clause-declaration_without_its_name
 returns-clause-declaration_without_its_name c = refl
+
+pub returns-clause-declaration_without_its_name_in_a_method : goal.returns-clause-declaration_without_its_name_in_a_method
+returns-clause-declaration_without_its_name_in_a_method c = refl
+
+pub returns-clause-declaration_without_its_names : goal.returns-clause-declaration_without_its_names
+returns-clause-declaration_without_its_names c = refl
 
 pub returns-clause-declarator_in_a_const : goal.returns-clause-declarator_in_a_const
 returns-clause-declarator_in_a_const c = refl
@@ -70,6 +115,9 @@ returns-clause-field_of_a_written_class_dropped c = refl
 pub returns-clause-fields_of_a_written_class_exchanged : goal.returns-clause-fields_of_a_written_class_exchanged
 returns-clause-fields_of_a_written_class_exchanged c = refl
 
+pub returns-clause-flags_of_no_regular_expression : goal.returns-clause-flags_of_no_regular_expression
+returns-clause-flags_of_no_regular_expression c = refl
+
 pub returns-clause-function_in_a_class : goal.returns-clause-function_in_a_class
 returns-clause-function_in_a_class c = refl
 
@@ -82,11 +130,29 @@ returns-clause-hidden_body c = refl
 pub returns-clause-key_given_again : goal.returns-clause-key_given_again
 returns-clause-key_given_again c = refl
 
+pub returns-clause-key_outside_of_a_called_function : goal.returns-clause-key_outside_of_a_called_function
+returns-clause-key_outside_of_a_called_function c = refl
+
+pub returns-clause-let_behind_a_constructor : goal.returns-clause-let_behind_a_constructor
+returns-clause-let_behind_a_constructor c = refl
+
+pub returns-clause-let_behind_a_field : goal.returns-clause-let_behind_a_field
+returns-clause-let_behind_a_field c = refl
+
+pub returns-clause-let_behind_an_arrow : goal.returns-clause-let_behind_an_arrow
+returns-clause-let_behind_an_arrow c = refl
+
+pub returns-clause-let_in_strict_code : goal.returns-clause-let_in_strict_code
+returns-clause-let_in_strict_code c = refl
+
 pub returns-clause-let_of_another_case : goal.returns-clause-let_of_another_case
 returns-clause-let_of_another_case c = refl
 
 pub returns-clause-let_out_of_its_block : goal.returns-clause-let_out_of_its_block
 returns-clause-let_out_of_its_block c = refl
+
+pub returns-clause-let_read_in_its_value : goal.returns-clause-let_read_in_its_value
+returns-clause-let_read_in_its_value c = refl
 
 pub returns-clause-map_made_in_a_branch : goal.returns-clause-map_made_in_a_branch
 returns-clause-map_made_in_a_branch c = refl
@@ -97,11 +163,20 @@ returns-clause-map_made_in_a_called_arrow c = refl
 pub returns-clause-map_made_in_a_pattern : goal.returns-clause-map_made_in_a_pattern
 returns-clause-map_made_in_a_pattern c = refl
 
+pub returns-clause-map_of_a_function_expression : goal.returns-clause-map_of_a_function_expression
+returns-clause-map_of_a_function_expression c = refl
+
+pub returns-clause-map_outside_of_a_called_function : goal.returns-clause-map_outside_of_a_called_function
+returns-clause-map_outside_of_a_called_function c = refl
+
 pub returns-clause-method_assigned_in_another_function : goal.returns-clause-method_assigned_in_another_function
 returns-clause-method_assigned_in_another_function c = refl
 
 pub returns-clause-method_given_behind_its_calls : goal.returns-clause-method_given_behind_its_calls
 returns-clause-method_given_behind_its_calls c = refl
+
+pub returns-clause-method_outside_of_a_called_function : goal.returns-clause-method_outside_of_a_called_function
+returns-clause-method_outside_of_a_called_function c = refl
 
 pub returns-clause-name_given_behind_a_field : goal.returns-clause-name_given_behind_a_field
 returns-clause-name_given_behind_a_field c = refl
@@ -127,6 +202,24 @@ returns-clause-name_twice c = refl
 pub returns-clause-name_without_a_sign : goal.returns-clause-name_without_a_sign
 returns-clause-name_without_a_sign c = refl
 
+pub returns-clause-nothing_declared_behind_a_bigint : goal.returns-clause-nothing_declared_behind_a_bigint
+returns-clause-nothing_declared_behind_a_bigint c = refl
+
+pub returns-clause-nothing_declared_behind_a_directive : goal.returns-clause-nothing_declared_behind_a_directive
+returns-clause-nothing_declared_behind_a_directive c = refl
+
+pub returns-clause-nothing_declared_behind_a_string : goal.returns-clause-nothing_declared_behind_a_string
+returns-clause-nothing_declared_behind_a_string c = refl
+
+pub returns-clause-number_that_strict_code_has_not : goal.returns-clause-number_that_strict_code_has_not
+returns-clause-number_that_strict_code_has_not c = refl
+
+pub returns-clause-own_name_in_a_heritage : goal.returns-clause-own_name_in_a_heritage
+returns-clause-own_name_in_a_heritage c = refl
+
+pub returns-clause-own_name_in_a_key : goal.returns-clause-own_name_in_a_key
+returns-clause-own_name_in_a_key c = refl
+
 pub returns-clause-own_name_that_is_meant : goal.returns-clause-own_name_that_is_meant
 returns-clause-own_name_that_is_meant c = refl
 
@@ -135,6 +228,15 @@ returns-clause-parameter_read_later c = refl
 
 pub returns-clause-parameter_renamed : goal.returns-clause-parameter_renamed
 returns-clause-parameter_renamed c = refl
+
+pub returns-clause-pattern_of_no_regular_expression : goal.returns-clause-pattern_of_no_regular_expression
+returns-clause-pattern_of_no_regular_expression c = refl
+
+pub returns-clause-private_name_constructor : goal.returns-clause-private_name_constructor
+returns-clause-private_name_constructor c = refl
+
+pub returns-clause-private_name_of_another_member : goal.returns-clause-private_name_of_another_member
+returns-clause-private_name_of_another_member c = refl
 
 pub returns-clause-private_name_twice : goal.returns-clause-private_name_twice
 returns-clause-private_name_twice c = refl
@@ -145,11 +247,20 @@ returns-clause-raw_of_a_string c = refl
 pub returns-clause-raw_of_a_template : goal.returns-clause-raw_of_a_template
 returns-clause-raw_of_a_template c = refl
 
+pub returns-clause-regular_expression_read_twice : goal.returns-clause-regular_expression_read_twice
+returns-clause-regular_expression_read_twice c = refl
+
+pub returns-clause-second_string_that_a_printer_makes_a_directive : goal.returns-clause-second_string_that_a_printer_makes_a_directive
+returns-clause-second_string_that_a_printer_makes_a_directive c = refl
+
 pub returns-clause-strict_arrow : goal.returns-clause-strict_arrow
 returns-clause-strict_arrow c = refl
 
 pub returns-clause-strict_rest : goal.returns-clause-strict_rest
 returns-clause-strict_rest c = refl
+
+pub returns-clause-string_that_a_printer_makes_a_directive : goal.returns-clause-string_that_a_printer_makes_a_directive
+returns-clause-string_that_a_printer_makes_a_directive c = refl
 
 pub returns-clause-super_function_behind_a_call : goal.returns-clause-super_function_behind_a_call
 returns-clause-super_function_behind_a_call c = refl
@@ -187,8 +298,14 @@ returns-clause-two_maps c = refl
 pub returns-clause-unconverted_name_of_a_class : goal.returns-clause-unconverted_name_of_a_class
 returns-clause-unconverted_name_of_a_class c = refl
 
+pub returns-clause-uncooked_template : goal.returns-clause-uncooked_template
+returns-clause-uncooked_template c = refl
+
 pub returns-clause-untested_name_of_a_class : goal.returns-clause-untested_name_of_a_class
 returns-clause-untested_name_of_a_class c = refl
 
 pub returns-clause-weak_map_in_another_function : goal.returns-clause-weak_map_in_another_function
 returns-clause-weak_map_in_another_function c = refl
+
+pub returns-clause-yield_in_a_generator : goal.returns-clause-yield_in_a_generator
+returns-clause-yield_in_a_generator c = refl

@@ -8,11 +8,32 @@ returns-clause-block_of_a_binding c = (refl, refl, lowered refl, refl)
 pub returns-clause-block_of_an_arrow : goal.returns-clause-block_of_an_arrow
 returns-clause-block_of_an_arrow c = (refl, refl, lowered refl, refl)
 
+pub returns-clause-class_named_await : goal.returns-clause-class_named_await
+returns-clause-class_named_await c = (refl, refl, lowered refl, refl)
+
+pub returns-clause-class_that_suspends : goal.returns-clause-class_that_suspends
+returns-clause-class_that_suspends c = (refl, refl, lowered refl, refl)
+
+pub returns-clause-classes_that_suspend : goal.returns-clause-classes_that_suspend
+returns-clause-classes_that_suspend c = (refl, refl, lowered refl, refl)
+
+pub returns-clause-directive_with_an_escape : goal.returns-clause-directive_with_an_escape
+returns-clause-directive_with_an_escape c = (refl, refl, lowered refl, refl)
+
+pub returns-clause-hexadecimal_bigint : goal.returns-clause-hexadecimal_bigint
+returns-clause-hexadecimal_bigint c = (refl, refl, lowered refl, refl)
+
+pub returns-clause-nameless_class_that_suspends : goal.returns-clause-nameless_class_that_suspends
+returns-clause-nameless_class_that_suspends c = (refl, refl, lowered refl, refl)
+
 pub returns-clause-own_name_that_nothing_means : goal.returns-clause-own_name_that_nothing_means
 returns-clause-own_name_that_nothing_means c = (refl, refl, lowered refl, refl)
 
 pub returns-clause-strict_function_of_a_method : goal.returns-clause-strict_function_of_a_method
 returns-clause-strict_function_of_a_method c = (refl, refl, lowered refl, refl)
+
+pub returns-clause-string_in_parentheses : goal.returns-clause-string_in_parentheses
+returns-clause-string_in_parentheses c = (refl, refl, lowered refl, refl)
 
 pub returns-clause-tested_name_of_a_class : goal.returns-clause-tested_name_of_a_class
 returns-clause-tested_name_of_a_class c = (refl, refl, lowered refl, refl)

@@ -7,6 +7,9 @@ returns-clause-arguments_behind_a_write c = (refl, refl, refl)
 pub returns-clause-arguments_of_a_block : goal.returns-clause-arguments_of_a_block
 returns-clause-arguments_of_a_block c = (refl, refl, refl)
 
+pub returns-clause-arguments_of_an_inner_function : goal.returns-clause-arguments_of_an_inner_function
+returns-clause-arguments_of_an_inner_function c = (refl, refl, refl)
+
 pub returns-clause-caught_names_exchanged : goal.returns-clause-caught_names_exchanged
 returns-clause-caught_names_exchanged c = (refl, refl, refl)
 

@@ -85,6 +85,9 @@ returns-clause-fields_exchanged c = refl
 pub returns-clause-fields_of_a_written_class_exchanged : goal.returns-clause-fields_of_a_written_class_exchanged
 returns-clause-fields_of_a_written_class_exchanged c = refl
 
+pub returns-clause-for_await_in_an_arrow : goal.returns-clause-for_await_in_an_arrow
+returns-clause-for_await_in_an_arrow c = refl
+
 pub returns-clause-generator_constructor : goal.returns-clause-generator_constructor
 returns-clause-generator_constructor c = refl
 
@@ -126,6 +129,9 @@ returns-clause-names_of_a_constructor c = refl
 
 pub returns-clause-new_import : goal.returns-clause-new_import
 returns-clause-new_import c = refl
+
+pub returns-clause-new_target_of_a_program : goal.returns-clause-new_target_of_a_program
+returns-clause-new_target_of_a_program c = refl
 
 pub returns-clause-object_evaluated_twice : goal.returns-clause-object_evaluated_twice
 returns-clause-object_evaluated_twice c = refl

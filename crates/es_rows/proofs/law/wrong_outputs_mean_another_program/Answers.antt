@@ -1,6 +1,9 @@
 use Rattle.std.specs.Prelude.{refl}
 use Rattle.es_rows.proofs.law.wrong_outputs_mean_another_program.Goals as goal
 
+pub returns-clause-arguments_of_a_function_around : goal.returns-clause-arguments_of_a_function_around
+returns-clause-arguments_of_a_function_around c = (refl, refl)
+
 pub returns-clause-arrow_moved_into_parameters : goal.returns-clause-arrow_moved_into_parameters
 returns-clause-arrow_moved_into_parameters c = (refl, refl)
 
