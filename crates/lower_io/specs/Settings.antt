@@ -1,9 +1,9 @@
 -- The arguments of the command line, each by its bytes, and the options that they ask for.
-use Rattle.std.specs.Prelude.{ℕ, List, [], ◌∷◌, Bool, true, false, ◌&&◌, not, cond, bytes_eq, codes, Option, Some, None, option_map, option_and_then, is_some, Result, result_ok}
+use Rattle.std.specs.Prelude.{ℕ, List, [], ◌∷◌, true, false, ◌&&◌, not, cond, bytes_eq, codes, Option, Some, None, option_map, option_and_then, is_some}
+use Rattle.std.specs.Result.{result_ok}
 use Rattle.serde_json.specs.Read.{read}
 use Rattle.es_options.specs.Assumptions.{from_value}
 use Rattle.es_steps.specs.Options.{no_assumptions}
-use Rattle.es_steps.specs.declared.options.ClassPropertiesOptions.{ClassPropertiesOptions}
 use Rattle.es_steps.specs.declared.options.CompilerAssumptions.{CompilerAssumptions}
 use Rattle.es_steps.specs.declared.options.Options.{Options}
 use Rattle.lower_io.specs.declared.settings.Words.{Words}

@@ -39,7 +39,7 @@ impl From<AllocError> for WordsError {
 }
 
 /// What was read of the arguments so far.
-#[derive(Debug, Clone, Copy, Default, PartialEq, Eq)]
+#[derive(Debug, Clone, Copy, PartialEq, Eq)]
 struct Words {
     class_properties: bool,
     loose: bool,
@@ -71,7 +71,7 @@ fn words_of(alloc: Global, arguments: &[String]) -> Result<Words, WordsError>
     ensures ok { IfOk result (λ w. words_from no_words (map string_bytes arguments.now) ≡ Some w) }
     ensures err { IfErr result (λ e. e ≡ WordsError.BadWords → words_from no_words (map string_bytes arguments.now) ≡ None) }
 {
-    let mut words = Words::default();
+    let mut words = Words::none();
     let mut is_assuming = false;
     for argument in arguments {
         if is_assuming {
@@ -90,6 +90,20 @@ fn words_of(alloc: Global, arguments: &[String]) -> Result<Words, WordsError>
 }
 
 impl Words {
+    /// Nothing is asked for.
+    fn none() -> Words
+        ensures { result ≡ no_words }
+    {
+        Words {
+            class_properties: false,
+            loose: false,
+            static_block: false,
+            await_warnings: false,
+            remove_fields: false,
+            assumptions: None,
+        }
+    }
+
     /// The same, and this flag.
     fn with_flag(self, argument: &str) -> Result<Words, WordsError>
         ensures ok { IfOk result (λ w. with_flag self argument.now ≡ Some w) }

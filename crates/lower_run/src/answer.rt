@@ -1,21 +1,22 @@
 // The output for the bytes of a source: the lowered tree, or why there is none.
 
-ghost use Rattle.std.specs.Prelude.{◌≡◌, ◌≤◌, ◌<◌, ◌+◌, ◌^◌, IfOk, OnOk, IfErr, Ok, [], length, true};
+ghost use Rattle.std.specs.Prelude.{◌≡◌, ◌≤◌, ◌<◌, ◌+◌, ◌^◌, IfOk, OnOk, IfErr, Ok, length, option_map, true};
 ghost use Rattle.es_base.specs.Conforms.{conforms};
 ghost use Rattle.es_base.specs.Preorder.{nodes, numbered_from};
 ghost use Rattle.es_base.specs.declared.kind.Kind.{Kind};
 ghost use Rattle.es_base.specs.declared.table.Place.{Place};
 ghost use Rattle.es_node.specs.View.{kind_of};
 ghost use Rattle.es_writing.specs.Kept.{IsKept};
-ghost use Rattle.es_writing.specs.Lowered.{write_lowered};
 ghost use Rattle.es_reading.specs.Reading.{read, root};
 ghost use Rattle.borrowed_json.specs.View.{view};
 ghost use Rattle.es_reading.specs.Told.{Tells, ids, values};
 ghost use Rattle.es_reading.specs.declared.numbers.Numbers.{Numbers};
 ghost use Rattle.es_validity.specs.Validity.{is_valid};
-ghost use Rattle.lower_run.specs.Lines.{line};
-ghost use Rattle.lower_run.specs.Outcome.{IsOutputOfBytes, IsOutputOfValue, IsOutputOfTree, IsLineOf, IsLoweredTo, IsRefused, most_bytes};
-ghost use Rattle.serde_json.specs.Written.{compact_text};
+ghost use Rattle.es_shapes.specs.Warnings.{numbers};
+ghost use Rattle.es_steps.specs.Lowered.{nothing_left};
+ghost use Rattle.es_steps.specs.Shapes.{shapes};
+ghost use Rattle.es_steps.specs.Told.{warnings_of};
+ghost use Rattle.lower_run.specs.Outcome.{IsOutputOfBytes, IsOutputOfValue, IsOutputOfTree, IsLineOf, IsLoweredTo, IsRefused, IsTextOf, most_bytes, not_yet_lowered};
 
 use crate::lines::{float_line, not_a_tree_line, refusal_line};
 use crate::output::{Output, output_with};
