@@ -1,6 +1,6 @@
 -- The first node that is lowered, of a tree and of its nodes in preorder; where there is none, nothing is left.
 use Rattle.std.proofs.Common.{◌≡◌, refl, sym, ap, ◌∙◌, ℕ, List, [], ◌∷◌, ◌++◌, Bool, true, false, cond, Option, Some, None, option_map}
-use Rattle.std.specs.Prelude.{not, ◌&&◌, is_none}
+use Rattle.std.specs.Prelude.{not, ◌&&◌, is_none, is_some}
 use Rattle.es_base.specs.Preorder.{preorder, preorder_of, preorder_of_part, number_of}
 use Rattle.es_base.specs.Tree.{Tree, Part, Parts, Node, end, more, child, absent, list, string, no_string, boolean, literal}
 use Rattle.es_base.specs.declared.ids.NodeId.{NodeId}
@@ -57,5 +57,9 @@ number-none : (n : Option NodeId) → is_none (option_map (λ (k : NodeId). k.0)
 number-none None = refl
 number-none (Some n) = refl
 
-pub left_none : (o : Options) (t : Tree) (n : Option NodeId) → option_map (λ (k : NodeId). k.0) n ≡ first_left o t → is_none n ≡ nothing_left o t
-left_none o t n e = sym (number-none n) ∙ ap is_none e ∙ none-first o (preorder t)
+negated : (b c : Bool) → not b ≡ c → b ≡ not c
+negated true c e = ap not e
+negated false c e = ap not e
+
+pub left_none : (o : Options) (t : Tree) (n : Option NodeId) (b : Bool) → not b ≡ is_some n → option_map (λ (k : NodeId). k.0) n ≡ first_left o t → b ≡ nothing_left o t
+left_none o t n b is e = negated b (is_some n) is ∙ sym (number-none n) ∙ ap is_none e ∙ none-first o (preorder t)

@@ -13,7 +13,6 @@ use es_steps::options::Options;
 
 /// Whether nothing stands in a program that the options lower: no field, private name or `#x in o` with class properties on,
 /// and no static block with that option on. Takes time in proportion to the program, and allocates nothing.
-#[tactic(auto, using(crate::proofs::First::left_none))]
 pub fn nothing_left(program: &Node, options: &Options) -> bool
     ensures { result ≡ nothing_left options.now program.now }
 {

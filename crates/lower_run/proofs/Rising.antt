@@ -144,10 +144,10 @@ rising-same lo hi [] [] rising up kept = refl
 rising-same lo hi [] (e ∷ es) rising up kept = no_cons e _ (sym (kept e) ∙ first-ties e e es refl)
 rising-same lo hi (d ∷ ds) [] rising up kept = no_cons d _ (kept d ∙ first-ties d d ds refl)
 rising-same lo hi (d ∷ ds) (e ∷ es) rising up kept = elim (which (number d) (number e)) [
-    inl below ↦ no_cons d _ (sym (climbs-none d (number e) (e ∷ es) below (omega arith, sorted-climbs e es up)) ∙ kept d ∙ first-ties d d ds refl)
+  | inl below ↦ no_cons d _ (sym (climbs-none d (number e) (e ∷ es) below (omega arith, sorted-climbs e es up)) ∙ kept d ∙ first-ties d d ds refl)
   | inr (inl above) ↦ no_cons e _ (sym (climbs-none e (number d) (d ∷ ds) above (omega arith, rising-climbs (number d) hi ds (rising-wider (number d + 1) hi (number d) (map number ds) (omega arith) rising.1))) ∙ sym (kept e) ∙ first-ties e e es refl)
   | inr (inr same) ↦ ap₂ (λ x xs. x ∷ xs) (heads same) (rising-same (number d + 1) hi ds es rising.1 (sorted-rest e es up) (rests (heads same)))
-  ]
+]
   where
     heads : number d ≡ number e → e ≡ d
     heads same = cons_first e d _ _ (sym (first-ties d e es same) ∙ kept d ∙ first-ties d d ds refl)
