@@ -1,5 +1,5 @@
 -- What follows from the cause of a status.
-use Rattle.std.proofs.Common.{inl, inr, ◌≡◌, refl, sym, ap, ap₂, ◌∙◌, subst, ℕ, ◌<◌, ◌≤◌, List, [], length, Option, Some, None, Result, Ok, Err, true, true≢false, arith}
+use Rattle.std.proofs.Common.{inl, inr, ◌≡◌, refl, sym, ap, ap₂, ◌∙◌, subst, ℕ, ◌<◌, ◌≤◌, List, length, Option, Some, None, Result, Ok, Err, true, true≢false, arith}
 use Rattle.std.specs.Prelude.{◌⊎◌, nat_le, is_none}
 use Rattle.std.proofs.lemmas.Bool.{leb-true}
 use Rattle.serde_json.specs.Data.{Data}

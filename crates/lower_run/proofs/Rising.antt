@@ -1,6 +1,6 @@
 -- The numbers of the awaits of a program that is numbered in preorder rise, so its warnings stay as they are when they are
 -- put in order.
-use Rattle.std.proofs.Common.{inl, inr, ◌≡◌, refl, sym, ap, ap₂, ◌∙◌, subst, ℕ, zero, suc, ◌+◌, ◌<◌, ◌≤◌, List, [], ◌∷◌, ◌++◌, length, map, Bool, true, false, cond, is_lt, filter, get_or, IsSorted, arith}
+use Rattle.std.proofs.Common.{inl, inr, ◌≡◌, refl, sym, ap, ap₂, ◌∙◌, subst, ℕ, suc, ◌+◌, ◌<◌, ◌≤◌, List, [], ◌∷◌, ◌++◌, map, Bool, true, false, cond, is_lt, filter, get_or, IsSorted, arith}
 use Rattle.std.specs.Prelude.{◌⊎◌, nat_lt}
 use Rattle.std.specs.List.Sorted.{IsStable, ties}
 use Rattle.std.specs.Cmp.{nat_cmp_is}

@@ -1,6 +1,6 @@
 -- What is written of a valid program that has nothing to lower, or is of the form, is the text of a program that owes nothing
 -- and means the same.
-use Rattle.std.proofs.Common.{inl, inr, ◌≡◌, refl, sym, ap, ◌∙◌, subst, ℕ, List, [], map, true, false, true≢false}
+use Rattle.std.proofs.Common.{inl, inr, ◌≡◌, refl, sym, ap, ◌∙◌, subst, ℕ, List, [], map, true, true≢false}
 use Rattle.std.specs.Prelude.{◌⊎◌}
 use Rattle.serde_json.specs.Written.{compact_text}
 use Rattle.es_base.specs.Carried.{stripped}
