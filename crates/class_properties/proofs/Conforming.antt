@@ -1,7 +1,7 @@
 -- What a program of the first form is lowered to is a program of the table's grammar, and it is the program itself where no
 -- class has a field.
 use Rattle.std.specs.Prelude.{◌≡◌, ℕ, ◌+◌, [], Bool, true, false, ◌&&◌}
-use Rattle.std.proofs.Common.{refl, sym, ap, ◌∙◌}
+use Rattle.std.proofs.Common.{refl, sym, ap, ◌∙◌, subst}
 use Rattle.std.proofs.lemmas.Bool.{and_parts, true≢false}
 use Rattle.std.proofs.lemmas.List.{append-nil}
 use Rattle.es_base.specs.Carried.{stripped}
@@ -15,11 +15,13 @@ use Rattle.es_base.specs.declared.table.Words.{Words}
 use Rattle.es_steps.specs.FirstForm.{is_first_form}
 use Rattle.es_steps.specs.LoweredClasses.{holds_lowered, has_lowered_class}
 use Rattle.es_steps.specs.Lowered.{IsUnchanged}
-use Rattle.es_steps.specs.Options.{class_properties_alone}
+use Rattle.es_steps.specs.declared.options.Options.{Options}
+use Rattle.class_properties.proofs.Defining.{defining, is_defining}
 use Rattle.class_properties.proofs.Numbered.{definitions_from, lowered_elements, lowered_statements, lowered_from}
 use Rattle.class_properties.proofs.Renumbered.{lowered-numbered}
 use Rattle.class_properties.proofs.Shaped.{no_value, a_literal, a_reference, a_key, a_field, AreFields, a_body, a_name, a_class, AreClasses, IsProgram, a_program, first_form-shaped}
 use Rattle.class_properties.specs.Lowering.{lowered}
+use Rattle.class_properties.specs.Options.{defines_fields}
 
 -- ---- fields
 
@@ -72,15 +74,19 @@ lowered-conforms t f h e = ap (conforms Place.Program) (lowered-numbered t f h e
 no_true : {A : Type 0} → true ≡ false → A
 no_true h = absurd (true≢false h)
 
-classes-same : (ps : Parts) → AreClasses ps → (k : ℕ) → holds_lowered class_properties_alone (preorder_of ps) ≡ false → lowered_statements k ps ≡ ps
-classes-same end h k none = refl
-classes-same (more p ps) (a_class n span semantic_id id body (a_name i ispan i_semantic_id s free) (a_body j bspan b_semantic_id end he), h) k none = ap (more p) (classes-same ps h _ none)
-classes-same (more p ps) (a_class n span semantic_id id body (a_name i ispan i_semantic_id s free) (a_body j bspan b_semantic_id (more e es) (a_field m fspan f_semantic_id key v hk hv, he)), h) k none = no_true none
+module _ (asked : Options) where
+  classes-same : (ps : Parts) → AreClasses ps → (k : ℕ) → holds_lowered (defining asked) (preorder_of ps) ≡ false → lowered_statements k ps ≡ ps
+  classes-same end h k none = refl
+  classes-same (more p ps) (a_class n span semantic_id id body (a_name i ispan i_semantic_id s free) (a_body j bspan b_semantic_id end he), h) k none = ap (more p) (classes-same ps h _ none)
+  classes-same (more p ps) (a_class n span semantic_id id body (a_name i ispan i_semantic_id s free) (a_body j bspan b_semantic_id (more e es) (a_field m fspan f_semantic_id key v hk hv, he)), h) k none = no_true none
 
-program-same : (k : ℕ) (t : Tree) → IsProgram t → has_lowered_class class_properties_alone t ≡ false → lowered_from k t ≡ t
-program-same k t (a_program m span semantic_id s all h) none =
-    ap (λ ps. Node Kind.Program m span semantic_id (more (string s) (more (list ps) end)))
-    (classes-same all h k (sym (ap (holds_lowered class_properties_alone) (append-nil (preorder_of all))) ∙ none))
+  program-same : (k : ℕ) (t : Tree) → IsProgram t → has_lowered_class (defining asked) t ≡ false → lowered_from k t ≡ t
+  program-same k t (a_program m span semantic_id s all h) none =
+      ap (λ ps. Node Kind.Program m span semantic_id (more (string s) (more (list ps) end)))
+      (classes-same all h k (sym (ap (holds_lowered (defining asked)) (append-nil (preorder_of all))) ∙ none))
 
-pub lowered-unchanged : (t : Tree) → conforms Place.Program t ≡ true → is_first_form t [] ≡ true → t ≡ numbered_from 0 t → IsUnchanged class_properties_alone [] t (lowered t)
-lowered-unchanged t f h e none = (ap stripped (lowered-numbered t f h e ∙ program-same (nodes t) t (first_form-shaped t [] f h) none), refl)
+  form-unchanged : (t : Tree) → conforms Place.Program t ≡ true → is_first_form t [] ≡ true → t ≡ numbered_from 0 t → IsUnchanged (defining asked) [] t (lowered t)
+  form-unchanged t f h e none = (ap stripped (lowered-numbered t f h e ∙ program-same (nodes t) t (first_form-shaped t [] f h) none), refl)
+
+pub lowered-unchanged : (o : Options) (t : Tree) → defines_fields o ≡ true → conforms Place.Program t ≡ true → is_first_form t [] ≡ true → t ≡ numbered_from 0 t → IsUnchanged o [] t (lowered t)
+lowered-unchanged o t d f h e = subst (λ x. IsUnchanged x [] t (lowered t)) (is_defining o d) (form-unchanged o t f h e)

@@ -1,5 +1,5 @@
 -- Nodes whose old numbers ascend and whose new numbers stand in turn: what such a list owes.
-use Rattle.std.proofs.Common.{◌≡◌, refl, ◌∙◌, ℕ, ◌+◌, ◌<◌, ◌≤◌, ◌⊎◌, inl, inr, List, [], ◌∷◌, ◌++◌, map, Bool, true, false, arith}
+use Rattle.std.proofs.Common.{◌≡◌, refl, sym, ◌∙◌, ℕ, ◌+◌, ◌<◌, ◌≤◌, ◌⊎◌, inl, inr, List, [], ◌∷◌, ◌++◌, map, Bool, true, false, arith}
 use Rattle.std.specs.Prelude.{◌&&◌, ◌||◌, not, nat_eq, filter}
 use Rattle.std.specs.List.{IsDistinct, AllByRecursion}
 use Rattle.std.proofs.lemmas.Bool.{le-leb, lt-leb, and_parts, not-true, true≢false}
@@ -9,10 +9,11 @@ use Rattle.es_base.specs.Preorder.{number_of}
 use Rattle.es_base.specs.Tree.{Tree, Node}
 use Rattle.es_base.specs.declared.kind.Kind.{Kind}
 use Rattle.es_steps.specs.Lowered.{is_lowered_kind, kind_of, none_lowered, is_new_const, all_accounted}
-use Rattle.es_steps.specs.Options.{class_properties_alone}
+use Rattle.es_steps.specs.Options.{both_lowered}
 use Rattle.es_steps.specs.OwnNames.{loses_name, none_loses_name, reads_itself, none_reads_itself}
 use Rattle.es_steps.specs.References.{Reference}
 use Rattle.es_steps.specs.Scopes.{is_binding_identifier, is_class_expression}
+use Rattle.es_steps.specs.declared.options.Options.{Options}
 use Rattle.es_unchanged.proofs.Standing.{none_of}
 
 -- kinds of nodes that declare names, kinds that stay, and kinds of new nodes
@@ -26,7 +27,7 @@ declares_variables Kind.VariableDeclarator = true
 declares_variables kind = false
 
 abbrev pub stays : Kind → Bool
-stays kind = not (is_lowered_kind class_properties_alone kind) && not (is_class_expression kind || declares_variables kind)
+stays kind = not (is_lowered_kind both_lowered kind) && not (is_class_expression kind || declares_variables kind)
 
 abbrev pub may_be_new : Kind → Bool
 may_be_new kind = stays kind && not (declares_names kind)
@@ -89,16 +90,24 @@ laid-once {ts = t ∷ ts} l (generated e s rest) = (laid-apart (number_of t) (om
 
 -- ---- nothing is left, and no new node declares a name
 
-stays-parts : (kind : Kind) → stays kind ≡ true → (not (is_lowered_kind class_properties_alone kind) ≡ true) × (not (is_class_expression kind || declares_variables kind) ≡ true)
-stays-parts kind s = and_parts (not (is_lowered_kind class_properties_alone kind)) (not (is_class_expression kind || declares_variables kind)) s
+stays-parts : (kind : Kind) → stays kind ≡ true → (not (is_lowered_kind both_lowered kind) ≡ true) × (not (is_class_expression kind || declares_variables kind) ≡ true)
+stays-parts kind s = and_parts (not (is_lowered_kind both_lowered kind)) (not (is_class_expression kind || declares_variables kind)) s
 
 stays-neither : (kind : Kind) → stays kind ≡ true → (is_class_expression kind ≡ false) × (declares_variables kind ≡ false)
 stays-neither kind s = none_of (is_class_expression kind) (declares_variables kind) (not-true (is_class_expression kind || declares_variables kind) (stays-parts kind s).1)
 
-pub laid-left : {first hi m lo n : ℕ} {ts : List Tree} → Laid first hi m lo n ts → none_lowered class_properties_alone ts ≡ true
-laid-left (none lh e) = refl
-laid-left {ts = t ∷ ts} (kept a b s rest) = rw ((stays-parts (kind_of t) s).0, laid-left rest) refl
-laid-left {ts = t ∷ ts} (generated e s rest) = rw ((stays-parts (kind_of t) (and_parts (stays (kind_of t)) (not (declares_names (kind_of t))) s).0).0, laid-left rest) refl
+-- a kind that stays whatever is lowered stays under these options
+unlowered : (o : Options) (kind : Kind) → not (is_lowered_kind both_lowered kind) ≡ true → not (is_lowered_kind o kind) ≡ true
+unlowered o Kind.PropertyDefinition h = absurd (true≢false (sym h))
+unlowered o Kind.PrivateIdentifier h = absurd (true≢false (sym h))
+unlowered o Kind.PrivateIn h = absurd (true≢false (sym h))
+unlowered o Kind.StaticBlock h = absurd (true≢false (sym h))
+unlowered o kind h = refl
+
+pub laid-left : (o : Options) {first hi m lo n : ℕ} {ts : List Tree} → Laid first hi m lo n ts → none_lowered o ts ≡ true
+laid-left o (none lh e) = refl
+laid-left o {ts = t ∷ ts} (kept a b s rest) = rw (unlowered o (kind_of t) (stays-parts (kind_of t) s).0, laid-left o rest) refl
+laid-left o {ts = t ∷ ts} (generated e s rest) = rw (unlowered o (kind_of t) (stays-parts (kind_of t) (and_parts (stays (kind_of t)) (not (declares_names (kind_of t))) s).0).0, laid-left o rest) refl
 
 -- a node that declares no variables is no new constant
 no_const : (first : ℕ) (t : Tree) → declares_variables (kind_of t) ≡ false → is_new_const first t ≡ false

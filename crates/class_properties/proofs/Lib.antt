@@ -3,13 +3,14 @@ pub mod Children
 pub mod Conforming
 pub mod Constructions
 pub mod Declared
+pub mod Defining
 pub mod Entering
 pub mod Fitting
-pub mod OfKinds
 pub mod Laid
 pub mod Leasts
 pub mod Mapped
 pub mod Numbered
+pub mod OfKinds
 pub mod Owed
 pub mod Printed
 pub mod Remaining

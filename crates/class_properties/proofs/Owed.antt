@@ -10,12 +10,13 @@ use Rattle.es_steps.specs.FirstForm.{is_first_form}
 use Rattle.es_steps.specs.HelperCalls.{computed_keys}
 use Rattle.es_steps.specs.Lowered.{IsLowered}
 use Rattle.es_steps.specs.Generated.{constructor_at, define_at, void_at}
-use Rattle.es_steps.specs.Options.{class_properties_alone}
+use Rattle.es_steps.specs.declared.options.Options.{Options}
 use Rattle.es_steps.specs.OwnNames.{own_name_numbers}
 use Rattle.es_steps.specs.PrivateNames.{private_members}
 use Rattle.es_steps.specs.References.{resolve}
 use Rattle.es_steps.specs.Strict.{none_becomes_strict}
 use Rattle.es_steps.specs.Values.{String}
+use Rattle.class_properties.proofs.Defining.{defining, is_defining}
 use Rattle.class_properties.proofs.Entering.{nothing-enters}
 use Rattle.class_properties.proofs.Fitting.{definitions-fit}
 use Rattle.class_properties.proofs.Laid.{Laid, none, kept, generated, laid-below, laid-append, laid-upto, laid-from, laid-consecutive, laid-once, laid-left, laid-accounted, laid-named, laid-unread}
@@ -31,6 +32,7 @@ use Rattle.es_unchanged.proofs.Standing.{both, temporaries-none}
 use Rattle.es_unchanged.proofs.Unchanged.{numbered-once}
 use Rattle.es_unchanged.proofs.Unmarked.{names-timely}
 use Rattle.class_properties.specs.Lowering.{lowered}
+use Rattle.class_properties.specs.Options.{defines_fields}
 
 -- with no nodes behind
 laid-no_more : {first hi m lo n : ℕ} {ts : List Tree} → Laid first hi m lo n ts → Laid first hi m lo n (ts ++ [])
@@ -112,36 +114,40 @@ numbered-laid t p e =
     let whole = program-laid (nodes t) (nodes t) t p (omega arith) in
     (whole.0, subst (λ u. Laid (nodes t) (nodes t) whole.0 0 (nodes t) (preorder (lowered_from (nodes t) u))) (sym e) whole.1)
 
-numbered-owes : (t : Tree) → IsProgram t → t ≡ numbered_from 0 t → IsLowered (nodes t) class_properties_alone [] t (numbered.lowered t)
-numbered-owes t p e =
-    let first : ℕ = nodes t in
-    let q : Tree = numbered.lowered t in
-    let whole = numbered-laid t p e in
-    let laid : Laid first first whole.0 0 first (preorder q) = whole.1 in
-    let rest : Remains first t = remains first t p in record {
-      numbered = record { once = laid-once (omega arith) laid; consecutive = laid-consecutive (omega arith) laid };
-      clauses = record {
-        left = laid-left laid;
-        declared = refl;
-        accounted = laid-accounted (own_name_numbers t (resolve q) (preorder q)) laid;
-        names = both (laid-named (preorder t) (resolve q) laid) (laid-unread (preorder t) (resolve q) laid);
-        strict = numbered-strict t p e;
-        texts = texts-stay t p e;
-        initialized = refl;
-        timely = names-timely first (private_members t) q;
-        temporaries = refl;
-        keys = rw (temporaries-none first class_properties_alone (private_members t) q (preorder q)) refl;
-        nodes = rest.nodes;
-        classes = nothing-enters first t p (subst (λ u. EachOnce (numbers u)) (sym e) (numbered-once t)) first (omega arith);
-        statements = rest.statements;
-        lists = rest.lists;
-        homes = rest.homes;
-        definitions = definitions-fit first (private_members t) t p e;
-        elements = rest.elements;
-        calls = rest.calls (computed_keys (preorder t));
-        printable = lowered-stays_printable first t p;
-      };
-    }
+module _ (asked : Options) where
+  numbered-owes : (t : Tree) → IsProgram t → t ≡ numbered_from 0 t → IsLowered (nodes t) (defining asked) [] t (numbered.lowered t)
+  numbered-owes t p e =
+      let first : ℕ = nodes t in
+      let q : Tree = numbered.lowered t in
+      let whole = numbered-laid t p e in
+      let laid : Laid first first whole.0 0 first (preorder q) = whole.1 in
+      let rest : Remains asked first t = remains asked first t p in record {
+        numbered = record { once = laid-once (omega arith) laid; consecutive = laid-consecutive (omega arith) laid };
+        clauses = record {
+          left = laid-left (defining asked) laid;
+          declared = refl;
+          accounted = laid-accounted (own_name_numbers t (resolve q) (preorder q)) laid;
+          names = both (laid-named (preorder t) (resolve q) laid) (laid-unread (preorder t) (resolve q) laid);
+          strict = numbered-strict t p e;
+          texts = texts-stay t p e;
+          initialized = refl;
+          timely = names-timely first (private_members t) q;
+          temporaries = refl;
+          keys = rw (temporaries-none first (defining asked) (private_members t) q (preorder q)) refl;
+          nodes = rest.nodes;
+          classes = nothing-enters first t p (subst (λ u. EachOnce (numbers u)) (sym e) (numbered-once t)) first (omega arith);
+          statements = rest.statements;
+          lists = rest.lists;
+          homes = rest.homes;
+          definitions = definitions-fit asked first (private_members t) t p e;
+          elements = rest.elements;
+          calls = rest.calls (computed_keys (preorder t));
+          printable = lowered-stays_printable first t p;
+        };
+      }
 
-pub lowered-owes : (t : Tree) → conforms Place.Program t ≡ true → is_first_form t [] ≡ true → t ≡ numbered_from 0 t → IsLowered (nodes t) class_properties_alone [] t (lowered t)
-lowered-owes t f h e = subst (IsLowered (nodes t) class_properties_alone [] t) (sym (lowered-numbered t f h e)) (numbered-owes t (first_form-shaped t [] f h) e)
+  form-owes : (t : Tree) → conforms Place.Program t ≡ true → is_first_form t [] ≡ true → t ≡ numbered_from 0 t → IsLowered (nodes t) (defining asked) [] t (lowered t)
+  form-owes t f h e = subst (IsLowered (nodes t) (defining asked) [] t) (sym (lowered-numbered t f h e)) (numbered-owes t (first_form-shaped t [] f h) e)
+
+pub lowered-owes : (o : Options) (t : Tree) → defines_fields o ≡ true → conforms Place.Program t ≡ true → is_first_form t [] ≡ true → t ≡ numbered_from 0 t → IsLowered (nodes t) o [] t (lowered t)
+lowered-owes o t d f h e = subst (λ x. IsLowered (nodes t) x [] t (lowered t)) (is_defining o d) (form-owes o t f h e)

@@ -1,3 +1,4 @@
 pub mod Form
 pub mod Least
 pub mod Lowering
+pub mod Options

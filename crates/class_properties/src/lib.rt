@@ -9,10 +9,12 @@ ghost use Rattle.es_base.specs.declared.table.Place.{Place};
 ghost use Rattle.es_steps.specs.FirstForm.{is_first_form};
 ghost use Rattle.class_properties.specs.Form.{IsClass, IsProgram};
 ghost use Rattle.class_properties.specs.Lowering.{lowered_class, with_constructors, lowered};
+ghost use Rattle.class_properties.specs.Options.{defines_fields};
 
 use crate::class::lower_class;
 use es_base::list::List;
 use es_node::node::Node;
+use es_steps::options::Options;
 use es_tree::program::Program;
 use std::alloc::{AllocError, Global};
 
@@ -21,7 +23,17 @@ mod constructor;
 pub mod not_yet;
 mod prop_decl;
 
-/// What a program of the first form is lowered to. Its nodes are moved and keep their numbers; new nodes
+/// Whether these options ask that fields are defined: class properties are on, and fields are not set.
+pub fn defines_fields(options: &Options) -> bool
+    ensures { result ≡ defines_fields options.now }
+{
+    match options.es2022.class_properties {
+        Some(fields) => !fields.loose && !options.assumptions.set_public_class_fields,
+        None => false,
+    }
+}
+
+/// What a program of the first form is lowered to where fields are defined. Its nodes are moved and keep their numbers; new nodes
 /// have the numbers behind them, in preorder. Fails on allocation failure alone.
 #[tactic(auto, using(crate::proofs::Small::form_small, crate::proofs::Small::lowered_small))]
 pub fn lower(alloc: Global, program: Node) -> Result<Node, AllocError>

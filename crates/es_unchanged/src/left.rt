@@ -1,22 +1,31 @@
-// Whether a program has something to lower.
+// Whether a program has something to lower, and where.
 
-ghost use Rattle.std.specs.Prelude.{◌≡◌, not};
+ghost use Rattle.std.specs.Prelude.{◌≡◌, option_map};
 ghost use Rattle.es_base.specs.Tree.{trees, nullable, nullable_trees};
 ghost use Rattle.es_node.specs.View.{part_of, parts_of};
 ghost use Rattle.es_steps.specs.Lowered.{is_lowered_kind, nothing_left};
-ghost use Rattle.es_unchanged.specs.Left.{stays, stay_in, stays_at};
+ghost use Rattle.es_unchanged.specs.Left.{first_left, first_in, first_in_part, first_in_parts};
 
+use es_base::ids::NodeId;
 use es_base::kind::Kind;
 use es_node::node::{Node, Part};
 use es_steps::options::Options;
 
 /// Whether nothing stands in a program that the options lower: no field, private name or `#x in o` with class properties on,
 /// and no static block with that option on. Takes time in proportion to the program, and allocates nothing.
-#[tactic(auto, using(crate::proofs::Staying::left_stays))]
 pub fn nothing_left(program: &Node, options: &Options) -> bool
     ensures { result ≡ nothing_left options.now program.now }
 {
-    stays(program, options)
+    first_left(program, options).is_none()
+}
+
+/// The first node in preorder that the options lower; nothing where nothing is to be lowered. Takes time in proportion to
+/// the program, and allocates nothing.
+#[tactic(auto, using(crate::proofs::First::left_first))]
+pub fn first_left(program: &Node, options: &Options) -> Option<NodeId>
+    ensures { option_map (λ n. n.0) result ≡ first_left options.now program.now }
+{
+    first_in(program, options)
 }
 
 /// Whether nodes of this kind are lowered.
@@ -34,69 +43,72 @@ fn is_lowered(kind: Kind, options: &Options) -> bool
     }
 }
 
-/// Whether no node of the tree is lowered.
-#[cycle(stays)]
-#[tactic(auto, using(crate::proofs::Staying::stays_node, es_node::proofs::Below::nodes_in))]
-fn stays(node: &Node, options: &Options) -> bool
-    ensures { result ≡ stays options.now node.now }
+/// The first node of the tree that is lowered.
+#[cycle(first)]
+#[tactic(auto, using(crate::proofs::First::first_node, es_node::proofs::Below::nodes_in))]
+fn first_in(node: &Node, options: &Options) -> Option<NodeId>
+    ensures { option_map (λ n. n.0) result ≡ first_in options.now node.now }
 {
-    !is_lowered(node.kind(), options) && stay_in(node.parts(), options)
+    if is_lowered(node.kind(), options) {
+        return Some(node.node_id());
+    }
+    first_in_parts(node.parts(), options)
 }
 
-#[cycle(stays)]
-fn stay_in(parts: &[Part], options: &Options) -> bool
-    ensures { result ≡ stay_in options.now (parts_of parts.now) }
+#[cycle(first)]
+fn first_in_parts(parts: &[Part], options: &Options) -> Option<NodeId>
+    ensures { option_map (λ n. n.0) result ≡ first_in_parts options.now (parts_of parts.now) }
 {
     for part in parts {
-        if !stays_at(part, options) {
-            return false;
+        if let Some(first) = first_in_part(part, options) {
+            return Some(first);
         }
     }
-    true
+    None
 }
 
-#[cycle(stays)]
-fn stays_at(part: &Part, options: &Options) -> bool
-    ensures { result ≡ stays_at options.now (part_of part.now) }
+#[cycle(first)]
+fn first_in_part(part: &Part, options: &Options) -> Option<NodeId>
+    ensures { option_map (λ n. n.0) result ≡ first_in_part options.now (part_of part.now) }
 {
     match part {
-        Part::Child(node) => stays(node, options),
-        Part::List(nodes) => list_stays(nodes.as_slice(), options),
-        Part::Holes(nodes) => list_with_holes_stays(nodes.as_slice(), options),
-        _ => true,
+        Part::Child(node) => first_in(node, options),
+        Part::List(nodes) => first_in_list(nodes.as_slice(), options),
+        Part::Holes(nodes) => first_in_list_with_holes(nodes.as_slice(), options),
+        _ => None,
     }
 }
 
-#[cycle(stays)]
-fn list_stays(nodes: &[Node], options: &Options) -> bool
-    ensures { result ≡ stay_in options.now (trees nodes.now) }
+#[cycle(first)]
+fn first_in_list(nodes: &[Node], options: &Options) -> Option<NodeId>
+    ensures { option_map (λ n. n.0) result ≡ first_in_parts options.now (trees nodes.now) }
 {
     for node in nodes {
-        if !stays(node, options) {
-            return false;
+        if let Some(first) = first_in(node, options) {
+            return Some(first);
         }
     }
-    true
+    None
 }
 
-#[cycle(stays)]
-fn list_with_holes_stays(nodes: &[Option<Node>], options: &Options) -> bool
-    ensures { result ≡ stay_in options.now (nullable_trees nodes.now) }
+#[cycle(first)]
+fn first_in_list_with_holes(nodes: &[Option<Node>], options: &Options) -> Option<NodeId>
+    ensures { option_map (λ n. n.0) result ≡ first_in_parts options.now (nullable_trees nodes.now) }
 {
     for node in nodes {
-        if !item_stays(node, options) {
-            return false;
+        if let Some(first) = first_in_item(node, options) {
+            return Some(first);
         }
     }
-    true
+    None
 }
 
-#[cycle(stays)]
-fn item_stays(node: &Option<Node>, options: &Options) -> bool
-    ensures { result ≡ stays_at options.now (nullable node.now) }
+#[cycle(first)]
+fn first_in_item(node: &Option<Node>, options: &Options) -> Option<NodeId>
+    ensures { option_map (λ n. n.0) result ≡ first_in_part options.now (nullable node.now) }
 {
     match node {
-        Some(node) => stays(node, options),
-        None => true,
+        Some(node) => first_in(node, options),
+        None => None,
     }
 }

@@ -4,4 +4,5 @@ pub mod Held
 pub mod Memory
 pub mod Rest
 pub mod Room
+pub mod Settings
 pub mod Standard

@@ -5,6 +5,7 @@ mod calls;
 pub mod failed;
 mod rest;
 mod room;
+pub mod settings;
 pub mod sink;
 pub mod source;
 pub mod standard;

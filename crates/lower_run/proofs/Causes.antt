@@ -1,5 +1,5 @@
 -- What follows from the cause of a status.
-use Rattle.std.proofs.Common.{inl, inr, ◌≡◌, refl, sym, ap, ap₂, ◌∙◌, subst, ℕ, ◌<◌, ◌≤◌, List, [], length, Option, Some, None, Result, Ok, Err, true, true≢false, arith}
+use Rattle.std.proofs.Common.{inl, inr, ◌≡◌, refl, sym, ap, ap₂, ◌∙◌, subst, ℕ, ◌<◌, ◌≤◌, List, length, Option, Some, None, Result, Ok, Err, true, true≢false, arith}
 use Rattle.std.specs.Prelude.{◌⊎◌, nat_le, is_none}
 use Rattle.std.proofs.lemmas.Bool.{leb-true}
 use Rattle.serde_json.specs.Data.{Data}
@@ -9,7 +9,7 @@ use Rattle.es_reading.specs.Fault.{Fault, Read}
 use Rattle.es_reading.specs.Reading.{read, root}
 use Rattle.es_reading.specs.declared.numbers.Numbers.{Numbers}
 use Rattle.es_base.specs.Preorder.{nodes}
-use Rattle.es_steps.specs.FirstForm.{most_nodes, not_yet}
+use Rattle.es_steps.specs.FirstForm.{most_nodes}
 use Rattle.es_steps.specs.Lowered.{nothing_left}
 use Rattle.es_steps.specs.declared.options.Options.{Options}
 use Rattle.es_node.proofs.Shapes.{left_of, right_of}
@@ -17,7 +17,7 @@ use Rattle.es_validity.specs.Facts.{facts_of}
 use Rattle.es_validity.specs.Validity.{first_fault, is_valid, IsFirst}
 use Rattle.es_validity.specs.declared.error.LowerError.{LowerError}
 use Rattle.es_validity.specs.declared.fault.Cause as fault
-use Rattle.lower_run.specs.Outcome.{IsOutputOfBytes, IsOutputOfSource, Cause, Complete, IsRefused, IsRefusalText, IsWritten, IsLowerable, HasLowered, most_bytes}
+use Rattle.lower_run.specs.Outcome.{IsOutputOfBytes, IsOutputOfSource, Cause, Complete, IsRefused, IsRefusalText, IsWritten, IsLowerable, HasLowered, most_bytes, not_yet_lowered}
 use Rattle.lower_run.specs.declared.status.Status.{Status}
 use Rattle.lower_io.specs.Held.{Extends}
 
@@ -50,7 +50,7 @@ same_program : (o : Options) (b : List ℕ) (l : IsLowerable o b) (d : Data) (p 
 same_program o b l d p foreign e f =
     read_parts (record { value = p; foreign = foreign }) (record { value = l.p; foreign = l.foreign }) (sym f ∙ ap (λ v. read Numbers.Preorder v root 0) (same_value o b l d e) ∙ l.tree)
 
--- a program that is valid, and has nothing to lower or is of the first form, is not refused
+-- a program that is valid, and has nothing to lower or is of the form, is not refused
 module _ (o : Options) (p : Tree) (foreign : List ℕ) (valid : is_valid o foreign p ≡ true) where
   small : nat_le (nodes p) most_nodes ≡ true
   small = left_of (nat_le (nodes p) most_nodes) (is_none (first_fault o foreign p)) valid
@@ -58,7 +58,7 @@ module _ (o : Options) (p : Tree) (foreign : List ℕ) (valid : is_valid o forei
   no_first : (m : ℕ) (cause : fault.Cause) {B : Type 0} → IsFirst (facts_of p) o foreign p m cause → B
   no_first m cause first = absurd (true≢false (sym (right_of (nat_le (nodes p) most_nodes) (is_none (first_fault o foreign p)) valid) ∙ ap is_none first.1))
 
-  never_refused : (nothing_left o p ≡ true) ⊎ (not_yet p foreign ≡ None) → (error : LowerError) (text : List ℕ) {B : Type 0} → IsRefused o p foreign error → IsRefusalText error text → B
+  never_refused : (nothing_left o p ≡ true) ⊎ (not_yet_lowered o p foreign ≡ None) → (error : LowerError) (text : List ℕ) {B : Type 0} → IsRefused o p foreign error → IsRefusalText error text → B
   never_refused form LowerError.NoMemory text refused written = absurd written
   never_refused form (LowerError.Unsupported node what) text refused written = no_first node.0 (fault.Cause.Unsupported what) refused
   never_refused form (LowerError.UndeclaredPrivate node) text refused written = no_first node.0 fault.Cause.UndeclaredPrivate refused
@@ -73,11 +73,11 @@ no_refusal : (o : Options) (b : List ℕ) (l : IsLowerable o b) (text : List ℕ
 no_refusal o b l text of =
     let same = same_program o b l of.d of.output.p of.output.foreign of.value of.output.tree in
     let valid : is_valid o of.output.foreign of.output.p ≡ true = ap₂ (λ p foreign. is_valid o foreign p) same.0 same.1 ∙ l.valid in
-    let form : (nothing_left o of.output.p ≡ true) ⊎ (not_yet of.output.p of.output.foreign ≡ None) = turned of.output.p of.output.foreign same.0 same.1 in
+    let form : (nothing_left o of.output.p ≡ true) ⊎ (not_yet_lowered o of.output.p of.output.foreign ≡ None) = turned of.output.p of.output.foreign same.0 same.1 in
     never_refused o of.output.p of.output.foreign valid form of.output.output.error text of.output.output.refused of.output.output.written
   where
-    turned : (p : Tree) (foreign : List ℕ) → p ≡ l.p → foreign ≡ l.foreign → (nothing_left o p ≡ true) ⊎ (not_yet p foreign ≡ None)
-    turned p foreign e f = elim l.form [ inl none ↦ inl (ap (nothing_left o) e ∙ none) | inr none ↦ inr (ap₂ not_yet e f ∙ none) ]
+    turned : (p : Tree) (foreign : List ℕ) → p ≡ l.p → foreign ≡ l.foreign → (nothing_left o p ≡ true) ⊎ (not_yet_lowered o p foreign ≡ None)
+    turned p foreign e f = elim l.form [ inl none ↦ inl (ap (nothing_left o) e ∙ none) | inr none ↦ inr (ap₂ (not_yet_lowered o) e f ∙ none) ]
 
 no_want : (o : Options) (b : List ℕ) (l : IsLowerable o b) (text : List ℕ) {B : Type 0} → IsOutputOfBytes o b Status.NotATree text → B
 no_want o b l text (inl none) = none_some (sym (none.0 l.utf8) ∙ l.value)

@@ -1,5 +1,5 @@
 -- What a run ends with, and why: the tree of the bytes, what is written of it, and the cause of each status.
-use Rattle.std.specs.Prelude.{◌≡◌, ◌≤◌, ◌<◌, List, [], ◌++◌, map, ℕ, length, Option, Some, None, IfSome, OnSome, Ok, Err, IsUtf8, ◌⊎◌, true, false}
+use Rattle.std.specs.Prelude.{◌≡◌, ◌≤◌, ◌<◌, List, [], ◌++◌, map, ℕ, length, Option, Some, None, IfSome, OnSome, Ok, Err, IsUtf8, ◌⊎◌, true, false, cond}
 use Rattle.serde_json.specs.Data.{Data}
 use Rattle.serde_json.specs.Read.{read as read_text}
 use Rattle.serde_json.specs.Written.{compact_text}
@@ -8,9 +8,10 @@ use Rattle.es_base.specs.Preorder.{nodes}
 use Rattle.es_base.specs.Tree.{Tree}
 use Rattle.es_base.specs.declared.diagnostic.Diagnostic.{Diagnostic}
 use Rattle.es_base.specs.declared.ledger.LedgerEntry.{LedgerEntry}
+use Rattle.es_base.specs.declared.shape.Shape.{Shape}
 use Rattle.es_base.specs.declared.table.Place.{Place}
 use Rattle.es_writing.specs.Kept.{IsKept}
-use Rattle.es_writing.specs.Lowered.{NamesFit, WarningsFit, write_lowered}
+use Rattle.es_writing.specs.Lowered.{NamesFit, WarningsFit, WritesText, write_lowered}
 use Rattle.es_reading.specs.Fault.{Fault, not_a_tree, float_at}
 use Rattle.es_reading.specs.Reading.{read, root}
 use Rattle.es_reading.specs.declared.fault.ReadError.{ReadError}
@@ -24,7 +25,9 @@ use Rattle.es_steps.specs.declared.options.Options.{Options}
 use Rattle.es_validity.specs.Facts.{facts_of}
 use Rattle.es_validity.specs.Validity.{is_valid, IsRefusedBy}
 use Rattle.es_validity.specs.declared.error.LowerError.{LowerError}
+use Rattle.es_unchanged.specs.Left.{first_left}
 use Rattle.class_properties.specs.Lowering.{lowered}
+use Rattle.class_properties.specs.Options.{defines_fields}
 use Rattle.lower_run.specs.Lines.{line, bad_arguments_line, read_fault_line, too_long_line, json_line, fault_line, refusal_line}
 use Rattle.lower_run.specs.declared.status.Status.{Status}
 use Rattle.lower_io.specs.Causes.{Rose}
@@ -54,18 +57,30 @@ pub record IsLoweredTree (o : Options) (p : Tree) (names : List LedgerEntry) (te
   pub same : lowered_means o names p q ≡ source_means o p
   pub meant : nothing_left o p ≡ false → has_meaning (source_means o p) ≡ true
 
--- a program is of the first form, and none of its nodes has members outside the table
-abbrev pub IsOfForm : Tree → List ℕ → Type 0
-IsOfForm p foreign = (foreign ≡ []) × (is_first_form p [] ≡ true)
+-- what is lowered yet: fields are defined, the program is of the first form, and none of its nodes has members outside the
+-- table
+abbrev pub IsOfForm : Options → Tree → List ℕ → Type 0
+IsOfForm o p foreign = (defines_fields o ≡ true) × (foreign ≡ []) × (is_first_form p [] ≡ true)
 
--- what a program is lowered to: itself where it has nothing to lower, and else what one of the first form is lowered to
+-- the number of the node that says why a program with something to lower is not lowered yet: the least that is not as the
+-- form asks, where fields are defined, and else the first that is to be lowered
+abbrev pub not_yet_lowered : Options → Tree → List ℕ → Option ℕ
+not_yet_lowered o p foreign = cond (defines_fields o) (not_yet p foreign) (first_left o p)
+
+-- what a program is lowered to: itself where it has nothing to lower, and else what one of the form is lowered to
 abbrev pub IsLoweredTo : Options → Tree → List ℕ → Tree → Type 0
-IsLoweredTo o p foreign q = ((nothing_left o p ≡ true) × (q ≡ p)) ⊎ ((nothing_left o p ≡ false) × IsOfForm p foreign × (q ≡ lowered p))
+IsLoweredTo o p foreign q = ((nothing_left o p ≡ true) × (q ≡ p)) ⊎ ((nothing_left o p ≡ false) × IsOfForm o p foreign × (q ≡ lowered p))
+
+-- the text of a program without generated names, with these warnings and shapes, and a line feed
+pub record IsTextOf (text : List ℕ) (q : Tree) (warnings : List Diagnostic) (outside : List Shape) : Type 0 where
+  pub program : List ℕ
+  pub writes : WritesText program q [] warnings outside
+  pub fed : text ≡ line program
 
 -- why a program is refused, but for allocation failure: it has a fault, or is too large, or is valid, has something to lower,
--- and is not of the first form
+-- and is not lowered yet
 abbrev pub IsRefused : Options → Tree → List ℕ → LowerError → Type 0
-IsRefused o p foreign (LowerError.NotYet node) = (is_valid o foreign p ≡ true) × (nothing_left o p ≡ false) × (not_yet p foreign ≡ Some node.0)
+IsRefused o p foreign (LowerError.NotYet node) = (is_valid o foreign p ≡ true) × (nothing_left o p ≡ false) × (not_yet_lowered o p foreign ≡ Some node.0)
 IsRefused o p foreign e = IsRefusedBy (facts_of p) o foreign p e
 
 -- the line of an error that is no allocation failure
@@ -79,9 +94,9 @@ pub record IsRefusal (o : Options) (p : Tree) (foreign : List ℕ) (text : List 
   pub written : IsRefusalText error text
 
 -- of a program, and its nodes that have members outside the table: what is lowered is valid, and has nothing to lower or is of
--- the first form, which needs no generated name
+-- the form, which needs no generated name
 abbrev pub IsOutputOfTree : Options → Tree → List ℕ → Status → List ℕ → Type 0
-IsOutputOfTree o p foreign Status.Done text = (is_valid o foreign p ≡ true) × ((nothing_left o p ≡ true) ⊎ IsOfForm p foreign) × IsLoweredTree o p [] text
+IsOutputOfTree o p foreign Status.Done text = (is_valid o foreign p ≡ true) × ((nothing_left o p ≡ true) ⊎ IsOfForm o p foreign) × IsLoweredTree o p [] text
 IsOutputOfTree o p foreign Status.Refused text = IsRefusal o p foreign text
 IsOutputOfTree o p foreign status text = ⊥
 
@@ -174,7 +189,7 @@ Cause o left before now held after first last status = IsWritten o left before n
 
 -- ---- completeness
 
--- the bytes are JSON text of this program, which is valid, and has nothing to lower under the options or is of the first form
+-- the bytes are JSON text of this program, which is valid, and has nothing to lower under the options or is of the form
 pub record IsLowerable (o : Options) (b : List ℕ) : Type 0 where
   pub few : length b ≤ most_bytes
   pub utf8 : IsUtf8 b
@@ -184,7 +199,7 @@ pub record IsLowerable (o : Options) (b : List ℕ) : Type 0 where
   pub foreign : List ℕ
   pub tree : read Numbers.Preorder d root 0 ≡ Ok (record { value = p; foreign = foreign })
   pub valid : is_valid o foreign p ≡ true
-  pub form : (nothing_left o p ≡ true) ⊎ (not_yet p foreign ≡ None)
+  pub form : (nothing_left o p ≡ true) ⊎ (not_yet_lowered o p foreign ≡ None)
 
 -- of such bytes, with arguments of the grammar, and where neither the source nor the sink failed, nothing is answered but that
 -- the tree was written, or that memory ran out

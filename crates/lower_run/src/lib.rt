@@ -3,7 +3,6 @@
 #![tactic(auto)]
 
 mod answer;
-mod arguments;
 mod lines;
 mod output;
 pub mod run;

@@ -75,3 +75,30 @@ pub fn two_classes_lowered() -> &'static str {
     r#"{"body":[{"body":{"body":[{"computed":false,"key":{"name":"constructor","node":14,"type":"Identifier"},"kind":"constructor","node":13,"static":false,"type":"MethodDefinition","value":{"async":false,"body":{"body":[{"expression":{"arguments":[{"node":22,"type":"ThisExpression"},{"node":23,"type":"Literal","value":"x"},{"end":15,"node":6,"raw":"1","start":14,"type":"Literal","value":null}],"callee":{"computed":false,"node":19,"object":{"name":"babelHelpers","node":20,"type":"Identifier"},"optional":false,"property":{"name":"defineProperty","node":21,"type":"Identifier"},"type":"MemberExpression"},"node":18,"optional":false,"type":"CallExpression"},"node":17,"type":"ExpressionStatement"}],"node":16,"type":"BlockStatement"},"generator":false,"id":null,"node":15,"params":[],"type":"FunctionExpression"}}],"end":17,"node":3,"start":8,"type":"ClassBody"},"end":17,"id":{"end":7,"name":"C","node":2,"start":6,"type":"Identifier"},"node":1,"start":0,"superClass":null,"type":"ClassDeclaration"},{"body":{"body":[{"computed":false,"key":{"name":"constructor","node":25,"type":"Identifier"},"kind":"constructor","node":24,"static":false,"type":"MethodDefinition","value":{"async":false,"body":{"body":[{"expression":{"arguments":[{"node":33,"type":"ThisExpression"},{"node":34,"type":"Literal","value":"y"},{"end":35,"node":12,"raw":"'a'","start":32,"type":"Literal","value":"a"}],"callee":{"computed":false,"node":30,"object":{"name":"babelHelpers","node":31,"type":"Identifier"},"optional":false,"property":{"name":"defineProperty","node":32,"type":"Identifier"},"type":"MemberExpression"},"node":29,"optional":false,"type":"CallExpression"},"node":28,"type":"ExpressionStatement"}],"node":27,"type":"BlockStatement"},"generator":false,"id":null,"node":26,"params":[],"type":"FunctionExpression"}}],"end":37,"node":9,"start":26,"type":"ClassBody"},"end":37,"id":{"end":25,"name":"D","node":8,"start":24,"type":"Identifier"},"node":7,"start":18,"superClass":null,"type":"ClassDeclaration"}],"end":37,"generated":[],"node":0,"outside":[],"sourceType":"script","start":0,"type":"Program","warnings":[]}
 "#
 }
+
+/// The module `await a; for await (const x of y) {}`.
+pub fn awaits() -> &'static str {
+    r#"{"type":"Program","body":[{"type":"ExpressionStatement","expression":{"type":"AwaitExpression","argument":{"type":"Identifier","name":"a"}}},{"type":"ForOfStatement","await":true,"left":{"type":"VariableDeclaration","declarations":[{"type":"VariableDeclarator","id":{"type":"Identifier","name":"x"},"init":null}],"kind":"const"},"right":{"type":"Identifier","name":"y"},"body":{"type":"BlockStatement","body":[]}}],"sourceType":"module"}"#
+}
+
+pub fn awaits_written() -> &'static str {
+    r#"{"body":[{"expression":{"argument":{"name":"a","node":3,"type":"Identifier"},"node":2,"type":"AwaitExpression"},"node":1,"type":"ExpressionStatement"},{"await":true,"body":{"body":[],"node":9,"type":"BlockStatement"},"left":{"declarations":[{"id":{"name":"x","node":7,"type":"Identifier"},"init":null,"node":6,"type":"VariableDeclarator"}],"kind":"const","node":5,"type":"VariableDeclaration"},"node":4,"right":{"name":"y","node":8,"type":"Identifier"},"type":"ForOfStatement"}],"generated":[],"node":0,"outside":[],"sourceType":"module","type":"Program","warnings":[]}
+"#
+}
+
+/// The first await alone is warned of: the loop is no await expression.
+pub fn awaits_warned() -> &'static str {
+    r#"{"body":[{"expression":{"argument":{"name":"a","node":3,"type":"Identifier"},"node":2,"type":"AwaitExpression"},"node":1,"type":"ExpressionStatement"},{"await":true,"body":{"body":[],"node":9,"type":"BlockStatement"},"left":{"declarations":[{"id":{"name":"x","node":7,"type":"Identifier"},"init":null,"node":6,"type":"VariableDeclarator"}],"kind":"const","node":5,"type":"VariableDeclaration"},"node":4,"right":{"name":"y","node":8,"type":"Identifier"},"type":"ForOfStatement"}],"generated":[],"node":0,"outside":[],"sourceType":"module","type":"Program","warnings":[{"message":"Top-level await is not available in the configured target environment.","node":2}]}
+"#
+}
+
+/// The module `await a; [async () => await b, await c];`, of whose awaits two have places in the source.
+pub fn two_awaits() -> &'static str {
+    r#"{"type":"Program","body":[{"type":"ExpressionStatement","expression":{"type":"AwaitExpression","start":0,"end":7,"argument":{"type":"Identifier","name":"a"}}},{"type":"ExpressionStatement","expression":{"type":"ArrayExpression","elements":[{"type":"ArrowFunctionExpression","id":null,"expression":true,"generator":false,"async":true,"params":[],"body":{"type":"AwaitExpression","argument":{"type":"Identifier","name":"b"}}},{"type":"AwaitExpression","start":29,"end":36,"argument":{"type":"Identifier","name":"c"}}]}}],"sourceType":"module"}"#
+}
+
+/// That of the arrow is not warned of.
+pub fn two_awaits_warned() -> &'static str {
+    r#"{"body":[{"expression":{"argument":{"name":"a","node":3,"type":"Identifier"},"end":7,"node":2,"start":0,"type":"AwaitExpression"},"node":1,"type":"ExpressionStatement"},{"expression":{"elements":[{"async":true,"body":{"argument":{"name":"b","node":8,"type":"Identifier"},"node":7,"type":"AwaitExpression"},"expression":true,"node":6,"params":[],"type":"ArrowFunctionExpression"},{"argument":{"name":"c","node":10,"type":"Identifier"},"end":36,"node":9,"start":29,"type":"AwaitExpression"}],"node":5,"type":"ArrayExpression"},"node":4,"type":"ExpressionStatement"}],"generated":[],"node":0,"outside":[],"sourceType":"module","type":"Program","warnings":[{"end":7,"message":"Top-level await is not available in the configured target environment.","node":2,"start":0},{"end":36,"message":"Top-level await is not available in the configured target environment.","node":9,"start":29}]}
+"#
+}

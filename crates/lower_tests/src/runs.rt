@@ -4,9 +4,10 @@
 ghost use Rattle.std.specs.Prelude.{◌<◌};
 
 use crate::programs::{
-    derived, derived_written, empty, empty_of_many_members, empty_written, no_field,
-    no_field_written, one_field, one_field_kept, one_field_lowered, two_classes,
-    two_classes_lowered, two_fields, two_fields_lowered,
+    awaits, awaits_warned, awaits_written, derived, derived_written, empty, empty_of_many_members,
+    empty_written, no_field, no_field_written, one_field, one_field_kept, one_field_lowered,
+    two_awaits, two_awaits_warned, two_classes, two_classes_lowered, two_fields,
+    two_fields_lowered,
 };
 use lower_io::sink::{BytesSink, SureSink};
 use lower_io::source::{BytesSource, SureSource};
@@ -172,6 +173,128 @@ fn refusals_have_their_line(rt: HostRuntime) -> Result<(), Fail> {
         assert!(rt; ends_so(alloc, LOWER, input, 3, line)?, "of {input}");
         assert!(rt; ends_so(alloc, NONE, input, 3, line)?, "of {input}");
     }
+    Ok(())
+}
+
+#[test]
+fn arguments_outside_the_grammar(rt: HostRuntime) -> Result<(), Fail> {
+    let arguments = [
+        // `--loose` without `--class-properties`
+        "--loose\n",
+        "--loose\n--static-block\n",
+        // no argument behind `--assume`
+        "--assume\n",
+        "--class-properties\n--assume\n",
+        // a second `--assume`
+        "--assume\n{}\n--assume\n{}\n",
+        "--assume\n{}\n--class-properties\n--assume\n",
+        // no JSON
+        "--assume\n{\n",
+        "--assume\n\n",
+        "--assume\n--class-properties\n",
+        "--assume\n--assume\n{}\n",
+        // JSON of no assumptions
+        "--assume\n[]\n",
+        "--assume\ntrue\n",
+        "--assume\n{\"foo\":true}\n",
+        "--assume\n{\"setPublicClassFields\":1}\n",
+        "--assume\n{\"set_public_class_fields\":true}\n",
+        // an argument too many, and words that are not quite those
+        "--assume\n{}\n{}\n",
+        "--static-blocks\n",
+        "--await-warning\n",
+        "--remove-field\n",
+        "--Loose\n--class-properties\n",
+    ];
+    for arguments in arguments {
+        assert!(rt;
+            ends_so(rt.alloc(), arguments, one_field(), 2, "bad words\n")?,
+            "at {arguments}"
+        );
+    }
+    Ok(())
+}
+
+#[test]
+fn programs_with_nothing_to_lower_stay(rt: HostRuntime) -> Result<(), Fail> {
+    let arguments = [
+        "--class-properties\n--loose\n",
+        "--loose\n--class-properties\n--loose\n",
+        "--static-block\n--static-block\n",
+        "--await-warnings\n--await-warnings\n",
+        "--remove-fields\n--remove-fields\n",
+        "--assume\n{}\n",
+        "--assume\n{\"setPublicClassFields\":true,\"noDocumentAll\":true}\n",
+        "--assume\n { \"pureGetters\" : false } \n--class-properties\n",
+        "--class-properties\n--loose\n--static-block\n--await-warnings\n--remove-fields\n--assume\n{\"constantSuper\":true}\n",
+    ];
+    let unchanged = [
+        (empty(), empty_written()),
+        (no_field(), no_field_written()),
+        (derived(), derived_written()),
+    ];
+    for arguments in arguments {
+        for (input, output) in unchanged {
+            assert!(rt;
+                ends_so(rt.alloc(), arguments, input, 0, output)?,
+                "at {arguments} of {input}"
+            );
+        }
+    }
+    Ok(())
+}
+
+#[test]
+fn fields_are_defined_or_not_lowered_yet(rt: HostRuntime) -> Result<(), Fail> {
+    let alloc = rt.alloc();
+    let defining = [
+        "--class-properties\n--static-block\n",
+        "--await-warnings\n--class-properties\n",
+        "--class-properties\n--remove-fields\n",
+        "--assume\n{\"noDocumentAll\":true,\"privateFieldsAsProperties\":true}\n--class-properties\n",
+        "--class-properties\n--assume\n{\"setPublicClassFields\":false}\n",
+        // the last of repeated keys counts
+        "--class-properties\n--assume\n{\"setPublicClassFields\":true,\"setPublicClassFields\":false}\n",
+    ];
+    for arguments in defining {
+        assert!(rt;
+            ends_so(alloc, arguments, one_field(), 0, one_field_lowered())?,
+            "at {arguments}"
+        );
+    }
+    let setting = [
+        "--class-properties\n--loose\n",
+        "--class-properties\n--assume\n{\"setPublicClassFields\":true}\n",
+        "--class-properties\n--assume\n{\"setPublicClassFields\":false,\"setPublicClassFields\":true}\n",
+        "--static-block\n--class-properties\n--loose\n--remove-fields\n",
+    ];
+    for arguments in setting {
+        assert!(rt;
+            ends_so(alloc, arguments, one_field(), 1, "refused: NotYet at 4\n")?,
+            "at {arguments}"
+        );
+    }
+    // without class properties a field stays
+    for arguments in [
+        "--static-block\n",
+        "--remove-fields\n",
+        "--await-warnings\n",
+    ] {
+        assert!(rt;
+            ends_so(alloc, arguments, one_field(), 0, one_field_kept())?,
+            "at {arguments}"
+        );
+    }
+    Ok(())
+}
+
+#[test]
+fn top_level_awaits_are_warned_of(rt: HostRuntime) -> Result<(), Fail> {
+    let alloc = rt.alloc();
+    let warned = "--await-warnings\n";
+    assert!(rt; ends_so(alloc, warned, awaits(), 0, awaits_warned())?);
+    assert!(rt; ends_so(alloc, NONE, awaits(), 0, awaits_written())?);
+    assert!(rt; ends_so(alloc, warned, two_awaits(), 0, two_awaits_warned())?);
     Ok(())
 }
 

@@ -1,9 +1,19 @@
 // Which programs are refused: for each rule a program that breaks it and one beside it that does not, as parsers of ESTree give
-// them or, where these refuse them, put together by hand. The numbers are counted by hand. `LooseMethod` and `LooseIn` are left
-// out, and what static blocks that are lowered may not hold, since no argument asks for these yet.
+// them or, where these refuse them, put together by hand. The numbers are counted by hand.
 
 use crate::runs::{LOWER, NONE, ends_so, status_of};
 use std::test::Fail;
+
+const LOOSE: &str = "--class-properties\n--loose\n";
+
+const AS_PROPERTIES: &str = r#"--class-properties
+--assume
+{"privateFieldsAsProperties":true}
+"#;
+
+const BLOCKS: &str = "--class-properties\n--static-block\n";
+
+const BLOCKS_ALONE: &str = "--static-block\n";
 
 /// A program.
 struct Case {
@@ -745,6 +755,108 @@ fn left_to_come() -> &'static [Case] {
     ]
 }
 
+/// Private methods and `#x in o` where private members are kept as properties.
+fn loose_privates() -> &'static [Case] {
+    &[
+        // class C { #m() {} }
+        Case {
+            text: r#"{"type":"Program","body":[{"type":"ClassDeclaration","id":{"type":"Identifier","name":"C"},"superClass":null,"body":{"type":"ClassBody","body":[{"type":"MethodDefinition","static":false,"computed":false,"key":{"type":"PrivateIdentifier","name":"m"},"kind":"method","value":{"type":"FunctionExpression","id":null,"expression":false,"generator":false,"async":false,"params":[],"body":{"type":"BlockStatement","body":[]}}}]}}],"sourceType":"script"}"#,
+            arguments: LOOSE,
+            line: "refused: Unsupported LooseMethod at 4\n",
+        },
+        // class C { #m() {} }
+        Case {
+            text: r#"{"type":"Program","body":[{"type":"ClassDeclaration","id":{"type":"Identifier","name":"C"},"superClass":null,"body":{"type":"ClassBody","body":[{"type":"MethodDefinition","static":false,"computed":false,"key":{"type":"PrivateIdentifier","name":"m"},"kind":"method","value":{"type":"FunctionExpression","id":null,"expression":false,"generator":false,"async":false,"params":[],"body":{"type":"BlockStatement","body":[]}}}]}}],"sourceType":"script"}"#,
+            arguments: AS_PROPERTIES,
+            line: "refused: Unsupported LooseMethod at 4\n",
+        },
+        // class C { #m() {} }
+        Case {
+            text: r#"{"type":"Program","body":[{"type":"ClassDeclaration","id":{"type":"Identifier","name":"C"},"superClass":null,"body":{"type":"ClassBody","body":[{"type":"MethodDefinition","static":false,"computed":false,"key":{"type":"PrivateIdentifier","name":"m"},"kind":"method","value":{"type":"FunctionExpression","id":null,"expression":false,"generator":false,"async":false,"params":[],"body":{"type":"BlockStatement","body":[]}}}]}}],"sourceType":"script"}"#,
+            arguments: LOWER,
+            line: "refused: NotYet at 4\n",
+        },
+        // class C { #m = 1; }
+        Case {
+            text: r#"{"type":"Program","body":[{"type":"ClassDeclaration","id":{"type":"Identifier","name":"C"},"superClass":null,"body":{"type":"ClassBody","body":[{"type":"PropertyDefinition","static":false,"computed":false,"key":{"type":"PrivateIdentifier","name":"m"},"value":{"type":"Literal","value":1,"raw":"1"}}]}}],"sourceType":"script"}"#,
+            arguments: LOOSE,
+            line: "refused: NotYet at 4\n",
+        },
+        // class C { m() {} }
+        Case {
+            text: r#"{"type":"Program","body":[{"type":"ClassDeclaration","id":{"type":"Identifier","name":"C"},"superClass":null,"body":{"type":"ClassBody","body":[{"type":"MethodDefinition","static":false,"computed":false,"key":{"type":"Identifier","name":"m"},"kind":"method","value":{"type":"FunctionExpression","id":null,"expression":false,"generator":false,"async":false,"params":[],"body":{"type":"BlockStatement","body":[]}}}]}}],"sourceType":"script"}"#,
+            arguments: LOOSE,
+            line: "",
+        },
+        // class C { #x; h(o) { return #x in o; } }
+        Case {
+            text: r#"{"type":"Program","body":[{"type":"ClassDeclaration","id":{"type":"Identifier","name":"C"},"superClass":null,"body":{"type":"ClassBody","body":[{"type":"PropertyDefinition","static":false,"computed":false,"key":{"type":"PrivateIdentifier","name":"x"},"value":null},{"type":"MethodDefinition","static":false,"computed":false,"key":{"type":"Identifier","name":"h"},"kind":"method","value":{"type":"FunctionExpression","id":null,"expression":false,"generator":false,"async":false,"params":[{"type":"Identifier","name":"o"}],"body":{"type":"BlockStatement","body":[{"type":"ReturnStatement","argument":{"type":"BinaryExpression","left":{"type":"PrivateIdentifier","name":"x"},"operator":"in","right":{"type":"Identifier","name":"o"}}}]}}}]}}],"sourceType":"script"}"#,
+            arguments: LOOSE,
+            line: "refused: Unsupported LooseIn at 12\n",
+        },
+        // class C { #x; h(o) { return #x in o; } }
+        Case {
+            text: r#"{"type":"Program","body":[{"type":"ClassDeclaration","id":{"type":"Identifier","name":"C"},"superClass":null,"body":{"type":"ClassBody","body":[{"type":"PropertyDefinition","static":false,"computed":false,"key":{"type":"PrivateIdentifier","name":"x"},"value":null},{"type":"MethodDefinition","static":false,"computed":false,"key":{"type":"Identifier","name":"h"},"kind":"method","value":{"type":"FunctionExpression","id":null,"expression":false,"generator":false,"async":false,"params":[{"type":"Identifier","name":"o"}],"body":{"type":"BlockStatement","body":[{"type":"ReturnStatement","argument":{"type":"BinaryExpression","left":{"type":"PrivateIdentifier","name":"x"},"operator":"in","right":{"type":"Identifier","name":"o"}}}]}}}]}}],"sourceType":"script"}"#,
+            arguments: AS_PROPERTIES,
+            line: "refused: Unsupported LooseIn at 12\n",
+        },
+        // class C { #x; h(o) { return #x in o; } }
+        Case {
+            text: r#"{"type":"Program","body":[{"type":"ClassDeclaration","id":{"type":"Identifier","name":"C"},"superClass":null,"body":{"type":"ClassBody","body":[{"type":"PropertyDefinition","static":false,"computed":false,"key":{"type":"PrivateIdentifier","name":"x"},"value":null},{"type":"MethodDefinition","static":false,"computed":false,"key":{"type":"Identifier","name":"h"},"kind":"method","value":{"type":"FunctionExpression","id":null,"expression":false,"generator":false,"async":false,"params":[{"type":"Identifier","name":"o"}],"body":{"type":"BlockStatement","body":[{"type":"ReturnStatement","argument":{"type":"BinaryExpression","left":{"type":"PrivateIdentifier","name":"x"},"operator":"in","right":{"type":"Identifier","name":"o"}}}]}}}]}}],"sourceType":"script"}"#,
+            arguments: LOWER,
+            line: "refused: NotYet at 4\n",
+        },
+        // class C { h(o) { return x in o; } }
+        Case {
+            text: r#"{"type":"Program","body":[{"type":"ClassDeclaration","id":{"type":"Identifier","name":"C"},"superClass":null,"body":{"type":"ClassBody","body":[{"type":"MethodDefinition","static":false,"computed":false,"key":{"type":"Identifier","name":"h"},"kind":"method","value":{"type":"FunctionExpression","id":null,"expression":false,"generator":false,"async":false,"params":[{"type":"Identifier","name":"o"}],"body":{"type":"BlockStatement","body":[{"type":"ReturnStatement","argument":{"type":"BinaryExpression","left":{"type":"Identifier","name":"x"},"operator":"in","right":{"type":"Identifier","name":"o"}}}]}}}]}}],"sourceType":"script"}"#,
+            arguments: LOOSE,
+            line: "",
+        },
+        // class C { h(o) { return x in o; } #x; }
+        Case {
+            text: r#"{"type":"Program","body":[{"type":"ClassDeclaration","id":{"type":"Identifier","name":"C"},"superClass":null,"body":{"type":"ClassBody","body":[{"type":"MethodDefinition","static":false,"computed":false,"key":{"type":"Identifier","name":"h"},"kind":"method","value":{"type":"FunctionExpression","id":null,"expression":false,"generator":false,"async":false,"params":[{"type":"Identifier","name":"o"}],"body":{"type":"BlockStatement","body":[{"type":"ReturnStatement","argument":{"type":"BinaryExpression","left":{"type":"Identifier","name":"x"},"operator":"in","right":{"type":"Identifier","name":"o"}}}]}}},{"type":"PropertyDefinition","static":false,"computed":false,"key":{"type":"PrivateIdentifier","name":"x"},"value":null}]}}],"sourceType":"script"}"#,
+            arguments: LOOSE,
+            line: "refused: NotYet at 13\n",
+        },
+    ]
+}
+
+/// Members of `super` in static blocks.
+fn supers_in_blocks() -> &'static [Case] {
+    &[
+        // class C extends P { static { [super.x] = y; } }
+        Case {
+            text: r#"{"type":"Program","body":[{"type":"ClassDeclaration","id":{"type":"Identifier","name":"C"},"superClass":{"type":"Identifier","name":"P"},"body":{"type":"ClassBody","body":[{"type":"StaticBlock","body":[{"type":"ExpressionStatement","expression":{"type":"AssignmentExpression","operator":"=","left":{"type":"ArrayPattern","elements":[{"type":"MemberExpression","object":{"type":"Super"},"property":{"type":"Identifier","name":"x"},"computed":false,"optional":false}]},"right":{"type":"Identifier","name":"y"}}}]}]}}],"sourceType":"script"}"#,
+            arguments: BLOCKS,
+            line: "refused: Unsupported SuperForm at 9\n",
+        },
+        // class C extends P { static { [super.x] = y; } }
+        Case {
+            text: r#"{"type":"Program","body":[{"type":"ClassDeclaration","id":{"type":"Identifier","name":"C"},"superClass":{"type":"Identifier","name":"P"},"body":{"type":"ClassBody","body":[{"type":"StaticBlock","body":[{"type":"ExpressionStatement","expression":{"type":"AssignmentExpression","operator":"=","left":{"type":"ArrayPattern","elements":[{"type":"MemberExpression","object":{"type":"Super"},"property":{"type":"Identifier","name":"x"},"computed":false,"optional":false}]},"right":{"type":"Identifier","name":"y"}}}]}]}}],"sourceType":"script"}"#,
+            arguments: LOWER,
+            line: "",
+        },
+        // class C extends P { static { [super.x] = y; } }
+        Case {
+            text: r#"{"type":"Program","body":[{"type":"ClassDeclaration","id":{"type":"Identifier","name":"C"},"superClass":{"type":"Identifier","name":"P"},"body":{"type":"ClassBody","body":[{"type":"StaticBlock","body":[{"type":"ExpressionStatement","expression":{"type":"AssignmentExpression","operator":"=","left":{"type":"ArrayPattern","elements":[{"type":"MemberExpression","object":{"type":"Super"},"property":{"type":"Identifier","name":"x"},"computed":false,"optional":false}]},"right":{"type":"Identifier","name":"y"}}}]}]}}],"sourceType":"script"}"#,
+            arguments: BLOCKS_ALONE,
+            line: "refused: NotYet at 5\n",
+        },
+        // class C extends P { static { y = super.x; } }
+        Case {
+            text: r#"{"type":"Program","body":[{"type":"ClassDeclaration","id":{"type":"Identifier","name":"C"},"superClass":{"type":"Identifier","name":"P"},"body":{"type":"ClassBody","body":[{"type":"StaticBlock","body":[{"type":"ExpressionStatement","expression":{"type":"AssignmentExpression","operator":"=","left":{"type":"Identifier","name":"y"},"right":{"type":"MemberExpression","object":{"type":"Super"},"property":{"type":"Identifier","name":"x"},"computed":false,"optional":false}}}]}]}}],"sourceType":"script"}"#,
+            arguments: BLOCKS,
+            line: "refused: NotYet at 1\n",
+        },
+        // class C extends P { static { y = super.x; } }
+        Case {
+            text: r#"{"type":"Program","body":[{"type":"ClassDeclaration","id":{"type":"Identifier","name":"C"},"superClass":{"type":"Identifier","name":"P"},"body":{"type":"ClassBody","body":[{"type":"StaticBlock","body":[{"type":"ExpressionStatement","expression":{"type":"AssignmentExpression","operator":"=","left":{"type":"Identifier","name":"y"},"right":{"type":"MemberExpression","object":{"type":"Super"},"property":{"type":"Identifier","name":"x"},"computed":false,"optional":false}}}]}]}}],"sourceType":"script"}"#,
+            arguments: LOWER,
+            line: "",
+        },
+    ]
+}
+
 #[test]
 fn each_rule(rt: HostRuntime) -> Result<(), Fail> {
     let alloc = rt.alloc();
@@ -757,6 +869,8 @@ fn each_rule(rt: HostRuntime) -> Result<(), Fail> {
         private_names(),
         names_left_out(),
         supers_left_out(),
+        loose_privates(),
+        supers_in_blocks(),
         first_faults(),
         repeated_names(),
         repeated_names_in_scopes(),
