@@ -161,6 +161,7 @@ NOT_MET = {
     'character_of_no_name': TEXTS,
     'private_name_of_another_member': TEXTS,
     'private_name_constructor': TEXTS,
+    'text_of_a_directive': TEXTS,
     'uncooked_template': PRINTED,
     'declaration_of_nothing': PRINTED,
     'declaration_without_its_names': PRINTED,

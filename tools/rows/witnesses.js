@@ -605,6 +605,7 @@ const witnesses = [
   clause('nothing_declared_behind_a_string', 'a new `var` without a name, where a string in front is no directive', behindCode('("a");'), q => { q.body.push(withoutNames(statement(q, 'var a;'))); }),
   clause('nothing_declared_behind_a_directive', 'a new `var` without a name, where a directive has an escape', behindCode('"a\\\\b";'), q => { q.body.push(withoutNames(statement(q, 'var a;'))); }),
   clause('nothing_declared_behind_a_bigint', 'a new `var` without a name, where a bigint is no decimal', behindCode('y = 0xFn;'), q => { q.body.push(withoutNames(statement(q, 'var a;'))); }),
+  clause('text_of_a_directive', 'a directive of a method with another text', inMethod('"a\\\\b"; return 1;', '"a\\\\b"; return 1;'), q => { found(q, n => n.directive).directive = '"+'; }),
   clause('second_string_that_a_printer_makes_a_directive', 'a new string `"use strict"` that is no directive, at the head of a function, where one of the source stands in front', { options: ['--class-properties'], source: '("a"); function F() { class A { static x = 1; } return this; }', output: '("a"); function F() { class A {} B.defineProperty(A, "x", 1); return this; }' },
     q => { q.body[1].body.body.unshift(statement(q, '("use strict");')); }),
 ];

@@ -260,6 +260,7 @@ pub mod TestOfAnotherObject
 pub mod TestOfOneNull
 pub mod TestedName
 pub mod TestedNameOfAClass
+pub mod TextOfADirective
 pub mod TwoBrands
 pub mod TwoConstructors
 pub mod TwoFunctions

@@ -359,6 +359,7 @@ ghost use Rattle.es_rows.specs.witnesses.TestOfAnotherObject.{source_test_of_ano
 ghost use Rattle.es_rows.specs.witnesses.TestOfOneNull.{source_test_of_one_null, output_test_of_one_null, generated_test_of_one_null, options_test_of_one_null};
 ghost use Rattle.es_rows.specs.witnesses.TestedName.{first_tested_name, second_tested_name, options_tested_name};
 ghost use Rattle.es_rows.specs.witnesses.TestedNameOfAClass.{source_tested_name_of_a_class, output_tested_name_of_a_class, generated_tested_name_of_a_class, options_tested_name_of_a_class};
+ghost use Rattle.es_rows.specs.witnesses.TextOfADirective.{source_text_of_a_directive, output_text_of_a_directive, generated_text_of_a_directive, options_text_of_a_directive};
 ghost use Rattle.es_rows.specs.witnesses.TwoBrands.{source_two_brands, output_two_brands, generated_two_brands, options_two_brands};
 ghost use Rattle.es_rows.specs.witnesses.TwoConstructors.{source_two_constructors, output_two_constructors, generated_two_constructors, options_two_constructors};
 ghost use Rattle.es_rows.specs.witnesses.TwoFunctions.{source_two_functions, output_two_functions, generated_two_functions, options_two_functions};
@@ -738,6 +739,7 @@ pub fn clauses_are_not_met()
     ensures temporary_given_again_in_a_round { initializations_stand (nodes source_temporary_given_again_in_a_round) generated_temporary_given_again_in_a_round (private_members source_temporary_given_again_in_a_round) output_temporary_given_again_in_a_round generated_temporary_given_again_in_a_round ≡ false }
     ensures temporary_of_a_hoisted_function { temporaries_steady (nodes source_temporary_of_a_hoisted_function) generated_temporary_of_a_hoisted_function output_temporary_of_a_hoisted_function ≡ false }
     ensures temporary_of_the_program { temporaries_steady (nodes source_temporary_of_the_program) generated_temporary_of_the_program output_temporary_of_the_program ≡ false }
+    ensures text_of_a_directive { texts_stay (nodes source_text_of_a_directive) source_text_of_a_directive output_text_of_a_directive ≡ false }
     ensures two_brands { names_declared (nodes source_two_brands) generated_two_brands output_two_brands ≡ false }
     ensures two_functions { names_declared (nodes source_two_functions) generated_two_functions output_two_functions ≡ false }
     ensures two_maps { names_declared (nodes source_two_maps) generated_two_maps output_two_maps ≡ false }

@@ -286,6 +286,9 @@ returns-clause-temporary_of_a_hoisted_function c = refl
 pub returns-clause-temporary_of_the_program : goal.returns-clause-temporary_of_the_program
 returns-clause-temporary_of_the_program c = refl
 
+pub returns-clause-text_of_a_directive : goal.returns-clause-text_of_a_directive
+returns-clause-text_of_a_directive c = refl
+
 pub returns-clause-two_brands : goal.returns-clause-two_brands
 returns-clause-two_brands c = refl
 
