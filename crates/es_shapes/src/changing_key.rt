@@ -53,7 +53,11 @@ fn is_changing_in<F: NameFacts>(options: &Options, facts: &F, class: ClassRef) -
 {
     let elements = elements_of(class.body);
     element_kinds(options, elements).has_lowered
-        && any_changing_key(facts, moves_before_heritage(options, facts, class), elements)
+        && any_changing_key(
+            facts,
+            moves_before_heritage(options, facts, class),
+            elements,
+        )
 }
 
 /// Whether an element has such a key, where something is evaluated before the class or not.
@@ -74,7 +78,9 @@ fn is_changing_key<F: NameFacts>(facts: &F, is_behind: bool, element: &Node) -> 
 {
     match element_of(element) {
         Some(element) => {
-            element.computed && is_changing_name(facts, element.key) && (element.is_field || is_behind)
+            element.computed
+                && is_changing_name(facts, element.key)
+                && (element.is_field || is_behind)
         }
         None => false,
     }

@@ -354,8 +354,8 @@ module _ (f : ℕ → ℕ) where
   bare_in-mapped (more p ps) =
       rw (is_bare_string-mapped p, is_directive-mapped p)
       (cond-mapped (map f) (is_bare_string p) _ _
-       (append-mapped f _ _ (statement_number-mapped p) (bare_in-mapped ps))
-       (cond-mapped (map f) (is_directive p) (bare_in ps) [] (bare_in-mapped ps) refl))
+      (append-mapped f _ _ (statement_number-mapped p) (bare_in-mapped ps))
+      (cond-mapped (map f) (is_directive p) (bare_in ps) [] (bare_in-mapped ps) refl))
 
   bare_strings-mapped : (ts : List Tree) → bare_strings (map (mapped f) ts) ≡ map f (bare_strings ts)
   bare_strings-mapped [] = refl

@@ -38,7 +38,7 @@ module _ (f : ℕ → ℕ) where
     has_reserved-mapped w (Node kind m span semantic_id ps) =
         ap₂ (λ a b. a || b) (is_reserved-mapped w kind ps)
         (ap (λ b. reserved_in (words_inside (strict_if b w) kind (mapped_parts f ps)) (mapped_parts f ps)) (makes_strict-mapped f kind ps)
-         ∙ reserved_in-mapped (words_inside (strict_if (makes_strict kind ps) w) kind (mapped_parts f ps)) (words_inside (strict_if (makes_strict kind ps) w) kind ps) (words_inside-mapped (strict_if (makes_strict kind ps) w) kind ps) ps)
+        ∙ reserved_in-mapped (words_inside (strict_if (makes_strict kind ps) w) kind (mapped_parts f ps)) (words_inside (strict_if (makes_strict kind ps) w) kind ps) (words_inside-mapped (strict_if (makes_strict kind ps) w) kind ps) ps)
 
     reserved_in-mapped : (there here : ℕ → Words) → ((i : ℕ) → there i ≡ here i) → (ps : Parts) → reserved_in there (mapped_parts f ps) ≡ reserved_in here ps
     reserved_in-mapped there here same end = refl
