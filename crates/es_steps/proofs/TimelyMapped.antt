@@ -12,7 +12,7 @@ use Rattle.es_steps.specs.HelperCalls.{is_class_body, body_runs}
 use Rattle.es_steps.specs.KeptNodes.{pair_stands, all_pairs_stand}
 use Rattle.es_steps.specs.Parts.{at, string_of}
 use Rattle.es_steps.specs.PrivateNames.{PrivateMember, member_at, is_class, is_element}
-use Rattle.es_steps.specs.Timely.{MarkForm, declares, initializes, hoists, uses, Around, Mark, is_held, is_held_arrow, is_instance_value, runs_later, around_in, mark_by, mark, declared_mark, initialized_mark, marks_before, marks_behind, is_given, is_let_declaration, is_of_class, is_needed_by, needed_names, uses_of, is_called_arrow, marks, marks_in, marks_at, marks_of, key_marks, value_marks, is_hoisted, is_around, is_called_early, is_later, gives_in_time, any_gives, is_declaration, is_dead, is_skipped_by, is_skipped, is_followed, is_use, comes_first, is_running, is_early_by, is_early, asks, in_time, names_timely}
+use Rattle.es_steps.specs.Timely.{MarkForm, declares, initializes, hoists, uses, Around, Mark, is_held, is_held_arrow, is_instance_value, runs_later, around_in, mark_by, mark, declared_mark, initialized_mark, marks_before, marks_behind, is_given, is_let_declaration, is_of_class, is_needed_by, needed_names, uses_of, is_called_arrow, marks, marks_in, marks_at, marks_of, key_marks, value_marks, is_hoisted, is_declared, is_around, is_called_early, is_later, gives_in_time, any_gives, is_declaration, is_dead, is_skipped_by, is_skipped, is_followed, is_use, comes_first, is_running, is_early_by, is_early, asks, in_time, names_timely}
 use Rattle.es_steps.specs.Values.{String}
 use Rattle.es_steps.proofs.ContextMapped.{generated_as-mapped}
 use Rattle.es_steps.proofs.DefinitionsMapped.{spelling-mapped}
@@ -32,7 +32,7 @@ module _ (f : ℕ → ℕ) where
   mapped_running p = (f p.0, p.1)
 
   abbrev pub mapped_around : Around → Around
-  mapped_around x = record { held = map mapped_held x.held; later = map mapped_later x.later; is_called = x.is_called; running = map mapped_running x.running; class_name = x.class_name }
+  mapped_around x = record { held = map mapped_held x.held; later = map mapped_later x.later; called = map mapped_later x.called; is_called = x.is_called; running = map mapped_running x.running; class_name = x.class_name }
 
   abbrev pub mapped_mark : Mark → Mark
   mapped_mark m = record { name = m.name; form = m.form; around = mapped_around m.around }
@@ -100,8 +100,11 @@ module _ {first : ℕ} {f : ℕ → ℕ} (r : Renames first f) where
       rw (body_at-mapped 2 ps, spelling_at-mapped f 0 ps)
       (cond-mapped (map (mapped_running f)) (is_class kind && body_runs (at 2 ps)) ((m, spelling (at 0 ps)) ∷ x.running) x.running refl refl)
 
+  called_in-mapped : (x : Around) (kind : Kind) (m : ℕ) (ps : Parts) (i : ℕ) → cond (runs_later first kind (f m) (mapped_parts f ps) i) ((f m, is_declared kind) ∷ map (mapped_later f) x.called) (map (mapped_later f) x.called) ≡ map (mapped_later f) (cond (runs_later first kind m ps i) ((m, is_declared kind) ∷ x.called) x.called)
+  called_in-mapped x kind m ps i = rw (runs_later-mapped kind m ps i) (cond-mapped (map (mapped_later f)) (runs_later first kind m ps i) ((m, is_declared kind) ∷ x.called) x.called refl refl)
+
   around_in-mapped : (ledger : List LedgerEntry) (x : Around) (kind : Kind) (m : ℕ) (ps : Parts) (i : ℕ) → around_in first (mapped_ledger f ledger) (mapped_around f x) kind (f m) (mapped_parts f ps) i ≡ mapped_around f (around_in first ledger x kind m ps i)
-  around_in-mapped ledger x kind m ps i = rw (held_in-mapped x kind m ps i, later_in-mapped ledger x kind m ps i, running_in-mapped x kind m ps, spelling_at-mapped f 0 ps) refl
+  around_in-mapped ledger x kind m ps i = rw (held_in-mapped x kind m ps i, later_in-mapped ledger x kind m ps i, called_in-mapped x kind m ps i, running_in-mapped x kind m ps, spelling_at-mapped f 0 ps) refl
 
   -- ---- what a class needs
 
@@ -125,7 +128,7 @@ module _ {first : ℕ} {f : ℕ → ℕ} (r : Renames first f) where
 
   uses_of-mapped : (x : Around) (ss : List String) → uses_of (mapped_around f x) ss ≡ map (mapped_mark f) (uses_of x ss)
   uses_of-mapped x [] = refl
-  uses_of-mapped x (s ∷ ss) = ap (λ ms. mapped_mark f (record { name = s; form = uses; around = x }) ∷ ms) (uses_of-mapped x ss)
+  uses_of-mapped x (s ∷ ss) = ap (λ ms. mapped_mark f (record { name = s; form = uses; around = record x { later = x.called } }) ∷ ms) (uses_of-mapped x ss)
 
   is_called_arrow-mapped : (kind : Kind) (ps : Parts) → is_called_arrow kind (mapped_parts f ps) ≡ is_called_arrow kind ps
   is_called_arrow-mapped Kind.CallExpression (more (child (Node Kind.ArrowFunctionExpression m span semantic_id ps)) rest) = refl
@@ -290,5 +293,5 @@ module _ {first : ℕ} {f : ℕ → ℕ} (r : Renames first f) where
 
   pub names_timely-mapped : (ledger : List LedgerEntry) (members : List PrivateMember) (q : Tree) → names_timely first (mapped_ledger f ledger) (mapped_privates f members) (mapped f q) ≡ names_timely first ledger members q
   names_timely-mapped ledger members q =
-      ap (in_time (mapped_ledger f ledger) []) (marks-mapped ledger members (record { held = []; later = []; is_called = false; running = []; class_name = [] }) false q)
-      ∙ in_time-mapped ledger [] (marks first ledger members (record { held = []; later = []; is_called = false; running = []; class_name = [] }) false q)
+      ap (in_time (mapped_ledger f ledger) []) (marks-mapped ledger members (record { held = []; later = []; called = []; is_called = false; running = []; class_name = [] }) false q)
+      ∙ in_time-mapped ledger [] (marks first ledger members (record { held = []; later = []; called = []; is_called = false; running = []; class_name = [] }) false q)

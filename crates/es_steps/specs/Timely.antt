@@ -31,6 +31,8 @@ pub data MarkForm : Type 0 where
 pub record Around : Type 0 where
   pub held : List (ℕ × ℕ)
   pub later : List (ℕ × Bool)
+  -- the same, where each function declaration may be called in front of where it stands
+  pub called : List (ℕ × Bool)
   pub is_called : Bool
   -- classes whose body is around, and has elements that run with the class, each with its own name, which is there
   pub running : List (ℕ × String)
@@ -87,8 +89,12 @@ abbrev pub is_hoisted : List LedgerEntry → Kind → Parts → Bool
 is_hoisted ledger Kind.FunctionDeclaration ps = not (is_some (generated_as (spelling (at 0 ps)) ledger))
 is_hoisted ledger kind ps = false
 
+abbrev pub is_declared : Kind → Bool
+is_declared Kind.FunctionDeclaration = true
+is_declared kind = false
+
 abbrev pub around_in : ℕ → List LedgerEntry → Around → Kind → ℕ → Parts → ℕ → Around
-around_in first ledger x kind m ps i = record { class_name = cond (is_class kind) (spelling (at 0 ps)) x.class_name; running = cond (is_class kind && body_runs (at 2 ps)) ((m, spelling (at 0 ps)) ∷ x.running) x.running; is_called = is_callee_of_call kind i; held = cond (is_held kind ps i || (is_held_arrow first x kind m || is_instance_value kind ps i)) ((m, i) ∷ x.held) x.held; later = cond (runs_later first kind m ps i) ((m, is_hoisted ledger kind ps) ∷ x.later) x.later }
+around_in first ledger x kind m ps i = record { class_name = cond (is_class kind) (spelling (at 0 ps)) x.class_name; running = cond (is_class kind && body_runs (at 2 ps)) ((m, spelling (at 0 ps)) ∷ x.running) x.running; is_called = is_callee_of_call kind i; held = cond (is_held kind ps i || (is_held_arrow first x kind m || is_instance_value kind ps i)) ((m, i) ∷ x.held) x.held; later = cond (runs_later first kind m ps i) ((m, is_hoisted ledger kind ps) ∷ x.later) x.later; called = cond (runs_later first kind m ps i) ((m, is_declared kind) ∷ x.called) x.called }
 
 abbrev pub is_spelled : String → Bool
 is_spelled [] = false
@@ -110,9 +116,10 @@ abbrev pub needed_names : ℕ → List PrivateMember → List LedgerEntry → Li
 needed_names n members [] = []
 needed_names n members (e ∷ es) = cond (is_needed_by n members e.kind) (e.name ∷ []) [] ++ needed_names n members es
 
+-- what a class needs where it stands: also a function of a generated name may be called before
 abbrev pub uses_of : Around → List String → List Mark
 uses_of x [] = []
-uses_of x (s ∷ ss) = record { name = s; form = uses; around = x } ∷ uses_of x ss
+uses_of x (s ∷ ss) = record { name = s; form = uses; around = record x { later = x.called } } ∷ uses_of x ss
 
 -- an arrow that is called where it stands runs behind the arguments
 abbrev pub is_called_arrow : Kind → Parts → Bool
@@ -275,4 +282,4 @@ module _ (ledger : List LedgerEntry) where
   in_time front (m ∷ ms) = not (is_early m || (is_dead m ms || is_skipped m front)) && ((not (asks m) || (any_gives true m front || (not (comes_first (generated_as m.name ledger)) && any_gives false m ms))) && in_time (m ∷ front) ms)
 
 abbrev pub names_timely : ℕ → List LedgerEntry → List PrivateMember → Tree → Bool
-names_timely first ledger members q = in_time ledger [] (marks first ledger members (record { held = []; later = []; is_called = false; running = []; class_name = [] }) false q)
+names_timely first ledger members q = in_time ledger [] (marks first ledger members (record { held = []; later = []; called = []; is_called = false; running = []; class_name = [] }) false q)

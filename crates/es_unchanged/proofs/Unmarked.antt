@@ -79,4 +79,4 @@ module _ (first : ℕ) (members : List PrivateMember) where
     values-unmarked x (more p es) = values-unmarked x es
 
 pub names-timely : (first : ℕ) (members : List PrivateMember) (q : Tree) → names_timely first [] members q ≡ true
-names-timely first members q = rw (tree-unmarked first members (record { held = []; later = []; is_called = false; running = []; class_name = [] }) false q) refl
+names-timely first members q = rw (tree-unmarked first members (record { held = []; later = []; called = []; is_called = false; running = []; class_name = [] }) false q) refl
