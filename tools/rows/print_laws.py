@@ -184,6 +184,7 @@ NOT_MET = {
     'class_temporary_of_a_function_expression': INITIALIZED,
     'map_of_a_function_expression': INITIALIZED,
     'map_outside_of_a_called_function': TIMELY,
+    'map_outside_of_a_private_method': TIMELY,
     'brand_outside_of_a_called_function': TIMELY,
     'key_outside_of_a_called_function': TIMELY,
     'method_outside_of_a_called_function': TIMELY,

@@ -155,6 +155,7 @@ pub mod MapMadeInACalledArrow
 pub mod MapMadeInAPattern
 pub mod MapOfAFunctionExpression
 pub mod MapOutsideOfACalledFunction
+pub mod MapOutsideOfAPrivateMethod
 pub mod MapsInLooseMode
 pub mod MemberOfAnObject
 pub mod MethodAssignedInAnotherFunction

@@ -169,6 +169,9 @@ returns-clause-map_of_a_function_expression c = refl
 pub returns-clause-map_outside_of_a_called_function : goal.returns-clause-map_outside_of_a_called_function
 returns-clause-map_outside_of_a_called_function c = refl
 
+pub returns-clause-map_outside_of_a_private_method : goal.returns-clause-map_outside_of_a_private_method
+returns-clause-map_outside_of_a_private_method c = refl
+
 pub returns-clause-method_assigned_in_another_function : goal.returns-clause-method_assigned_in_another_function
 returns-clause-method_assigned_in_another_function c = refl
 
