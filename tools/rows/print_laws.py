@@ -185,6 +185,7 @@ NOT_MET = {
     'map_of_a_function_expression': INITIALIZED,
     'map_outside_of_a_called_function': TIMELY,
     'map_outside_of_a_private_method': TIMELY,
+    'closure_given_behind_its_call': TIMELY,
     'brand_outside_of_a_called_function': TIMELY,
     'key_outside_of_a_called_function': TIMELY,
     'method_outside_of_a_called_function': TIMELY,

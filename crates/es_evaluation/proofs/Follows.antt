@@ -228,6 +228,49 @@ follows_settle a d h = record {
   fine = λ env. fine_settle env (a env) (h.fine env);
 }
 
+-- ---- behind a class
+
+added_length : (xs ys : Environment) → of.added xs ys ≡ length xs - length ys
+added_length [] ys = omega arith
+added_length (x ∷ xs) [] = omega arith
+added_length (x ∷ xs) (y ∷ ys) = let e : of.added xs ys ≡ length xs - length ys = added_length xs ys in omega (arith, e)
+
+added_front : (more env : Environment) → of.added (more ++ env) env ≡ length more
+added_front more env =
+    let e : length (more ++ env) ≡ length more + length env = length-append more env in
+    let a : of.added (more ++ env) env ≡ length (more ++ env) - length env = added_length (more ++ env) env in
+    omega (arith, e, a)
+
+front_or : (b : Bool) (p : String × Value) (all rest env : Environment) → all ≡ rest ++ env → cond b all (p ∷ all) ≡ cond b rest (p ∷ rest) ++ env
+front_or true p all rest env e = e
+front_or false p all rest env e = ap (λ (us : Environment). p ∷ us) e
+
+without_front : (more env : Environment) → of.without_private (length more) (more ++ env) ≡ of.without_private (length more) more ++ env
+without_front [] env = refl
+without_front (p ∷ more) env = front_or (of.is_private_key p.0) p (of.without_private (length more) (more ++ env)) (of.without_private (length more) more) env (without_front more env)
+
+outside_at : (s : State) (o : Option Run) → direct.outside_with s.names (onto s o) ≡ onto s (of.outside_run s.names o)
+outside_at s None = refl
+outside_at s (Some r) = refl
+
+fine_outside : (env : Environment) (o : Option Run) → IsFine env o → IsFine env (of.outside_run env o)
+fine_outside env None h = tt
+fine_outside env (Some r) h = record {
+  clean = h.clean;
+  more = of.without_private (length h.more) h.more;
+  grows = ap (λ (after : Environment). of.without_private (of.added after env) after) h.grows ∙ ap (λ n. of.without_private n (h.more ++ env)) (added_front h.more env) ∙ without_front h.more env;
+}
+
+pub follows_outside : (a : Evaluation) (d : Step Value) → Follows a d → Follows (of.outside a) (direct.outside d)
+follows_outside a d h = record {
+  same = λ s. ap (direct.outside_with s.names) (h.same s) ∙ outside_at s (a s.names);
+  fine = λ env. fine_outside env (a env) (h.fine env);
+}
+
+pub outside_settled : (s : State) (o : Option (Value × State)) → settle_with s.has_thrown (direct.outside_with s.names o) ≡ direct.outside_with s.names (settle_with s.has_thrown o)
+outside_settled s None = refl
+outside_settled s (Some p) = refl
+
 -- ---- parts
 
 drop_front : (more env : Environment) → drop (length more) (more ++ env) ≡ env

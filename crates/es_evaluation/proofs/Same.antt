@@ -14,7 +14,7 @@ use Rattle.es_evaluation.specs.Flat.{single, ends}
 use Rattle.es_evaluation.specs.Direct.{State, Step, next, and_then, emit, settled, settle_with, unless_thrown, entered, left, Operands, no_operand, one_operand, two_operands, form, operands, read, write, taken, take, callee, test_with, once_more, all, converted, parts, keys, key, statics, static_element, fields, instance_field, construction, close_callee, opened, closed}
 use Rattle.es_evaluation.specs.Direct as direct
 use Rattle.es_evaluation.specs.Agreement.{Follows, IsFine, onto, behind_state}
-use Rattle.es_evaluation.proofs.Follows.{held_state, bind_at, fine_held, fine_on, follows_as, follows_by, follows_bind, follows_none, follows_gives, follows_event, follows_throw, follows_settle, follows_held, follows_quiet, follows_stays, follows_class, follows_this, follows_given, follows_stands}
+use Rattle.es_evaluation.proofs.Follows.{held_state, bind_at, fine_held, fine_on, follows_as, follows_by, follows_bind, follows_none, follows_gives, follows_event, follows_throw, follows_settle, follows_outside, outside_settled, follows_held, follows_quiet, follows_stays, follows_class, follows_this, follows_given, follows_stands}
 
 -- ---- steps in steps
 
@@ -348,7 +348,11 @@ module _ (opens : Opened → Evaluation) (opens_d : Opened → Step Value) (open
     follows (gives_to m to) = follows_settle (ev_target opens to (λ r. bind (write_ready r (ResultOf m)) (λ w. of.gives (Undefined)))) (and_then (operands opens_d to) (λ t. and_then (write opens_d to t (ResultOf m)) (λ w. direct.gives (Undefined)))) (target_follows to (λ r. bind (write_ready r (ResultOf m)) (λ w. of.gives (Undefined))) (λ t. and_then (write opens_d to t (ResultOf m)) (λ w. direct.gives (Undefined))) (λ t. follows_bind (write_ready (ready_of opens to t) (ResultOf m)) (write opens_d to t (ResultOf m)) (λ w. of.gives (Undefined)) (λ w. direct.gives (Undefined)) (write_follows to t (ResultOf m)) (λ w. follows_gives (Undefined))))
     follows (export_default e) = follows_settle (bind (ev opens e) (λ v. of.stands_for default_key v)) (and_then (settled (form opens_d e)) (λ v. direct.stands_for default_key v)) (follows_bind (ev opens e) (settled (form opens_d e)) (λ v. of.stands_for default_key v) (λ v. direct.stands_for default_key v) (follows e) (λ v. follows_stands default_key v))
     follows (function f shape own_name ps body) = follows_as (settle (of.gives (FunctionOf f))) (of.gives (FunctionOf f)) (settled (direct.gives (FunctionOf f))) (λ env. refl) (follows_settle (of.gives (FunctionOf f)) (direct.gives (FunctionOf f)) (follows_gives (FunctionOf f)))
-    follows (class_code n declared h es) = follows_settle (ev_all opens h (λ vs. ev_keys opens es (λ ks. bind (of.declared_first declared n) (λ u. bind (ev_statics opens n ks es) (λ w. of.gives (ClassOf n)))))) (and_then (all opens_d [] h) (λ vs. and_then (keys opens_d [] es) (λ ks. and_then (direct.declared_first declared n) (λ u. and_then (statics opens_d n ks es) (λ w. direct.gives (ClassOf n)))))) (all_follows [] h (λ vs. ev_keys opens es (λ ks. bind (of.declared_first declared n) (λ u. bind (ev_statics opens n ks es) (λ w. of.gives (ClassOf n))))) (λ vs. and_then (keys opens_d [] es) (λ ks. and_then (direct.declared_first declared n) (λ u. and_then (statics opens_d n ks es) (λ w. direct.gives (ClassOf n))))) (λ vs. keys_follow [] es (λ ks. bind (of.declared_first declared n) (λ u. bind (ev_statics opens n ks es) (λ w. of.gives (ClassOf n)))) (λ ks. and_then (direct.declared_first declared n) (λ u. and_then (statics opens_d n ks es) (λ w. direct.gives (ClassOf n)))) (λ ks. follows_bind (of.declared_first declared n) (direct.declared_first declared n) (λ u. bind (ev_statics opens n ks es) (λ w. of.gives (ClassOf n))) (λ u. and_then (statics opens_d n ks es) (λ w. direct.gives (ClassOf n))) (declared_follows declared n) (λ u. follows_bind (ev_statics opens n ks es) (statics opens_d n ks es) (λ w. of.gives (ClassOf n)) (λ w. direct.gives (ClassOf n)) (statics_follow n ks es) (λ w. follows_gives (ClassOf n))))))
+    follows (class_code n declared h es) =
+        let all_of : Evaluation = ev_all opens h (λ vs. ev_keys opens es (λ ks. bind (of.declared_first declared n) (λ u. bind (ev_statics opens n ks es) (λ w. of.gives (ClassOf n))))) in
+        let all_direct : Step Value = and_then (all opens_d [] h) (λ vs. and_then (keys opens_d [] es) (λ ks. and_then (direct.declared_first declared n) (λ u. and_then (statics opens_d n ks es) (λ w. direct.gives (ClassOf n))))) in
+        follows_by (of.outside (settle all_of)) (direct.outside (settled all_direct)) (settled (direct.outside all_direct)) (λ s. outside_settled s (all_direct (entered s)))
+        (follows_outside (settle all_of) (settled all_direct) (follows_settle all_of all_direct (all_follows [] h (λ vs. ev_keys opens es (λ ks. bind (of.declared_first declared n) (λ u. bind (ev_statics opens n ks es) (λ w. of.gives (ClassOf n))))) (λ vs. and_then (keys opens_d [] es) (λ ks. and_then (direct.declared_first declared n) (λ u. and_then (statics opens_d n ks es) (λ w. direct.gives (ClassOf n))))) (λ vs. keys_follow [] es (λ ks. bind (of.declared_first declared n) (λ u. bind (ev_statics opens n ks es) (λ w. of.gives (ClassOf n)))) (λ ks. and_then (direct.declared_first declared n) (λ u. and_then (statics opens_d n ks es) (λ w. direct.gives (ClassOf n)))) (λ ks. follows_bind (of.declared_first declared n) (direct.declared_first declared n) (λ u. bind (ev_statics opens n ks es) (λ w. of.gives (ClassOf n))) (λ u. and_then (statics opens_d n ks es) (λ w. direct.gives (ClassOf n))) (declared_follows declared n) (λ u. follows_bind (ev_statics opens n ks es) (statics opens_d n ks es) (λ w. of.gives (ClassOf n)) (λ w. direct.gives (ClassOf n)) (statics_follow n ks es) (λ w. follows_gives (ClassOf n))))))))
     follows (from_call e) = follows_by (ev opens e) (settled (form opens_d e)) (settled (settled (form opens_d e))) (λ s. settled_again s.has_thrown (form opens_d e (entered s))) (follows e)
     follows (from_member e) = follows_by (ev opens e) (settled (form opens_d e)) (settled (settled (form opens_d e))) (λ s. settled_again s.has_thrown (form opens_d e (entered s))) (follows e)
     follows (key_of e) = follows_settle (bind (ev opens e) (λ v. of.gives (KeyOf v))) (and_then (settled (form opens_d e)) (λ v. direct.gives (KeyOf v))) (follows_bind (ev opens e) (settled (form opens_d e)) (λ v. of.gives (KeyOf v)) (λ v. direct.gives (KeyOf v)) (follows e) (λ v. follows_gives (KeyOf v)))

@@ -5,7 +5,7 @@ use Rattle.es_base.specs.declared.kind.Kind.{Kind}
 use Rattle.es_base.specs.declared.ledger.GeneratedKind.{GeneratedKind}
 use Rattle.es_steps.specs.Code.{Code, Codes, Target, Callee, FieldForm, defines, sets, leaves_out, TemplateString, Opened, InitializersOf, BodyOf, nothing, no_rule, value, spelled, private_name, binding, rest, name, super, member, private_member, super_member, private_in, assign, compound, logical, logical_assign, update, call, tag, construct, super_call, super_call_with_all, sequence, template_string, template, operation, piece, chain, short, tested, pattern, takes, steps, gives_to, export_default, function, new_function, new_return, class_code, field, private_field, method, private_method, constructor, static_block, generated_element, from_call, from_member, key_of, helper, helper_call, throw, define, private_initialize, add_brand, bound, setter, private_value, call_arrow, call_closure, initializers, give_function, give_class, to_name, to_member, to_private, to_super, to_setter, to_pattern, to_default, no_target, plain, on_member, on_private, on_super, with_receiver, checked, on_chain, behind_test, done, and}
 use Rattle.es_steps.specs.Context.{NameKind, Fixed, Changing, MeansClass, Generated, StaticMethod}
-use Rattle.es_steps.specs.Evaluation.{Environment, found, private_key, default_key, last_of, binary, new_or_former, is_binding_value, template_details, template_constant, tag_values, has_instance_methods}
+use Rattle.es_steps.specs.Evaluation.{Environment, added, without_private, found, private_key, default_key, last_of, binary, new_or_former, is_binding_value, template_details, template_constant, tag_values, has_instance_methods}
 use Rattle.es_steps.specs.Events.{OfKind, Take, Index, Place, RightOf, Default, Part, ReadName, SetName, Get, Set, Define, Call, Construct, Operate, Update, PrivateGet, PrivateSet, PrivateInitialize, PrivateIn, AddBrand, SuperGet, SuperSet, SuperCall, SuperCallWithAll, InitializeClass, Throw, Short}
 use Rattle.es_steps.specs.Opening.{Definition, of_class, of_name, of_called, definition_of, without_definition}
 use Rattle.es_steps.specs.SameValues.{same_value}
@@ -73,6 +73,17 @@ settle_with outer (Some p) = Some (unless_thrown p.1 p.0, left outer p.1)
 
 abbrev pub settled : Step Value → Step Value
 settled a s = settle_with s.has_thrown (a (entered s))
+
+-- behind a class the private names that it added are forgotten
+abbrev pub without_own : Environment → State → State
+without_own names s = record { names = without_private (added s.names names) s.names; tokens = s.tokens; is_silent = s.is_silent; has_thrown = s.has_thrown }
+
+abbrev pub outside_with : Environment → Option (Value × State) → Option (Value × State)
+outside_with names None = None
+outside_with names (Some p) = Some (p.0, without_own names p.1)
+
+abbrev pub outside : Step Value → Step Value
+outside a s = outside_with s.names (a s)
 
 -- ---- parts that may run or not, or again: what they add to the names ends with them
 
@@ -289,7 +300,7 @@ module _ (opens : Opened → Step Value) where
     form (function f shape own_name ps body) = gives (FunctionOf f)
     form (new_function f shape ps body) = no_meaning
     form (new_return es) = no_meaning
-    form (class_code n declared h es) = and_then (all [] h) (λ vs. and_then (keys [] es) (λ ks. and_then (declared_first declared n) (λ u. and_then (statics n ks es) (λ w. gives (ClassOf n)))))
+    form (class_code n declared h es) = outside (and_then (all [] h) (λ vs. and_then (keys [] es) (λ ks. and_then (declared_first declared n) (λ u. and_then (statics n ks es) (λ w. gives (ClassOf n))))))
     form (field is_static shape k e) = no_meaning
     form (private_field is_static d e) = no_meaning
     form (method is_static kind k f) = no_meaning

@@ -58,6 +58,7 @@ pub mod ClassThatSuspends
 pub mod ClassesThatSuspend
 pub mod ClosureBeforeItsClass
 pub mod ClosureCalledInAKey
+pub mod ClosureGivenBehindItsCall
 pub mod CompoundAssignment
 pub mod ConstantTemporary
 pub mod ConstructorOfAnotherKey

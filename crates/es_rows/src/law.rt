@@ -160,6 +160,7 @@ ghost use Rattle.es_rows.specs.witnesses.ClassThatSuspends.{source_class_that_su
 ghost use Rattle.es_rows.specs.witnesses.ClassesThatSuspend.{source_classes_that_suspend, output_classes_that_suspend, generated_classes_that_suspend, options_classes_that_suspend};
 ghost use Rattle.es_rows.specs.witnesses.ClosureBeforeItsClass.{source_closure_before_its_class, output_closure_before_its_class, generated_closure_before_its_class, options_closure_before_its_class};
 ghost use Rattle.es_rows.specs.witnesses.ClosureCalledInAKey.{source_closure_called_in_a_key, output_closure_called_in_a_key, generated_closure_called_in_a_key, options_closure_called_in_a_key};
+ghost use Rattle.es_rows.specs.witnesses.ClosureGivenBehindItsCall.{source_closure_given_behind_its_call, output_closure_given_behind_its_call, generated_closure_given_behind_its_call, options_closure_given_behind_its_call};
 ghost use Rattle.es_rows.specs.witnesses.ConstantTemporary.{source_constant_temporary, output_constant_temporary, generated_constant_temporary, options_constant_temporary};
 ghost use Rattle.es_rows.specs.witnesses.ConstructorOfAnotherKey.{source_constructor_of_another_key, output_constructor_of_another_key, generated_constructor_of_another_key, options_constructor_of_another_key};
 ghost use Rattle.es_rows.specs.witnesses.ConversionOfNoKey.{source_conversion_of_no_key, output_conversion_of_no_key, generated_conversion_of_no_key, options_conversion_of_no_key};
@@ -669,6 +670,7 @@ pub fn clauses_are_not_met()
     ensures class_temporary_of_another_case { names_timely (nodes source_class_temporary_of_another_case) generated_class_temporary_of_another_case (private_members source_class_temporary_of_another_case) output_class_temporary_of_another_case ≡ false }
     ensures closure_before_its_class { names_timely (nodes source_closure_before_its_class) generated_closure_before_its_class (private_members source_closure_before_its_class) output_closure_before_its_class ≡ false }
     ensures closure_called_in_a_key { names_timely (nodes source_closure_called_in_a_key) generated_closure_called_in_a_key (private_members source_closure_called_in_a_key) output_closure_called_in_a_key ≡ false }
+    ensures closure_given_behind_its_call { names_timely (nodes source_closure_given_behind_its_call) generated_closure_given_behind_its_call (private_members source_closure_given_behind_its_call) output_closure_given_behind_its_call ≡ false }
     ensures constant_temporary { declarations_accounted (nodes source_constant_temporary) generated_constant_temporary source_constant_temporary output_constant_temporary ≡ false }
     ensures conversion_of_no_key { helper_calls_fit (nodes source_conversion_of_no_key) generated_conversion_of_no_key (computed_keys (preorder source_conversion_of_no_key)) output_conversion_of_no_key ≡ false }
     ensures copy_of_a_number { texts_stay (nodes source_copy_of_a_number) source_copy_of_a_number output_copy_of_a_number ≡ false }

@@ -84,7 +84,7 @@ module _ (f : ℕ → ℕ) where
   body_keys-mapped (child (Node Kind.ClassBody m span semantic_id ps)) = ap method_keys (items_at-mapped f 0 ps) ∙ method_keys-mapped (items (at 0 ps))
   body_keys-mapped p = refl
 
-  runs_with_class-mapped : (p : Part) → runs_with_class (mapped_part f p) ≡ runs_with_class p
+  pub runs_with_class-mapped : (p : Part) → runs_with_class (mapped_part f p) ≡ runs_with_class p
   runs_with_class-mapped (child (Node Kind.StaticBlock m span semantic_id ps)) = refl
   runs_with_class-mapped (child (Node Kind.PropertyDefinition m span semantic_id ps)) = is_true_at-mapped f 3 ps
   runs_with_class-mapped p = refl

@@ -8,15 +8,15 @@ use Rattle.es_base.specs.declared.ledger.LedgerEntry.{LedgerEntry}
 use Rattle.es_steps.specs.Context.{generated_as}
 use Rattle.es_steps.specs.Definitions.{spelling}
 use Rattle.es_steps.specs.Expressions.{is_logical}
-use Rattle.es_steps.specs.HelperCalls.{is_class_body, body_runs}
+use Rattle.es_steps.specs.HelperCalls.{is_class_body, runs_with_class, body_runs}
 use Rattle.es_steps.specs.KeptNodes.{pair_stands, all_pairs_stand}
 use Rattle.es_steps.specs.Parts.{at, string_of}
 use Rattle.es_steps.specs.PrivateNames.{PrivateMember, member_at, is_class, is_element}
-use Rattle.es_steps.specs.Timely.{MarkForm, declares, initializes, hoists, uses, Around, Mark, is_held, is_held_arrow, is_instance_value, runs_later, around_in, mark_by, mark, declared_mark, initialized_mark, marks_before, marks_behind, is_given, is_let_declaration, is_of_class, is_needed_by, needed_names, uses_of, is_called_arrow, marks, marks_in, marks_at, marks_of, key_marks, value_marks, is_hoisted, is_declared, is_around, is_called_early, is_later, gives_in_time, any_gives, is_declaration, is_dead, is_skipped_by, is_skipped, is_followed, is_use, comes_first, is_running, is_early_by, is_early, asks, in_time, names_timely}
+use Rattle.es_steps.specs.Timely.{is_same, MarkForm, declares, initializes, hoists, uses, Around, Mark, is_held, is_held_arrow, is_instance_value, runs_later, around_in, mark_by, mark, declared_mark, initialized_mark, marks_before, marks_behind, is_given, is_let_declaration, is_of_class, is_needed_by, needed_names, uses_of, is_called_arrow, marks, marks_in, marks_at, marks_of, key_marks, value_marks, is_hoisted, is_declared, is_around, is_called_early, is_later, gives_in_time, any_gives, is_declaration, is_dead, is_skipped_by, is_skipped, is_followed, is_use, comes_first, is_running, is_early_by, is_early, asks, in_time, names_timely}
 use Rattle.es_steps.specs.Values.{String}
 use Rattle.es_steps.proofs.ContextMapped.{generated_as-mapped}
 use Rattle.es_steps.proofs.DefinitionsMapped.{spelling-mapped}
-use Rattle.es_steps.proofs.HelperCallsMapped.{body_runs-mapped}
+use Rattle.es_steps.proofs.HelperCallsMapped.{runs_with_class-mapped, body_runs-mapped}
 use Rattle.es_steps.proofs.Mapped.{Renames, mapped, mapped_part, mapped_parts, mapped_option, mapped_generated, mapped_ledger, mapped_privates, mapped_private}
 use Rattle.es_steps.proofs.PartsMapped.{cond-mapped, append-mapped, at-mapped, string_at-mapped, is_true_at-mapped}
 use Rattle.es_steps.proofs.PrivatesMapped.{member_at-mapped}
@@ -202,7 +202,7 @@ module _ {first : ℕ} {f : ℕ → ℕ} (r : Renames first f) where
       marks_at-mapped : (is_body : Bool) (x : Around) (b : Bool) (p : Part) → marks_at first there others is_body (mapped_around f x) b (mapped_part f p) ≡ moved (marks_at first ledger members is_body x b p)
       marks_at-mapped is_body x b (child t) = marks-mapped x b t
       marks_at-mapped false x b (list ps) = marks_of-mapped x b ps
-      marks_at-mapped true x b (list ps) = append-mapped (mapped_mark f) _ _ (key_marks-mapped x ps) (append-mapped (mapped_mark f) _ _ (mark-mapped x initializes x.class_name) (value_marks-mapped x ps))
+      marks_at-mapped true x b (list ps) = append-mapped (mapped_mark f) _ _ (key_marks-mapped x ps) (append-mapped (mapped_mark f) _ _ (mark-mapped x initializes x.class_name) (append-mapped (mapped_mark f) _ _ (value_marks-mapped false x ps) (value_marks-mapped true x ps)))
       marks_at-mapped true x b p = refl
       marks_at-mapped false x b p = refl
 
@@ -219,16 +219,20 @@ module _ {first : ℕ} {f : ℕ → ℕ} (r : Renames first f) where
           (key_marks-mapped x es)
       key_marks-mapped x (more p es) = key_marks-mapped x es
 
-      value_marks-mapped : (x : Around) (ps : Parts) → value_marks first there others (mapped_around f x) (mapped_parts f ps) ≡ moved (value_marks first ledger members x ps)
-      value_marks-mapped x end = refl
-      value_marks-mapped x (more (child (Node kind m span semantic_id (more k ps))) es) =
-          append-mapped (mapped_mark f) _ _
+      value_marks-mapped : (runs : Bool) (x : Around) (ps : Parts) → value_marks first there others runs (mapped_around f x) (mapped_parts f ps) ≡ moved (value_marks first ledger members runs x ps)
+      value_marks-mapped runs x end = refl
+      value_marks-mapped runs x (more (child (Node kind m span semantic_id (more k ps))) es) =
+          let own : List Mark = cond (is_element kind) [] (marks_at first ledger members false (around_in first ledger x kind m (more k ps) 0) false k) ++ marks_in first ledger members false false (λ i. around_in first ledger x kind m (more k ps) (suc i)) (λ i. false) false ps in
+          rw (runs_with_class-mapped f (child (Node kind m span semantic_id (more k ps))))
+          (append-mapped (mapped_mark f) _ _
+          (cond-mapped moved (is_same runs (runs_with_class (child (Node kind m span semantic_id (more k ps))))) own []
           (append-mapped (mapped_mark f) _ _
           (cond-mapped moved (is_element kind) [] (marks_at first ledger members false (around_in first ledger x kind m (more k ps) 0) false k) refl
           (ap (λ y. marks_at first there others false y false (mapped_part f k)) (around_in-mapped ledger x kind m (more k ps) 0) ∙ marks_at-mapped false (around_in first ledger x kind m (more k ps) 0) false k))
           (marks_in-mapped false false _ (λ i. around_in first ledger x kind m (more k ps) (suc i)) (λ i. around_in-mapped ledger x kind m (more k ps) (suc i)) _ (λ i. false) (λ i. refl) false false refl ps))
-          (value_marks-mapped x es)
-      value_marks-mapped x (more p es) = value_marks-mapped x es
+          refl)
+          (value_marks-mapped runs x es))
+      value_marks-mapped runs x (more p es) = value_marks-mapped runs x es
 
   -- ---- each stands in time
 

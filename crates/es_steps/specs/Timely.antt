@@ -9,7 +9,7 @@ use Rattle.es_base.specs.declared.ledger.LedgerEntry.{LedgerEntry}
 use Rattle.es_steps.specs.Context.{generated_as, is_function}
 use Rattle.es_steps.specs.Definitions.{spelling}
 use Rattle.es_steps.specs.Expressions.{is_logical}
-use Rattle.es_steps.specs.HelperCalls.{is_class_body, body_runs}
+use Rattle.es_steps.specs.HelperCalls.{is_class_body, runs_with_class, body_runs}
 use Rattle.es_steps.specs.KeptNodes.{all_pairs_stand}
 use Rattle.es_steps.specs.Parts.{at, string_of, is_true}
 use Rattle.es_steps.specs.PrivateNames.{PrivateMember, member_at, is_class, is_element}
@@ -43,6 +43,10 @@ pub record Mark : Type 0 where
   pub name : String
   pub form : MarkForm
   pub around : Around
+
+abbrev pub is_same : Bool → Bool → Bool
+is_same true b = b
+is_same false b = not b
 
 -- ---- the marks of a program in the order of evaluation: an initialization stands behind its value
 
@@ -179,7 +183,7 @@ module _ (first : ℕ) (ledger : List LedgerEntry) (members : List PrivateMember
     pub marks_at : Bool → Around → Bool → Part → List Mark
     marks_at is_body x in_let (child t) = marks x in_let t
     marks_at false x in_let (list ps) = marks_of x in_let ps
-    marks_at true x in_let (list ps) = key_marks x ps ++ (mark x initializes x.class_name ++ value_marks x ps)
+    marks_at true x in_let (list ps) = key_marks x ps ++ (mark x initializes x.class_name ++ (value_marks false x ps ++ value_marks true x ps))
     marks_at is_body x in_let p = []
 
     pub marks_of : Around → Bool → Parts → List Mark
@@ -191,10 +195,14 @@ module _ (first : ℕ) (ledger : List LedgerEntry) (members : List PrivateMember
     key_marks x (more (child (Node kind m span semantic_id (more k ps))) es) = cond (is_element kind) (marks_at false (around_in first ledger x kind m (more k ps) 0) false k) [] ++ key_marks x es
     key_marks x (more p es) = key_marks x es
 
-    pub value_marks : Around → Parts → List Mark
-    value_marks x end = []
-    value_marks x (more (child (Node kind m span semantic_id (more k ps))) es) = cond (is_element kind) [] (marks_at false (around_in first ledger x kind m (more k ps) 0) false k) ++ marks_in false false (λ i. around_in first ledger x kind m (more k ps) (suc i)) (λ i. false) false ps ++ value_marks x es
-    value_marks x (more p es) = value_marks x es
+    -- of the elements that run with the class, or of the others, which those may call
+    pub value_marks : Bool → Around → Parts → List Mark
+    value_marks runs x end = []
+    value_marks runs x (more (child (Node kind m span semantic_id (more k ps))) es) =
+        cond (is_same runs (runs_with_class (child (Node kind m span semantic_id (more k ps)))))
+        (cond (is_element kind) [] (marks_at false (around_in first ledger x kind m (more k ps) 0) false k) ++ marks_in false false (λ i. around_in first ledger x kind m (more k ps) (suc i)) (λ i. false) false ps)
+        [] ++ value_marks runs x es
+    value_marks runs x (more p es) = value_marks runs x es
 
 -- ---- each stands in time
 

@@ -24,7 +24,7 @@ use Rattle.es_steps.specs.Printable.{is_printable, bare_strings, all_among}
 use Rattle.es_steps.specs.PrivateNames.{private_members, is_class}
 use Rattle.es_steps.specs.References.{resolve, has_number}
 use Rattle.es_steps.specs.Scopes.{is_binding_identifier}
-use Rattle.es_steps.specs.Texts.{are_characters, has_name, has_characters, has_its_text, all_have_their_texts}
+use Rattle.es_steps.specs.Texts.{has_name, has_characters, has_its_text, all_have_their_texts}
 use Rattle.es_steps.specs.Values.{String}
 use Rattle.es_steps.specs.declared.options.Options.{Options}
 use Rattle.es_unchanged.proofs.Names.{or-true, number-apart, names-stay, strict-stays, classes-stay}

@@ -2,10 +2,10 @@
 use Rattle.std.proofs.Common.{◌≡◌, refl, ℕ, suc, List, [], ◌++◌, Bool, true, false, cond}
 use Rattle.es_base.specs.Tree.{Tree, Part, Parts, Node, end, more, child, list}
 use Rattle.es_base.specs.declared.kind.Kind.{Kind}
-use Rattle.es_steps.specs.HelperCalls.{is_class_body}
+use Rattle.es_steps.specs.HelperCalls.{is_class_body, runs_with_class}
 use Rattle.es_steps.specs.Parts.{at}
 use Rattle.es_steps.specs.PrivateNames.{PrivateMember, is_element}
-use Rattle.es_steps.specs.Timely.{Mark, Around, declared_mark, initialized_mark, marks_before, marks_behind, marks, marks_in, marks_at, marks_of, around_in, is_given, is_let_declaration, is_called_arrow, key_marks, value_marks, names_timely}
+use Rattle.es_steps.specs.Timely.{is_same, Mark, Around, declared_mark, initialized_mark, marks_before, marks_behind, marks, marks_in, marks_at, marks_of, around_in, is_given, is_let_declaration, is_called_arrow, key_marks, value_marks, names_timely}
 
 abbrev Unmarked : List Mark → Type 0
 Unmarked ms = ms ≡ []
@@ -57,7 +57,7 @@ module _ (first : ℕ) (members : List PrivateMember) where
 
     part-unmarked : (is_body : Bool) (x : Around) (in_let : Bool) (p : Part) → Unmarked (marks_at first [] members is_body x in_let p)
     part-unmarked is_body x in_let (child t) = tree-unmarked x in_let t
-    part-unmarked true x in_let (list ps) = rw (keys-unmarked x ps, values-unmarked x ps) refl
+    part-unmarked true x in_let (list ps) = rw (keys-unmarked x ps, values-unmarked false x ps, values-unmarked true x ps) refl
     part-unmarked false x in_let (list ps) = list-unmarked x in_let ps
     part-unmarked true x in_let p = refl
     part-unmarked false x in_let p = refl
@@ -72,11 +72,17 @@ module _ (first : ℕ) (members : List PrivateMember) where
         rw (unless-neither (is_element kind) (marks_at first [] members false (around_in first [] x kind m (more k ps) 0) false k) (part-unmarked false (around_in first [] x kind m (more k ps) 0) false k), keys-unmarked x es) refl
     keys-unmarked x (more p es) = keys-unmarked x es
 
-    values-unmarked : (x : Around) (ps : Parts) → Unmarked (value_marks first [] members x ps)
-    values-unmarked x end = refl
-    values-unmarked x (more (child (Node kind m span semantic_id (more k ps))) es) =
-        rw (unless-unmarked (is_element kind) (marks_at first [] members false (around_in first [] x kind m (more k ps) 0) false k) (part-unmarked false (around_in first [] x kind m (more k ps) 0) false k), parts-unmarked false false (λ i. around_in first [] x kind m (more k ps) (suc i)) (λ i. false) false ps, values-unmarked x es) refl
-    values-unmarked x (more p es) = values-unmarked x es
+    values-unmarked : (runs : Bool) (x : Around) (ps : Parts) → Unmarked (value_marks first [] members runs x ps)
+    values-unmarked runs x end = refl
+    values-unmarked runs x (more (child (Node kind m span semantic_id (more k ps))) es) =
+        let key : List Mark = marks_at first [] members false (around_in first [] x kind m (more k ps) 0) false k in
+        let rest : List Mark = marks_in first [] members false false (λ i. around_in first [] x kind m (more k ps) (suc i)) (λ i. false) false ps in
+        rw (
+          unless-neither (is_same runs (runs_with_class (child (Node kind m span semantic_id (more k ps))))) (cond (is_element kind) [] key ++ rest)
+              (rw (unless-unmarked (is_element kind) key (part-unmarked false (around_in first [] x kind m (more k ps) 0) false k), parts-unmarked false false (λ i. around_in first [] x kind m (more k ps) (suc i)) (λ i. false) false ps) refl),
+          values-unmarked runs x es,
+        ) refl
+    values-unmarked runs x (more p es) = values-unmarked runs x es
 
 pub names-timely : (first : ℕ) (members : List PrivateMember) (q : Tree) → names_timely first [] members q ≡ true
 names-timely first members q = rw (tree-unmarked first members (record { held = []; later = []; called = []; is_called = false; running = []; class_name = [] }) false q) refl

@@ -73,6 +73,9 @@ returns-clause-closure_before_its_class c = refl
 pub returns-clause-closure_called_in_a_key : goal.returns-clause-closure_called_in_a_key
 returns-clause-closure_called_in_a_key c = refl
 
+pub returns-clause-closure_given_behind_its_call : goal.returns-clause-closure_given_behind_its_call
+returns-clause-closure_given_behind_its_call c = refl
+
 pub returns-clause-constant_temporary : goal.returns-clause-constant_temporary
 returns-clause-constant_temporary c = refl
 
