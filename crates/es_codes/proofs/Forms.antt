@@ -24,12 +24,16 @@ use Rattle.es_codes.specs.declared.code.Code.TheVariants as codes
 use Rattle.es_codes.specs.declared.code.Target.TheVariants as targets
 use Rattle.es_codes.specs.declared.code.Callee.TheVariants as callees
 use Rattle.es_codes.specs.declared.code.Callee.TheOpen.{Code-F, Target-F, Callee-F}
-use Rattle.es_codes.specs.declared.code.Callee.TheViews.{roll-Code, roll-Target, roll-Callee}
+use Rattle.es_codes.specs.declared.code.Callee.TheViews.{roll-Code, roll-Target, roll-Callee, out-Code, roll-out-Code}
 use Rattle.es_codes.specs.declared.code.Callee.TheFolds.{map-Code, map-Target, map-Callee, fold-roll-Code, fold-roll-Target, fold-roll-Callee}
 
 code-roll : (y : Code-F Callee Code Target) → code_of (roll-Code y) ≡ code_step (map-Code Callee Code Target of_code.Callee of_code.Code of_code.Target callee_of code_of target_of y)
 unfolding code_of target_of callee_of
 code-roll y = fold-roll-Code of_code.Callee of_code.Code of_code.Target callee_step code_step target_step y
+
+-- a code by its form
+pub code_out : (c : Code) → code_of c ≡ code_step (map-Code Callee Code Target of_code.Callee of_code.Code of_code.Target callee_of code_of target_of (out-Code c))
+code_out c = ap code_of (sym (roll-out-Code c)) ∙ code-roll (out-Code c)
 
 target-roll : (y : Target-F Callee Code Target) → target_of (roll-Target y) ≡ target_step (map-Target Callee Code Target of_code.Callee of_code.Code of_code.Target callee_of code_of target_of y)
 unfolding code_of target_of callee_of

@@ -1,10 +1,13 @@
 // Events.
 
+ghost use Rattle.std.specs.Prelude.{◌≡◌, IfOk};
+
 use crate::name::Referent;
 use crate::value::{Constant, Value};
 use es_base::kind::Kind;
 use es_base::list::List;
 use es_base::name::Name;
+use std::alloc::{AllocError, Global};
 
 /// What a member of an object is looked up on by `super` (ECMA-262, 10.2): a class, its prototype, or an
 /// object.
@@ -41,6 +44,37 @@ pub enum Detail {
     Rest,
 }
 
+impl Detail {
+    /// A copy. Fails on allocation failure alone.
+    pub fn try_clone(&self, alloc: Global) -> Result<Detail, AllocError>
+        ensures { IfOk result (λ d. d ≡ self.now) }
+    {
+        Ok(match self {
+            Detail::Operand => Detail::Operand,
+            Detail::Empty => Detail::Empty,
+            Detail::Spelled(spelling) => Detail::Spelled(spelling.try_clone(alloc)?),
+            Detail::Flag(flag) => Detail::Flag(*flag),
+            Detail::Key(constant) => Detail::Key(constant.try_clone(alloc)?),
+            Detail::Opens => Detail::Opens,
+            Detail::Closes => Detail::Closes,
+            Detail::Prototype => Detail::Prototype,
+            Detail::Index(i) => Detail::Index(*i),
+            Detail::Rest => Detail::Rest,
+        })
+    }
+}
+
+/// A copy of details. Fails on allocation failure alone.
+pub fn clone_details(alloc: Global, details: &[Detail]) -> Result<List<Detail>, AllocError>
+    ensures { IfOk result (λ ds. ds ≡ details.now) }
+{
+    let mut copy = List::new(alloc);
+    for i in 0..details.len() {
+        copy.push(details[i].try_clone(alloc)?)?;
+    }
+    Ok(copy)
+}
+
 /// An operation.
 #[derive(Drop)]
 pub enum Operation {
@@ -48,6 +82,25 @@ pub enum Operation {
     Delete,
     /// A pattern takes a property or an element.
     Take(List<Detail>),
+}
+
+impl Operation {
+    /// A copy. Fails on allocation failure alone.
+    pub fn try_clone(&self, alloc: Global) -> Result<Operation, AllocError>
+        ensures { IfOk result (λ op. op ≡ self.now) }
+    {
+        Ok(match self {
+            Operation::OfKind { kind, details } => {
+                let details = clone_details(alloc, details.as_slice())?;
+                Operation::OfKind {
+                    kind: *kind,
+                    details,
+                }
+            }
+            Operation::Delete => Operation::Delete,
+            Operation::Take(details) => Operation::Take(clone_details(alloc, details.as_slice())?),
+        })
+    }
 }
 
 /// Which part of a node it is that may run or not, or again.

@@ -1,2 +1,5 @@
+pub mod Forms
 pub mod Given
 pub mod Lists
+pub mod SameValues
+pub mod Strings

@@ -10,6 +10,9 @@ use Rattle.es_evaluation.specs.Flat.{Token}
 use Rattle.es_evaluator.specs.declared.fault.Fault.{Fault}
 use Rattle.es_evaluator.specs.declared.state.Named.{Named}
 use Rattle.es_evaluator.specs.declared.state.State.{State}
+use Rattle.es_evaluator.specs.declared.state.Called.{Called}
+use Rattle.es_evaluator.specs.declared.state.Operands.{Operands}
+use Rattle.es_steps.specs.Values.{Value}
 
 -- names that were given later stand in front
 abbrev pub onto_names : Environment → List Named → Environment
@@ -33,3 +36,11 @@ Returns view (Ok x) t d = d ≡ Some (view x, state_of t)
 Returns view (Err Fault.NoMeaning) t d = d ≡ None
 Returns view (Err Fault.TooDeep) t d = Unit {0}
 Returns view (Err Fault.NoMemory) t d = Unit {0}
+
+abbrev pub called_of : Called → Value × Option Value
+called_of c = (c.callee, c.receiver)
+
+abbrev pub operands_of : Operands → direct.Operands
+operands_of Operands.Nothing = direct.no_operand
+operands_of (Operands.One a) = direct.one_operand a
+operands_of (Operands.Two a b) = direct.two_operands a b

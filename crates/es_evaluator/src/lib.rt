@@ -5,3 +5,5 @@ pub mod fault;
 pub mod names;
 pub mod operands;
 pub mod state;
+pub mod targets;
+pub mod templates;

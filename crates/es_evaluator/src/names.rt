@@ -2,7 +2,7 @@
 
 ghost use Rattle.std.specs.Prelude.{◌≡◌, IfOk};
 ghost use Rattle.es_steps.specs.Events as of_event;
-ghost use Rattle.es_steps.specs.Evaluation.{found};
+ghost use Rattle.es_steps.specs.Evaluation.{default_key, found, private_key};
 ghost use Rattle.es_codes.specs.View.{token_of, kind_of, referent_of};
 ghost use Rattle.es_evaluation.specs.Flat as flat;
 ghost use Rattle.es_evaluation.specs.Direct as direct;
@@ -140,6 +140,44 @@ pub fn hold(alloc: Global, state: &mut State, name: Name, value: Value) -> Resul
     if value.is_of_binding() {
         return Ok(value);
     }
+    stand_for(alloc, state, name, value)
+}
+
+/// The name under which a generated private element stands: `#x`. Fails on allocation failure alone.
+fn private_key(alloc: Global, spelling: &Name) -> Result<Name, AllocError>
+    ensures { IfOk result (λ n. n ≡ private_key spelling.now) }
+{
+    let mut string = String::from_str(alloc, "#")?;
+    string.push_str(spelling.as_str())?;
+    Name::new(alloc, string.as_str())
+}
+
+/// What a generated private element holds.
+pub fn read_element(alloc: Global, state: &mut State, spelling: &Name) -> Result<Value, Fault>
+    ensures { Returns (λ v. v) result state.new (direct.read_given (private_key spelling.now) (state_of state.old)) }
+{
+    let name = private_key(alloc, spelling)?;
+    read_given(alloc, state, &name)
+}
+
+/// A generated private element holds the value.
+pub fn give_element(
+    alloc: Global,
+    state: &mut State,
+    spelling: &Name,
+    value: Value,
+) -> Result<Value, Fault>
+    ensures { Returns (λ v. v) result state.new (direct.element_holds (private_key spelling.now) value (state_of state.old)) }
+{
+    let name = private_key(alloc, spelling)?;
+    hold(alloc, state, name, value)
+}
+
+/// What a default export holds.
+pub fn give_default(alloc: Global, state: &mut State, value: Value) -> Result<Value, Fault>
+    ensures { Returns (λ v. v) result state.new (direct.stands_for default_key value (state_of state.old)) }
+{
+    let name = Name::from_ascii(alloc, "*")?;
     stand_for(alloc, state, name, value)
 }
 

@@ -1,12 +1,15 @@
 // What a form does when its operands have their values.
 
-ghost use Rattle.std.specs.Prelude.{◌≡◌, [], List, IfOk, map};
-ghost use Rattle.es_steps.specs.Evaluation.{binary, last_of, tag_values, template_details};
-ghost use Rattle.es_steps.specs.Values.{Undefined};
+ghost use Rattle.std.specs.Prelude.{◌≡◌, [], ◌∷◌, List, IfOk};
+ghost use Rattle.es_steps.specs.Evaluation.{binary, last_of, new_or_former};
+ghost use Rattle.es_steps.specs.Events as of_event;
+ghost use Rattle.es_steps.specs.Values.{ResultOf, Undefined};
 ghost use Rattle.es_codes.specs.View.{operation_of, details_of};
-ghost use Rattle.es_codes.specs.CodeView.{string_of, field_form_of};
+ghost use Rattle.es_codes.specs.CodeView.{field_form_of};
+ghost use Rattle.es_evaluation.specs.Flat as flat;
 ghost use Rattle.es_evaluation.specs.Direct as direct;
 ghost use Rattle.es_evaluator.specs.Running.{Returns, state_of};
+ghost use Rattle.es_evaluator.specs.Steps.{convert_at};
 
 use crate::fault::Fault;
 use crate::names::{emit, stand_for};
@@ -14,9 +17,9 @@ use crate::state::State;
 use es_base::kind::Kind;
 use es_base::list::List;
 use es_base::name::Name;
-use es_codes::code::{FieldForm, TemplateString};
-use es_codes::event::{Detail, Operation, Token};
-use es_codes::value::Value;
+use es_codes::code::FieldForm;
+use es_codes::event::{Detail, Operation, Token, clone_details};
+use es_codes::value::{Origin, Value};
 use std::alloc::{AllocError, Global};
 
 /// What a field does with its property when its value is there, which is of no use itself (ECMA-262, 7.3.34).
@@ -51,6 +54,123 @@ pub fn binary(alloc: Global, operator: &Name) -> Result<Operation, AllocError>
     details.push(Detail::Operand)?;
     let kind = Kind::BinaryExpression;
     Ok(Operation::OfKind { kind, details })
+}
+
+/// A list of one value. Fails on allocation failure alone.
+pub fn single(alloc: Global, value: Value) -> Result<List<Value>, AllocError>
+    ensures { IfOk result (λ vs. vs ≡ value ∷ []) }
+{
+    let mut values = List::new(alloc);
+    values.push(value)?;
+    Ok(values)
+}
+
+/// A list of two values. Fails on allocation failure alone.
+fn pair(alloc: Global, left: Value, right: Value) -> Result<List<Value>, AllocError>
+    ensures { IfOk result (λ vs. vs ≡ left ∷ right ∷ []) }
+{
+    let mut values = single(alloc, left)?;
+    values.push(right)?;
+    Ok(values)
+}
+
+/// The operation of a compound assignment (ECMA-262, 13.15.3).
+pub fn operate(
+    alloc: Global,
+    state: &mut State,
+    node: u32,
+    operator: &Name,
+    left: Value,
+    right: Value,
+) -> Result<Value, Fault>
+    ensures { Returns (λ v. v) result state.new (direct.emit (flat.single (of_event.Operate node (binary operator.now) (left ∷ right ∷ []))) (ResultOf node) (state_of state.old)) }
+{
+    let operands = pair(alloc, left, right)?;
+    let operation = binary(alloc, operator)?;
+    let token = Token::Operate {
+        node,
+        operation,
+        operands,
+    };
+    emit(state, token, Value::result_of(node))
+}
+
+/// What an expression of a template is made a string of, the i-th (ECMA-262, 13.2.8.5).
+#[tactic(auto, unfolding(crate::specs::Steps::convert_at))]
+pub fn convert(
+    alloc: Global,
+    state: &mut State,
+    node: u32,
+    i: usize,
+    value: &Value,
+) -> Result<Value, Fault>
+    ensures { Returns (λ v. v) result state.new (convert_at node i value.now (state_of state.old)) }
+{
+    let converted = value.try_clone(alloc)?;
+    let mut details = List::new(alloc);
+    details.push(Detail::Index(i))?;
+    operate_on(
+        alloc,
+        state,
+        node,
+        Operation::Take(details),
+        value,
+        converted,
+    )
+}
+
+/// An operation on one value, and what it gives.
+pub fn operate_on(
+    alloc: Global,
+    state: &mut State,
+    node: u32,
+    operation: Operation,
+    value: &Value,
+    given: Value,
+) -> Result<Value, Fault>
+    ensures { Returns (λ v. v) result state.new (direct.emit (flat.single (of_event.Operate node (operation_of operation) (value.now ∷ []))) given (state_of state.old)) }
+{
+    let operand = value.try_clone(alloc)?;
+    let operands = single(alloc, operand)?;
+    let token = Token::Operate {
+        node,
+        operation,
+        operands,
+    };
+    emit(state, token, given)
+}
+
+/// A pattern takes from a value, by these keys (ECMA-262, 8.6.2).
+pub fn take(
+    alloc: Global,
+    state: &mut State,
+    node: u32,
+    details: &[Detail],
+    value: &Value,
+    keys: List<Value>,
+) -> Result<Value, Fault>
+    ensures { Returns (λ v. v) result state.new (direct.emit (flat.single (of_event.Operate node (of_event.Take (details_of details.now)) (value.now ∷ keys))) (ResultOf node) (state_of state.old)) }
+{
+    let mut operands = keys;
+    operands.insert(0, value.try_clone(alloc)?)?;
+    let operation = Operation::Take(clone_details(alloc, details)?);
+    let token = Token::Operate {
+        node,
+        operation,
+        operands,
+    };
+    emit(state, token, Value::result_of(node))
+}
+
+/// What `t++` gives: the new value or the former one (ECMA-262, 13.4).
+pub fn new_or_former(is_prefix: bool, node: u32) -> Value
+    ensures { result ≡ new_or_former is_prefix node }
+{
+    if is_prefix {
+        Value::result_of(node)
+    } else {
+        Value::of(Origin::FormerOf(node))
+    }
 }
 
 /// The private methods of the instances of a class are added to the object that is constructed (ECMA-262, 7.3.30).
