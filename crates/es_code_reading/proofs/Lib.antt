@@ -1,0 +1,4 @@
+pub mod FormCases
+pub mod Framing
+pub mod Lettered
+pub mod NameKinds

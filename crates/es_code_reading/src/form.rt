@@ -1,0 +1,19 @@
+// Names.
+
+ghost use Rattle.std.specs.Prelude.{◌≡◌, option_map};
+ghost use Rattle.es_codes.specs.CodeView.{code_of};
+ghost use Rattle.es_codes.specs.View.{kind_of};
+ghost use Rattle.es_code_reading.specs.Letters.{name_kind_in};
+
+use es_codes::code::Code;
+use es_codes::name::NameKind;
+
+/// What the name is that a code is.
+pub fn kind_of_name(code: &Code) -> Option<&NameKind>
+    ensures { option_map (λ k. kind_of k.now) result ≡ name_kind_in (code_of code.now) }
+{
+    match code {
+        Code::Name { kind, .. } => Some(kind),
+        _ => None,
+    }
+}
