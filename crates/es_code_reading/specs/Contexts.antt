@@ -1,5 +1,5 @@
 -- What is known at a place of a tree, in code.
-use Rattle.std.specs.Prelude.{ℕ, List, Option, Some, None}
+use Rattle.std.specs.Prelude.{ℕ, List, Option, Some, None, option_map}
 use Rattle.std.specs.Str.{chars}
 use Rattle.es_codes.specs.View.{home_of}
 use Rattle.es_codes.specs.declared.event.Home.{Home}
@@ -52,17 +52,25 @@ frame_in Frame.Assignment = spec.assignment_frame
 frame_in Frame.Declarator = spec.declarator_frame
 frame_in Frame.Same = spec.same_frame
 
--- where these names and private members are seen
-abbrev pub context_with : Terms → List Declaration → List PrivateMember → Around → spec.Context
-context_with t names privates a = record {
+-- what is seen at a place: names and private members, those of the names that no catch declares as a name, and what of them is
+-- seen around the block that a function is declared in
+pub record Seen : Type 0 where
+  pub names : List Declaration
+  pub privates : List PrivateMember
+  pub uncaught : List Declaration
+  pub around : Option (List Declaration)
+
+-- where this is seen
+abbrev pub context_with : Terms → Seen → Around → spec.Context
+context_with t seen a = record {
   first_new = t.first_new;
   ledger = t.ledger.now;
   options = t.options;
   members = private_members_of t.members.now;
   varying = t.varying.now;
   writes_arguments = t.writes_arguments;
-  names = names;
-  privates = privates;
+  names = seen.names;
+  privates = seen.privates;
   this = this_of a.this;
   new_target = new_target_of a.new_target;
   arguments = arguments_of a.arguments;
@@ -77,8 +85,16 @@ context_with t names privates a = record {
   role = role_of a.role;
   let_class = a.let_class;
   is_body = a.is_body;
-  in_block = a.in_block;
+  uncaught = seen.uncaught;
+  around = seen.around;
 }
 
+abbrev pub seen_in : Context → Seen
+seen_in c = record { names = names_in c.names; privates = privates_in c.privates; uncaught = names_in c.uncaught; around = option_map names_in c.block }
+
 abbrev pub context_of : Context → spec.Context
-context_of c = context_with c.terms.now (names_in c.names) (privates_in c.privates) c.around
+context_of c = context_with c.terms.now (seen_in c) c.around
+
+-- this context where something else is seen
+abbrev pub where_seen : Seen → spec.Context → spec.Context
+where_seen seen c = record c { names = seen.names; privates = seen.privates; uncaught = seen.uncaught; around = seen.around }

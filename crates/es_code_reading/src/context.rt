@@ -69,8 +69,6 @@ pub struct Around<'a> {
     pub let_class: Option<(u32, u32)>,
     /// Whether a block here is the body of a function.
     pub is_body: bool,
-    /// Whether a function that is declared here stands in a block, a case or a branch of an `if` (B.3.2).
-    pub in_block: bool,
 }
 
 /// What is known at a place of a tree.
@@ -79,5 +77,10 @@ pub struct Context<'r, 'a> {
     pub terms: &'r Terms<'a>,
     pub names: Names<'r, 'a>,
     pub privates: Privates<'r, 'a>,
+    /// Those of the names that no catch declares as a name.
+    pub uncaught: Names<'r, 'a>,
+    /// What of these is seen around the block, the cases or the `if` that a function which is declared here stands in
+    /// (B.3.2, B.3.4).
+    pub block: Option<Names<'r, 'a>>,
     pub around: Around<'a>,
 }

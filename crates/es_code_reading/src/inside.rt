@@ -1,28 +1,32 @@
 // What is known inside of a node, part by part.
 
-ghost use Rattle.std.specs.Prelude.{◌≡◌, ℕ, List, IfOk, MatchOption, None, Some};
+ghost use Rattle.std.specs.Prelude.{◌≡◌, ℕ, IfOk, MatchOption, None, Some, option_map};
 ghost use Rattle.std.specs.Str.{chars};
 ghost use Rattle.es_base.specs.Tree.{child};
 ghost use Rattle.es_node.specs.View.{kind_of, number_in, parts_in, parts_of};
-ghost use Rattle.es_seen_names.specs.Frames.{names_in, privates_in};
 ghost use Rattle.es_steps.specs.Context as spec;
 ghost use Rattle.es_steps.specs.Parts.{at};
-ghost use Rattle.es_steps.specs.PrivateNames.{PrivateMember};
+ghost use Rattle.es_steps.specs.References as references;
 ghost use Rattle.es_steps.specs.Scopes as scopes;
-ghost use Rattle.es_steps.specs.Scopes.{Declaration};
-ghost use Rattle.es_code_reading.specs.Contexts.{context_of, context_with, frame_in, role_of};
+ghost use Rattle.es_seen_names.specs.Declarations.{declarations};
+ghost use Rattle.es_seen_names.specs.Frames.{names_in};
+ghost use Rattle.es_code_reading.specs.Contexts.{Seen, context_of, context_with, frame_in, role_of, where_seen};
 
 use crate::context::{Around, Context, FunctionRole, Terms, This};
 use crate::name_kind::{generated_as, is_new};
 use crate::words::spells;
 use es_base::kind::Kind;
 use es_base::ledger::{GeneratedKind, LedgerEntry};
+use es_binding_faults::bound::is_binding_identifier;
 use es_binding_faults::hoisted::part_at;
 use es_binding_faults::scopes::is_body_part;
 use es_codes::event::Home;
 use es_node::node::{Node, Part};
 use es_seen_names::class_in::class_in;
+use es_seen_names::declaration::Declaration;
+use es_seen_names::names::Names;
 use es_seen_names::parts::{is_present_at, is_true_at, name_at, string_at};
+use es_seen_names::scope::names_seen;
 use es_seen_names::super_call::{initializing_call, rest_at};
 use std::alloc::{AllocError, Global};
 
@@ -65,7 +69,7 @@ fn frame_of(kind: Kind) -> Frame
 
 /// In a function that is no arrow.
 fn in_function<'a>(terms: &Terms, node: u32, parts: &'a [Part], around: Around<'a>) -> Around<'a>
-    ensures { (names : List Declaration) (privates : List PrivateMember) → context_with terms.now names privates result ≡ spec.in_function (role_of around.entry.role) node (parts_of parts.now) (context_with terms.now names privates around.entry) }
+    ensures { (seen : Seen) → context_with terms.now seen result ≡ spec.in_function (role_of around.entry.role) node (parts_of parts.now) (context_with terms.now seen around.entry) }
 {
     let in_new_function = is_new(terms, node);
     let rest_name = rest_at(parts, 1);
@@ -118,9 +122,9 @@ fn in_function<'a>(terms: &Terms, node: u32, parts: &'a [Part], around: Around<'
     }
 }
 
-/// In the value of a field or in a static block.
+/// In the value of a field or in a static block, where no `arguments` of the code around stands.
 fn in_element<'a>(terms: &Terms, is_static: bool, around: Around<'a>) -> Around<'a>
-    ensures { (names : List Declaration) (privates : List PrivateMember) → context_with terms.now names privates result ≡ spec.in_element is_static (context_with terms.now names privates around.entry) }
+    ensures { (seen : Seen) → context_with terms.now seen result ≡ spec.in_element is_static (context_with terms.now seen around.entry) }
 {
     let class = around.class;
     Around {
@@ -130,7 +134,7 @@ fn in_element<'a>(terms: &Terms, is_static: bool, around: Around<'a>) -> Around<
             This::Of(class)
         },
         new_target: None,
-        arguments: Some(class),
+        arguments: None,
         home: Some(if is_static {
             Home::OfClass(class)
         } else {
@@ -187,7 +191,7 @@ fn role_of_generated(name: &str, ledger: &[LedgerEntry]) -> FunctionRole
 
 /// What a function is that stands as the i-th part of a node.
 fn role_in(frame: Frame, parts: &[Part], i: usize, terms: &Terms, around: Around) -> FunctionRole
-    ensures { (names : List Declaration) (privates : List PrivateMember) → role_of result ≡ spec.role_in (frame_in frame) (parts_of parts.now) i (context_with terms.now names privates around.entry) }
+    ensures { (seen : Seen) → role_of result ≡ spec.role_in (frame_in frame) (parts_of parts.now) i (context_with terms.now seen around.entry) }
 {
     match frame {
         Frame::Method => {
@@ -278,7 +282,7 @@ fn in_class<'a>(
     i: usize,
     around: Around<'a>,
 ) -> Around<'a>
-    ensures { (names : List Declaration) (privates : List PrivateMember) → context_with terms.now names privates result ≡ spec.framed spec.class_frame node (parts_of parts.now) i (context_with terms.now names privates around.entry) }
+    ensures { (seen : Seen) → context_with terms.now seen result ≡ spec.framed spec.class_frame node (parts_of parts.now) i (context_with terms.now seen around.entry) }
 {
     if i == 2 {
         Around {
@@ -299,7 +303,7 @@ fn in_field<'a>(
     i: usize,
     around: Around<'a>,
 ) -> Around<'a>
-    ensures { (names : List Declaration) (privates : List PrivateMember) → context_with terms.now names privates result ≡ spec.framed spec.field_frame node (parts_of parts.now) i (context_with terms.now names privates around.entry) }
+    ensures { (seen : Seen) → context_with terms.now seen result ≡ spec.framed spec.field_frame node (parts_of parts.now) i (context_with terms.now seen around.entry) }
 {
     if i == 1 {
         in_element(terms, is_true_at(parts, 3), around)
@@ -316,7 +320,7 @@ fn in_declarator<'a>(
     parts: &'a [Part],
     around: Around<'a>,
 ) -> Result<Around<'a>, AllocError>
-    ensures { IfOk result (λ r. (i : ℕ) (names : List Declaration) (privates : List PrivateMember) → context_with terms.now names privates r ≡ spec.framed spec.declarator_frame node (parts_of parts.now) i (context_with terms.now names privates around.entry)) }
+    ensures { IfOk result (λ r. (i : ℕ) (seen : Seen) → context_with terms.now seen r ≡ spec.framed spec.declarator_frame node (parts_of parts.now) i (context_with terms.now seen around.entry)) }
 {
     if is_new(terms, node) {
         let let_class = let_class(alloc, terms, parts)?;
@@ -339,7 +343,7 @@ fn framed<'a>(
     i: usize,
     around: Around<'a>,
 ) -> Result<Around<'a>, AllocError>
-    ensures { IfOk result (λ r. (names : List Declaration) (privates : List PrivateMember) → context_with terms.now names privates r ≡ spec.framed (frame_in frame) node (parts_of parts.now) i (context_with terms.now names privates around.entry)) }
+    ensures { IfOk result (λ r. (seen : Seen) → context_with terms.now seen r ≡ spec.framed (frame_in frame) node (parts_of parts.now) i (context_with terms.now seen around.entry)) }
 {
     match frame {
         Frame::Function => Ok(in_function(terms, node, parts, around)),
@@ -360,27 +364,15 @@ fn framed<'a>(
     }
 }
 
-/// Whether a function that is declared as the i-th part of a node, which is the body of a function or not, stands in a
-/// block.
-fn is_block_part(is_body: bool, kind: Kind, i: usize) -> bool
-    ensures { result ≡ spec.is_block_part is_body kind i }
-{
-    match kind {
-        Kind::BlockStatement => !is_body,
-        Kind::SwitchCase | Kind::IfStatement => true,
-        _ => false,
-    }
-}
-
-/// What is known in the i-th part of a node, names aside. Fails on allocation failure alone.
+/// What is known in the i-th part of a node, what is seen aside. Fails on allocation failure alone.
 pub fn around_inside<'a>(
     alloc: Global,
     c: &Context<'_, 'a>,
     node: &'a Node,
     i: usize,
 ) -> Result<Around<'a>, AllocError>
-    ensures { IfOk result (λ r. (names : List Declaration) (privates : List PrivateMember) → context_with c.now.terms.now names privates r
-        ≡ record (spec.inside (context_of c.now) (kind_of node.now) (number_in node.now) (parts_in node.now) i) { names = names; privates = privates }) }
+    ensures { IfOk result (λ r. (seen : Seen) → context_with c.now.terms.now seen r
+        ≡ where_seen seen (spec.inside (context_of c.now) (kind_of node.now) (number_in node.now) (parts_in node.now) i)) }
 {
     let kind = node.kind();
     let frame = frame_of(kind);
@@ -389,7 +381,66 @@ pub fn around_inside<'a>(
     Ok(Around {
         role: role_in(frame, parts, i, c.terms, c.around),
         is_body: is_body_part(kind, i),
-        in_block: is_block_part(c.around.is_body, kind, i),
         ..around
     })
+}
+
+// ---- what a function in a block is seen by (B.3.2, B.3.4)
+
+/// Whether it is a catch of one name.
+#[tactic(auto, using(crate::proofs::Catches::caught_name, crate::proofs::Catches::no_catch, crate::proofs::Catches::no_name))]
+fn catches_a_name(kind: Kind, parts: &[Part]) -> bool
+    ensures { result ≡ references.catches_a_name kind (parts_of parts.now) }
+{
+    match kind {
+        // catch (e) {}
+        Kind::CatchClause => match part_at(parts, 0) {
+            Some(Part::Child(param)) => is_binding_identifier(param),
+            _ => false,
+        },
+        _ => false,
+    }
+}
+
+/// The names that the i-th part of a node sees of its scope, but for the name that a catch declares. Fails on allocation
+/// failure alone.
+#[tactic(auto, using(crate::proofs::Catches::caught, crate::proofs::Catches::class_around, crate::proofs::Catches::seen_around))]
+pub fn names_around<'a>(
+    alloc: Global,
+    is_body: bool,
+    node: &'a Node,
+    i: usize,
+) -> Result<Vec<Declaration<'a>>, AllocError>
+    ensures { IfOk result (λ r. declarations r.items ≡ references.names_around is_body (kind_of node.now) (number_in node.now) (parts_in node.now) i) }
+{
+    if catches_a_name(node.kind(), node.parts()) {
+        return Ok(Vec::new(alloc));
+    }
+    match node.kind() {
+        // class A {}, whose name is not seen around
+        Kind::ClassDeclaration => Ok(Vec::new(alloc)),
+        _ => names_seen(alloc, is_body, node, i),
+    }
+}
+
+/// What is seen around the block, the cases or the `if` that a function stands in which is declared in a node of this kind.
+pub fn block_inside<'r, 'a>(c: &Context<'r, 'a>, kind: Kind) -> Option<Names<'r, 'a>>
+    ensures { option_map names_in result ≡ spec.around_inside (context_of c.now) kind }
+{
+    match kind {
+        Kind::BlockStatement => {
+            if c.around.is_body {
+                None
+            } else {
+                Some(c.uncaught)
+            }
+        }
+        Kind::SwitchStatement => Some(c.uncaught),
+        Kind::SwitchCase | Kind::LabeledStatement => c.block,
+        Kind::IfStatement => match c.block {
+            Some(block) => Some(block),
+            None => Some(c.uncaught),
+        },
+        _ => None,
+    }
 }

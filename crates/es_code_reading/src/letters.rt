@@ -1,21 +1,25 @@
 // The letters of generated forms: a name is of a kind, and the source has such a member.
 
-ghost use Rattle.std.specs.Prelude.{◌≡◌, option_map};
+ghost use Rattle.std.specs.Prelude.{◌≡◌, None, codes, cond, option_map};
 ghost use Rattle.es_codes.specs.CodeView.{code_of};
+ghost use Rattle.es_codes.specs.Constants.{origin_of};
 ghost use Rattle.es_codes.specs.View.{kind_of};
 ghost use Rattle.es_seen_names.specs.PrivateMembers.{private_member_of};
 ghost use Rattle.es_steps.specs.GeneratedForms as spec;
 ghost use Rattle.es_steps.specs.Options as asked;
 ghost use Rattle.es_steps.specs.PrivateNames as members;
 ghost use Rattle.es_validity.specs.Reached.{kind_in};
-ghost use Rattle.es_code_reading.specs.Contexts.{context_of};
-ghost use Rattle.es_code_reading.specs.Letters.{class_named_of, loose_key_of, of_sort, private_function_of, static_field_of, weak_map_of};
+ghost use Rattle.es_code_reading.specs.Contexts.{context_of, nullable_home, this_of};
+ghost use Rattle.es_code_reading.specs.Letters.{class_named_of, is_brand_of, known_value, loose_key_of, of_sort, private_function_of, static_field_of, weak_map_of};
 
-use crate::context::Context;
-use crate::form::kind_of_name;
+use crate::context::{Context, This};
+use crate::form::{kind_of_name, value_of};
+use crate::literals::is_string;
 use es_base::ledger::GeneratedKind;
 use es_codes::code::Code;
+use es_codes::event::Home;
 use es_codes::name::NameKind;
+use es_codes::value::{Origin, Value};
 use es_seen_names::private_member::{PrivateMember, member_at};
 use es_steps::options::{ClassPropertiesOptions, Options};
 use es_validity::privates::PrivateKind;
@@ -33,7 +37,7 @@ pub enum MemberSort {
 }
 
 /// Whether a member is a field.
-fn is_a_field(kind: PrivateKind) -> bool
+pub fn is_a_field(kind: PrivateKind) -> bool
     ensures { result ≡ members.is_a_field (kind_in kind) }
 {
     matches!(kind, PrivateKind::Field)
@@ -66,7 +70,8 @@ fn member_of_sort<'a>(c: &Context<'_, 'a>, sort: MemberSort, key: u32) -> Option
     }
 }
 
-fn is_loose(class_properties: Option<ClassPropertiesOptions>) -> bool
+/// Whether class fields and private members are lowered loosely.
+pub fn is_loose(class_properties: Option<ClassPropertiesOptions>) -> bool
     ensures { result ≡ asked.is_loose class_properties }
 {
     match class_properties {
@@ -219,5 +224,124 @@ pub fn class_named(code: &Code) -> Option<u32>
     match kind_of_name(code) {
         Some(kind) => class_named_of(kind),
         None => None,
+    }
+}
+
+/// Whether it is a name of this class.
+pub fn is_class_named(class: u32, code: &Code) -> bool
+    ensures { result ≡ spec.is_class_named class (code_of code.now) }
+{
+    match class_named(code) {
+        Some(named) => class == named,
+        None => false,
+    }
+}
+
+// ---- Q
+
+fn is_brand_of(class: u32, kind: &NameKind) -> bool
+    ensures { result ≡ is_brand_of class (kind_of kind.now) }
+{
+    match kind {
+        NameKind::Generated(GeneratedKind::Brand(branded)) => branded.0 == class,
+        _ => false,
+    }
+}
+
+/// Q, what brands the objects of a member: a `WeakSet`, or the class itself.
+#[tactic(auto, using(crate::proofs::Known::static_brand, crate::proofs::Known::own_brand, crate::proofs::Known::no_brand))]
+pub fn is_brand(member: &PrivateMember, code: &Code) -> bool
+    ensures { result ≡ spec.is_brand (private_member_of member.now) (code_of code.now) }
+{
+    if member.is_static {
+        return is_class_named(member.class, code);
+    }
+    match kind_of_name(code) {
+        Some(kind) => is_brand_of(member.class, kind),
+        None => false,
+    }
+}
+
+// ---- known objects
+
+fn known_origin(origin: &Origin) -> Option<This>
+    ensures { option_map this_of result ≡ known_value (origin_of origin.now) }
+{
+    match origin {
+        Origin::ThisOf(k) => Some(This::Of(*k)),
+        Origin::ClassOf(class) => Some(This::Class(*class)),
+        _ => None,
+    }
+}
+
+#[tactic(auto, using(crate::proofs::Known::key_unknown))]
+fn known_value(value: &Value) -> Option<This>
+    ensures { option_map this_of result ≡ known_value value.now }
+{
+    match value.origin() {
+        Some(origin) => known_origin(origin),
+        None => None,
+    }
+}
+
+fn named_object(code: &Code) -> Option<This>
+    ensures { option_map this_of result ≡ spec.class_value (spec.class_named (code_of code.now)) }
+{
+    match class_named(code) {
+        Some(class) => Some(This::Class(class)),
+        None => None,
+    }
+}
+
+/// `this`, or a name of a class.
+#[tactic(auto, using(crate::proofs::Known::known_valued, crate::proofs::Known::known_unvalued))]
+pub fn known_object(code: &Code) -> Option<This>
+    ensures { option_map this_of result ≡ spec.known_object (code_of code.now) }
+{
+    match value_of(code) {
+        Some(value) => known_value(value),
+        None => named_object(code),
+    }
+}
+
+// ---- what a `super` member is looked up on
+
+fn class_home(code: &Code) -> Option<Home>
+    ensures { nullable_home result ≡ spec.class_home (spec.class_named (code_of code.now)) }
+{
+    match class_named(code) {
+        Some(class) => Some(Home::OfClass(class)),
+        None => None,
+    }
+}
+
+fn prototype_home(code: &Code) -> Option<Home>
+    ensures { nullable_home result ≡ spec.prototype_home (spec.class_named (code_of code.now)) }
+{
+    match class_named(code) {
+        Some(class) => Some(Home::OfPrototype(class)),
+        None => None,
+    }
+}
+
+/// The `prototype` of a class, by the object and the key of a member.
+fn member_home(object: &Code, key: &Code) -> Option<Home>
+    ensures { nullable_home result ≡ cond (spec.is_string (codes "prototype") (code_of key.now)) (spec.prototype_home (spec.class_named (code_of object.now))) None }
+{
+    if is_string("prototype", key) {
+        prototype_home(object)
+    } else {
+        None
+    }
+}
+
+/// A class, or its `prototype`.
+#[tactic(auto, using(crate::proofs::Homes::a_member, crate::proofs::Homes::no_member))]
+pub fn home_of(code: &Code) -> Option<Home>
+    ensures { nullable_home result ≡ spec.home_of (code_of code.now) }
+{
+    match code {
+        Code::Member { object, key, .. } => member_home(object.get(), key.get()),
+        _ => class_home(code),
     }
 }
