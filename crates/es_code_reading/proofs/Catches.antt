@@ -1,12 +1,12 @@
 -- What is seen around a catch, a class and all other nodes.
-use Rattle.std.proofs.Common.{◌≡◌, refl, sym, ap, ◌∙◌, ℕ, List, [], ◌++◌, Bool, true, false, cond}
+use Rattle.std.proofs.Common.{◌≡◌, refl, sym, ap, ◌∙◌, ℕ, [], ◌++◌, Bool, true, false, cond}
 use Rattle.es_base.specs.Tree.{Tree, Part, Parts, Node, end, more, child, absent, list, string, no_string, boolean, literal}
 use Rattle.es_base.specs.declared.kind.Kind.{Kind}
 use Rattle.es_node.specs.View.{kind_of}
 use Rattle.es_steps.specs.Context.{inner_name}
 use Rattle.es_steps.specs.Parts.{at}
 use Rattle.es_steps.specs.References.{catches_a_name, names_around}
-use Rattle.es_steps.specs.Scopes.{Declaration, is_binding_identifier, names_at}
+use Rattle.es_steps.specs.Scopes.{is_binding_identifier, names_at}
 
 -- whether a part is an identifier that declares
 abbrev pub is_declaring : Part → Bool

@@ -1,9 +1,8 @@
 -- What a `super` member is looked up on, by the form of a code.
-use Rattle.std.proofs.Common.{◌≡◌, refl, sym, ap, ◌∙◌, ℕ, cond, Option, None}
+use Rattle.std.proofs.Common.{◌≡◌, refl, sym, ap, ◌∙◌, ℕ, cond, None}
 use Rattle.std.specs.Prelude.{codes}
 use Rattle.es_steps.specs.Code as of
 use Rattle.es_steps.specs.GeneratedForms.{is_string, home_of, class_home, prototype_home, class_named}
-use Rattle.es_steps.specs.Values.{Home}
 use Rattle.es_codes.proofs.Forms.{member_is}
 use Rattle.es_codes.specs.CodeView.{code_of, target_of, callee_of, code_step}
 use Rattle.es_codes.specs.declared.code.Code.{Code}

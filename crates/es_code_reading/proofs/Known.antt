@@ -1,5 +1,5 @@
 -- A literal, or a known object, is told by the value that a code is.
-use Rattle.std.proofs.Common.{◌≡◌, refl, sym, ap, ◌∙◌, ℕ, Bool, true, false, cond, nat_eq, Option, Some, None}
+use Rattle.std.proofs.Common.{◌≡◌, refl, sym, ap, ◌∙◌, Bool, true, false, cond, nat_eq, Option, Some, None}
 use Rattle.std.specs.Prelude.{not, ◌&&◌}
 use Rattle.es_base.specs.declared.ledger.GeneratedKind.{GeneratedKind}
 use Rattle.es_codes.specs.Keyed.{is_key}

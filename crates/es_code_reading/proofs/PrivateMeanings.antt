@@ -1,5 +1,5 @@
 -- What private names and generated names of methods mean.
-use Rattle.std.proofs.Common.{◌≡◌, refl, sym, ap, ◌∙◌, List, Bool, true, false, cond, Option, Some, None}
+use Rattle.std.proofs.Common.{◌≡◌, sym, ap, ◌∙◌, List, true, false, cond, Option, Some, None}
 use Rattle.std.specs.Prelude.{◌&&◌}
 use Rattle.es_steps.specs.Context.{NameKind, StaticMethod}
 use Rattle.es_steps.specs.Expressions.{static_method}
