@@ -88,3 +88,6 @@ a_key (suc k) o h = refl
 pub binding_keyed : (k : ℕ) (o : Origin) → is_binding_value (keyed k (origin_of o)) ≡ is_binding_value (origin_of o)
 binding_keyed zero o = refl
 binding_keyed (suc k) o = binding_keyed k o
+
+pub unkeyed : (k : ℕ) (o : Origin) → k ≡ zero → keyed k (origin_of o) ≡ origin_of o
+unkeyed k o h = ap (λ (j : ℕ). keyed j (origin_of o)) h

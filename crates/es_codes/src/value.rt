@@ -1,6 +1,6 @@
 // Values.
 
-ghost use Rattle.std.specs.Prelude.{◌≡◌, ◌↔◌, IsTrue, IfOk, IfSome};
+ghost use Rattle.std.specs.Prelude.{◌≡◌, ◌↔◌, IsTrue, IfOk, IfSome, MatchOption, true};
 
 use crate::same::same_constant;
 use es_base::literal::clone_of_nullable;
@@ -202,6 +202,18 @@ impl Value {
             origin,
             key_depth: self.key_depth,
         })
+    }
+
+    /// Where it comes from, unless it was made the key of a property.
+    #[tactic(auto, using(crate::proofs::Keys::a_key, crate::proofs::Keys::unkeyed))]
+    pub fn origin(&self) -> Option<&Origin>
+        ensures { MatchOption result (is_key self.now ≡ true) (λ o. self.now ≡ origin_of o.now) }
+    {
+        if self.key_depth > 0 {
+            None
+        } else {
+            Some(&self.origin)
+        }
     }
 
     /// Whether it was made the key of a property.

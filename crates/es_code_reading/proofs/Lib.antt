@@ -1,0 +1,12 @@
+pub mod Catches
+pub mod FieldForms
+pub mod FormCases
+pub mod Framing
+pub mod Homes
+pub mod Known
+pub mod Lettered
+pub mod NameKinds
+pub mod PrivateMeanings
+pub mod QuietForms
+pub mod Spreads
+pub mod StringKeys

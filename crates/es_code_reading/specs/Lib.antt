@@ -1,0 +1,3 @@
+pub mod Contexts
+pub mod Letters
+pub mod NameKinds
