@@ -122,7 +122,7 @@ fn in_function<'a>(terms: &Terms, node: u32, parts: &'a [Part], around: Around<'
     }
 }
 
-/// In the value of a field or in a static block, where no `arguments` of the code around stands.
+/// In the value of a field or in a static block, where no `await` or `yield` of the code around can stand.
 fn in_element<'a>(terms: &Terms, is_static: bool, around: Around<'a>) -> Around<'a>
     ensures { (seen : Seen) → context_with terms.now seen result ≡ spec.in_element is_static (context_with terms.now seen around.entry) }
 {
@@ -134,7 +134,7 @@ fn in_element<'a>(terms: &Terms, is_static: bool, around: Around<'a>) -> Around<
             This::Of(class)
         },
         new_target: None,
-        arguments: None,
+        arguments: Some(class),
         home: Some(if is_static {
             Home::OfClass(class)
         } else {
