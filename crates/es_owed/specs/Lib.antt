@@ -1,0 +1,4 @@
+pub mod FreeStatements
+pub mod Homes
+pub mod KeptNodes
+pub mod Lists
