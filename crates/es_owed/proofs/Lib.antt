@@ -2,7 +2,9 @@ pub mod Frees
 pub mod HomesKept
 pub mod Kept
 pub mod Nodes
+pub mod Numbering
 pub mod Sameness
+pub mod Staying
 pub mod StayingLists
 pub mod StrictCode
 pub mod Within

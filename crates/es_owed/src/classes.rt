@@ -39,7 +39,7 @@ pub fn class_body(node: &Node) -> Option<&Node>
 }
 
 /// The body of a node, if that is the class of this number.
-fn body_if(class: u32, node: &Node) -> Option<&Node>
+pub fn body_if(class: u32, node: &Node) -> Option<&Node>
     ensures { MatchOption result ((is_class (kind_of node.now) && nat_eq class (number_in node.now)) ≡ false) (λ body. ((is_class (kind_of node.now) && nat_eq class (number_in node.now)) ≡ true) × (at 2 (parts_in node.now) ≡ child body.now)) }
 {
     if class == node.node_id().0 {
