@@ -24,7 +24,7 @@ const programs = [
   { name: 'imports', type: 'module', source: `import d, { p } from "m"; let q; ${each(['d', 'p', 'q', 'import.meta'])}`, events: [true, true, false, true] },
   { name: 'arguments_of_functions', source: 'class A extends arguments {} function f() { return class extends arguments {}; } g(() => class extends arguments {}); class B { m() { return () => class extends arguments {}; } x = () => class extends this {}; }', events: [true, false, true, false, false] },
   { name: 'written_arguments', source: 'function f() { arguments = 1; return class extends arguments {}; }', events: [true] },
-  { name: 'declared_arguments', source: 'function f(arguments) { return class extends arguments {}; }', events: [false] },
+  { name: 'declared_arguments', source: 'function f(arguments) { return class extends arguments {}; }', events: [true] },
   { name: 'constants', source: each(['null', '1', '2n', '"s"', 'true', '/r/', 'this']), events: [false, false, false, false, false, false, false] },
   { name: 'targets', source: 'function f() { return class extends new.target {}; }', events: [false] },
   { name: 'templates', source: each(['`a`', '`a${b}`', 't`a`']), events: [false, true, true] },

@@ -95,7 +95,7 @@ abbrev pub options_declared_arguments : Options
 options_declared_arguments = options_of false (Some (record { loose = false })) false
 
 abbrev pub heritages_declared_arguments : List (ℕ × Bool)
-heritages_declared_arguments = (6, false) ∷ []
+heritages_declared_arguments = (6, true) ∷ []
 
 -- `class A0 extends null {} class A1 extends 1 {} class A2 extends 2n {} class A3 extends "s" {} class A4 extends true {} class A5 extends /r/ {} class A6 extends this {}`
 abbrev pub source_constants : Tree

@@ -1,6 +1,0 @@
-pub mod Elements
-pub mod FreeStatements
-pub mod Homes
-pub mod KeptNodes
-pub mod Lists
-pub mod Numbers
