@@ -5,8 +5,8 @@
 pub mod around;
 pub mod asked;
 mod changing_key;
-mod class;
-mod element;
+pub mod class;
+pub mod element;
 pub mod facts;
 mod heritage;
 pub mod kept_block;
@@ -17,6 +17,6 @@ pub mod own_name;
 pub mod private_chain;
 mod quiet;
 pub mod twice_read;
-mod walk;
+pub mod walk;
 pub mod warnings;
 pub mod written_class;

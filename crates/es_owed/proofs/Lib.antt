@@ -1,0 +1,10 @@
+pub mod Frees
+pub mod HomesKept
+pub mod Kept
+pub mod Nodes
+pub mod Numbering
+pub mod Sameness
+pub mod Staying
+pub mod StayingLists
+pub mod StrictCode
+pub mod Within

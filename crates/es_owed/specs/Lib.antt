@@ -1,0 +1,6 @@
+pub mod Elements
+pub mod FreeStatements
+pub mod Homes
+pub mod KeptNodes
+pub mod Lists
+pub mod Numbers

@@ -1,0 +1,4 @@
+pub mod Accounts
+pub mod Declarations
+pub mod OwnClassNames
+pub mod Resolving

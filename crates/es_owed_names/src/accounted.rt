@@ -1,0 +1,104 @@
+// New declarations are accounted for.
+
+ghost use Rattle.std.specs.Prelude.{◌≡◌, bytes_eq, codes, IfOk};
+ghost use Rattle.es_base.specs.Words.{variable_declaration_kind_string};
+ghost use Rattle.es_base.specs.Tree.{trees};
+ghost use Rattle.es_binding_faults.specs.Seen.{seen};
+ghost use Rattle.es_steps.specs.Lowered as spec;
+ghost use Rattle.es_steps.specs.Lowered.{all_accounted, has_new_declarator, is_accounted, is_new_const};
+ghost use Rattle.es_steps.specs.Scopes as scopes;
+
+use crate::ledger::is_generated;
+use crate::own_names::own_name_numbers;
+use crate::references::references;
+use es_base::kind::Kind;
+use es_base::ledger::LedgerEntry;
+use es_base::operator::VariableDeclarationKind;
+use es_node::node::Node;
+use es_owed::listed::Listed;
+use es_owed::numbers::{has_number, is_new};
+use es_seen_names::parts::string_at;
+use es_tree::statement::VariableDeclarationRef;
+use std::alloc::{AllocError, Global};
+
+/// Whether each new identifier that declares has a generated name, or is the own name of a class that may have it; and no
+/// `const` is new or has a new declarator. Fails on allocation failure alone.
+pub fn declarations_accounted(
+    alloc: Global,
+    first: u32,
+    ledger: &[LedgerEntry],
+    source: &Listed,
+    lowered: &Listed,
+) -> Result<bool, AllocError>
+    ensures { IfOk result (λ holds. holds ≡ spec.declarations_accounted first ledger.now source.now.program.now lowered.now.program.now) }
+{
+    let references = references(alloc, lowered.program)?;
+    let nodes = lowered.nodes.as_slice();
+    let own = own_name_numbers(alloc, source, references.as_slice(), nodes)?;
+    Ok(all_accounted(first, ledger, own.as_slice(), nodes))
+}
+
+fn all_accounted(first: u32, ledger: &[LedgerEntry], own: &[u32], nodes: &[&Node]) -> bool
+    ensures { result ≡ all_accounted first ledger.now own.now (seen nodes.now) }
+{
+    for node in nodes {
+        if is_new_const(first, node) || !is_accounted(first, ledger, own, node) {
+            return false;
+        }
+    }
+    true
+}
+
+/// Whether the node declares nothing new, or a generated name, or one of these own names.
+#[tactic(auto, using(crate::proofs::Accounts::accounted_node))]
+fn is_accounted(first: u32, ledger: &[LedgerEntry], own: &[u32], node: &Node) -> bool
+    ensures { result ≡ is_accounted first ledger.now own.now node.now }
+{
+    let number = node.node_id().0;
+    let is_new_name = is_binding_identifier(node.kind()) && is_new(first, number);
+    !is_new_name || (is_generated(string_at(node.parts(), 0), ledger) || has_number(number, own))
+}
+
+fn is_binding_identifier(kind: Kind) -> bool
+    ensures { result ≡ scopes.is_binding_identifier kind }
+{
+    matches!(kind, Kind::BindingIdentifier)
+}
+
+/// Whether the node is a `const` that is new, or has a new declarator.
+#[tactic(auto, using(crate::proofs::Accounts::no_variables))]
+fn is_new_const(first: u32, node: &Node) -> bool
+    ensures { result ≡ is_new_const first node.now }
+{
+    match node.kind() {
+        // const x = 1;
+        Kind::VariableDeclaration => {
+            let variables = VariableDeclarationRef::from_node(node);
+            (is_new(first, variables.node_id.0)
+                || has_new_declarator(first, variables.declarations))
+                && is_const(variables.kind)
+        }
+        _ => false,
+    }
+}
+
+fn is_const(kind: VariableDeclarationKind) -> bool
+    ensures { result ≡ bytes_eq (variable_declaration_kind_string kind) (codes "const") }
+{
+    match kind {
+        VariableDeclarationKind::Const => true,
+        VariableDeclarationKind::Var | VariableDeclarationKind::Let => false,
+    }
+}
+
+#[tactic(auto, using(es_owed::proofs::Nodes::number_of_node))]
+fn has_new_declarator(first: u32, declarators: &[Node]) -> bool
+    ensures { result ≡ has_new_declarator first (trees declarators.now) }
+{
+    for declarator in declarators {
+        if is_new(first, declarator.node_id().0) {
+            return true;
+        }
+    }
+    false
+}
