@@ -14,10 +14,9 @@ ghost use Rattle.es_steps.specs.Scopes.{bound_part, no_class, scope_names, scope
 ghost use Rattle.es_outside.specs.Changing.{ids, assigned_in, own_number};
 ghost use Rattle.es_outside.specs.Meant.{write_arguments, writes_arguments};
 
-use crate::references::Meant;
+use crate::references::{Meant, is_arguments};
 use es_base::ids::NodeId;
 use es_base::kind::Kind;
-use es_base::strings::is_word;
 use es_binding_faults::bound::Declared;
 use es_binding_faults::hoisted::{Hoist, add_bound_at};
 use es_binding_faults::scopes::{add_hoisted_at, add_scope_names, scope_form};
@@ -247,7 +246,7 @@ fn add_arguments(names: &[Declared], bindings: &mut Vec<NodeId>) -> Result<(), A
 fn add_if_arguments(declared: Declared, bindings: &mut Vec<NodeId>) -> Result<(), AllocError>
     ensures { OnOk result (ids bindings.new.items ≡ ids bindings.old.items ++ cond (bytes_eq (codes "arguments") (chars declared.entry.name.now)) (declared.entry.node.0 ∷ []) []) }
 {
-    if is_word(declared.name, "arguments") {
+    if is_arguments(declared.name) {
         bindings.push(declared.node)?;
     }
     Ok(())

@@ -299,8 +299,9 @@ fn reference_at(scope: &Scope, is_target: bool, node: &Node) -> Option<Meant>
     }
 }
 
+/// Whether a name is `arguments`.
 #[tactic(auto, using(es_base::proofs::Ascii::chars_ascii))]
-fn is_arguments(name: &str) -> bool
+pub fn is_arguments(name: &str) -> bool
     ensures { result ≡ bytes_eq (codes "arguments") (chars name.now) }
 {
     is_word(name, "arguments")
