@@ -2,8 +2,8 @@
 use Rattle.std.specs.Prelude.{ℕ, suc, List, [], ◌∷◌, ◌++◌, Bool, true, false, cond, not, ◌&&◌, ◌||◌, nat_eq, bytes_eq, codes, is_some}
 use Rattle.es_base.specs.Conforms.{is_among}
 use Rattle.es_base.specs.Numbered.{is_new}
-use Rattle.es_base.specs.Preorder.{preorder_of, number_of}
-use Rattle.es_base.specs.Tree.{Tree, Part, Parts, Node, end, more, child, list, string, literal}
+use Rattle.es_base.specs.Preorder.{preorder, preorder_of, number_of}
+use Rattle.es_base.specs.Tree.{Tree, Part, Parts, Node, end, more, child, absent, list, string, literal}
 use Rattle.es_base.specs.declared.kind.Kind.{Kind}
 use Rattle.es_base.specs.declared.ledger.LedgerEntry.{LedgerEntry}
 use Rattle.es_base.specs.declared.literal.LiteralValue.TheVariants as literal_value
@@ -92,6 +92,11 @@ any_runs (more p ps) = runs_with_class p || any_runs ps
 abbrev pub body_runs : Part → Bool
 body_runs (child (Node Kind.ClassBody m span semantic_id ps)) = any_runs (items (at 0 ps))
 body_runs p = false
+
+abbrev pub last_part : Parts → Part
+last_part end = absent
+last_part (more p end) = p
+last_part (more p (more q rest)) = last_part (more q rest)
 
 -- ---- where a call stands
 
@@ -224,6 +229,42 @@ module _ (first : ℕ) (ledger : List LedgerEntry) (keys : List ℕ) where
     calls_of_body x all methods front end = true
     calls_of_body x all methods front (more p ps) = calls_at false (naming_of_element x all methods front) p && calls_of_body x all methods (front ++ field_key p) ps
 
+  -- ---- a key by which a function or a class keeps its name was converted, `({ [_key]: e })[_key]` and `static #_ = _key`: one that
+  -- is converted twice may be two
+
+  abbrev pub generated_spelling : Part → List String
+  generated_spelling (child (Node Kind.IdentifierReference m span semantic_id ps)) = cond (is_some (generated_as (string_of (at 0 ps)) ledger)) (string_of (at 0 ps) ∷ []) []
+  generated_spelling p = []
+
+  abbrev pub last_spelling : Part → List String
+  last_spelling (child (Node Kind.SequenceExpression m span semantic_id (more (list es) end))) = generated_spelling (last_part es)
+  last_spelling p = generated_spelling p
+
+  abbrev pub is_new_private : Part → Bool
+  is_new_private (child (Node Kind.PrivateIdentifier d span semantic_id ps)) = is_new first d
+  is_new_private p = false
+
+  abbrev pub kept_keys : Tree → List String
+  kept_keys (Node Kind.Property m span semantic_id ps) = cond (is_new first m && is_true (at 5 ps)) (generated_spelling (at 0 ps)) []
+  kept_keys (Node Kind.PropertyDefinition m span semantic_id ps) = cond (is_new_private (at 0 ps)) (last_spelling (at 1 ps)) []
+  kept_keys t = []
+
+  abbrev pub converted_key : Tree → List String
+  converted_key (Node Kind.AssignmentExpression m span semantic_id ps) = cond (is_key_conversion (at 2 ps)) (spelling (at 1 ps) ∷ []) []
+  converted_key t = []
+
+  abbrev pub all_by : (Tree → List String) → List Tree → List String
+  all_by of [] = []
+  all_by of (t ∷ ts) = of t ++ all_by of ts
+
+  -- a parameter stands for a key that is asked for where it is given
+  abbrev pub all_converted : List String → List String → Bool
+  all_converted converted [] = true
+  all_converted converted (s ∷ ss) = is_among s converted && all_converted converted ss
+
+  abbrev pub kept_keys_converted : List Tree → Bool
+  kept_keys_converted ts = all_converted (all_by converted_key ts) (all_by kept_keys ts)
+
   -- of a lowered program
   abbrev pub helper_calls_fit : Tree → Bool
-  helper_calls_fit q = calls_fit (record { keys = []; outer_keys = []; all_keys = []; tested = [] }) q
+  helper_calls_fit q = calls_fit (record { keys = []; outer_keys = []; all_keys = []; tested = [] }) q && kept_keys_converted (preorder q)

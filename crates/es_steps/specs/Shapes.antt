@@ -91,8 +91,11 @@ has_pattern_parameter p = false
 abbrev pub initializes_instances : Element → Bool
 initializes_instances e = not e.is_static && (e.is_field || e.is_private)
 
+abbrev pub initializes_with_pattern : ClassAt → Bool
+initializes_with_pattern k = any_element initializes_instances k.elements && has_pattern_parameter (constructor_in k.body)
+
 abbrev pub is_late_class : ClassAt → Bool
-is_late_class k = not (is_present k.heritage) && (any_element initializes_instances k.elements && has_pattern_parameter (constructor_in k.body))
+is_late_class k = not (is_present k.heritage) && initializes_with_pattern k
 
 abbrev pub late_classes : List ClassAt → List ℕ
 late_classes [] = []
@@ -105,10 +108,14 @@ late_of o t = cond (lowers_fields o) (late_classes (lowered_classes o (preorder 
 abbrev pub has_shape_2 : Options → List ClassAt → Bool
 has_shape_2 o ks = lowers_fields o && any_class is_late_class ks
 
--- ---- 3: a static block that is kept beside a static field or a private member
+-- ---- 3: a static block that is kept beside a static field or a private member, or, in a class with a heritage, beside fields and
+-- a parameter that is no identifier: it may call `super(..)`, and the fields are then initialized outside of the class
+
+abbrev pub initializes_outside : ClassAt → Bool
+initializes_outside k = is_present k.heritage && initializes_with_pattern k
 
 abbrev pub keeps_block : ClassAt → Bool
-keeps_block k = any_element (λ e. e.is_block) k.elements && any_element (λ e. is_static_field e || e.is_private) k.elements
+keeps_block k = any_element (λ e. e.is_block) k.elements && (any_element (λ e. is_static_field e || e.is_private) k.elements || initializes_outside k)
 
 abbrev pub has_shape_3 : Options → List ClassAt → Bool
 has_shape_3 o ks = lowers_fields o && (not (lowers_blocks o) && any_class keeps_block ks)

@@ -24,6 +24,8 @@ pub data MarkForm : Type 0 where
   -- a function declaration, which is there from the head of its list on
   hoists : MarkForm
   uses : MarkForm
+  -- what a class uses where it stands, or what is given in front of each use
+  needs : MarkForm
 
 -- Around a place: the parts that may run or not, or again, each by its node and which part of it it is; the functions that
 -- run later, a new arrow aside, each with whether it may be called in front of where it stands; and whether what stands here is
@@ -120,10 +122,22 @@ abbrev pub needed_names : ℕ → List PrivateMember → List LedgerEntry → Li
 needed_names n members [] = []
 needed_names n members (e ∷ es) = cond (is_needed_by n members e.kind) (e.name ∷ []) [] ++ needed_names n members es
 
--- what a class needs where it stands: also a function of a generated name may be called before
+-- what a class needs is given where it stands: also a function of a generated name may be called in front of it
 abbrev pub uses_of : Around → List String → List Mark
 uses_of x [] = []
-uses_of x (s ∷ ss) = record { name = s; form = uses; around = record x { later = x.called } } ∷ uses_of x ss
+uses_of x (s ∷ ss) = record { name = s; form = needs; around = record x { later = x.called } } ∷ uses_of x ss
+
+-- a name of a closure or of what stands for `super(..)` is given in front of each use, also of those that run later
+abbrev pub comes_first : Option GeneratedKind → Bool
+comes_first (Some (GeneratedKind.SuperFn n)) = true
+comes_first (Some GeneratedKind.Closure) = true
+comes_first g = false
+
+abbrev pub use_form : Option GeneratedKind → MarkForm
+use_form g = cond (comes_first g) needs uses
+
+abbrev pub use_around : Option GeneratedKind → Around → Around
+use_around g x = cond (comes_first g) (record x { later = x.called }) x
 
 -- an arrow that is called where it stands runs behind the arguments
 abbrev pub is_called_arrow : Kind → Parts → Bool
@@ -148,7 +162,7 @@ module _ (first : ℕ) (ledger : List LedgerEntry) (members : List PrivateMember
 
   -- in front of the marks of its parts, and behind them
   abbrev pub marks_before : Around → Kind → ℕ → Parts → List Mark
-  marks_before x Kind.IdentifierReference m ps = mark x uses (string_of (at 0 ps))
+  marks_before x Kind.IdentifierReference m ps = mark (use_around (generated_as (string_of (at 0 ps)) ledger) x) (use_form (generated_as (string_of (at 0 ps)) ledger)) (string_of (at 0 ps))
   marks_before x Kind.ClassDeclaration m ps = uses_of x (needed_names m members ledger)
   marks_before x Kind.ClassExpression m ps = uses_of x (needed_names m members ledger)
   marks_before x Kind.FunctionDeclaration m ps = mark x hoists (spelling (at 0 ps))
@@ -221,14 +235,18 @@ is_called_early [] there = false
 is_called_early (f ∷ fs) there = cond (is_later fs there) (is_called_early fs there) (not (is_around f.0 there) && f.1)
 
 -- whether i is an initialization that m may rely on: what may run or not around it is around m too, and it stands in front,
--- or m runs later, or it is hoisted
+-- or m runs later and does not need it in front, or it is hoisted
 abbrev pub gives_by : MarkForm → Bool → Bool → Bool → Bool
 gives_by initializes in_front later early = (in_front || later) && not early
 gives_by hoists in_front later early = true
 gives_by form in_front later early = false
 
+abbrev pub is_needed : MarkForm → Bool
+is_needed needs = true
+is_needed form = false
+
 abbrev pub gives_in_time : Bool → Mark → Mark → Bool
-gives_in_time in_front m i = bytes_eq m.name i.name && (all_pairs_stand i.around.held m.around.held && gives_by i.form in_front (is_later m.around.later i.around.later) (is_called_early m.around.later i.around.later))
+gives_in_time in_front m i = bytes_eq m.name i.name && (all_pairs_stand i.around.held m.around.held && gives_by i.form in_front (not (is_needed m.form) && is_later m.around.later i.around.later) (is_called_early m.around.later i.around.later))
 
 abbrev pub any_gives : Bool → Mark → List Mark → Bool
 any_gives in_front m [] = false
@@ -243,14 +261,13 @@ abbrev pub is_dead : Mark → List Mark → Bool
 is_dead m [] = false
 is_dead m (d ∷ ds) = (bytes_eq m.name d.name && is_declaration d.form) || is_dead m ds
 
--- a `let` in front that may not have run, as in another case
-abbrev pub is_skipped_by : MarkForm → Bool → Bool
-is_skipped_by declares around = not around
-is_skipped_by form around = false
+-- a `let` in front that may not have run, as in another case, or one in front of which the function around m may be called
+abbrev pub is_skipped_by : Mark → Mark → Bool
+is_skipped_by m d = is_declaration d.form && (not (all_pairs_stand d.around.held m.around.held) || is_called_early m.around.called d.around.called)
 
 abbrev pub is_skipped : Mark → List Mark → Bool
 is_skipped m [] = false
-is_skipped m (d ∷ ds) = (bytes_eq m.name d.name && is_skipped_by d.form (all_pairs_stand d.around.held m.around.held)) || is_skipped m ds
+is_skipped m (d ∷ ds) = (bytes_eq m.name d.name && is_skipped_by m d) || is_skipped m ds
 
 abbrev pub is_followed : Option GeneratedKind → Bool
 is_followed (Some GeneratedKind.Temp) = false
@@ -258,14 +275,9 @@ is_followed (Some GeneratedKind.Param) = false
 is_followed (Some GeneratedKind.Args) = false
 is_followed g = true
 
--- a name of a closure or of what stands for `super(..)` is given in front of each use, also of those that run later
-abbrev pub comes_first : Option GeneratedKind → Bool
-comes_first (Some (GeneratedKind.SuperFn n)) = true
-comes_first (Some GeneratedKind.Closure) = true
-comes_first g = false
-
 abbrev pub is_use : MarkForm → Bool
 is_use uses = true
+is_use needs = true
 is_use form = false
 
 module _ (ledger : List LedgerEntry) where
@@ -287,7 +299,7 @@ module _ (ledger : List LedgerEntry) where
   -- the marks in front, the nearest first, and those from here on
   abbrev pub in_time : List Mark → List Mark → Bool
   in_time front [] = true
-  in_time front (m ∷ ms) = not (is_early m || (is_dead m ms || is_skipped m front)) && ((not (asks m) || (any_gives true m front || (not (comes_first (generated_as m.name ledger)) && any_gives false m ms))) && in_time (m ∷ front) ms)
+  in_time front (m ∷ ms) = not (is_early m || (is_dead m ms || is_skipped m front)) && ((not (asks m) || (any_gives true m front || any_gives false m ms)) && in_time (m ∷ front) ms)
 
 abbrev pub names_timely : ℕ → List LedgerEntry → List PrivateMember → Tree → Bool
 names_timely first ledger members q = in_time ledger [] (marks first ledger members (record { held = []; later = []; called = []; is_called = false; running = []; class_name = [] }) false q)
