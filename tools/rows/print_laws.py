@@ -83,12 +83,12 @@ HOMES = 'homes_kept (nodes source_{n}) options_{n} source_{n} output_{n}'
 PRINTABLE = 'is_printable output_{n}'
 PRINTED = 'stays_printable source_{n} output_{n}'
 NAMED = 'names_declared (nodes source_{n}) generated_{n} output_{n}'
-STEADY = 'temporaries_steady (nodes source_{n}) generated_{n} output_{n}'
+STEADY = 'temporaries_steady (nodes source_{n}) generated_{n} (private_members source_{n}) output_{n}'
 INITIALIZED = 'initializations_stand (nodes source_{n}) generated_{n} (private_members source_{n}) output_{n} generated_{n}'
 ACCOUNTED = 'declarations_accounted (nodes source_{n}) generated_{n} source_{n} output_{n}'
 STRICT = 'none_becomes_strict (nodes source_{n}) source_{n} output_{n}'
 TEXTS = 'texts_stay (nodes source_{n}) source_{n} output_{n}'
-OWN_NAMES = 'own_names_stay source_{n} output_{n}'
+OWN_NAMES = 'own_names_stay (nodes source_{n}) generated_{n} source_{n} output_{n}'
 NOT_MET = {
     'temporary_given_again': STEADY,
     'temporary_given_again_in_a_loop': STEADY,

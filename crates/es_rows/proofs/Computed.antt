@@ -39,12 +39,12 @@ clauses o ledger p q =
     ∷ nothing_left o q
     ∷ names_declared (nodes p) ledger q
     ∷ declarations_accounted (nodes p) ledger p q
-    ∷ own_names_stay p q
+    ∷ own_names_stay (nodes p) ledger p q
     ∷ none_becomes_strict (nodes p) p q
     ∷ texts_stay (nodes p) p q
     ∷ initializations_stand (nodes p) ledger (private_members p) q ledger
     ∷ names_timely (nodes p) ledger (private_members p) q
-    ∷ temporaries_steady (nodes p) ledger q
+    ∷ temporaries_steady (nodes p) ledger (private_members p) q
     ∷ keys_stand (nodes p) o ledger (private_members p) q (all_temporaries (nodes p) o ledger (private_members p) q (preorder q))
     ∷ nodes_kept p q
     ∷ classes_kept (nodes p) p q

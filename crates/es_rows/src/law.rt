@@ -676,8 +676,8 @@ pub fn clauses_are_not_met()
     ensures copy_of_a_number { texts_stay (nodes source_copy_of_a_number) source_copy_of_a_number output_copy_of_a_number ≡ false }
     ensures dead_temporary { names_timely (nodes source_dead_temporary) generated_dead_temporary (private_members source_dead_temporary) output_dead_temporary ≡ false }
     ensures declaration_of_nothing { stays_printable source_declaration_of_nothing output_declaration_of_nothing ≡ false }
-    ensures declaration_without_its_name { own_names_stay source_declaration_without_its_name output_declaration_without_its_name ≡ false }
-    ensures declaration_without_its_name_in_a_method { own_names_stay source_declaration_without_its_name_in_a_method output_declaration_without_its_name_in_a_method ≡ false }
+    ensures declaration_without_its_name { own_names_stay (nodes source_declaration_without_its_name) generated_declaration_without_its_name source_declaration_without_its_name output_declaration_without_its_name ≡ false }
+    ensures declaration_without_its_name_in_a_method { own_names_stay (nodes source_declaration_without_its_name_in_a_method) generated_declaration_without_its_name_in_a_method source_declaration_without_its_name_in_a_method output_declaration_without_its_name_in_a_method ≡ false }
     ensures declaration_without_its_names { stays_printable source_declaration_without_its_names output_declaration_without_its_names ≡ false }
     ensures declarator_in_a_const { declarations_accounted (nodes source_declarator_in_a_const) generated_declarator_in_a_const source_declarator_in_a_const output_declarator_in_a_const ≡ false }
     ensures directive_behind_a_name { is_printable output_directive_behind_a_name ≡ false }
@@ -697,7 +697,7 @@ pub fn clauses_are_not_met()
     ensures let_in_strict_code { stays_printable source_let_in_strict_code output_let_in_strict_code ≡ false }
     ensures let_of_another_case { names_timely (nodes source_let_of_another_case) generated_let_of_another_case (private_members source_let_of_another_case) output_let_of_another_case ≡ false }
     ensures let_out_of_its_block { lists_kept options_let_out_of_its_block source_let_out_of_its_block output_let_out_of_its_block ≡ false }
-    ensures let_read_in_its_value { own_names_stay source_let_read_in_its_value output_let_read_in_its_value ≡ false }
+    ensures let_read_in_its_value { own_names_stay (nodes source_let_read_in_its_value) generated_let_read_in_its_value source_let_read_in_its_value output_let_read_in_its_value ≡ false }
     ensures map_made_in_a_branch { names_timely (nodes source_map_made_in_a_branch) generated_map_made_in_a_branch (private_members source_map_made_in_a_branch) output_map_made_in_a_branch ≡ false }
     ensures map_made_in_a_called_arrow { names_timely (nodes source_map_made_in_a_called_arrow) generated_map_made_in_a_called_arrow (private_members source_map_made_in_a_called_arrow) output_map_made_in_a_called_arrow ≡ false }
     ensures map_made_in_a_pattern { names_timely (nodes source_map_made_in_a_pattern) generated_map_made_in_a_pattern (private_members source_map_made_in_a_pattern) output_map_made_in_a_pattern ≡ false }
@@ -722,7 +722,7 @@ pub fn clauses_are_not_met()
     ensures own_name_in_a_heritage { names_timely (nodes source_own_name_in_a_heritage) generated_own_name_in_a_heritage (private_members source_own_name_in_a_heritage) output_own_name_in_a_heritage ≡ false }
     ensures own_name_in_a_key { names_timely (nodes source_own_name_in_a_key) generated_own_name_in_a_key (private_members source_own_name_in_a_key) output_own_name_in_a_key ≡ false }
     ensures own_name_that_is_meant { declarations_accounted (nodes source_own_name_that_is_meant) generated_own_name_that_is_meant source_own_name_that_is_meant output_own_name_that_is_meant ≡ false }
-    ensures parameter_read_later { temporaries_steady (nodes source_parameter_read_later) generated_parameter_read_later output_parameter_read_later ≡ false }
+    ensures parameter_read_later { temporaries_steady (nodes source_parameter_read_later) generated_parameter_read_later (private_members source_parameter_read_later) output_parameter_read_later ≡ false }
     ensures parameter_renamed { homes_kept (nodes source_parameter_renamed) options_parameter_renamed source_parameter_renamed output_parameter_renamed ≡ false }
     ensures pattern_of_no_regular_expression { texts_stay (nodes source_pattern_of_no_regular_expression) source_pattern_of_no_regular_expression output_pattern_of_no_regular_expression ≡ false }
     ensures private_name_constructor { texts_stay (nodes source_private_name_constructor) source_private_name_constructor output_private_name_constructor ≡ false }
@@ -730,19 +730,19 @@ pub fn clauses_are_not_met()
     ensures private_name_twice { names_declared (nodes source_private_name_twice) generated_private_name_twice output_private_name_twice ≡ false }
     ensures raw_of_a_string { texts_stay (nodes source_raw_of_a_string) source_raw_of_a_string output_raw_of_a_string ≡ false }
     ensures raw_of_a_template { texts_stay (nodes source_raw_of_a_template) source_raw_of_a_template output_raw_of_a_template ≡ false }
-    ensures regular_expression_read_twice { temporaries_steady (nodes source_regular_expression_read_twice) generated_regular_expression_read_twice output_regular_expression_read_twice ≡ false }
+    ensures regular_expression_read_twice { temporaries_steady (nodes source_regular_expression_read_twice) generated_regular_expression_read_twice (private_members source_regular_expression_read_twice) output_regular_expression_read_twice ≡ false }
     ensures second_string_that_a_printer_makes_a_directive { stays_printable source_second_string_that_a_printer_makes_a_directive output_second_string_that_a_printer_makes_a_directive ≡ false }
     ensures strict_arrow { none_becomes_strict (nodes source_strict_arrow) source_strict_arrow output_strict_arrow ≡ false }
     ensures strict_rest { is_printable output_strict_rest ≡ false }
     ensures string_that_a_printer_makes_a_directive { stays_printable source_string_that_a_printer_makes_a_directive output_string_that_a_printer_makes_a_directive ≡ false }
     ensures super_function_behind_a_call { names_timely (nodes source_super_function_behind_a_call) generated_super_function_behind_a_call (private_members source_super_function_behind_a_call) output_super_function_behind_a_call ≡ false }
     ensures super_function_behind_its_calls { names_timely (nodes source_super_function_behind_its_calls) generated_super_function_behind_its_calls (private_members source_super_function_behind_its_calls) output_super_function_behind_its_calls ≡ false }
-    ensures temporary_given_again { temporaries_steady (nodes source_temporary_given_again) generated_temporary_given_again output_temporary_given_again ≡ false }
+    ensures temporary_given_again { temporaries_steady (nodes source_temporary_given_again) generated_temporary_given_again (private_members source_temporary_given_again) output_temporary_given_again ≡ false }
     ensures temporary_given_again_in_a_branch { initializations_stand (nodes source_temporary_given_again_in_a_branch) generated_temporary_given_again_in_a_branch (private_members source_temporary_given_again_in_a_branch) output_temporary_given_again_in_a_branch generated_temporary_given_again_in_a_branch ≡ false }
-    ensures temporary_given_again_in_a_loop { temporaries_steady (nodes source_temporary_given_again_in_a_loop) generated_temporary_given_again_in_a_loop output_temporary_given_again_in_a_loop ≡ false }
+    ensures temporary_given_again_in_a_loop { temporaries_steady (nodes source_temporary_given_again_in_a_loop) generated_temporary_given_again_in_a_loop (private_members source_temporary_given_again_in_a_loop) output_temporary_given_again_in_a_loop ≡ false }
     ensures temporary_given_again_in_a_round { initializations_stand (nodes source_temporary_given_again_in_a_round) generated_temporary_given_again_in_a_round (private_members source_temporary_given_again_in_a_round) output_temporary_given_again_in_a_round generated_temporary_given_again_in_a_round ≡ false }
-    ensures temporary_of_a_hoisted_function { temporaries_steady (nodes source_temporary_of_a_hoisted_function) generated_temporary_of_a_hoisted_function output_temporary_of_a_hoisted_function ≡ false }
-    ensures temporary_of_the_program { temporaries_steady (nodes source_temporary_of_the_program) generated_temporary_of_the_program output_temporary_of_the_program ≡ false }
+    ensures temporary_of_a_hoisted_function { temporaries_steady (nodes source_temporary_of_a_hoisted_function) generated_temporary_of_a_hoisted_function (private_members source_temporary_of_a_hoisted_function) output_temporary_of_a_hoisted_function ≡ false }
+    ensures temporary_of_the_program { temporaries_steady (nodes source_temporary_of_the_program) generated_temporary_of_the_program (private_members source_temporary_of_the_program) output_temporary_of_the_program ≡ false }
     ensures text_of_a_directive { texts_stay (nodes source_text_of_a_directive) source_text_of_a_directive output_text_of_a_directive ≡ false }
     ensures two_brands { names_declared (nodes source_two_brands) generated_two_brands output_two_brands ≡ false }
     ensures two_functions { names_declared (nodes source_two_functions) generated_two_functions output_two_functions ≡ false }

@@ -12,7 +12,7 @@ use Rattle.es_steps.specs.HelperCalls.{is_class_body, runs_with_class, body_runs
 use Rattle.es_steps.specs.KeptNodes.{pair_stands, all_pairs_stand}
 use Rattle.es_steps.specs.Parts.{at, string_of}
 use Rattle.es_steps.specs.PrivateNames.{PrivateMember, member_at, is_class, is_element}
-use Rattle.es_steps.specs.Timely.{is_same, MarkForm, declares, initializes, hoists, uses, Around, Mark, is_held, is_held_arrow, is_instance_value, runs_later, around_in, mark_by, mark, declared_mark, initialized_mark, marks_before, marks_behind, is_given, is_let_declaration, is_of_class, is_needed_by, needed_names, uses_of, is_called_arrow, marks, marks_in, marks_at, marks_of, key_marks, value_marks, is_hoisted, is_declared, is_around, is_called_early, is_later, gives_in_time, any_gives, is_declaration, is_dead, is_skipped_by, is_skipped, is_followed, is_use, comes_first, is_running, is_early_by, is_early, asks, in_time, names_timely}
+use Rattle.es_steps.specs.Timely.{is_same, MarkForm, declares, initializes, hoists, uses, needs, Around, Mark, is_held, is_held_arrow, is_instance_value, runs_later, around_in, mark_by, mark, declared_mark, initialized_mark, marks_before, marks_behind, is_given, is_let_declaration, is_of_class, is_needed_by, needed_names, uses_of, is_called_arrow, marks, marks_in, marks_at, marks_of, key_marks, value_marks, is_hoisted, is_declared, is_around, is_called_early, is_later, gives_in_time, any_gives, is_declaration, is_dead, is_skipped_by, is_skipped, is_followed, is_use, comes_first, use_form, use_around, is_running, is_early_by, is_early, asks, in_time, names_timely}
 use Rattle.es_steps.specs.Values.{String}
 use Rattle.es_steps.proofs.ContextMapped.{generated_as-mapped}
 use Rattle.es_steps.proofs.DefinitionsMapped.{spelling-mapped}
@@ -57,6 +57,12 @@ module _ (f : ℕ → ℕ) where
   comes_first-mapped (Some (GeneratedKind.SuperFn n)) = refl
   comes_first-mapped (Some GeneratedKind.Closure) = refl
   comes_first-mapped (Some g) = refl
+
+  use_form-mapped : (g : Option GeneratedKind) → use_form (mapped_option (mapped_generated f) g) ≡ use_form g
+  use_form-mapped g = rw (comes_first-mapped g) refl
+
+  use_around-mapped : (g : Option GeneratedKind) (x : Around) → use_around (mapped_option (mapped_generated f) g) (mapped_around x) ≡ mapped_around (use_around g x)
+  use_around-mapped g x = rw (comes_first-mapped g) (cond-mapped mapped_around (comes_first g) (record x { later = x.called }) x refl refl)
 
   is_followed-mapped : (g : Option GeneratedKind) → is_followed (mapped_option (mapped_generated f) g) ≡ is_followed g
   is_followed-mapped None = refl
@@ -128,7 +134,7 @@ module _ {first : ℕ} {f : ℕ → ℕ} (r : Renames first f) where
 
   uses_of-mapped : (x : Around) (ss : List String) → uses_of (mapped_around f x) ss ≡ map (mapped_mark f) (uses_of x ss)
   uses_of-mapped x [] = refl
-  uses_of-mapped x (s ∷ ss) = ap (λ ms. mapped_mark f (record { name = s; form = uses; around = record x { later = x.called } }) ∷ ms) (uses_of-mapped x ss)
+  uses_of-mapped x (s ∷ ss) = ap (λ ms. mapped_mark f (record { name = s; form = needs; around = record x { later = x.called } }) ∷ ms) (uses_of-mapped x ss)
 
   is_called_arrow-mapped : (kind : Kind) (ps : Parts) → is_called_arrow kind (mapped_parts f ps) ≡ is_called_arrow kind ps
   is_called_arrow-mapped Kind.CallExpression (more (child (Node Kind.ArrowFunctionExpression m span semantic_id ps)) rest) = refl
@@ -165,7 +171,12 @@ module _ {first : ℕ} {f : ℕ → ℕ} (r : Renames first f) where
     class_uses-mapped x m = ap (uses_of (mapped_around f x)) (needed_names-mapped m members ledger) ∙ uses_of-mapped x (needed_names m members ledger)
 
     marks_before-mapped : (x : Around) (kind : Kind) (m : ℕ) (ps : Parts) → marks_before first there others (mapped_around f x) kind (f m) (mapped_parts f ps) ≡ moved (marks_before first ledger members x kind m ps)
-    marks_before-mapped x Kind.IdentifierReference m ps = rw (string_at-mapped f 0 ps) (mark-mapped x uses (string_of (at 0 ps)))
+    marks_before-mapped x Kind.IdentifierReference m ps =
+        let s : String = string_of (at 0 ps) in
+        let g : Option GeneratedKind = generated_as s ledger in
+        rw (string_at-mapped f 0 ps)
+        (ap (λ h. mark first there others (use_around h (mapped_around f x)) (use_form h) s) (generated_as-mapped f s ledger)
+        ∙ (ap₂ (λ y form. mark first there others y form s) (use_around-mapped f g x) (use_form-mapped f g) ∙ mark-mapped (use_around g x) (use_form g) s))
     marks_before-mapped x Kind.ClassDeclaration m ps = class_uses-mapped x m
     marks_before-mapped x Kind.ClassExpression m ps = class_uses-mapped x m
     marks_before-mapped x Kind.FunctionDeclaration m ps = rw (spelling_at-mapped f 0 ps) (mark-mapped x hoists (spelling (at 0 ps)))
@@ -267,9 +278,12 @@ module _ {first : ℕ} {f : ℕ → ℕ} (r : Renames first f) where
   is_dead-mapped m [] = refl
   is_dead-mapped m (d ∷ ds) = ap (λ b. (bytes_eq m.name d.name && is_declaration d.form) || b) (is_dead-mapped m ds)
 
+  is_skipped_by-mapped : (m d : Mark) → is_skipped_by (mapped_mark f m) (mapped_mark f d) ≡ is_skipped_by m d
+  is_skipped_by-mapped m d = rw (all_pairs_stand-mapped d.around.held m.around.held, is_called_early-mapped m.around.called d.around.called) refl
+
   is_skipped-mapped : (m : Mark) (ds : List Mark) → is_skipped (mapped_mark f m) (map (mapped_mark f) ds) ≡ is_skipped m ds
   is_skipped-mapped m [] = refl
-  is_skipped-mapped m (d ∷ ds) = ap₂ (λ a b. (bytes_eq m.name d.name && is_skipped_by d.form a) || b) (all_pairs_stand-mapped d.around.held m.around.held) (is_skipped-mapped m ds)
+  is_skipped-mapped m (d ∷ ds) = ap₂ (λ a b. (bytes_eq m.name d.name && a) || b) (is_skipped_by-mapped m d) (is_skipped-mapped m ds)
 
   is_running-mapped : (ledger : List LedgerEntry) (n : ℕ) (s : String) (running : List (ℕ × String)) → is_running (mapped_ledger f ledger) (f n) s (map (mapped_running f) running) ≡ is_running ledger n s running
   is_running-mapped ledger n s [] = refl
@@ -286,14 +300,11 @@ module _ {first : ℕ} {f : ℕ → ℕ} (r : Renames first f) where
   asks-mapped : (ledger : List LedgerEntry) (m : Mark) → asks (mapped_ledger f ledger) (mapped_mark f m) ≡ asks ledger m
   asks-mapped ledger m = ap (λ b. is_use m.form && b) (ap is_followed (generated_as-mapped f m.name ledger) ∙ is_followed-mapped f (generated_as m.name ledger))
 
-  comes_first_at-mapped : (ledger : List LedgerEntry) (m : Mark) → comes_first (generated_as m.name (mapped_ledger f ledger)) ≡ comes_first (generated_as m.name ledger)
-  comes_first_at-mapped ledger m = ap comes_first (generated_as-mapped f m.name ledger) ∙ comes_first-mapped f (generated_as m.name ledger)
-
   in_time-mapped : (ledger : List LedgerEntry) (front ms : List Mark) → in_time (mapped_ledger f ledger) (map (mapped_mark f) front) (map (mapped_mark f) ms) ≡ in_time ledger front ms
   in_time-mapped ledger front [] = refl
   in_time-mapped ledger front (m ∷ ms) =
       ap₂ (λ a b. not a && b) (ap₂ (λ a b. a || b) (is_early-mapped ledger m) (ap₂ (λ a b. a || b) (is_dead-mapped m ms) (is_skipped-mapped m front)))
-      (ap₂ (λ a b. a && b) (ap₂ (λ a b. not a || b) (asks-mapped ledger m) (ap₂ (λ a b. a || b) (any_gives-mapped true m front) (ap₂ (λ a b. not a && b) (comes_first_at-mapped ledger m) (any_gives-mapped false m ms)))) (in_time-mapped ledger (m ∷ front) ms))
+      (ap₂ (λ a b. a && b) (ap₂ (λ a b. not a || b) (asks-mapped ledger m) (ap₂ (λ a b. a || b) (any_gives-mapped true m front) (any_gives-mapped false m ms))) (in_time-mapped ledger (m ∷ front) ms))
 
   pub names_timely-mapped : (ledger : List LedgerEntry) (members : List PrivateMember) (q : Tree) → names_timely first (mapped_ledger f ledger) (mapped_privates f members) (mapped f q) ≡ names_timely first ledger members q
   names_timely-mapped ledger members q =

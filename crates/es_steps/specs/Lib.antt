@@ -1,3 +1,4 @@
+pub mod ClassNames
 pub mod Code
 pub mod Context
 pub mod Definitions

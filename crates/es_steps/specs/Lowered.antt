@@ -22,7 +22,7 @@ use Rattle.es_steps.specs.PrivateNames.{PrivateMember, private_members, member_a
 use Rattle.es_steps.specs.References.{Reference, resolve, has_number}
 use Rattle.es_steps.specs.Scopes.{is_binding_identifier, class_in}
 use Rattle.es_steps.specs.Strict.{none_becomes_strict}
-use Rattle.es_steps.specs.Temporaries.{temporaries_steady}
+use Rattle.es_steps.specs.Temporaries.{class_before, temporaries_steady}
 use Rattle.es_steps.specs.Texts.{texts_stay}
 use Rattle.es_steps.specs.Timely.{names_timely}
 use Rattle.es_steps.specs.Values.{String, Referent, Bound}
@@ -255,19 +255,6 @@ abbrev pub comes_before : ℕ → ℕ → List Tree → Bool
 comes_before m n [] = false
 comes_before m n (t ∷ ts) = cond (nat_eq m (number_of t)) true (cond (nat_eq n (number_of t)) false (comes_before m n ts))
 
-abbrev pub class_of_member : Option PrivateMember → List ℕ
-class_of_member None = []
-class_of_member (Some x) = x.class ∷ []
-
--- the class in front of which a name of this kind is initialized, but for a function that is declared, which is there from
--- the head of its list on
-abbrev pub class_before : GeneratedKind → List PrivateMember → List ℕ
-class_before (GeneratedKind.WeakMap d) members = class_of_member (member_at d.0 members)
-class_before (GeneratedKind.Method d) members = class_of_member (member_at d.0 members)
-class_before (GeneratedKind.LooseKey d) members = class_of_member (member_at d.0 members)
-class_before (GeneratedKind.Brand n) members = n.0 ∷ []
-class_before g members = []
-
 abbrev pub is_declared_function : ℕ → List Tree → Bool
 is_declared_function m [] = false
 is_declared_function m (t ∷ ts) = (nat_eq m (number_of t) && is_function_declaration t) || is_declared_function m ts
@@ -336,12 +323,12 @@ pub record MeetsClauses (first : ℕ) (o : Options) (ledger : List LedgerEntry) 
   pub left : nothing_left o q ≡ true
   pub declared : names_declared first ledger q ≡ true
   pub accounted : declarations_accounted first ledger p q ≡ true
-  pub names : own_names_stay p q ≡ true
+  pub names : own_names_stay first ledger p q ≡ true
   pub strict : none_becomes_strict first p q ≡ true
   pub texts : texts_stay first p q ≡ true
   pub initialized : initializations_stand first ledger (private_members p) q ledger ≡ true
   pub timely : names_timely first ledger (private_members p) q ≡ true
-  pub temporaries : temporaries_steady first ledger q ≡ true
+  pub temporaries : temporaries_steady first ledger (private_members p) q ≡ true
   pub keys : keys_stand first o ledger (private_members p) q (all_temporaries first o ledger (private_members p) q (preorder q)) ≡ true
   pub nodes : nodes_kept p q ≡ true
   pub classes : classes_kept first p q ≡ true

@@ -1,11 +1,12 @@
 -- The own names of classes: those that a lowering may give, and those that it may not take. (Our own.)
 use Rattle.std.specs.Prelude.{ℕ, List, [], ◌∷◌, ◌++◌, Bool, true, false, cond, not, ◌&&◌, ◌||◌, nat_eq}
 use Rattle.es_base.specs.Conforms.{is_among}
-use Rattle.es_base.specs.Numbered.{is_new}
-use Rattle.es_base.specs.Preorder.{number_of, nodes, preorder, preorder_of_part}
+use Rattle.es_base.specs.Preorder.{number_of, preorder, preorder_of_part}
 use Rattle.es_base.specs.Tree.{Tree, Part, Node, end, more, child, absent}
 use Rattle.es_base.specs.declared.kind.Kind.{Kind}
-use Rattle.es_steps.specs.HelperCalls.{body_runs}
+use Rattle.es_base.specs.declared.ledger.LedgerEntry.{LedgerEntry}
+use Rattle.es_steps.specs.Definitions.{spelling}
+use Rattle.es_steps.specs.ClassNames.{is_generated, classes_timely}
 use Rattle.es_steps.specs.Parts.{at, string_of}
 use Rattle.es_steps.specs.References.{Reference, resolve, has_number}
 use Rattle.es_steps.specs.NameScopes.{is_any_function}
@@ -92,15 +93,15 @@ abbrev pub function_nodes : Part → List Tree
 function_nodes (child (Node kind m span semantic_id ps)) = cond (is_any_function kind) (preorder (Node kind m span semantic_id ps)) []
 function_nodes p = []
 
-abbrev pub moved_nodes : ℕ → Tree → List Tree
-moved_nodes first (Node Kind.FunctionDeclaration m span semantic_id (more (child id) ps)) = cond (is_new first (number_of id)) (preorder (Node Kind.FunctionDeclaration m span semantic_id (more (child id) ps))) []
-moved_nodes first (Node Kind.AssignmentExpression m span semantic_id ps) = cond (is_new first m) (function_nodes (at 2 ps)) []
-moved_nodes first (Node Kind.VariableDeclarator m span semantic_id ps) = cond (is_new first m) (function_nodes (at 1 ps)) []
-moved_nodes first t = []
+abbrev pub moved_nodes : List LedgerEntry → Tree → List Tree
+moved_nodes ledger (Node Kind.FunctionDeclaration m span semantic_id ps) = cond (is_generated (spelling (at 0 ps)) ledger) (preorder (Node Kind.FunctionDeclaration m span semantic_id ps)) []
+moved_nodes ledger (Node Kind.AssignmentExpression m span semantic_id ps) = cond (is_generated (spelling (at 1 ps)) ledger) (function_nodes (at 2 ps)) []
+moved_nodes ledger (Node Kind.VariableDeclarator m span semantic_id ps) = cond (is_generated (spelling (at 0 ps)) ledger) (function_nodes (at 1 ps)) []
+moved_nodes ledger t = []
 
-abbrev pub all_moved : ℕ → List Tree → List Tree
-all_moved first [] = []
-all_moved first (t ∷ ts) = moved_nodes first t ++ all_moved first ts
+abbrev pub all_moved : List LedgerEntry → List Tree → List Tree
+all_moved ledger [] = []
+all_moved ledger (t ∷ ts) = moved_nodes ledger t ++ all_moved ledger ts
 
 -- ps are the nodes of the source, where no such declarator is; moved are the nodes of functions of generated names
 abbrev pub reads_itself : List Tree → List Tree → List Reference → Tree → Bool
@@ -112,38 +113,7 @@ abbrev pub none_reads_itself : List Tree → List Tree → List Reference → Li
 none_reads_itself moved ps references [] = true
 none_reads_itself moved ps references (t ∷ ts) = not (reads_itself moved ps references t) && none_reads_itself moved ps references ts
 
--- ---- nor does a function of a generated name read a name of a class, outside of it, that has elements which run with the class:
--- they may call it, and the name is given a value behind them
-
-abbrev pub any_outside : List ℕ → List Tree → List Tree → Bool
-any_outside ns inner [] = false
-any_outside ns inner (t ∷ ts) = (has_number (number_of t) ns && not (any_stands (number_of t ∷ []) inner)) || any_outside ns inner ts
-
-abbrev pub class_runs : Part → Bool
-class_runs (child (Node Kind.ClassExpression m span semantic_id ps)) = body_runs (at 2 ps)
-class_runs p = false
-
-abbrev pub number_in : Part → List ℕ
-number_in (child t) = number_of t ∷ []
-number_in p = []
-
-abbrev pub bound_number : Referent → List ℕ
-bound_number (Bound b) = b ∷ []
-bound_number r = []
-
-abbrev pub bound_by : List ℕ → List Reference → List ℕ
-bound_by ns [] = []
-bound_by ns (r ∷ rs) = cond (has_number r.number ns) (bound_number r.to) [] ++ bound_by ns rs
-
-abbrev pub reads_running : List Tree → List Reference → Tree → Bool
-reads_running moved references (Node Kind.ClassDeclaration n span semantic_id ps) = body_runs (at 2 ps) && any_outside (references_to (number_in (at 0 ps)) references) (preorder (Node Kind.ClassDeclaration n span semantic_id ps)) moved
-reads_running moved references (Node Kind.AssignmentExpression m span semantic_id ps) = class_runs (at 2 ps) && any_outside (references_to (bound_by (number_in (at 1 ps)) references) references) (preorder_of_part (at 2 ps)) moved
-reads_running moved references (Node Kind.VariableDeclarator m span semantic_id ps) = class_runs (at 1 ps) && any_outside (references_to (number_in (at 0 ps)) references) (preorder_of_part (at 1 ps)) moved
-reads_running moved references t = false
-
-abbrev pub none_reads_running : List Tree → List Reference → List Tree → Bool
-none_reads_running moved references [] = true
-none_reads_running moved references (t ∷ ts) = not (reads_running moved references t) && none_reads_running moved references ts
-
-abbrev pub own_names_stay : Tree → Tree → Bool
-own_names_stay p q = none_loses_name (preorder p) (resolve q) (preorder q) && (none_reads_itself (all_moved (nodes p) (preorder q)) (preorder p) (resolve q) (preorder q) && none_reads_running (all_moved (nodes p) (preorder q)) (resolve q) (preorder q))
+abbrev pub own_names_stay : ℕ → List LedgerEntry → Tree → Tree → Bool
+own_names_stay first ledger p q =
+    none_loses_name (preorder p) (resolve q) (preorder q)
+    && (none_reads_itself (all_moved ledger (preorder q)) (preorder p) (resolve q) (preorder q) && classes_timely first ledger p q)

@@ -10,7 +10,9 @@ use Rattle.es_base.specs.declared.ledger.GeneratedKind.{GeneratedKind}
 use Rattle.es_base.specs.declared.ledger.LedgerEntry.{LedgerEntry}
 use Rattle.es_steps.specs.Parts.{at, string_of, is_present}
 use Rattle.es_steps.specs.References.{is_target}
-use Rattle.es_steps.specs.Repeated.{Surroundings, surroundings_in, around_program}
+use Rattle.es_steps.specs.KeptNodes.{pair_stands}
+use Rattle.es_steps.specs.PrivateNames.{PrivateMember, member_at}
+use Rattle.es_steps.specs.Repeated.{Surroundings, surroundings_in, around_program, all_places}
 use Rattle.es_steps.specs.Scopes.{binds, is_body_part}
 use Rattle.es_steps.specs.Values.{String}
 
@@ -20,17 +22,20 @@ pub record Touch : Type 0 where
   pub name : String
   pub declares : Bool
   pub gives : Bool
+  -- as the name of a function declaration
+  pub hoists : Bool
   pub place : ℕ
   pub declaration : ℕ
   pub home : ℕ
 
 pub record Spot : Type 0 where
   pub around : Surroundings
+  pub is_function_name : Bool
   pub declaration : ℕ
   pub home : ℕ
 
 abbrev pub touch : String → Bool → Bool → Spot → List Touch
-touch s declares gives x = record { name = s; declares = declares; gives = gives; place = x.around.place; declaration = x.declaration; home = x.home } ∷ []
+touch s declares gives x = record { name = s; declares = declares; gives = gives; hoists = x.is_function_name; place = x.around.place; declaration = x.declaration; home = x.home } ∷ []
 
 -- a reference reads, but where something is assigned to; an identifier that declares is given a value, but that of a
 -- declarator without one
@@ -42,6 +47,10 @@ touch_of gives x kind ps = []
 abbrev pub is_bare : Kind → Parts → Bool
 is_bare Kind.VariableDeclarator ps = not (is_present (at 1 ps))
 is_bare kind ps = false
+
+abbrev pub is_name_of_function : Kind → ℕ → Bool
+is_name_of_function Kind.FunctionDeclaration i = nat_eq i 0
+is_name_of_function kind i = false
 
 abbrev pub declaration_in : Kind → ℕ → ℕ → ℕ
 declaration_in Kind.FunctionDeclaration m declaration = m
@@ -62,7 +71,7 @@ home_in first x kind m ps i = cond (is_body_part kind i && (is_block (at i ps) &
 
 module _ (first : ℕ) (ledger : List LedgerEntry) where
   abbrev pub spot_in : Spot → Kind → ℕ → Parts → ℕ → Spot
-  spot_in x kind m ps i = record { around = surroundings_in first ledger x.around kind m ps i; declaration = declaration_in kind m x.declaration; home = home_in first x kind m ps i }
+  spot_in x kind m ps i = record { around = surroundings_in first ledger x.around kind m ps i; is_function_name = is_name_of_function kind i; declaration = declaration_in kind m x.declaration; home = home_in first x kind m ps i }
 
   abbrev mutual
     pub touches : Spot → Bool → Tree → List Touch
@@ -83,7 +92,7 @@ module _ (first : ℕ) (ledger : List LedgerEntry) where
     touches_of x gives (more p ps) = touches_at x gives p ++ touches_of x gives ps
 
   abbrev pub all_touches : Tree → List Touch
-  all_touches t = touches (record { around = around_program t; declaration = number_of t; home = number_of t }) false t
+  all_touches t = touches (record { around = around_program t; is_function_name = false; declaration = number_of t; home = number_of t }) false t
 
 -- ---- those of one name
 
@@ -128,14 +137,44 @@ abbrev pub is_near : List Touch → List Touch → Bool
 is_near [] gifts = true
 is_near (d ∷ ds) gifts = all_touched (λ t. nat_eq d.home t.home) gifts && is_near ds gifts
 
-abbrev pub is_steady_name : GeneratedKind → String → List Touch → Bool
-is_steady_name GeneratedKind.Temp s ts = is_steady (gifts_of s ts) (reads_of s ts)
-is_steady_name GeneratedKind.Param s ts = is_at_call (gifts_of s ts) (reads_of s ts)
-is_steady_name kind s ts = true
+-- ---- what a class needs is given as often as the class is evaluated
 
-abbrev pub all_steady : List LedgerEntry → List Touch → Bool
-all_steady [] ts = true
-all_steady (e ∷ es) ts = (is_steady_name e.kind e.name ts && is_near (declarations_of e.name ts) (gifts_of e.name ts)) && all_steady es ts
+abbrev pub class_of_member : Option PrivateMember → List ℕ
+class_of_member None = []
+class_of_member (Some x) = x.class ∷ []
 
-abbrev pub temporaries_steady : ℕ → List LedgerEntry → Tree → Bool
-temporaries_steady first ledger q = all_steady ledger (all_touches first ledger q)
+-- the class in front of which a name of this kind is initialized, but for a function that is declared, which is there from
+-- the head of its list on
+abbrev pub class_before : GeneratedKind → List PrivateMember → List ℕ
+class_before (GeneratedKind.WeakMap d) members = class_of_member (member_at d.0 members)
+class_before (GeneratedKind.Method d) members = class_of_member (member_at d.0 members)
+class_before (GeneratedKind.LooseKey d) members = class_of_member (member_at d.0 members)
+class_before (GeneratedKind.Brand n) members = n.0 ∷ []
+class_before g members = []
+
+abbrev pub stands_with : List (ℕ × ℕ) → List ℕ → Touch → Bool
+stands_with places [] t = true
+stands_with places (n ∷ ns) t = t.hoists || pair_stands (n, t.place) places
+
+-- in the construction of its class, or with the class
+abbrev pub constructs_with : List (ℕ × ℕ) → ℕ → Touch → Bool
+constructs_with places n t = nat_eq n t.place || pair_stands (n, t.place) places
+
+abbrev pub is_given_with : List Touch → List Touch → Bool
+is_given_with [] reads = true
+is_given_with (g ∷ gs) reads = all_touched (λ t. nat_eq g.place t.place) reads
+
+abbrev pub is_steady_name : List (ℕ × ℕ) → List PrivateMember → GeneratedKind → String → List Touch → Bool
+is_steady_name places members GeneratedKind.Temp s ts = is_steady (gifts_of s ts) (reads_of s ts)
+is_steady_name places members GeneratedKind.Param s ts = is_at_call (gifts_of s ts) (reads_of s ts)
+is_steady_name places members GeneratedKind.Closure s ts = is_given_with (gifts_of s ts) (reads_of s ts)
+is_steady_name places members (GeneratedKind.SuperFn n) s ts = all_touched (constructs_with places n.0) (gifts_of s ts)
+is_steady_name places members kind s ts = all_touched (stands_with places (class_before kind members)) (gifts_of s ts)
+
+abbrev pub all_steady : List (ℕ × ℕ) → List PrivateMember → List LedgerEntry → List Touch → Bool
+all_steady places members [] ts = true
+all_steady places members (e ∷ es) ts = (is_steady_name places members e.kind e.name ts && is_near (declarations_of e.name ts) (gifts_of e.name ts)) && all_steady places members es ts
+
+-- places are those of the classes
+abbrev pub temporaries_steady : ℕ → List LedgerEntry → List PrivateMember → Tree → Bool
+temporaries_steady first ledger members q = all_steady (all_places first ledger [] q) members ledger (all_touches first ledger q)

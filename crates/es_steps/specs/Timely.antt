@@ -41,8 +41,10 @@ pub record Around : Type 0 where
   -- the own name of the nearest class
   pub class_name : String
 
+-- at an identifier with this name, and, for references and classes, of this node
 pub record Mark : Type 0 where
   pub name : String
+  pub node : List ℕ
   pub form : MarkForm
   pub around : Around
 
@@ -125,10 +127,13 @@ needed_names n members (e ∷ es) = cond (is_needed_by n members e.kind) (e.name
 -- what a class needs is given where it stands: also a function of a generated name may be called in front of it
 abbrev pub uses_of : Around → List String → List Mark
 uses_of x [] = []
-uses_of x (s ∷ ss) = record { name = s; form = needs; around = record x { later = x.called } } ∷ uses_of x ss
+uses_of x (s ∷ ss) = record { name = s; node = []; form = needs; around = record x { later = x.called } } ∷ uses_of x ss
 
--- a name of a closure or of what stands for `super(..)` is given in front of each use, also of those that run later
+-- such a name is given in front of each use, also of those that run later: what its class needs, and what is called
 abbrev pub comes_first : Option GeneratedKind → Bool
+comes_first (Some (GeneratedKind.WeakMap d)) = true
+comes_first (Some (GeneratedKind.Brand n)) = true
+comes_first (Some (GeneratedKind.LooseKey d)) = true
 comes_first (Some (GeneratedKind.SuperFn n)) = true
 comes_first (Some GeneratedKind.Closure) = true
 comes_first g = false
@@ -144,34 +149,33 @@ abbrev pub is_called_arrow : Kind → Parts → Bool
 is_called_arrow Kind.CallExpression (more (child (Node Kind.ArrowFunctionExpression m span semantic_id ps)) rest) = true
 is_called_arrow kind ps = false
 
-module _ (first : ℕ) (ledger : List LedgerEntry) (members : List PrivateMember) where
-  abbrev pub mark_by : Option GeneratedKind → Mark → List Mark
-  mark_by None m = []
-  mark_by (Some g) m = m ∷ []
-
-  abbrev pub mark : Around → MarkForm → String → List Mark
-  mark x form s = mark_by (generated_as s ledger) (record { name = s; form = form; around = x })
+-- of the names and nodes that are asked for
+module _ (first : ℕ) (ledger : List LedgerEntry) (members : List PrivateMember) (asked : String → List ℕ → Bool) where
+  abbrev pub mark : Around → MarkForm → String → List ℕ → List Mark
+  mark x form s ns = cond (asked s ns) (record { name = s; node = ns; form = form; around = x } ∷ []) []
 
   abbrev pub declared_mark : Around → Bool → Part → List Mark
-  declared_mark x true id = mark x declares (spelling id)
+  declared_mark x true id = mark x declares (spelling id) []
   declared_mark x false id = []
 
   abbrev pub initialized_mark : Around → Part → Part → List Mark
-  initialized_mark x id (child t) = mark x initializes (spelling id)
+  initialized_mark x id (child t) = mark x initializes (spelling id) []
   initialized_mark x id p = []
 
   -- in front of the marks of its parts, and behind them
   abbrev pub marks_before : Around → Kind → ℕ → Parts → List Mark
-  marks_before x Kind.IdentifierReference m ps = mark (use_around (generated_as (string_of (at 0 ps)) ledger) x) (use_form (generated_as (string_of (at 0 ps)) ledger)) (string_of (at 0 ps))
+  marks_before x Kind.IdentifierReference m ps = mark (use_around (generated_as (string_of (at 0 ps)) ledger) x) (use_form (generated_as (string_of (at 0 ps)) ledger)) (string_of (at 0 ps)) (m ∷ [])
   marks_before x Kind.ClassDeclaration m ps = uses_of x (needed_names m members ledger)
   marks_before x Kind.ClassExpression m ps = uses_of x (needed_names m members ledger)
-  marks_before x Kind.FunctionDeclaration m ps = mark x hoists (spelling (at 0 ps))
+  marks_before x Kind.FunctionDeclaration m ps = mark x hoists (spelling (at 0 ps)) []
   marks_before x kind m ps = []
 
-  abbrev pub marks_behind : Around → Bool → Kind → Parts → List Mark
-  marks_behind x in_let Kind.AssignmentExpression ps = mark x initializes (spelling (at 1 ps))
-  marks_behind x in_let Kind.VariableDeclarator ps = declared_mark x in_let (at 0 ps) ++ initialized_mark x (at 0 ps) (at 1 ps)
-  marks_behind x in_let kind ps = []
+  abbrev pub marks_behind : Around → Bool → Kind → ℕ → Parts → List Mark
+  marks_behind x in_let Kind.AssignmentExpression m ps = mark x initializes (spelling (at 1 ps)) []
+  marks_behind x in_let Kind.VariableDeclarator m ps = declared_mark x in_let (at 0 ps) ++ initialized_mark x (at 0 ps) (at 1 ps)
+  marks_behind x in_let Kind.ClassDeclaration m ps = mark x initializes [] (m ∷ [])
+  marks_behind x in_let Kind.ClassExpression m ps = mark x initializes [] (m ∷ [])
+  marks_behind x in_let kind m ps = []
 
   -- the name that an assignment gives a value is no use of it
   abbrev pub is_given : Kind → Parts → ℕ → Bool
@@ -185,7 +189,7 @@ module _ (first : ℕ) (ledger : List LedgerEntry) (members : List PrivateMember
   -- an arrow that is called where it stands behind its arguments, and the keys of a class in front of its own name and its static elements
   abbrev mutual
     pub marks : Around → Bool → Tree → List Mark
-    marks x in_let (Node kind m span semantic_id ps) = marks_before x kind m ps ++ marks_in (is_called_arrow kind ps) (is_class_body kind) (around_in first ledger x kind m ps) (is_given kind ps) (is_let_declaration kind ps) ps ++ marks_behind x in_let kind ps
+    marks x in_let (Node kind m span semantic_id ps) = marks_before x kind m ps ++ marks_in (is_called_arrow kind ps) (is_class_body kind) (around_in first ledger x kind m ps) (is_given kind ps) (is_let_declaration kind ps) ps ++ marks_behind x in_let kind m ps
 
     pub marks_in : Bool → Bool → (ℕ → Around) → (ℕ → Bool) → Bool → Parts → List Mark
     marks_in last is_body x given in_let end = []
@@ -197,7 +201,7 @@ module _ (first : ℕ) (ledger : List LedgerEntry) (members : List PrivateMember
     pub marks_at : Bool → Around → Bool → Part → List Mark
     marks_at is_body x in_let (child t) = marks x in_let t
     marks_at false x in_let (list ps) = marks_of x in_let ps
-    marks_at true x in_let (list ps) = key_marks x ps ++ (mark x initializes x.class_name ++ (value_marks false x ps ++ value_marks true x ps))
+    marks_at true x in_let (list ps) = key_marks x ps ++ (mark x initializes x.class_name [] ++ (value_marks false x ps ++ value_marks true x ps))
     marks_at is_body x in_let p = []
 
     pub marks_of : Around → Bool → Parts → List Mark
@@ -301,5 +305,11 @@ module _ (ledger : List LedgerEntry) where
   in_time front [] = true
   in_time front (m ∷ ms) = not (is_early m || (is_dead m ms || is_skipped m front)) && ((not (asks m) || (any_gives true m front || any_gives false m ms)) && in_time (m ∷ front) ms)
 
+abbrev pub nowhere : Around
+nowhere = record { held = []; later = []; called = []; is_called = false; running = []; class_name = [] }
+
+abbrev pub is_named : List LedgerEntry → String → List ℕ → Bool
+is_named ledger s ns = is_some (generated_as s ledger)
+
 abbrev pub names_timely : ℕ → List LedgerEntry → List PrivateMember → Tree → Bool
-names_timely first ledger members q = in_time ledger [] (marks first ledger members (record { held = []; later = []; called = []; is_called = false; running = []; class_name = [] }) false q)
+names_timely first ledger members q = in_time ledger [] (marks first ledger members (is_named ledger) nowhere false q)
