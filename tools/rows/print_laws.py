@@ -88,7 +88,8 @@ INITIALIZED = 'initializations_stand (nodes source_{n}) generated_{n} (private_m
 ACCOUNTED = 'declarations_accounted (nodes source_{n}) generated_{n} source_{n} output_{n}'
 STRICT = 'none_becomes_strict (nodes source_{n}) source_{n} output_{n}'
 TEXTS = 'texts_stay (nodes source_{n}) source_{n} output_{n}'
-OWN_NAMES = 'own_names_stay (nodes source_{n}) generated_{n} source_{n} output_{n}'
+OWN_NAMES = 'own_names_stay generated_{n} source_{n} output_{n}'
+REFERENCES = 'references_stay (nodes source_{n}) generated_{n} source_{n} output_{n}'
 NOT_MET = {
     'temporary_given_again': STEADY,
     'temporary_given_again_in_a_loop': STEADY,
@@ -264,6 +265,7 @@ ghost use Rattle.es_steps.specs.HelperCalls.{computed_keys, helper_calls_fit};
 ghost use Rattle.es_steps.specs.KeptNodes.{classes_kept, lists_kept, homes_kept};
 ghost use Rattle.es_steps.specs.Lowered.{names_declared, declarations_accounted, initializations_stand};
 ghost use Rattle.es_steps.specs.Meaning.{source_means};
+ghost use Rattle.es_steps.specs.KeptReferences.{references_stay};
 ghost use Rattle.es_steps.specs.OwnNames.{own_names_stay};
 ghost use Rattle.es_steps.specs.Printable.{is_printable, stays_printable};
 ghost use Rattle.es_steps.specs.PrivateNames.{private_members};

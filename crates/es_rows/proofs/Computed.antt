@@ -10,6 +10,7 @@ use Rattle.es_base.specs.declared.ledger.LedgerEntry.{LedgerEntry}
 use Rattle.es_steps.specs.Definitions.{definitions_stand, all_temporaries, elements_kept}
 use Rattle.es_steps.specs.HelperCalls.{computed_keys, helper_calls_fit}
 use Rattle.es_steps.specs.KeptNodes.{nodes_kept, classes_kept, statements_kept, lists_kept, homes_kept}
+use Rattle.es_steps.specs.KeptReferences.{references_stay}
 use Rattle.es_steps.specs.Lowered.{nothing_left, names_declared, declarations_accounted, initializations_stand, keys_stand, IsLowered}
 use Rattle.es_steps.specs.OwnNames.{own_names_stay}
 use Rattle.es_steps.specs.Printable.{stays_printable}
@@ -39,7 +40,8 @@ clauses o ledger p q =
     ∷ nothing_left o q
     ∷ names_declared (nodes p) ledger q
     ∷ declarations_accounted (nodes p) ledger p q
-    ∷ own_names_stay (nodes p) ledger p q
+    ∷ own_names_stay ledger p q
+    ∷ references_stay (nodes p) ledger p q
     ∷ none_becomes_strict (nodes p) p q
     ∷ texts_stay (nodes p) p q
     ∷ initializations_stand (nodes p) ledger (private_members p) q ledger
@@ -58,7 +60,7 @@ clauses o ledger p q =
     ∷ []
 
 abbrev all_met : List Bool
-all_met = true ∷ true ∷ true ∷ true ∷ true ∷ true ∷ true ∷ true ∷ true ∷ true ∷ true ∷ true ∷ true ∷ true ∷ true ∷ true ∷ true ∷ true ∷ true ∷ true ∷ []
+all_met = true ∷ true ∷ true ∷ true ∷ true ∷ true ∷ true ∷ true ∷ true ∷ true ∷ true ∷ true ∷ true ∷ true ∷ true ∷ true ∷ true ∷ true ∷ true ∷ true ∷ true ∷ []
 
 -- ---- numbers
 
@@ -120,6 +122,7 @@ lowered {p = p} {q = q} e0 =
     let e17 = rest_of _ _ _ _ e16 in
     let e18 = rest_of _ _ _ _ e17 in
     let e19 = rest_of _ _ _ _ e18 in
+    let e20 = rest_of _ _ _ _ e19 in
     record {
       numbered = numbered (nodes p) q (first_of _ _ _ _ e0);
       clauses = record {
@@ -127,20 +130,21 @@ lowered {p = p} {q = q} e0 =
         declared = first_of _ _ _ _ e2;
         accounted = first_of _ _ _ _ e3;
         names = first_of _ _ _ _ e4;
-        strict = first_of _ _ _ _ e5;
-        texts = first_of _ _ _ _ e6;
-        initialized = first_of _ _ _ _ e7;
-        timely = first_of _ _ _ _ e8;
-        temporaries = first_of _ _ _ _ e9;
-        keys = first_of _ _ _ _ e10;
-        nodes = first_of _ _ _ _ e11;
-        classes = first_of _ _ _ _ e12;
-        statements = first_of _ _ _ _ e13;
-        lists = first_of _ _ _ _ e14;
-        homes = first_of _ _ _ _ e15;
-        definitions = first_of _ _ _ _ e16;
-        elements = first_of _ _ _ _ e17;
-        calls = first_of _ _ _ _ e18;
-        printable = first_of _ _ _ _ e19;
+        references = first_of _ _ _ _ e5;
+        strict = first_of _ _ _ _ e6;
+        texts = first_of _ _ _ _ e7;
+        initialized = first_of _ _ _ _ e8;
+        timely = first_of _ _ _ _ e9;
+        temporaries = first_of _ _ _ _ e10;
+        keys = first_of _ _ _ _ e11;
+        nodes = first_of _ _ _ _ e12;
+        classes = first_of _ _ _ _ e13;
+        statements = first_of _ _ _ _ e14;
+        lists = first_of _ _ _ _ e15;
+        homes = first_of _ _ _ _ e16;
+        definitions = first_of _ _ _ _ e17;
+        elements = first_of _ _ _ _ e18;
+        calls = first_of _ _ _ _ e19;
+        printable = first_of _ _ _ _ e20;
       };
     }

@@ -10,6 +10,7 @@ ghost use Rattle.es_steps.specs.HelperCalls.{computed_keys, helper_calls_fit};
 ghost use Rattle.es_steps.specs.KeptNodes.{classes_kept, lists_kept, homes_kept};
 ghost use Rattle.es_steps.specs.Lowered.{names_declared, declarations_accounted, initializations_stand};
 ghost use Rattle.es_steps.specs.Meaning.{source_means};
+ghost use Rattle.es_steps.specs.KeptReferences.{references_stay};
 ghost use Rattle.es_steps.specs.OwnNames.{own_names_stay};
 ghost use Rattle.es_steps.specs.Printable.{is_printable, stays_printable};
 ghost use Rattle.es_steps.specs.PrivateNames.{private_members};
@@ -676,8 +677,8 @@ pub fn clauses_are_not_met()
     ensures copy_of_a_number { texts_stay (nodes source_copy_of_a_number) source_copy_of_a_number output_copy_of_a_number ≡ false }
     ensures dead_temporary { names_timely (nodes source_dead_temporary) generated_dead_temporary (private_members source_dead_temporary) output_dead_temporary ≡ false }
     ensures declaration_of_nothing { stays_printable source_declaration_of_nothing output_declaration_of_nothing ≡ false }
-    ensures declaration_without_its_name { own_names_stay (nodes source_declaration_without_its_name) generated_declaration_without_its_name source_declaration_without_its_name output_declaration_without_its_name ≡ false }
-    ensures declaration_without_its_name_in_a_method { own_names_stay (nodes source_declaration_without_its_name_in_a_method) generated_declaration_without_its_name_in_a_method source_declaration_without_its_name_in_a_method output_declaration_without_its_name_in_a_method ≡ false }
+    ensures declaration_without_its_name { own_names_stay generated_declaration_without_its_name source_declaration_without_its_name output_declaration_without_its_name ≡ false }
+    ensures declaration_without_its_name_in_a_method { own_names_stay generated_declaration_without_its_name_in_a_method source_declaration_without_its_name_in_a_method output_declaration_without_its_name_in_a_method ≡ false }
     ensures declaration_without_its_names { stays_printable source_declaration_without_its_names output_declaration_without_its_names ≡ false }
     ensures declarator_in_a_const { declarations_accounted (nodes source_declarator_in_a_const) generated_declarator_in_a_const source_declarator_in_a_const output_declarator_in_a_const ≡ false }
     ensures directive_behind_a_name { is_printable output_directive_behind_a_name ≡ false }
@@ -697,7 +698,7 @@ pub fn clauses_are_not_met()
     ensures let_in_strict_code { stays_printable source_let_in_strict_code output_let_in_strict_code ≡ false }
     ensures let_of_another_case { names_timely (nodes source_let_of_another_case) generated_let_of_another_case (private_members source_let_of_another_case) output_let_of_another_case ≡ false }
     ensures let_out_of_its_block { lists_kept options_let_out_of_its_block source_let_out_of_its_block output_let_out_of_its_block ≡ false }
-    ensures let_read_in_its_value { own_names_stay (nodes source_let_read_in_its_value) generated_let_read_in_its_value source_let_read_in_its_value output_let_read_in_its_value ≡ false }
+    ensures let_read_in_its_value { own_names_stay generated_let_read_in_its_value source_let_read_in_its_value output_let_read_in_its_value ≡ false }
     ensures map_made_in_a_branch { names_timely (nodes source_map_made_in_a_branch) generated_map_made_in_a_branch (private_members source_map_made_in_a_branch) output_map_made_in_a_branch ≡ false }
     ensures map_made_in_a_called_arrow { names_timely (nodes source_map_made_in_a_called_arrow) generated_map_made_in_a_called_arrow (private_members source_map_made_in_a_called_arrow) output_map_made_in_a_called_arrow ≡ false }
     ensures map_made_in_a_pattern { names_timely (nodes source_map_made_in_a_pattern) generated_map_made_in_a_pattern (private_members source_map_made_in_a_pattern) output_map_made_in_a_pattern ≡ false }

@@ -1,6 +1,6 @@
 -- What a class is named by is read behind it, or in its elements: a name that the lowering gave it, one of its own that it had
 -- around and that is read outside of it now, and the function of a generated name that reads such a name. (Our own.)
-use Rattle.std.specs.Prelude.{ℕ, List, [], ◌∷◌, ◌++◌, map, Bool, true, false, cond, not, ◌&&◌, ◌||◌, nat_eq, is_some}
+use Rattle.std.specs.Prelude.{ℕ, List, [], ◌∷◌, ◌++◌, map, Bool, true, false, cond, not, ◌&&◌, ◌||◌, nat_eq, Option, None, is_some}
 use Rattle.es_base.specs.Conforms.{is_among}
 use Rattle.es_base.specs.Preorder.{number_of, nodes, preorder, preorder_of, preorder_of_part}
 use Rattle.es_base.specs.Tree.{Tree, Part, Parts, Node, end, more, child}
@@ -58,9 +58,25 @@ abbrev pub without : List ℕ → List ℕ → List ℕ
 without ns [] = []
 without ns (m ∷ ms) = cond (has_number m ns) [] (m ∷ []) ++ without ns ms
 
--- in the source, those that stand outside of it
-abbrev pub naming_outside : ℕ → Tree → List ℕ
-naming_outside n p = without (numbers_inside n (preorder p)) (naming n [] (resolve p) (class_identifiers (nodes p) n (preorder p)) (preorder p))
+-- its heritage and keys, and what stands in its elements
+abbrev pub numbers_of_class : ℕ → List Tree → List ℕ
+numbers_of_class n [] = []
+numbers_of_class n (Node kind m span semantic_id ps ∷ ts) = cond (is_class kind && nat_eq n m) (numbers_of (preorder_of ps)) [] ++ numbers_of_class n ts
+
+abbrev pub head_numbers : ℕ → List Tree → List ℕ
+head_numbers n ts = without (numbers_inside n ts) (numbers_of_class n ts)
+
+abbrev pub common : List ℕ → List ℕ → List ℕ
+common ns [] = []
+common ns (m ∷ ms) = cond (has_number m ns) (m ∷ []) [] ++ common ns ms
+
+-- those that may stand where they stand: outside of the class in the source; or in its heritage and keys, where they stay there, or
+-- no element runs with the class, before which these are evaluated
+abbrev pub free_naming : Bool → ℕ → List Tree → List Tree → List ℕ → List ℕ
+free_naming runs n ps qs names = without (numbers_of_class n ps) names ++ common (cond runs (head_numbers n qs) names) (common (head_numbers n ps) names)
+
+abbrev pub naming_in_source : ℕ → Tree → List ℕ
+naming_in_source n p = naming n [] (resolve p) (class_identifiers (nodes p) n (preorder p)) (preorder p)
 
 -- ---- functions of generated names
 
@@ -154,9 +170,10 @@ abbrev pub class_timely : ℕ → List LedgerEntry → Tree → Tree → ℕ →
 class_timely first ledger p q n =
     let inside : List ℕ = numbers_inside n (preorder q) in
     let fs : List MovedFunction = outside_class inside (moved_functions ledger (preorder q)) in
-    let names : List ℕ = without (naming_outside n p) (naming n ledger (resolve q) (class_identifiers first n (preorder q)) (preorder q)) in
+    let runs : Bool = class_runs n (preorder q) in
+    let names : List ℕ = without (free_naming runs n (preorder p) (preorder q) (naming_in_source n p)) (naming n ledger (resolve q) (class_identifiers first n (preorder q)) (preorder q)) in
     let asked : List ℕ = without inside (without_functions fs (reaching ledger fs (resolve q) (preorder q) names)) in
-    not (class_runs n (preorder q) && any_name (names_holding names fs)) && (is_none asked || stand_behind [] (marks first [] [] (is_asked (n ∷ asked)) nowhere false q))
+    not (runs && any_name (names_holding names fs)) && (is_none asked || stand_behind [] (marks first [] [] (is_asked (n ∷ asked)) [] nowhere None q))
 
 abbrev pub all_classes_timely : ℕ → List LedgerEntry → Tree → Tree → List ℕ → Bool
 all_classes_timely first ledger p q [] = true

@@ -9,8 +9,9 @@ use Rattle.es_base.specs.declared.ledger.LedgerEntry.{LedgerEntry}
 use Rattle.es_base.specs.declared.literal.LiteralValue.TheVariants as literal_value
 use Rattle.es_steps.specs.Context.{generated_as, is_function}
 use Rattle.es_steps.specs.Definitions.{spelling}
+use Rattle.es_steps.specs.NameScopes.{is_any_function}
 use Rattle.es_steps.specs.Parts.{at, items, string_of, is_true, is_present}
-use Rattle.es_steps.specs.Printable.{is_spelled}
+use Rattle.es_steps.specs.Printable.{name_of_part, is_spelled}
 use Rattle.es_steps.specs.References.{has_number}
 use Rattle.es_steps.specs.Repeated.{is_arrow}
 use Rattle.es_steps.specs.Values.{String}
@@ -41,9 +42,10 @@ pub data StaticKey : Type 0 where
   -- computed, and kept by a generated name
   is_kept_by : (s : String) → StaticKey
 
--- a call of `toPropertyKey`
+-- a call of `babelHelpers.toPropertyKey`
 abbrev pub is_key_conversion : Part → Bool
-is_key_conversion (child (Node Kind.CallExpression m span semantic_id (more (child (Node Kind.MemberExpression k kspan k_semantic_id (more o (more (child (Node Kind.IdentifierName j jspan j_semantic_id (more (string t) end))) rest)))) arguments))) = bytes_eq t (codes "toPropertyKey")
+is_key_conversion (child (Node Kind.CallExpression m span semantic_id (more (child (Node Kind.MemberExpression k kspan k_semantic_id (more (child (Node Kind.IdentifierReference b bspan b_semantic_id (more (string s) end))) (more (child (Node Kind.IdentifierName j jspan j_semantic_id (more (string t) end))) rest)))) arguments))) =
+    bytes_eq s (codes "babelHelpers") && bytes_eq t (codes "toPropertyKey")
 is_key_conversion p = false
 
 -- a key that is computed
@@ -232,22 +234,61 @@ module _ (first : ℕ) (ledger : List LedgerEntry) (keys : List ℕ) where
   -- ---- a key by which a function or a class keeps its name was converted, `({ [_key]: e })[_key]` and `static #_ = _key`: one that
   -- is converted twice may be two
 
+  -- a generated name
   abbrev pub generated_spelling : Part → List String
   generated_spelling (child (Node Kind.IdentifierReference m span semantic_id ps)) = cond (is_some (generated_as (string_of (at 0 ps)) ledger)) (string_of (at 0 ps) ∷ []) []
   generated_spelling p = []
+
+  -- or what no converted key is spelled as
+  abbrev pub or_none : List String → List String
+  or_none [] = [] ∷ []
+  or_none (s ∷ ss) = s ∷ []
 
   abbrev pub last_spelling : Part → List String
   last_spelling (child (Node Kind.SequenceExpression m span semantic_id (more (list es) end))) = generated_spelling (last_part es)
   last_spelling p = generated_spelling p
 
+  -- what a private element that a key may be read from holds, `_key` or a closure
+  abbrev pub is_function_value : Part → Bool
+  is_function_value (child (Node kind m span semantic_id ps)) = is_any_function kind
+  is_function_value p = false
+
+  abbrev pub element_spelling : Part → List String
+  element_spelling (child (Node Kind.AssignmentExpression m span semantic_id ps)) = cond (is_function_value (at 2 ps)) [] ([] ∷ [])
+  element_spelling p = or_none (last_spelling p)
+
   abbrev pub is_new_private : Part → Bool
   is_new_private (child (Node Kind.PrivateIdentifier d span semantic_id ps)) = is_new first d
   is_new_private p = false
 
-  abbrev pub kept_keys : Tree → List String
-  kept_keys (Node Kind.Property m span semantic_id ps) = cond (is_new first m && is_true (at 5 ps)) (generated_spelling (at 0 ps)) []
-  kept_keys (Node Kind.PropertyDefinition m span semantic_id ps) = cond (is_new_private (at 0 ps)) (last_spelling (at 1 ps)) []
-  kept_keys t = []
+  abbrev pub all_spelled : List String → List String → Bool
+  all_spelled [] names = true
+  all_spelled (s ∷ ss) names = is_among s names && all_spelled ss names
+
+  -- by the name itself, or by a generated private element, `({ [A.#_]: e })[A.#_]`
+  abbrev pub private_spelling : Part → List String
+  private_spelling (child (Node Kind.PrivateField m span semantic_id (more o (more (child (Node Kind.PrivateIdentifier d dspan d_semantic_id ps)) rest)))) = string_of (at 0 ps) ∷ []
+  private_spelling p = []
+
+  abbrev pub private_keys : List Tree → List String
+  private_keys [] = []
+  private_keys (Node Kind.Property m span semantic_id ps ∷ ts) = cond (is_new first m && is_true (at 5 ps)) (private_spelling (at 0 ps)) [] ++ private_keys ts
+  private_keys (t ∷ ts) = private_keys ts
+
+  abbrev pub new_private_names : List Tree → List String
+  new_private_names [] = []
+  new_private_names (Node Kind.PropertyDefinition m span semantic_id ps ∷ ts) = cond (is_new_private (at 0 ps)) (name_of_part (at 0 ps) ∷ []) [] ++ new_private_names ts
+  new_private_names (t ∷ ts) = new_private_names ts
+
+  -- one that is no name, and no private element that is new
+  abbrev pub key_spelling : List String → Part → List String
+  key_spelling names (child (Node Kind.PrivateField m span semantic_id ps)) = cond (all_spelled (private_spelling (child (Node Kind.PrivateField m span semantic_id ps))) names) [] ([] ∷ [])
+  key_spelling names p = or_none (generated_spelling p)
+
+  abbrev pub kept_keys : List String → List String → Tree → List String
+  kept_keys names privates (Node Kind.Property m span semantic_id ps) = cond (is_new first m && is_true (at 5 ps)) (key_spelling names (at 0 ps)) []
+  kept_keys names privates (Node Kind.PropertyDefinition m span semantic_id ps) = cond (is_new_private (at 0 ps)) (cond (is_among (name_of_part (at 0 ps)) privates) (element_spelling (at 1 ps)) (last_spelling (at 1 ps))) []
+  kept_keys names privates t = []
 
   abbrev pub converted_key : Tree → List String
   converted_key (Node Kind.AssignmentExpression m span semantic_id ps) = cond (is_key_conversion (at 2 ps)) (spelling (at 1 ps) ∷ []) []
@@ -257,13 +298,8 @@ module _ (first : ℕ) (ledger : List LedgerEntry) (keys : List ℕ) where
   all_by of [] = []
   all_by of (t ∷ ts) = of t ++ all_by of ts
 
-  -- a parameter stands for a key that is asked for where it is given
-  abbrev pub all_converted : List String → List String → Bool
-  all_converted converted [] = true
-  all_converted converted (s ∷ ss) = is_among s converted && all_converted converted ss
-
   abbrev pub kept_keys_converted : List Tree → Bool
-  kept_keys_converted ts = all_converted (all_by converted_key ts) (all_by kept_keys ts)
+  kept_keys_converted ts = all_spelled (all_by (kept_keys (new_private_names ts) (private_keys ts)) ts) (all_by converted_key ts)
 
   -- of a lowered program
   abbrev pub helper_calls_fit : Tree → Bool

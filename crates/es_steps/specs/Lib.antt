@@ -12,6 +12,7 @@ pub mod GeneratedForms
 pub mod HelperCalls
 pub mod Helpers
 pub mod KeptNodes
+pub mod KeptReferences
 pub mod Law
 pub mod Lowered
 pub mod LoweredClasses

@@ -12,6 +12,7 @@ use Rattle.es_steps.specs.Context.{generated_as}
 use Rattle.es_steps.specs.Definitions.{spelling, field_part, names_class, class_identifiers, definitions_stand, all_temporaries, all_different, elements_kept}
 use Rattle.es_steps.specs.GeneratedForms.{if_member, is_instance_field, is_static_field, is_function_member}
 use Rattle.es_steps.specs.HelperCalls.{is_helper_callee, computed_keys, helper_calls_fit}
+use Rattle.es_steps.specs.KeptReferences.{references_stay}
 use Rattle.es_steps.specs.KeptNodes.{statement_list, is_function_declaration, is_underscored, nodes_kept, classes_kept, statements_kept, lists_kept, homes_kept}
 use Rattle.es_steps.specs.LoweredClasses.{has_lowered_class}
 use Rattle.es_steps.specs.Options.{lowers_fields, lowers_blocks}
@@ -323,7 +324,8 @@ pub record MeetsClauses (first : ℕ) (o : Options) (ledger : List LedgerEntry) 
   pub left : nothing_left o q ≡ true
   pub declared : names_declared first ledger q ≡ true
   pub accounted : declarations_accounted first ledger p q ≡ true
-  pub names : own_names_stay first ledger p q ≡ true
+  pub names : own_names_stay ledger p q ≡ true
+  pub references : references_stay first ledger p q ≡ true
   pub strict : none_becomes_strict first p q ≡ true
   pub texts : texts_stay first p q ≡ true
   pub initialized : initializations_stand first ledger (private_members p) q ledger ≡ true

@@ -6,7 +6,7 @@ use Rattle.es_base.specs.Tree.{Tree, Part, Node, end, more, child, absent}
 use Rattle.es_base.specs.declared.kind.Kind.{Kind}
 use Rattle.es_base.specs.declared.ledger.LedgerEntry.{LedgerEntry}
 use Rattle.es_steps.specs.Definitions.{spelling}
-use Rattle.es_steps.specs.ClassNames.{is_generated, classes_timely}
+use Rattle.es_steps.specs.ClassNames.{is_generated}
 use Rattle.es_steps.specs.Parts.{at, string_of}
 use Rattle.es_steps.specs.References.{Reference, resolve, has_number}
 use Rattle.es_steps.specs.NameScopes.{is_any_function}
@@ -113,7 +113,5 @@ abbrev pub none_reads_itself : List Tree → List Tree → List Reference → Li
 none_reads_itself moved ps references [] = true
 none_reads_itself moved ps references (t ∷ ts) = not (reads_itself moved ps references t) && none_reads_itself moved ps references ts
 
-abbrev pub own_names_stay : ℕ → List LedgerEntry → Tree → Tree → Bool
-own_names_stay first ledger p q =
-    none_loses_name (preorder p) (resolve q) (preorder q)
-    && (none_reads_itself (all_moved ledger (preorder q)) (preorder p) (resolve q) (preorder q) && classes_timely first ledger p q)
+abbrev pub own_names_stay : List LedgerEntry → Tree → Tree → Bool
+own_names_stay ledger p q = none_loses_name (preorder p) (resolve q) (preorder q) && none_reads_itself (all_moved ledger (preorder q)) (preorder p) (resolve q) (preorder q)

@@ -403,6 +403,16 @@ behind_first (more p ps) = ps
 abbrev pub has_stray_optional : Kind → Parts → Bool
 has_stray_optional kind ps = any_optional (cond (is_spine_kind kind) (behind_first ps) ps)
 
+-- `export { "a" as b }` without a source (16.2.3.1)
+abbrev pub is_literal_part : Part → Bool
+is_literal_part (child (Node Kind.Literal m span semantic_id ps)) = true
+is_literal_part p = false
+
+abbrev pub has_string_name : Parts → Bool
+has_string_name end = false
+has_string_name (more (child (Node kind m span semantic_id (more local rest))) ps) = is_literal_part local || has_string_name ps
+has_string_name (more p ps) = has_string_name ps
+
 abbrev pub is_bad_form : Kind → Parts → Bool
 is_bad_form Kind.Foreign ps = true
 is_bad_form Kind.Property ps = is_bad_property ps
@@ -421,7 +431,7 @@ is_bad_form Kind.AssignmentTargetRest ps = is_kind_of is_default (at 0 ps)
 is_bad_form Kind.CatchClause ps = is_kind_of is_default (at 0 ps)
 is_bad_form Kind.FunctionDeclaration ps = not (is_present (at 0 ps))
 is_bad_form Kind.ClassDeclaration ps = not (is_present (at 0 ps))
-is_bad_form Kind.ExportNamedDeclaration ps = is_present (at 0 ps) && (is_present (at 2 ps) || nat_le 1 (count (items (at 1 ps))))
+is_bad_form Kind.ExportNamedDeclaration ps = (is_present (at 0 ps) && (is_present (at 2 ps) || nat_le 1 (count (items (at 1 ps))))) || (not (is_present (at 2 ps)) && has_string_name (items (at 1 ps)))
 is_bad_form Kind.ImportDeclaration ps = not (are_specifiers (items (at 0 ps)))
 is_bad_form Kind.IfStatement ps = is_bad_if ps
 is_bad_form Kind.LabeledStatement ps = is_lexical_body (at 1 ps)
@@ -538,6 +548,34 @@ abbrev mutual
   stray_in j end = false
   stray_in j (more p ps) = stray_at j p || stray_in j ps
 
+-- ---- `new.target` stands in a function that is no arrow, in the value of a field, or in a static block (ECMA-262, 15.7.1, 16.1.1)
+
+abbrev pub is_new_target : Kind → Parts → Bool
+is_new_target Kind.MetaProperty ps = bytes_eq (name_of_part (at 0 ps)) (codes "new")
+is_new_target kind ps = false
+
+abbrev pub has_target : Kind → ℕ → Bool
+has_target Kind.StaticBlock i = true
+has_target Kind.PropertyDefinition i = nat_eq i 1
+has_target kind i = is_function kind
+
+abbrev mutual
+  pub has_stray_target : Bool → Tree → Bool
+  has_stray_target inside (Node kind m span semantic_id ps) = (is_new_target kind ps && not inside) || stray_target_in (λ i. inside || has_target kind i) ps
+
+  pub stray_target_at : Bool → Part → Bool
+  stray_target_at inside (child t) = has_stray_target inside t
+  stray_target_at inside (list ps) = stray_target_of inside ps
+  stray_target_at inside p = false
+
+  pub stray_target_in : (ℕ → Bool) → Parts → Bool
+  stray_target_in inside end = false
+  stray_target_in inside (more p ps) = stray_target_at (inside 0) p || stray_target_in (λ i. inside (suc i)) ps
+
+  pub stray_target_of : Bool → Parts → Bool
+  stray_target_of inside end = false
+  stray_target_of inside (more p ps) = stray_target_at inside p || stray_target_of inside ps
+
 -- ---- strings that are printed as directives
 
 -- the statements that the directives of a node begin
@@ -566,7 +604,7 @@ all_among [] ks = true
 all_among (n ∷ ns) ks = has_number n ks && all_among ns ks
 
 abbrev pub is_printable : Tree → Bool
-is_printable t = not (has_bad false false t || (has_stray (no_jumps false) t || has_reserved no_words t))
+is_printable t = not (has_bad false false t || (has_stray (no_jumps false) t || (has_stray_target false t || has_reserved no_words t)))
 
 -- what p was lowered to can be printed where p can, and those strings stood there in p: a printer that writes them as they are
 -- makes directives of them in both

@@ -31,10 +31,13 @@ is_plain (literal (literal_value.BigInt s)) = false
 is_plain (literal (literal_value.RegExp source flags)) = false
 is_plain p = true
 
--- or a copy of one, but of no number that strict code has not: `010` (12.8.3.1)
-abbrev pub is_legacy : Part → Bool
-is_legacy (literal (literal_value.Number (c ∷ d ∷ cs))) = nat_eq c 48 && is_digit d
-is_legacy p = false
+-- or a copy of one, but of no number or text that strict code has not, `010` and `"\10"` (12.8.3.1, 12.8.4.1), and of no regular
+-- expression, which would be another object (13.2.7)
+abbrev pub is_not_copied : Part → Bool
+is_not_copied (literal (literal_value.Number (c ∷ d ∷ cs))) = nat_eq c 48 && is_digit d
+is_not_copied (literal (literal_value.String s (Some raw))) = has_number 92 raw
+is_not_copied (literal (literal_value.RegExp source flags)) = true
+is_not_copied p = false
 
 -- a new name has letters, digits, `_` and `$` of ASCII, and other characters where names of the source have them
 abbrev pub has_name : Kind → Bool
@@ -52,15 +55,31 @@ abbrev pub are_characters : List Tree → List ℕ → Bool
 are_characters ts [] = true
 are_characters ts (c ∷ cs) = (nat_le c 127 || is_character_among c ts) && are_characters ts cs
 
+-- and begins as one of these does
+abbrev pub begins_with : ℕ → List ℕ → Bool
+begins_with c [] = false
+begins_with c (d ∷ ds) = nat_eq c d
+
+abbrev pub is_beginning_among : ℕ → List Tree → Bool
+is_beginning_among c [] = false
+is_beginning_among c (Node kind n span semantic_id ps ∷ ts) = (has_name kind && begins_with c (string_of (at 0 ps))) || is_beginning_among c ts
+
+abbrev pub is_beginning : List Tree → List ℕ → Bool
+is_beginning ts [] = true
+is_beginning ts (c ∷ cs) = nat_le c 127 || is_beginning_among c ts
+
+abbrev pub is_new_name : List Tree → List ℕ → Bool
+is_new_name ts s = are_characters ts s && is_beginning ts s
+
 abbrev pub has_characters : Bool → ℕ → ℕ → List Tree → List ℕ → Bool
-has_characters is_name first n ts s = not (is_name && is_new first n) || are_characters ts s
+has_characters is_name first n ts s = not (is_name && is_new first n) || is_new_name ts s
 
 -- ps are the nodes of the source
 abbrev pub has_its_text : ℕ → List Tree → Tree → Bool
-has_its_text first ps (Node Kind.Literal n span semantic_id qs) = cond (is_new first n) (is_plain (at 0 qs) || (is_literal_among qs ps && not (is_legacy (at 0 qs)))) (stands_equal (Node Kind.Literal n span semantic_id qs) ps)
+has_its_text first ps (Node Kind.Literal n span semantic_id qs) = cond (is_new first n) (is_plain (at 0 qs) || (is_literal_among qs ps && not (is_not_copied (at 0 qs)))) (stands_equal (Node Kind.Literal n span semantic_id qs) ps)
 has_its_text first ps (Node Kind.TemplateElement n span semantic_id qs) = cond (is_new first n) (is_string_among qs ps) (stands_equal (Node Kind.TemplateElement n span semantic_id qs) ps)
 has_its_text first ps (Node Kind.ExpressionStatement n span semantic_id (more e (more (string s) end))) = is_new first n || stands_equal (Node Kind.ExpressionStatement n span semantic_id (more e (more (string s) end))) ps
-has_its_text first ps (Node Kind.PrivateIdentifier n span semantic_id qs) = cond (is_new first n) (are_characters ps (string_of (at 0 qs))) (stands_equal (Node Kind.PrivateIdentifier n span semantic_id qs) ps)
+has_its_text first ps (Node Kind.PrivateIdentifier n span semantic_id qs) = cond (is_new first n) (is_new_name ps (string_of (at 0 qs))) (stands_equal (Node Kind.PrivateIdentifier n span semantic_id qs) ps)
 has_its_text first ps (Node kind n span semantic_id qs) = has_characters (has_name kind) first n ps (string_of (at 0 qs))
 
 abbrev pub all_have_their_texts : ℕ → List Tree → List Tree → Bool

@@ -2,7 +2,8 @@
 -- left to the environment of specs/Evaluation.antt.)
 use Rattle.std.specs.Prelude.{ℕ, suc, List, [], ◌∷◌, ◌++◌, Bool, true, false, cond, not, ◌&&◌, ◌||◌, nat_eq, nat_le, bytes_eq, codes, Option, Some, None, is_some}
 use Rattle.es_base.specs.Numbered.{is_new}
-use Rattle.es_base.specs.Tree.{Tree, Part, Parts, Node, end, more, child, list}
+use Rattle.es_base.specs.Preorder.{preorder}
+use Rattle.es_base.specs.Tree.{Tree, Part, Parts, Node, end, more, child, list, string}
 use Rattle.es_base.specs.declared.kind.Kind.{Kind}
 use Rattle.es_base.specs.declared.ledger.GeneratedKind.{GeneratedKind}
 use Rattle.es_base.specs.declared.ledger.LedgerEntry.{LedgerEntry}
@@ -10,8 +11,9 @@ use Rattle.es_steps.specs.Context.{generated_as, is_function}
 use Rattle.es_steps.specs.Definitions.{spelling}
 use Rattle.es_steps.specs.Expressions.{is_logical}
 use Rattle.es_steps.specs.HelperCalls.{is_class_body, runs_with_class, body_runs}
-use Rattle.es_steps.specs.KeptNodes.{all_pairs_stand}
-use Rattle.es_steps.specs.Parts.{at, string_of, is_true}
+use Rattle.es_steps.specs.KeptNodes.{all_pairs_stand, statement_list}
+use Rattle.es_steps.specs.Parts.{at, items, string_of, is_true, is_present}
+use Rattle.es_steps.specs.References.{has_number}
 use Rattle.es_steps.specs.PrivateNames.{PrivateMember, member_at, is_class, is_element}
 use Rattle.es_steps.specs.Repeated.{is_loop, is_arrow}
 use Rattle.es_steps.specs.Scopes.{is_let}
@@ -20,6 +22,8 @@ use Rattle.es_steps.specs.Values.{String}
 pub data MarkForm : Type 0 where
   -- by `let`
   declares : MarkForm
+  -- by `let` at the head of a list, in front of which nothing there runs
+  leads : MarkForm
   initializes : MarkForm
   -- a function declaration, which is there from the head of its list on
   hoists : MarkForm
@@ -144,19 +148,48 @@ use_form g = cond (comes_first g) needs uses
 abbrev pub use_around : Option GeneratedKind → Around → Around
 use_around g x = cond (comes_first g) (record x { later = x.called }) x
 
+-- the `let` declarations at the head of a list of statements
+abbrev pub are_bare : Parts → Bool
+are_bare end = true
+are_bare (more (child (Node Kind.VariableDeclarator m span semantic_id ps)) rest) = not (is_present (at 1 ps)) && are_bare rest
+are_bare (more p rest) = false
+
+abbrev pub runs_nothing : Part → Bool
+runs_nothing (child (Node Kind.FunctionDeclaration m span semantic_id ps)) = true
+runs_nothing (child (Node Kind.ImportDeclaration m span semantic_id ps)) = true
+runs_nothing (child (Node Kind.ExpressionStatement m span semantic_id (more e (more (string s) end)))) = true
+runs_nothing (child (Node Kind.VariableDeclaration m span semantic_id ps)) = are_bare (items (at 1 ps))
+runs_nothing p = false
+
+abbrev pub let_number : Part → List ℕ
+let_number (child (Node Kind.VariableDeclaration m span semantic_id ps)) = cond (is_let ps) (m ∷ []) []
+let_number p = []
+
+abbrev pub leading_in : Parts → List ℕ
+leading_in end = []
+leading_in (more p ps) = let_number p ++ cond (runs_nothing p) (leading_in ps) []
+
+abbrev pub whole_list : Kind → Parts → Parts
+whole_list Kind.SwitchCase ps = end
+whole_list kind ps = statement_list kind ps
+
+abbrev pub leading_lets : List Tree → List ℕ
+leading_lets [] = []
+leading_lets (Node kind m span semantic_id ps ∷ ts) = leading_in (whole_list kind ps) ++ leading_lets ts
+
 -- an arrow that is called where it stands runs behind the arguments
 abbrev pub is_called_arrow : Kind → Parts → Bool
 is_called_arrow Kind.CallExpression (more (child (Node Kind.ArrowFunctionExpression m span semantic_id ps)) rest) = true
 is_called_arrow kind ps = false
 
 -- of the names and nodes that are asked for
-module _ (first : ℕ) (ledger : List LedgerEntry) (members : List PrivateMember) (asked : String → List ℕ → Bool) where
+module _ (first : ℕ) (ledger : List LedgerEntry) (members : List PrivateMember) (asked : String → List ℕ → Bool) (leading : List ℕ) where
   abbrev pub mark : Around → MarkForm → String → List ℕ → List Mark
   mark x form s ns = cond (asked s ns) (record { name = s; node = ns; form = form; around = x } ∷ []) []
 
-  abbrev pub declared_mark : Around → Bool → Part → List Mark
-  declared_mark x true id = mark x declares (spelling id) []
-  declared_mark x false id = []
+  abbrev pub declared_mark : Around → Option MarkForm → Part → List Mark
+  declared_mark x (Some form) id = mark x form (spelling id) []
+  declared_mark x None id = []
 
   abbrev pub initialized_mark : Around → Part → Part → List Mark
   initialized_mark x id (child t) = mark x initializes (spelling id) []
@@ -170,7 +203,7 @@ module _ (first : ℕ) (ledger : List LedgerEntry) (members : List PrivateMember
   marks_before x Kind.FunctionDeclaration m ps = mark x hoists (spelling (at 0 ps)) []
   marks_before x kind m ps = []
 
-  abbrev pub marks_behind : Around → Bool → Kind → ℕ → Parts → List Mark
+  abbrev pub marks_behind : Around → Option MarkForm → Kind → ℕ → Parts → List Mark
   marks_behind x in_let Kind.AssignmentExpression m ps = mark x initializes (spelling (at 1 ps)) []
   marks_behind x in_let Kind.VariableDeclarator m ps = declared_mark x in_let (at 0 ps) ++ initialized_mark x (at 0 ps) (at 1 ps)
   marks_behind x in_let Kind.ClassDeclaration m ps = mark x initializes [] (m ∷ [])
@@ -182,35 +215,35 @@ module _ (first : ℕ) (ledger : List LedgerEntry) (members : List PrivateMember
   is_given Kind.AssignmentExpression ps i = nat_eq i 1 && (bytes_eq (string_of (at 0 ps)) (codes "=") && is_spelled (spelling (at 1 ps)))
   is_given kind ps i = false
 
-  abbrev pub is_let_declaration : Kind → Parts → Bool
-  is_let_declaration Kind.VariableDeclaration ps = is_let ps
-  is_let_declaration kind ps = false
+  abbrev pub let_form : Kind → ℕ → Parts → Option MarkForm
+  let_form Kind.VariableDeclaration m ps = cond (is_let ps) (Some (cond (has_number m leading) leads declares)) None
+  let_form kind m ps = None
 
   -- an arrow that is called where it stands behind its arguments, and the keys of a class in front of its own name and its static elements
   abbrev mutual
-    pub marks : Around → Bool → Tree → List Mark
-    marks x in_let (Node kind m span semantic_id ps) = marks_before x kind m ps ++ marks_in (is_called_arrow kind ps) (is_class_body kind) (around_in first ledger x kind m ps) (is_given kind ps) (is_let_declaration kind ps) ps ++ marks_behind x in_let kind m ps
+    pub marks : Around → Option MarkForm → Tree → List Mark
+    marks x in_let (Node kind m span semantic_id ps) = marks_before x kind m ps ++ marks_in (is_called_arrow kind ps) (is_class_body kind) (around_in first ledger x kind m ps) (is_given kind ps) (let_form kind m ps) ps ++ marks_behind x in_let kind m ps
 
-    pub marks_in : Bool → Bool → (ℕ → Around) → (ℕ → Bool) → Bool → Parts → List Mark
+    pub marks_in : Bool → Bool → (ℕ → Around) → (ℕ → Bool) → Option MarkForm → Parts → List Mark
     marks_in last is_body x given in_let end = []
     marks_in last is_body x given in_let (more p ps) =
         let own : List Mark = cond (given 0) [] (marks_at is_body (x 0) in_let p) in
         let rest : List Mark = marks_in false is_body (λ i. x (suc i)) (λ i. given (suc i)) in_let ps in
         cond last (rest ++ own) (own ++ rest)
 
-    pub marks_at : Bool → Around → Bool → Part → List Mark
+    pub marks_at : Bool → Around → Option MarkForm → Part → List Mark
     marks_at is_body x in_let (child t) = marks x in_let t
     marks_at false x in_let (list ps) = marks_of x in_let ps
     marks_at true x in_let (list ps) = key_marks x ps ++ (mark x initializes x.class_name [] ++ (value_marks false x ps ++ value_marks true x ps))
     marks_at is_body x in_let p = []
 
-    pub marks_of : Around → Bool → Parts → List Mark
+    pub marks_of : Around → Option MarkForm → Parts → List Mark
     marks_of x in_let end = []
     marks_of x in_let (more p ps) = marks_at false x in_let p ++ marks_of x in_let ps
 
     pub key_marks : Around → Parts → List Mark
     key_marks x end = []
-    key_marks x (more (child (Node kind m span semantic_id (more k ps))) es) = cond (is_element kind) (marks_at false (around_in first ledger x kind m (more k ps) 0) false k) [] ++ key_marks x es
+    key_marks x (more (child (Node kind m span semantic_id (more k ps))) es) = cond (is_element kind) (marks_at false (around_in first ledger x kind m (more k ps) 0) None k) [] ++ key_marks x es
     key_marks x (more p es) = key_marks x es
 
     -- of the elements that run with the class, or of the others, which those may call
@@ -218,7 +251,7 @@ module _ (first : ℕ) (ledger : List LedgerEntry) (members : List PrivateMember
     value_marks runs x end = []
     value_marks runs x (more (child (Node kind m span semantic_id (more k ps))) es) =
         cond (is_same runs (runs_with_class (child (Node kind m span semantic_id (more k ps)))))
-        (cond (is_element kind) [] (marks_at false (around_in first ledger x kind m (more k ps) 0) false k) ++ marks_in false false (λ i. around_in first ledger x kind m (more k ps) (suc i)) (λ i. false) false ps)
+        (cond (is_element kind) [] (marks_at false (around_in first ledger x kind m (more k ps) 0) None k) ++ marks_in false false (λ i. around_in first ledger x kind m (more k ps) (suc i)) (λ i. false) None ps)
         [] ++ value_marks runs x es
     value_marks runs x (more p es) = value_marks runs x es
 
@@ -259,7 +292,12 @@ any_gives in_front m (i ∷ is) = gives_in_time in_front m i || any_gives in_fro
 -- a `let` behind: what stands in front may run, or be called, before it is there
 abbrev pub is_declaration : MarkForm → Bool
 is_declaration declares = true
+is_declaration leads = true
 is_declaration form = false
+
+abbrev pub is_called_past : MarkForm → Bool
+is_called_past declares = true
+is_called_past form = false
 
 abbrev pub is_dead : Mark → List Mark → Bool
 is_dead m [] = false
@@ -267,7 +305,7 @@ is_dead m (d ∷ ds) = (bytes_eq m.name d.name && is_declaration d.form) || is_d
 
 -- a `let` in front that may not have run, as in another case, or one in front of which the function around m may be called
 abbrev pub is_skipped_by : Mark → Mark → Bool
-is_skipped_by m d = is_declaration d.form && (not (all_pairs_stand d.around.held m.around.held) || is_called_early m.around.called d.around.called)
+is_skipped_by m d = (is_declaration d.form && not (all_pairs_stand d.around.held m.around.held)) || (is_called_past d.form && is_called_early m.around.called d.around.called)
 
 abbrev pub is_skipped : Mark → List Mark → Bool
 is_skipped m [] = false
@@ -312,4 +350,4 @@ abbrev pub is_named : List LedgerEntry → String → List ℕ → Bool
 is_named ledger s ns = is_some (generated_as s ledger)
 
 abbrev pub names_timely : ℕ → List LedgerEntry → List PrivateMember → Tree → Bool
-names_timely first ledger members q = in_time ledger [] (marks first ledger members (is_named ledger) nowhere false q)
+names_timely first ledger members q = in_time ledger [] (marks first ledger members (is_named ledger) (leading_lets (preorder q)) nowhere None q)
