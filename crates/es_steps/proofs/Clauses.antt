@@ -13,7 +13,9 @@ use Rattle.es_steps.specs.HelperCalls.{computed_keys, helper_calls_fit}
 use Rattle.es_steps.specs.KeptNodes.{nodes_kept, classes_kept, statements_kept, lists_kept, homes_kept}
 use Rattle.es_steps.specs.Law.{ClausesLaw}
 use Rattle.es_steps.specs.Lowered.{nothing_left, names_declared, declarations_accounted, initializations_stand, keys_stand}
+use Rattle.es_steps.specs.KeptReferences.{references_stay}
 use Rattle.es_steps.specs.OwnNames.{own_names_stay}
+use Rattle.es_steps.proofs.KeptReferencesMapped.{references_stay-mapped}
 use Rattle.es_steps.specs.Printable.{stays_printable}
 use Rattle.es_steps.specs.PrivateNames.{PrivateMember, members_of_all, private_members}
 use Rattle.es_steps.specs.Standing.{all_numbers, ledger_numbers, all_pass, all_old}
@@ -110,6 +112,9 @@ module _ (first : ℕ) (o : Options) where
   timely-unchanging : Unchanging first (λ l p q. names_timely first l (private_members p) q)
   timely-unchanging f r l p q = ap (λ ms. names_timely first (mapped_ledger f l) ms (mapped f q)) (private_members-mapped f p) ∙ names_timely-mapped r l (private_members p) q
 
+  temporaries-unchanging : Unchanging first (λ l p q. temporaries_steady first l (private_members p) q)
+  temporaries-unchanging f r l p q = ap (λ ms. temporaries_steady first (mapped_ledger f l) ms (mapped f q)) (private_members-mapped f p) ∙ temporaries_steady-mapped r l (private_members p) q
+
   calls-unchanging : Unchanging first (λ l p q. helper_calls_fit first l (computed_keys (preorder p)) q)
   calls-unchanging f r l p q =
       ap (λ ks. helper_calls_fit first (mapped_ledger f l) ks (mapped f q)) (all_computed_keys-mapped f p)
@@ -126,11 +131,12 @@ clauses_law first o ledger p q once old generated met = record {
     declared = kept first ledger p q once old generated (λ l p q. names_declared first l q) (λ f r l p q. names_declared-mapped r l q) met.declared;
     accounted = kept first ledger p q once old generated (declarations_accounted first) (λ f r l p q. declarations_accounted-mapped r l p q) met.accounted;
     names = kept first ledger p q once old generated own_names_stay (λ f r l p q. own_names_stay-mapped r l p q) met.names;
+    references = kept first ledger p q once old generated (references_stay first) (λ f r l p q. references_stay-mapped r l p q) met.references;
     strict = kept first ledger p q once old generated (λ l p q. none_becomes_strict first p q) (λ f r l p q. none_becomes_strict-mapped r p q) met.strict;
     texts = kept first ledger p q once old generated (λ l p q. texts_stay first p q) (λ f r l p q. texts_stay-mapped r p q) met.texts;
     initialized = kept first ledger p q once old generated (λ l p q. initializations_stand first l (private_members p) q l) (initialized-unchanging first o) met.initialized;
     timely = kept first ledger p q once old generated (λ l p q. names_timely first l (private_members p) q) (timely-unchanging first o) met.timely;
-    temporaries = kept first ledger p q once old generated (λ l p q. temporaries_steady first l q) (λ f r l p q. temporaries_steady-mapped r l q) met.temporaries;
+    temporaries = kept first ledger p q once old generated (λ l p q. temporaries_steady first l (private_members p) q) (temporaries-unchanging first o) met.temporaries;
     keys = kept first ledger p q once old generated (λ l p q. keys_clause first o l (private_members p) q (preorder q)) (keys-unchanging first o) met.keys;
     nodes = kept first ledger p q once old generated (λ l p q. nodes_kept p q) (λ f r l p q. nodes_kept-mapped r p q) met.nodes;
     classes = kept first ledger p q once old generated (λ l p q. classes_kept first p q) (λ f r l p q. classes_kept-mapped r p q) met.classes;

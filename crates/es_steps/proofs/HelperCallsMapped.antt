@@ -1,6 +1,7 @@
 -- What calls of helpers have to be, under a change of numbers.
 use Rattle.std.specs.Prelude.{◌≡◌, ℕ, suc, List, [], ◌∷◌, ◌++◌, map, Bool, true, false, cond, not, ◌&&◌, ◌||◌, bytes_eq, codes, Option, Some, None, is_some}
 use Rattle.std.proofs.Common.{refl, ap, ap₂, ◌∙◌}
+use Rattle.es_base.specs.Conforms.{is_among}
 use Rattle.es_base.specs.Preorder.{preorder, preorder_of, number_of}
 use Rattle.es_base.specs.Tree.{Tree, Part, Parts, Node, end, more, child, list, string, literal}
 use Rattle.es_base.specs.declared.kind.Kind.{Kind}
@@ -9,7 +10,7 @@ use Rattle.es_base.specs.declared.ledger.LedgerEntry.{LedgerEntry}
 use Rattle.es_base.specs.declared.literal.LiteralValue.TheVariants as literal_value
 use Rattle.es_steps.specs.Context.{generated_as}
 use Rattle.es_steps.specs.Definitions.{spelling}
-use Rattle.es_steps.specs.HelperCalls.{is_helper_callee, part_number, computed_key, computed_keys, StaticKey, is_name, is_key_conversion, computed_static_key, static_key, method_key, field_key, method_keys, field_keys, body_keys, Naming, is_name_literal, tests_of, tests_at, naming_in, naming_of_element, is_class_body, is_without_name, runs_with_class, any_runs, body_runs, is_any_helper, holds_key, is_generated_name, ends_with_name, stands_for_key, form_for_key, part_for_key, last_for_key, any_for_key, call_fits, calls_fit, calls_in, calls_at, calls_of, calls_of_body, helper_calls_fit}
+use Rattle.es_steps.specs.HelperCalls.{last_part, generated_spelling, or_none, last_spelling, is_function_value, element_spelling, is_new_private, all_spelled, private_spelling, private_keys, new_private_names, key_spelling, kept_keys, converted_key, all_by, kept_keys_converted, is_helper_callee, part_number, computed_key, computed_keys, StaticKey, is_name, is_key_conversion, computed_static_key, static_key, method_key, field_key, method_keys, field_keys, body_keys, Naming, is_name_literal, tests_of, tests_at, naming_in, naming_of_element, is_class_body, is_without_name, runs_with_class, any_runs, body_runs, is_any_helper, holds_key, is_generated_name, ends_with_name, stands_for_key, form_for_key, part_for_key, last_for_key, any_for_key, call_fits, calls_fit, calls_in, calls_at, calls_of, calls_of_body, helper_calls_fit}
 use Rattle.es_steps.specs.Parts.{at, items, string_of, is_true}
 use Rattle.es_steps.specs.References.{has_number}
 use Rattle.es_steps.specs.Values.{String}
@@ -17,13 +18,13 @@ use Rattle.es_steps.proofs.ContextMapped.{generated_as-mapped}
 use Rattle.es_steps.proofs.DefinitionsMapped.{spelling-mapped}
 use Rattle.es_steps.proofs.Mapped.{Renames, mapped, mapped_part, mapped_parts, mapped_option, mapped_generated, mapped_ledger}
 use Rattle.es_steps.proofs.PartsMapped.{cond-mapped, append-mapped, at-mapped, items_at-mapped, string_at-mapped, is_true_at-mapped, is_present_at-mapped, number_of-mapped, preorder-mapped, preorder_of-mapped}
-use Rattle.es_steps.proofs.PrintableMapped.{is_spelled-mapped}
+use Rattle.es_steps.proofs.PrintableMapped.{name_of_part-mapped, is_spelled-mapped}
 use Rattle.es_steps.proofs.ReferencesMapped.{has_number-mapped}
 
 module _ (f : ℕ → ℕ) where
   -- ---- computed keys
 
-  part_number-mapped : (p : Part) → part_number (mapped_part f p) ≡ map f (part_number p)
+  pub part_number-mapped : (p : Part) → part_number (mapped_part f p) ≡ map f (part_number p)
   part_number-mapped (child t) = ap (λ n. n ∷ []) (number_of-mapped f t)
   part_number-mapped p = refl
 
@@ -45,7 +46,7 @@ module _ (f : ℕ → ℕ) where
   -- ---- keys of static elements
 
   is_key_conversion-mapped : (p : Part) → is_key_conversion (mapped_part f p) ≡ is_key_conversion p
-  is_key_conversion-mapped (child (Node Kind.CallExpression m span semantic_id (more (child (Node Kind.MemberExpression k kspan k_semantic_id (more o (more (child (Node Kind.IdentifierName j jspan j_semantic_id (more (string t) end))) rest)))) arguments))) = refl
+  is_key_conversion-mapped (child (Node Kind.CallExpression m span semantic_id (more (child (Node Kind.MemberExpression k kspan k_semantic_id (more (child (Node Kind.IdentifierReference b bspan b_semantic_id (more (string s) end))) (more (child (Node Kind.IdentifierName j jspan j_semantic_id (more (string t) end))) rest)))) arguments))) = refl
   is_key_conversion-mapped p = refl
 
   computed_static_key-mapped : (p : Part) → computed_static_key (mapped_part f p) ≡ computed_static_key p
@@ -216,5 +217,86 @@ module _ {first : ℕ} {f : ℕ → ℕ} (r : Renames first f) where
           ap₂ (λ a b. a && b) (calls_at-mapped false (naming_of_element x all methods front) p)
           (ap (λ k. calls_of_body first there (map f keys) x all methods (front ++ k) (mapped_parts f ps)) (field_key-mapped f p) ∙ calls_of_body-mapped x all methods (front ++ field_key p) ps)
 
+    -- ---- keys that names are kept by
+
+    generated_spelling-mapped : (p : Part) → generated_spelling first there (map f keys) (mapped_part f p) ≡ generated_spelling first ledger keys p
+    generated_spelling-mapped (child (Node Kind.IdentifierReference m span semantic_id ps)) =
+        rw (string_at-mapped f 0 ps, generated_as-mapped f (string_of (at 0 ps)) ledger) (ap (λ b. cond b (string_of (at 0 ps) ∷ []) []) (is_some-mapped (generated_as (string_of (at 0 ps)) ledger)))
+    generated_spelling-mapped p = refl
+
+    last_part-mapped : (ps : Parts) → last_part (mapped_parts f ps) ≡ mapped_part f (last_part ps)
+    last_part-mapped end = refl
+    last_part-mapped (more p end) = refl
+    last_part-mapped (more p (more q rest)) = last_part-mapped (more q rest)
+
+    last_spelling-mapped : (p : Part) → last_spelling first there (map f keys) (mapped_part f p) ≡ last_spelling first ledger keys p
+    last_spelling-mapped (child (Node Kind.SequenceExpression m span semantic_id (more (list es) end))) = ap (generated_spelling first there (map f keys)) (last_part-mapped es) ∙ generated_spelling-mapped (last_part es)
+    last_spelling-mapped p = generated_spelling-mapped p
+
+    or_none-mapped : (ss : List String) → or_none first there (map f keys) ss ≡ or_none first ledger keys ss
+    or_none-mapped [] = refl
+    or_none-mapped (s ∷ ss) = refl
+
+    is_function_value-mapped : (p : Part) → is_function_value first there (map f keys) (mapped_part f p) ≡ is_function_value first ledger keys p
+    is_function_value-mapped (child (Node kind m span semantic_id ps)) = refl
+    is_function_value-mapped p = refl
+
+    element_spelling-mapped : (p : Part) → element_spelling first there (map f keys) (mapped_part f p) ≡ element_spelling first ledger keys p
+    element_spelling-mapped (child (Node Kind.AssignmentExpression m span semantic_id ps)) = rw (at-mapped f 2 ps, is_function_value-mapped (at 2 ps)) refl
+    element_spelling-mapped p = ap (or_none first there (map f keys)) (last_spelling-mapped p) ∙ or_none-mapped (last_spelling first ledger keys p)
+
+    is_new_private-mapped : (p : Part) → is_new_private first there (map f keys) (mapped_part f p) ≡ is_new_private first ledger keys p
+    is_new_private-mapped (child (Node Kind.PrivateIdentifier d span semantic_id ps)) = r.new d
+    is_new_private-mapped p = refl
+
+    all_spelled-mapped : (ss names : List String) → all_spelled first there (map f keys) ss names ≡ all_spelled first ledger keys ss names
+    all_spelled-mapped [] names = refl
+    all_spelled-mapped (s ∷ ss) names = ap (λ b. is_among s names && b) (all_spelled-mapped ss names)
+
+    private_spelling-mapped : (p : Part) → private_spelling first there (map f keys) (mapped_part f p) ≡ private_spelling first ledger keys p
+    private_spelling-mapped (child (Node Kind.PrivateField m span semantic_id (more o (more (child (Node Kind.PrivateIdentifier d dspan d_semantic_id ps)) rest)))) = rw (string_at-mapped f 0 ps) refl
+    private_spelling-mapped p = refl
+
+    private_keys-mapped : (ts : List Tree) → private_keys first there (map f keys) (map (mapped f) ts) ≡ private_keys first ledger keys ts
+    private_keys-mapped [] = refl
+    private_keys-mapped (Node Kind.Property m span semantic_id ps ∷ ts) = rw (r.new m, is_true_at-mapped f 5 ps, at-mapped f 0 ps, private_spelling-mapped (at 0 ps), private_keys-mapped ts) refl
+    private_keys-mapped (t ∷ ts) = private_keys-mapped ts
+
+    new_private_names-mapped : (ts : List Tree) → new_private_names first there (map f keys) (map (mapped f) ts) ≡ new_private_names first ledger keys ts
+    new_private_names-mapped [] = refl
+    new_private_names-mapped (Node Kind.PropertyDefinition m span semantic_id ps ∷ ts) = rw (at-mapped f 0 ps, is_new_private-mapped (at 0 ps), name_of_part-mapped f (at 0 ps), new_private_names-mapped ts) refl
+    new_private_names-mapped (t ∷ ts) = new_private_names-mapped ts
+
+    key_spelling-mapped : (names : List String) (p : Part) → key_spelling first there (map f keys) names (mapped_part f p) ≡ key_spelling first ledger keys names p
+    key_spelling-mapped names (child (Node Kind.PrivateField m span semantic_id ps)) =
+        let p : Part = child (Node Kind.PrivateField m span semantic_id ps) in
+        rw (private_spelling-mapped p, all_spelled-mapped (private_spelling first ledger keys p) names) refl
+    key_spelling-mapped names p = ap (or_none first there (map f keys)) (generated_spelling-mapped p) ∙ or_none-mapped (generated_spelling first ledger keys p)
+
+    kept_keys-mapped : (names privates : List String) (t : Tree) → kept_keys first there (map f keys) names privates (mapped f t) ≡ kept_keys first ledger keys names privates t
+    kept_keys-mapped names privates (Node Kind.Property m span semantic_id ps) = rw (r.new m, is_true_at-mapped f 5 ps, at-mapped f 0 ps, key_spelling-mapped names (at 0 ps)) refl
+    kept_keys-mapped names privates (Node Kind.PropertyDefinition m span semantic_id ps) =
+        rw (at-mapped f 0 ps, at-mapped f 1 ps, is_new_private-mapped (at 0 ps), name_of_part-mapped f (at 0 ps), element_spelling-mapped (at 1 ps), last_spelling-mapped (at 1 ps)) refl
+    kept_keys-mapped names privates t = refl
+
+    converted_key-mapped : (t : Tree) → converted_key first there (map f keys) (mapped f t) ≡ converted_key first ledger keys t
+    converted_key-mapped (Node Kind.AssignmentExpression m span semantic_id ps) =
+        rw (at-mapped f 2 ps, is_key_conversion-mapped f (at 2 ps), at-mapped f 1 ps, spelling-mapped f (at 1 ps)) refl
+    converted_key-mapped t = refl
+
+    all_by-mapped : (y x : Tree → List String) → ((t : Tree) → y (mapped f t) ≡ x t) → (ts : List Tree) → all_by first there (map f keys) y (map (mapped f) ts) ≡ all_by first ledger keys x ts
+    all_by-mapped y x same [] = refl
+    all_by-mapped y x same (t ∷ ts) = ap₂ (λ a b. a ++ b) (same t) (all_by-mapped y x same ts)
+
+    kept_keys_converted-mapped : (ts : List Tree) → kept_keys_converted first there (map f keys) (map (mapped f) ts) ≡ kept_keys_converted first ledger keys ts
+    kept_keys_converted-mapped ts =
+        let names : List String = new_private_names first ledger keys ts in
+        let privates : List String = private_keys first ledger keys ts in
+        rw (new_private_names-mapped ts, private_keys-mapped ts)
+        (ap₂ (all_spelled first there (map f keys)) (all_by-mapped _ (kept_keys first ledger keys names privates) (kept_keys-mapped names privates) ts) (all_by-mapped _ (converted_key first ledger keys) converted_key-mapped ts)
+        ∙ all_spelled-mapped (all_by first ledger keys (kept_keys first ledger keys names privates) ts) (all_by first ledger keys (converted_key first ledger keys) ts))
+
     pub helper_calls_fit-mapped : (q : Tree) → helper_calls_fit first there (map f keys) (mapped f q) ≡ helper_calls_fit first ledger keys q
-    helper_calls_fit-mapped q = calls_fit-mapped (record { keys = []; outer_keys = []; all_keys = []; tested = [] }) q
+    helper_calls_fit-mapped q =
+        ap₂ (λ a b. a && b) (calls_fit-mapped (record { keys = []; outer_keys = []; all_keys = []; tested = [] }) q)
+        (ap (kept_keys_converted first there (map f keys)) (preorder-mapped f q) ∙ kept_keys_converted-mapped (preorder q))

@@ -206,7 +206,7 @@ module _ (f : ℕ → ℕ) where
   function_around-mapped home Kind.ArrowFunctionExpression m i = refl
   function_around-mapped home kind m i = refl
 
-  is_constructor_part-mapped : (kind : Kind) (ps : Parts) (i : ℕ) → is_constructor_part kind (mapped_parts f ps) i ≡ is_constructor_part kind ps i
+  pub is_constructor_part-mapped : (kind : Kind) (ps : Parts) (i : ℕ) → is_constructor_part kind (mapped_parts f ps) i ≡ is_constructor_part kind ps i
   is_constructor_part-mapped Kind.MethodDefinition ps i = ap (λ s. nat_eq i 1 && is_constructor s) (string_at-mapped f 2 ps)
   is_constructor_part-mapped kind ps i = refl
 

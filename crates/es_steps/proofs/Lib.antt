@@ -34,4 +34,6 @@ pub mod LoweredMapped
 pub mod TemporariesMapped
 pub mod TextsMapped
 pub mod TimelyMapped
+pub mod ClassNamesMapped
+pub mod KeptReferencesMapped
 pub mod Clauses

@@ -9,7 +9,7 @@ use Rattle.es_base.specs.declared.ledger.LedgerEntry.{LedgerEntry}
 use Rattle.es_steps.specs.Context.{generated_as}
 use Rattle.es_steps.specs.Definitions.{spelling, field_part, names_class, class_identifiers, all_different, is_among_first}
 use Rattle.es_steps.specs.KeptNodes.{statement_list, is_underscored}
-use Rattle.es_steps.specs.Lowered.{none_lowered, nothing_left, declaring_number, declaring_numbers, is_bound_to, all_mean, is_one_new, private_key, private_keys, keys_of_body, keys_of_class, keys_in, is_one, declared_by_kind, same_space, is_named_again, same_subject, has_another_name, is_temp, is_at_most_one, names_declared, has_new_declarator, is_new_const, has_branded, belongs, is_generated, is_accounted, all_accounted, declarations_accounted, spelled_as, is_new_of, is_key_call, is_function_part, class_number_in, assignment_number, paired, pairs_behind, all_behind, has_pair, is_class_or_name, is_class_value, is_initial, is_class_kind, is_method_kind, initialization_at, initializations, comes_before, class_of_member, class_before, is_declared_function, all_before, needs_none, is_one_initialization, initialization_stands, initializations_stand, any_before, keys_before, keys_stand}
+use Rattle.es_steps.specs.Lowered.{none_lowered, nothing_left, declaring_number, declaring_numbers, is_bound_to, all_mean, is_one_new, private_key, private_keys, keys_of_body, keys_of_class, keys_in, is_one, declared_by_kind, same_space, is_named_again, same_subject, has_another_name, is_temp, is_at_most_one, names_declared, has_new_declarator, is_new_const, has_branded, belongs, is_generated, is_accounted, all_accounted, declarations_accounted, spelled_as, is_new_of, is_key_call, is_function_part, class_number_in, assignment_number, paired, pairs_behind, all_behind, has_pair, is_class_or_name, is_class_value, is_initial, is_class_kind, is_method_kind, initialization_at, initializations, comes_before, is_declared_function, all_before, needs_none, is_one_initialization, initialization_stands, initializations_stand, any_before, keys_before, keys_stand}
 use Rattle.es_steps.specs.Options.{lowers_fields}
 use Rattle.es_steps.specs.OwnNames.{own_name_numbers}
 use Rattle.es_steps.specs.Parts.{at, items, string_of, is_present}
@@ -17,6 +17,8 @@ use Rattle.es_steps.specs.GeneratedForms.{if_member, is_instance_field, is_stati
 use Rattle.es_steps.specs.PrivateNames.{PrivateMember, member_at, is_a_field}
 use Rattle.es_steps.specs.References.{Reference, resolve}
 use Rattle.es_steps.specs.Scopes.{is_binding_identifier, class_in}
+use Rattle.es_steps.specs.Temporaries.{class_before}
+use Rattle.es_steps.proofs.TemporariesMapped.{class_before-mapped}
 use Rattle.es_steps.specs.Values.{String, Referent, Bound, Free}
 use Rattle.es_steps.specs.declared.options.Options.{Options}
 use Rattle.es_steps.proofs.ContextMapped.{generated_as-mapped}
@@ -285,17 +287,6 @@ module _ {first : ℕ} {f : ℕ → ℕ} (r : Renames first f) where
   comes_before-mapped m n [] = refl
   comes_before-mapped m n (t ∷ ts) = rw (number_of-mapped f t, r.apart m (number_of t), r.apart n (number_of t), comes_before-mapped m n ts) refl
 
-  class_of_member-mapped : (x : Option PrivateMember) → class_of_member (mapped_option (mapped_private f) x) ≡ map f (class_of_member x)
-  class_of_member-mapped None = refl
-  class_of_member-mapped (Some x) = refl
-
-  class_before-mapped : (g : GeneratedKind) (members : List PrivateMember) → class_before (mapped_generated f g) (mapped_privates f members) ≡ map f (class_before g members)
-  class_before-mapped (GeneratedKind.WeakMap d) members = ap class_of_member (member_at-mapped r d.0 members) ∙ class_of_member-mapped (member_at d.0 members)
-  class_before-mapped (GeneratedKind.Method d) members = ap class_of_member (member_at-mapped r d.0 members) ∙ class_of_member-mapped (member_at d.0 members)
-  class_before-mapped (GeneratedKind.LooseKey d) members = ap class_of_member (member_at-mapped r d.0 members) ∙ class_of_member-mapped (member_at d.0 members)
-  class_before-mapped (GeneratedKind.Brand n) members = refl
-  class_before-mapped g members = refl
-
   all_before-mapped : (m : ℕ) (ns : List ℕ) (ts : List Tree) → all_before (f m) (map f ns) (map (mapped f) ts) ≡ all_before m ns ts
   all_before-mapped m [] ts = refl
   all_before-mapped m (n ∷ ns) ts = ap₂ (λ a b. a && b) (comes_before-mapped m n ts) (all_before-mapped m ns ts)
@@ -329,7 +320,7 @@ module _ {first : ℕ} {f : ℕ → ℕ} (r : Renames first f) where
   is_one_initialization-mapped g members q [] = refl
   is_one_initialization-mapped g members q (i ∷ []) =
       ap₂ (λ a b. i.1 && (a || b)) (ap (is_declared_function (f i.0)) (preorder-mapped f q) ∙ is_declared_function-mapped i.0 (preorder q))
-      (ap₂ (all_before (f i.0)) (class_before-mapped g members) (preorder-mapped f q) ∙ all_before-mapped i.0 (class_before g members) (preorder q))
+      (ap₂ (all_before (f i.0)) (class_before-mapped r g members) (preorder-mapped f q) ∙ all_before-mapped i.0 (class_before g members) (preorder q))
   is_one_initialization-mapped g members q (i ∷ j ∷ is) = refl
 
   is_temp-mapped : (g : GeneratedKind) → is_temp (mapped_generated f g) ≡ is_temp g

@@ -1,16 +1,21 @@
 -- The own names of classes, under a change of numbers.
-use Rattle.std.specs.Prelude.{◌≡◌, ℕ, List, [], ◌∷◌, map, Bool, not, ◌&&◌, ◌||◌, nat_eq}
-use Rattle.std.proofs.Common.{refl, ap₂}
+use Rattle.std.specs.Prelude.{◌≡◌, ℕ, List, [], ◌∷◌, ◌++◌, map, Bool, cond, not, ◌&&◌, ◌||◌, nat_eq}
+use Rattle.std.proofs.Common.{refl, ap, ap₂, ◌∙◌}
 use Rattle.es_base.specs.Conforms.{is_among}
 use Rattle.es_base.specs.Preorder.{number_of, preorder, preorder_of_part}
-use Rattle.es_base.specs.Tree.{Tree, Node, end, more, child, absent}
+use Rattle.es_base.specs.Tree.{Tree, Part, Parts, Node, end, more, child, absent}
 use Rattle.es_base.specs.declared.kind.Kind.{Kind}
-use Rattle.es_steps.specs.OwnNames.{is_bound_among, references_to, class_name_at, declares_class, are_none, own_name_number, own_name_numbers, identifier_at, identifiers_at, any_stands, loses_name, none_loses_name, class_identifier, class_identifiers, declares_by, any_declares, reads_itself, none_reads_itself, own_names_stay}
+use Rattle.es_base.specs.declared.ledger.LedgerEntry.{LedgerEntry}
+use Rattle.es_steps.specs.ClassNames.{is_generated}
+use Rattle.es_steps.specs.Definitions.{spelling}
+use Rattle.es_steps.specs.NameScopes.{is_any_function}
+use Rattle.es_steps.proofs.ClassNamesMapped.{is_generated_at-mapped}
+use Rattle.es_steps.specs.OwnNames.{is_bound_among, references_to, class_name_at, declares_class, are_none, own_name_number, own_name_numbers, identifier_at, identifiers_at, any_stands, loses_name, none_loses_name, class_identifier, class_identifiers, declares_by, any_declares, function_nodes, moved_nodes, all_moved, reads_itself, none_reads_itself, own_names_stay}
 use Rattle.es_steps.specs.Parts.{at, string_of}
 use Rattle.es_steps.specs.References.{Reference, resolve}
 use Rattle.es_steps.specs.Values.{String, Referent, Bound}
-use Rattle.es_steps.proofs.Mapped.{Renames, mapped, mapped_referent, mapped_reference}
-use Rattle.es_steps.proofs.PartsMapped.{cond-mapped, append-mapped, string_at-mapped, number_of-mapped, preorder-mapped, preorder_of_part-mapped}
+use Rattle.es_steps.proofs.Mapped.{Renames, mapped, mapped_part, mapped_parts, mapped_referent, mapped_reference, mapped_ledger}
+use Rattle.es_steps.proofs.PartsMapped.{cond-mapped, append-mapped, at-mapped, string_at-mapped, number_of-mapped, preorder-mapped, preorder_of_part-mapped}
 use Rattle.es_steps.proofs.ReferencesMapped.{resolve-mapped, has_number-mapped}
 
 are_none-mapped : (f : ℕ → ℕ) (ns : List ℕ) → are_none (map f ns) ≡ are_none ns
@@ -94,22 +99,14 @@ module _ {first : ℕ} {f : ℕ → ℕ} (r : Renames first f) where
   function_nodes-mapped (child (Node kind m span semantic_id ps)) = cond-mapped (map (mapped f)) (is_any_function kind) (preorder (Node kind m span semantic_id ps)) [] (preorder-mapped f (Node kind m span semantic_id ps)) refl
   function_nodes-mapped p = refl
 
-  is_named-mapped : (g : Option GeneratedKind) → is_some (mapped_option (mapped_generated f) g) ≡ is_some g
-  is_named-mapped None = refl
-  is_named-mapped (Some g) = refl
-
-  is_generated_at-mapped : (ledger : List LedgerEntry) (i : ℕ) (ps : Parts) → is_generated (spelling (at i (mapped_parts f ps))) (mapped_ledger f ledger) ≡ is_generated (spelling (at i ps)) ledger
-  is_generated_at-mapped ledger i ps =
-      rw (ap spelling (at-mapped f i ps) ∙ spelling-mapped f (at i ps), generated_as-mapped f (spelling (at i ps)) ledger) (is_named-mapped (generated_as (spelling (at i ps)) ledger))
-
   functions_at-mapped : (ledger : List LedgerEntry) (i j : ℕ) (ps : Parts) → cond (is_generated (spelling (at i (mapped_parts f ps))) (mapped_ledger f ledger)) (function_nodes (at j (mapped_parts f ps))) [] ≡ map (mapped f) (cond (is_generated (spelling (at i ps)) ledger) (function_nodes (at j ps)) [])
   functions_at-mapped ledger i j ps =
-      rw (is_generated_at-mapped ledger i ps) (cond-mapped (map (mapped f)) (is_generated (spelling (at i ps)) ledger) (function_nodes (at j ps)) [] (ap function_nodes (at-mapped f j ps) ∙ function_nodes-mapped (at j ps)) refl)
+      rw (is_generated_at-mapped f ledger i ps) (cond-mapped (map (mapped f)) (is_generated (spelling (at i ps)) ledger) (function_nodes (at j ps)) [] (ap function_nodes (at-mapped f j ps) ∙ function_nodes-mapped (at j ps)) refl)
 
   moved_nodes-mapped : (ledger : List LedgerEntry) (t : Tree) → moved_nodes (mapped_ledger f ledger) (mapped f t) ≡ map (mapped f) (moved_nodes ledger t)
   moved_nodes-mapped ledger (Node Kind.FunctionDeclaration m span semantic_id ps) =
       let t : Tree = Node Kind.FunctionDeclaration m span semantic_id ps in
-      rw (is_generated_at-mapped ledger 0 ps) (cond-mapped (map (mapped f)) (is_generated (spelling (at 0 ps)) ledger) (preorder t) [] (preorder-mapped f t) refl)
+      rw (is_generated_at-mapped f ledger 0 ps) (cond-mapped (map (mapped f)) (is_generated (spelling (at 0 ps)) ledger) (preorder t) [] (preorder-mapped f t) refl)
   moved_nodes-mapped ledger (Node Kind.AssignmentExpression m span semantic_id ps) = functions_at-mapped ledger 1 2 ps
   moved_nodes-mapped ledger (Node Kind.VariableDeclarator m span semantic_id ps) = functions_at-mapped ledger 0 1 ps
   moved_nodes-mapped ledger t = refl
@@ -127,52 +124,7 @@ module _ {first : ℕ} {f : ℕ → ℕ} (r : Renames first f) where
   none_reads_itself-mapped moved ps rs [] = refl
   none_reads_itself-mapped moved ps rs (t ∷ ts) = ap₂ (λ a b. not a && b) (reads_itself-mapped moved ps rs t) (none_reads_itself-mapped moved ps rs ts)
 
-  any_outside-mapped : (ns : List ℕ) (inner ts : List Tree) → any_outside (map f ns) (map (mapped f) inner) (map (mapped f) ts) ≡ any_outside ns inner ts
-  any_outside-mapped ns inner [] = refl
-  any_outside-mapped ns inner (t ∷ ts) = rw (number_of-mapped f t, has_number-mapped r (number_of t) ns, any_stands-mapped (number_of t ∷ []) inner, any_outside-mapped ns inner ts) refl
-
-  class_runs-mapped : (p : Part) → class_runs (mapped_part f p) ≡ class_runs p
-  class_runs-mapped (child (Node Kind.ClassExpression m span semantic_id ps)) = body_at-mapped f 2 ps
-  class_runs-mapped p = refl
-
-  number_in-mapped : (p : Part) → number_in (mapped_part f p) ≡ map f (number_in p)
-  number_in-mapped (child t) = ap (λ n. n ∷ []) (number_of-mapped f t)
-  number_in-mapped p = refl
-
-  numbers_at-mapped : (i : ℕ) (ps : Parts) → number_in (at i (mapped_parts f ps)) ≡ map f (number_in (at i ps))
-  numbers_at-mapped i ps = ap number_in (at-mapped f i ps) ∙ number_in-mapped (at i ps)
-
-  bound_number-mapped : (to : Referent) → bound_number (mapped_referent f to) ≡ map f (bound_number to)
-  bound_number-mapped (Bound b) = refl
-  bound_number-mapped to = refl
-
-  bound_by-mapped : (ns : List ℕ) (rs : List Reference) → bound_by (map f ns) (map (mapped_reference f) rs) ≡ map f (bound_by ns rs)
-  bound_by-mapped ns [] = refl
-  bound_by-mapped ns (x ∷ rs) =
-      append-mapped f _ _ (rw (has_number-mapped r x.number ns) (cond-mapped (map f) (has_number x.number ns) (bound_number x.to) [] (bound_number-mapped x.to) refl)) (bound_by-mapped ns rs)
-
-  outside-mapped : (ns : List ℕ) (inner moved : List Tree) (rs : List Reference) {there : List Tree} → there ≡ map (mapped f) inner → any_outside (references_to (map f ns) (map (mapped_reference f) rs)) there (map (mapped f) moved) ≡ any_outside (references_to ns rs) inner moved
-  outside-mapped ns inner moved rs refl = rw (references_to-mapped ns rs) (any_outside-mapped (references_to ns rs) inner moved)
-
-  reads_running-mapped : (moved : List Tree) (rs : List Reference) (t : Tree) → reads_running (map (mapped f) moved) (map (mapped_reference f) rs) (mapped f t) ≡ reads_running moved rs t
-  reads_running-mapped moved rs (Node Kind.ClassDeclaration n span semantic_id ps) =
-      let t : Tree = Node Kind.ClassDeclaration n span semantic_id ps in
-      rw (body_at-mapped f 2 ps, numbers_at-mapped 0 ps) (ap (λ b. body_runs (at 2 ps) && b) (outside-mapped (number_in (at 0 ps)) (preorder t) moved rs (preorder-mapped f t)))
-  reads_running-mapped moved rs (Node Kind.AssignmentExpression m span semantic_id ps) =
-      rw (ap class_runs (at-mapped f 2 ps) ∙ class_runs-mapped (at 2 ps), numbers_at-mapped 1 ps, bound_by-mapped (number_in (at 1 ps)) rs)
-      (ap (λ b. class_runs (at 2 ps) && b) (outside-mapped (bound_by (number_in (at 1 ps)) rs) (preorder_of_part (at 2 ps)) moved rs (ap preorder_of_part (at-mapped f 2 ps) ∙ preorder_of_part-mapped f (at 2 ps))))
-  reads_running-mapped moved rs (Node Kind.VariableDeclarator m span semantic_id ps) =
-      rw (ap class_runs (at-mapped f 1 ps) ∙ class_runs-mapped (at 1 ps), numbers_at-mapped 0 ps)
-      (ap (λ b. class_runs (at 1 ps) && b) (outside-mapped (number_in (at 0 ps)) (preorder_of_part (at 1 ps)) moved rs (ap preorder_of_part (at-mapped f 1 ps) ∙ preorder_of_part-mapped f (at 1 ps))))
-  reads_running-mapped moved rs t = refl
-
-  none_reads_running-mapped : (moved : List Tree) (rs : List Reference) (ts : List Tree) → none_reads_running (map (mapped f) moved) (map (mapped_reference f) rs) (map (mapped f) ts) ≡ none_reads_running moved rs ts
-  none_reads_running-mapped moved rs [] = refl
-  none_reads_running-mapped moved rs (t ∷ ts) = ap₂ (λ a b. not a && b) (reads_running-mapped moved rs t) (none_reads_running-mapped moved rs ts)
-
   pub own_names_stay-mapped : (ledger : List LedgerEntry) (p q : Tree) → own_names_stay (mapped_ledger f ledger) (mapped f p) (mapped f q) ≡ own_names_stay ledger p q
   own_names_stay-mapped ledger p q =
-      let moved : List Tree = all_moved ledger (preorder q) in
       rw (preorder-mapped f p, resolve-mapped f q, preorder-mapped f q, all_moved-mapped ledger (preorder q))
-      (ap₂ (λ a b. a && b) (none_loses_name-mapped (preorder p) (resolve q) (preorder q))
-      (ap₂ (λ a b. a && b) (none_reads_itself-mapped moved (preorder p) (resolve q) (preorder q)) (none_reads_running-mapped moved (resolve q) (preorder q))))
+      (ap₂ (λ a b. a && b) (none_loses_name-mapped (preorder p) (resolve q) (preorder q)) (none_reads_itself-mapped (all_moved ledger (preorder q)) (preorder p) (resolve q) (preorder q)))

@@ -8,7 +8,7 @@ use Rattle.es_base.specs.declared.kind.Kind.{Kind}
 use Rattle.es_base.specs.declared.literal.LiteralValue.TheVariants as literal_value
 use Rattle.es_steps.specs.KeptNodes.{statement_list}
 use Rattle.es_steps.specs.Parts.{at, items, is_present}
-use Rattle.es_steps.specs.Printable.{is_bad_name, is_bad_label_name, is_bad_label, is_bad_literal, tails_fit, is_bad_template, lacks_cooked, is_uncooked, any_uncooked, has_uncooked, is_bare_string, is_directive_of, is_bad_directive, is_directive, has_late_directive, are_names, is_strict_with_patterns, has_bad_prologue, count, is_kind_of, is_default, is_function_expression, is_identifier_name, name_of_part, shorthand_name, has_id, is_suspending, is_bad_property, is_spelled, is_bad_method, is_bad_field, is_meta_property, only_named, are_behind_default, are_specifiers, is_declaration_body, is_lexical_body, ends_open, part_ends_open, is_bad_if, is_super_part, has_optional, part_has_optional, is_spine_kind, any_optional, behind_first, has_stray_optional, is_bad_form, is_bad_node, is_default_export, is_module, is_declaration_without_name, is_bad_in, has_bad, bad_at, bad_in, Jumps, no_jumps, is_label_among, is_stray, is_looping, part_is_looping, jumps_inside, has_stray, stray_at, stray_in, prologue, statement_number, bare_in, bare_strings, all_among, is_printable, stays_printable}
+use Rattle.es_steps.specs.Printable.{is_bad_name, is_bad_label_name, is_bad_label, is_bad_literal, tails_fit, is_bad_template, lacks_cooked, is_uncooked, any_uncooked, has_uncooked, is_bare_string, is_directive_of, is_bad_directive, is_directive, has_late_directive, are_names, is_strict_with_patterns, has_bad_prologue, count, is_kind_of, is_default, is_function_expression, is_identifier_name, name_of_part, shorthand_name, has_id, is_suspending, is_bad_property, is_spelled, is_bad_method, is_bad_field, is_meta_property, only_named, are_behind_default, are_specifiers, is_declaration_body, is_lexical_body, ends_open, part_ends_open, is_bad_if, is_super_part, has_optional, part_has_optional, is_spine_kind, any_optional, behind_first, has_stray_optional, is_bad_form, is_bad_node, is_default_export, is_module, is_declaration_without_name, is_bad_in, has_bad, bad_at, bad_in, Jumps, no_jumps, is_label_among, is_stray, is_looping, part_is_looping, jumps_inside, has_stray, stray_at, stray_in, is_new_target, has_target, has_stray_target, stray_target_at, stray_target_in, stray_target_of, is_literal_part, has_string_name, prologue, statement_number, bare_in, bare_strings, all_among, is_printable, stays_printable}
 use Rattle.es_steps.specs.Reserved.{no_words}
 use Rattle.es_steps.specs.Values.{String}
 use Rattle.es_steps.proofs.KeptNodesMapped.{statement_list-mapped}
@@ -115,7 +115,7 @@ module _ (f : ℕ → ℕ) where
   is_kind_of-mapped test (child (Node kind m span semantic_id ps)) = refl
   is_kind_of-mapped test p = refl
 
-  name_of_part-mapped : (p : Part) → name_of_part (mapped_part f p) ≡ name_of_part p
+  pub name_of_part-mapped : (p : Part) → name_of_part (mapped_part f p) ≡ name_of_part p
   name_of_part-mapped (child (Node kind m span semantic_id ps)) = string_at-mapped f 0 ps
   name_of_part-mapped p = refl
 
@@ -232,6 +232,15 @@ module _ (f : ℕ → ℕ) where
   without_name-mapped : (ps : Parts) → not (is_present (at 0 (mapped_parts f ps))) ≡ not (is_present (at 0 ps))
   without_name-mapped ps = ap not (is_present_at-mapped f 0 ps)
 
+  is_literal_part-mapped : (p : Part) → is_literal_part (mapped_part f p) ≡ is_literal_part p
+  is_literal_part-mapped (child (Node Kind.Literal m span semantic_id ps)) = refl
+  is_literal_part-mapped p = refl
+
+  has_string_name-mapped : (ps : Parts) → has_string_name (mapped_parts f ps) ≡ has_string_name ps
+  has_string_name-mapped end = refl
+  has_string_name-mapped (more (child (Node kind m span semantic_id (more local rest))) ps) = ap₂ (λ a b. a || b) (is_literal_part-mapped local) (has_string_name-mapped ps)
+  has_string_name-mapped (more p ps) = has_string_name-mapped ps
+
   is_bad_form-mapped : (kind : Kind) (ps : Parts) → is_bad_form kind (mapped_parts f ps) ≡ is_bad_form kind ps
   is_bad_form-mapped Kind.Property ps = is_bad_property-mapped ps
   is_bad_form-mapped Kind.BindingProperty ps = is_bad_property-mapped ps
@@ -249,7 +258,7 @@ module _ (f : ℕ → ℕ) where
   is_bad_form-mapped Kind.CatchClause ps = default_at-mapped ps
   is_bad_form-mapped Kind.FunctionDeclaration ps = without_name-mapped ps
   is_bad_form-mapped Kind.ClassDeclaration ps = without_name-mapped ps
-  is_bad_form-mapped Kind.ExportNamedDeclaration ps = rw (is_present_at-mapped f 0 ps, is_present_at-mapped f 2 ps, items_at-mapped f 1 ps, count-mapped (items (at 1 ps))) refl
+  is_bad_form-mapped Kind.ExportNamedDeclaration ps = rw (is_present_at-mapped f 0 ps, is_present_at-mapped f 2 ps, items_at-mapped f 1 ps, count-mapped (items (at 1 ps)), has_string_name-mapped (items (at 1 ps))) refl
   is_bad_form-mapped Kind.ImportDeclaration ps = rw (items_at-mapped f 0 ps) (ap not (are_specifiers-mapped (items (at 0 ps))))
   is_bad_form-mapped Kind.IfStatement ps = is_bad_if-mapped ps
   is_bad_form-mapped Kind.LabeledStatement ps = lexical_body_at-mapped 1 ps
@@ -335,8 +344,31 @@ module _ (f : ℕ → ℕ) where
     stray_in-mapped j end = refl
     stray_in-mapped j (more p ps) = ap₂ (λ a b. a || b) (stray_at-mapped j p) (stray_in-mapped j ps)
 
+  is_new_target-mapped : (kind : Kind) (ps : Parts) → is_new_target kind (mapped_parts f ps) ≡ is_new_target kind ps
+  is_new_target-mapped Kind.MetaProperty ps = rw (at-mapped f 0 ps, name_of_part-mapped (at 0 ps)) refl
+  is_new_target-mapped kind ps = refl
+
+  mutual
+    has_stray_target-mapped : (b : Bool) (t : Tree) → has_stray_target b (mapped f t) ≡ has_stray_target b t
+    has_stray_target-mapped b (Node kind m span semantic_id ps) = ap₂ (λ a c. (a && not b) || c) (is_new_target-mapped kind ps) (stray_target_in-mapped (λ i. b || has_target kind i) ps)
+
+    stray_target_at-mapped : (b : Bool) (p : Part) → stray_target_at b (mapped_part f p) ≡ stray_target_at b p
+    stray_target_at-mapped b (child t) = has_stray_target-mapped b t
+    stray_target_at-mapped b (list ps) = stray_target_of-mapped b ps
+    stray_target_at-mapped b p = refl
+
+    stray_target_in-mapped : (b : ℕ → Bool) (ps : Parts) → stray_target_in b (mapped_parts f ps) ≡ stray_target_in b ps
+    stray_target_in-mapped b end = refl
+    stray_target_in-mapped b (more p ps) = ap₂ (λ a c. a || c) (stray_target_at-mapped (b 0) p) (stray_target_in-mapped (λ i. b (suc i)) ps)
+
+    stray_target_of-mapped : (b : Bool) (ps : Parts) → stray_target_of b (mapped_parts f ps) ≡ stray_target_of b ps
+    stray_target_of-mapped b end = refl
+    stray_target_of-mapped b (more p ps) = ap₂ (λ a c. a || c) (stray_target_at-mapped b p) (stray_target_of-mapped b ps)
+
   pub is_printable-mapped : (t : Tree) → is_printable (mapped f t) ≡ is_printable t
-  is_printable-mapped t = ap not (ap₂ (λ a b. a || b) (has_bad-mapped false false t) (ap₂ (λ a b. a || b) (has_stray-mapped (no_jumps false) t) (has_reserved-mapped f no_words t)))
+  is_printable-mapped t =
+      ap not (ap₂ (λ a b. a || b) (has_bad-mapped false false t)
+      (ap₂ (λ a b. a || b) (has_stray-mapped (no_jumps false) t) (ap₂ (λ a b. a || b) (has_stray_target-mapped false t) (has_reserved-mapped f no_words t))))
 
   prologue-mapped : (kind : Kind) (ps : Parts) → prologue kind (mapped_parts f ps) ≡ mapped_parts f (prologue kind ps)
   prologue-mapped Kind.Program ps = items_at-mapped f 1 ps

@@ -217,7 +217,7 @@ module _ (f : ℕ → ℕ) where
   writes_free-mapped s (r ∷ rs) = rw (is_free-mapped s r.to, writes_free-mapped s rs) refl
 
 module _ (f : ℕ → ℕ) where
-  gives_inside-mapped : (s : String) (ts : List Tree) → gives_inside s (map (mapped f) ts) ≡ gives_inside s ts
+  pub gives_inside-mapped : (s : String) (ts : List Tree) → gives_inside s (map (mapped f) ts) ≡ gives_inside s ts
   gives_inside-mapped s [] = refl
   gives_inside-mapped s (Node kind m span semantic_id ps ∷ ts) = ap₂ (λ a b. is_among s a || b) (inner_functions-mapped f false kind ps) (gives_inside-mapped s ts)
 

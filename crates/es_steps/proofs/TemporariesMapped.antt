@@ -10,20 +10,23 @@ use Rattle.es_base.specs.declared.ledger.GeneratedKind.{GeneratedKind}
 use Rattle.es_base.specs.declared.ledger.LedgerEntry.{LedgerEntry}
 use Rattle.es_steps.specs.Parts.{at}
 use Rattle.es_steps.specs.References.{is_target}
-use Rattle.es_steps.specs.Repeated.{around_program}
+use Rattle.es_steps.specs.KeptNodes.{pair_stands}
+use Rattle.es_steps.specs.PrivateNames.{PrivateMember, member_at}
+use Rattle.es_steps.specs.Repeated.{around_program, all_places}
 use Rattle.es_steps.specs.Scopes.{binds, is_body_part}
-use Rattle.es_steps.specs.Temporaries.{Touch, Spot, touch_of, is_bare, declaration_in, is_block, is_of_class, home_in, spot_in, touches, touches_in, touches_at, touches_of, all_touches, chosen, all_touched, is_none, declarations_of, gifts_of, reads_of, is_steady, is_at_most_one, is_at_call, is_near, is_steady_name, all_steady, temporaries_steady}
+use Rattle.es_steps.specs.Temporaries.{Touch, Spot, touch_of, is_bare, declaration_in, is_block, is_of_class, home_in, spot_in, touches, touches_in, touches_at, touches_of, all_touches, chosen, all_touched, is_none, declarations_of, gifts_of, reads_of, is_steady, is_at_most_one, is_at_call, is_near, class_of_member, class_before, stands_with, constructs_with, is_given_with, is_steady_name, all_steady, temporaries_steady}
 use Rattle.es_steps.specs.Values.{String}
-use Rattle.es_steps.proofs.Mapped.{Renames, mapped, mapped_part, mapped_parts, mapped_option, mapped_generated, mapped_ledger}
+use Rattle.es_steps.proofs.Mapped.{Renames, mapped, mapped_part, mapped_parts, mapped_option, mapped_generated, mapped_ledger, mapped_private, mapped_privates, mapped_pair}
 use Rattle.es_steps.proofs.PartsMapped.{cond-mapped, append-mapped, at-mapped, string_at-mapped, is_present_at-mapped, number_of-mapped}
-use Rattle.es_steps.proofs.RepeatedMapped.{mapped_surroundings, surroundings_in-mapped, around_program-mapped}
+use Rattle.es_steps.proofs.PrivatesMapped.{member_at-mapped}
+use Rattle.es_steps.proofs.RepeatedMapped.{mapped_surroundings, surroundings_in-mapped, around_program-mapped, all_places-mapped}
 
 module _ (f : ℕ → ℕ) where
   abbrev mapped_spot : Spot → Spot
-  mapped_spot x = record { around = mapped_surroundings f x.around; declaration = f x.declaration; home = f x.home }
+  mapped_spot x = record { around = mapped_surroundings f x.around; is_function_name = x.is_function_name; declaration = f x.declaration; home = f x.home }
 
   abbrev mapped_touch : Touch → Touch
-  mapped_touch t = record { name = t.name; declares = t.declares; gives = t.gives; place = f t.place; declaration = f t.declaration; home = f t.home }
+  mapped_touch t = record { name = t.name; declares = t.declares; gives = t.gives; hoists = t.hoists; place = f t.place; declaration = f t.declaration; home = f t.home }
 
   touch_of-mapped : (gives : Bool) (x : Spot) (kind : Kind) (ps : Parts) → touch_of gives (mapped_spot x) kind (mapped_parts f ps) ≡ map mapped_touch (touch_of gives x kind ps)
   touch_of-mapped gives x Kind.IdentifierReference ps = rw (string_at-mapped f 0 ps) refl
@@ -57,6 +60,10 @@ module _ (f : ℕ → ℕ) where
   all_touched-mapped : (there here : Touch → Bool) → ((t : Touch) → there (mapped_touch t) ≡ here t) → (ts : List Touch) → all_touched there (map mapped_touch ts) ≡ all_touched here ts
   all_touched-mapped there here same [] = refl
   all_touched-mapped there here same (t ∷ ts) = ap₂ (λ a b. a && b) (same t) (all_touched-mapped there here same ts)
+
+place_stands-mapped : {first : ℕ} {f : ℕ → ℕ} (r : Renames first f) (p : ℕ × ℕ) (qs : List (ℕ × ℕ)) → pair_stands (mapped_pair f p) (map (mapped_pair f) qs) ≡ pair_stands p qs
+place_stands-mapped r p [] = refl
+place_stands-mapped r p (q ∷ qs) = ap₂ (λ a b. a || b) (ap₂ (λ a b. a && b) (r.apart p.0 q.0) (r.apart p.1 q.1)) (place_stands-mapped r p qs)
 
 module _ {first : ℕ} {f : ℕ → ℕ} (r : Renames first f) where
   -- ---- where names are touched
@@ -99,8 +106,8 @@ module _ {first : ℕ} {f : ℕ → ℕ} (r : Renames first f) where
 
     all_touches-mapped : (t : Tree) → all_touches first there (mapped f t) ≡ map (mapped_touch f) (all_touches first ledger t)
     all_touches-mapped t =
-        ap₂ (λ around n. touches first there (record { around = around; declaration = n; home = n }) false (mapped f t)) (around_program-mapped f t) (number_of-mapped f t)
-        ∙ touches-mapped (record { around = around_program t; declaration = number_of t; home = number_of t }) false t
+        ap₂ (λ around n. touches first there (record { around = around; is_function_name = false; declaration = n; home = n }) false (mapped f t)) (around_program-mapped f t) (number_of-mapped f t)
+        ∙ touches-mapped (record { around = around_program t; is_function_name = false; declaration = number_of t; home = number_of t }) false t
 
   -- ---- those of one name
 
@@ -134,17 +141,51 @@ module _ {first : ℕ} {f : ℕ → ℕ} (r : Renames first f) where
   declarations_of-mapped : (s : String) (ts : List Touch) → declarations_of s (map (mapped_touch f) ts) ≡ map (mapped_touch f) (declarations_of s ts)
   declarations_of-mapped s ts = chosen-mapped f (λ t. t.declares) (λ t. refl) s ts
 
-  is_steady_name-mapped : (g : GeneratedKind) (s : String) (ts : List Touch) → is_steady_name (mapped_generated f g) s (map (mapped_touch f) ts) ≡ is_steady_name g s ts
-  is_steady_name-mapped GeneratedKind.Temp s ts = ap₂ is_steady (gifts_of-mapped s ts) (reads_of-mapped s ts) ∙ is_steady-mapped (gifts_of s ts) (reads_of s ts)
-  is_steady_name-mapped GeneratedKind.Param s ts = ap₂ is_at_call (gifts_of-mapped s ts) (reads_of-mapped s ts) ∙ is_at_call-mapped (gifts_of s ts) (reads_of s ts)
-  is_steady_name-mapped g s ts = refl
+  -- ---- what a class needs
 
-  all_steady-mapped : (es : List LedgerEntry) (ts : List Touch) → all_steady (mapped_ledger f es) (map (mapped_touch f) ts) ≡ all_steady es ts
-  all_steady-mapped [] ts = refl
-  all_steady-mapped (e ∷ es) ts =
+  class_of_member-mapped : (x : Option PrivateMember) → class_of_member (mapped_option (mapped_private f) x) ≡ map f (class_of_member x)
+  class_of_member-mapped None = refl
+  class_of_member-mapped (Some x) = refl
+
+  pub class_before-mapped : (g : GeneratedKind) (members : List PrivateMember) → class_before (mapped_generated f g) (mapped_privates f members) ≡ map f (class_before g members)
+  class_before-mapped (GeneratedKind.WeakMap d) members = ap class_of_member (member_at-mapped r d.0 members) ∙ class_of_member-mapped (member_at d.0 members)
+  class_before-mapped (GeneratedKind.Method d) members = ap class_of_member (member_at-mapped r d.0 members) ∙ class_of_member-mapped (member_at d.0 members)
+  class_before-mapped (GeneratedKind.LooseKey d) members = ap class_of_member (member_at-mapped r d.0 members) ∙ class_of_member-mapped (member_at d.0 members)
+  class_before-mapped (GeneratedKind.Brand n) members = refl
+  class_before-mapped g members = refl
+
+  stands_with-mapped : (places : List (ℕ × ℕ)) (ns : List ℕ) (t : Touch) → stands_with (map (mapped_pair f) places) (map f ns) (mapped_touch f t) ≡ stands_with places ns t
+  stands_with-mapped places [] t = refl
+  stands_with-mapped places (n ∷ ns) t = ap (λ b. t.hoists || b) (place_stands-mapped r (n, t.place) places)
+
+  all_with-mapped : (places : List (ℕ × ℕ)) (members : List PrivateMember) (g : GeneratedKind) (s : String) (ts : List Touch) → all_touched (stands_with (map (mapped_pair f) places) (class_before (mapped_generated f g) (mapped_privates f members))) (gifts_of s (map (mapped_touch f) ts)) ≡ all_touched (stands_with places (class_before g members)) (gifts_of s ts)
+  all_with-mapped places members g s ts =
+      rw (class_before-mapped g members, gifts_of-mapped s ts) (all_touched-mapped f _ (stands_with places (class_before g members)) (stands_with-mapped places (class_before g members)) (gifts_of s ts))
+
+  is_given_with-mapped : (gifts reads : List Touch) → is_given_with (map (mapped_touch f) gifts) (map (mapped_touch f) reads) ≡ is_given_with gifts reads
+  is_given_with-mapped [] reads = refl
+  is_given_with-mapped (g ∷ gs) reads = at_place-mapped g reads
+
+  constructs_with-mapped : (places : List (ℕ × ℕ)) (n : ℕ) (t : Touch) → constructs_with (map (mapped_pair f) places) (f n) (mapped_touch f t) ≡ constructs_with places n t
+  constructs_with-mapped places n t = ap₂ (λ a b. a || b) (r.apart n t.place) (place_stands-mapped r (n, t.place) places)
+
+  is_steady_name-mapped : (places : List (ℕ × ℕ)) (members : List PrivateMember) (g : GeneratedKind) (s : String) (ts : List Touch) → is_steady_name (map (mapped_pair f) places) (mapped_privates f members) (mapped_generated f g) s (map (mapped_touch f) ts) ≡ is_steady_name places members g s ts
+  is_steady_name-mapped places members GeneratedKind.Temp s ts = ap₂ is_steady (gifts_of-mapped s ts) (reads_of-mapped s ts) ∙ is_steady-mapped (gifts_of s ts) (reads_of s ts)
+  is_steady_name-mapped places members GeneratedKind.Param s ts = ap₂ is_at_call (gifts_of-mapped s ts) (reads_of-mapped s ts) ∙ is_at_call-mapped (gifts_of s ts) (reads_of s ts)
+  is_steady_name-mapped places members GeneratedKind.Closure s ts = ap₂ is_given_with (gifts_of-mapped s ts) (reads_of-mapped s ts) ∙ is_given_with-mapped (gifts_of s ts) (reads_of s ts)
+  is_steady_name-mapped places members (GeneratedKind.SuperFn n) s ts =
+      ap (all_touched (constructs_with (map (mapped_pair f) places) (f n.0))) (gifts_of-mapped s ts)
+      ∙ all_touched-mapped f _ (constructs_with places n.0) (constructs_with-mapped places n.0) (gifts_of s ts)
+  is_steady_name-mapped places members g s ts = all_with-mapped places members g s ts
+
+  all_steady-mapped : (places : List (ℕ × ℕ)) (members : List PrivateMember) (es : List LedgerEntry) (ts : List Touch) → all_steady (map (mapped_pair f) places) (mapped_privates f members) (mapped_ledger f es) (map (mapped_touch f) ts) ≡ all_steady places members es ts
+  all_steady-mapped places members [] ts = refl
+  all_steady-mapped places members (e ∷ es) ts =
       ap₂ (λ a b. a && b)
-      (ap₂ (λ a b. a && b) (is_steady_name-mapped e.kind e.name ts) (ap₂ is_near (declarations_of-mapped e.name ts) (gifts_of-mapped e.name ts) ∙ is_near-mapped (declarations_of e.name ts) (gifts_of e.name ts)))
-      (all_steady-mapped es ts)
+      (ap₂ (λ a b. a && b) (is_steady_name-mapped places members e.kind e.name ts) (ap₂ is_near (declarations_of-mapped e.name ts) (gifts_of-mapped e.name ts) ∙ is_near-mapped (declarations_of e.name ts) (gifts_of e.name ts)))
+      (all_steady-mapped places members es ts)
 
-  pub temporaries_steady-mapped : (ledger : List LedgerEntry) (q : Tree) → temporaries_steady first (mapped_ledger f ledger) (mapped f q) ≡ temporaries_steady first ledger q
-  temporaries_steady-mapped ledger q = ap (all_steady (mapped_ledger f ledger)) (all_touches-mapped ledger q) ∙ all_steady-mapped ledger (all_touches first ledger q)
+  pub temporaries_steady-mapped : (ledger : List LedgerEntry) (members : List PrivateMember) (q : Tree) → temporaries_steady first (mapped_ledger f ledger) (mapped_privates f members) (mapped f q) ≡ temporaries_steady first ledger members q
+  temporaries_steady-mapped ledger members q =
+      ap₂ (λ ps ts. all_steady ps (mapped_privates f members) (mapped_ledger f ledger) ts) (all_places-mapped r ledger [] q) (all_touches-mapped ledger q)
+      ∙ all_steady-mapped (all_places first ledger [] q) members ledger (all_touches first ledger q)

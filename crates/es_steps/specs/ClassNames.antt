@@ -2,7 +2,7 @@
 -- around and that is read outside of it now, and the function of a generated name that reads such a name. (Our own.)
 use Rattle.std.specs.Prelude.{ℕ, List, [], ◌∷◌, ◌++◌, map, Bool, true, false, cond, not, ◌&&◌, ◌||◌, nat_eq, Option, None, is_some}
 use Rattle.es_base.specs.Conforms.{is_among}
-use Rattle.es_base.specs.Preorder.{number_of, nodes, preorder, preorder_of, preorder_of_part}
+use Rattle.es_base.specs.Preorder.{number_of, preorder, preorder_of, preorder_of_part}
 use Rattle.es_base.specs.Tree.{Tree, Part, Parts, Node, end, more, child}
 use Rattle.es_base.specs.declared.kind.Kind.{Kind}
 use Rattle.es_base.specs.declared.ledger.LedgerEntry.{LedgerEntry}
@@ -75,8 +75,8 @@ common ns (m ∷ ms) = cond (has_number m ns) (m ∷ []) [] ++ common ns ms
 abbrev pub free_naming : Bool → ℕ → List Tree → List Tree → List ℕ → List ℕ
 free_naming runs n ps qs names = without (numbers_of_class n ps) names ++ common (cond runs (head_numbers n qs) names) (common (head_numbers n ps) names)
 
-abbrev pub naming_in_source : ℕ → Tree → List ℕ
-naming_in_source n p = naming n [] (resolve p) (class_identifiers (nodes p) n (preorder p)) (preorder p)
+abbrev pub naming_in_source : ℕ → ℕ → Tree → List ℕ
+naming_in_source first n p = naming n [] (resolve p) (class_identifiers first n (preorder p)) (preorder p)
 
 -- ---- functions of generated names
 
@@ -166,14 +166,26 @@ abbrev pub any_name : List String → Bool
 any_name [] = false
 any_name (s ∷ ss) = true
 
+-- the references to names of the class that are asked for
+abbrev pub asked_names : ℕ → List LedgerEntry → Tree → Tree → ℕ → List ℕ
+asked_names first ledger p q n =
+    without (free_naming (class_runs n (preorder q)) n (preorder p) (preorder q) (naming_in_source first n p)) (naming n ledger (resolve q) (class_identifiers first n (preorder q)) (preorder q))
+
+abbrev pub functions_outside : List LedgerEntry → Tree → ℕ → List MovedFunction
+functions_outside ledger q n = outside_class (numbers_inside n (preorder q)) (moved_functions ledger (preorder q))
+
+-- with those to functions that read them, but what stands in such a function, or in an element of the class
+abbrev pub asked_references : List LedgerEntry → Tree → ℕ → List MovedFunction → List ℕ → List ℕ
+asked_references ledger q n fs names = without (numbers_inside n (preorder q)) (without_functions fs (reaching ledger fs (resolve q) (preorder q) names))
+
+abbrev pub stand_in_time : ℕ → Tree → ℕ → List ℕ → Bool
+stand_in_time first q n asked = is_none asked || stand_behind [] (marks first [] [] (is_asked (n ∷ asked)) [] nowhere None q)
+
 abbrev pub class_timely : ℕ → List LedgerEntry → Tree → Tree → ℕ → Bool
 class_timely first ledger p q n =
-    let inside : List ℕ = numbers_inside n (preorder q) in
-    let fs : List MovedFunction = outside_class inside (moved_functions ledger (preorder q)) in
-    let runs : Bool = class_runs n (preorder q) in
-    let names : List ℕ = without (free_naming runs n (preorder p) (preorder q) (naming_in_source n p)) (naming n ledger (resolve q) (class_identifiers first n (preorder q)) (preorder q)) in
-    let asked : List ℕ = without inside (without_functions fs (reaching ledger fs (resolve q) (preorder q) names)) in
-    not (runs && any_name (names_holding names fs)) && (is_none asked || stand_behind [] (marks first [] [] (is_asked (n ∷ asked)) [] nowhere None q))
+    let fs : List MovedFunction = functions_outside ledger q n in
+    let names : List ℕ = asked_names first ledger p q n in
+    not (class_runs n (preorder q) && any_name (names_holding names fs)) && stand_in_time first q n (asked_references ledger q n fs names)
 
 abbrev pub all_classes_timely : ℕ → List LedgerEntry → Tree → Tree → List ℕ → Bool
 all_classes_timely first ledger p q [] = true
