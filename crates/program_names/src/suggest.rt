@@ -64,7 +64,10 @@ fn add_parts(node: &Node, name: &mut String) -> Result<(), AllocError>
         // a?.b
         Kind::ChainExpression => add_parts(ChainExpressionRef::from_node(node).expression, name),
         // a = b
-        Kind::AssignmentExpression => add_parts(AssignmentExpressionRef::from_node(node).left, name),
+        Kind::AssignmentExpression => add_parts(
+            AssignmentExpressionRef::from_node(node).left,
+            name,
+        ),
         _ => Ok(()),
     }
 }

@@ -14,4 +14,4 @@ pub returns-in_ok-push_str-2 : goal.returns-in_ok-push_str-2
 returns-in_ok-push_str-2 c =
     let some : ¬ (length c.as_str.result.now ≡ 0) = λ e. (let t = sym c.if-is_empty.false ∙ c.is_empty.ensures in grind (arith, nat_tests, t, e)) in
     part_next (string_bytes c.args.name.now) c.args.part.now (string_bytes c.push.new.self) (string_bytes c.push_str-else-is_empty.new.self)
-        (IsUtf8-string_bytes c.args.name.now) (IsUtf8-string_bytes c.push.new.self) (λ e. some (ap length c.as_str.ensures.value ∙ e)) c.in_ok-push.ensures.bytes c.in_ok-push_str-2.ensures.bytes
+    (IsUtf8-string_bytes c.args.name.now) (IsUtf8-string_bytes c.push.new.self) (λ e. some (ap length c.as_str.ensures.value ∙ e)) c.in_ok-push.ensures.bytes c.in_ok-push_str-2.ensures.bytes
