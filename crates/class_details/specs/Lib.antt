@@ -1,0 +1,3 @@
+pub mod Created
+pub mod Details
+pub mod Stack
