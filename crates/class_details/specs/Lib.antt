@@ -1,3 +1,4 @@
 pub mod Created
 pub mod Details
+pub mod Law
 pub mod Stack

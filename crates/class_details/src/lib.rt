@@ -7,3 +7,4 @@ pub mod class_details;
 pub mod classes_stack;
 mod find;
 pub mod found;
+pub mod law;
