@@ -1,10 +1,10 @@
 -- What is found is in the innermost class.
-use Rattle.std.proofs.Common.{◌≡◌, refl, sym, ap, subst, ◌∙◌, ℕ, zero, suc, ◌+◌, ◌<◌, List, [], ◌∷◌, Option, Some, None, option_map, arith}
+use Rattle.std.proofs.Common.{◌≡◌, refl, sym, ap, ◌∙◌, ℕ, zero, suc, ◌+◌, ◌<◌, List, [], ◌∷◌, Option, Some, None, option_map, arith}
 use Rattle.std.specs.Prelude.{option_and_then, position, slice_get, bytes_eq}
 use Rattle.std.specs.Map.{keys_of}
 use Rattle.std.specs.Str.{encode_utf8_all}
-use Rattle.class_details.specs.Law.{IsNearest, NearestLaw}
-use Rattle.class_details.specs.Stack.{found, found_from, found_in, found_member, or_outer}
+use Rattle.class_details.specs.Law.{NearestLaw}
+use Rattle.class_details.specs.Stack.{found_from, found_in, found_member, or_outer}
 use Rattle.class_details.specs.declared.class_details.ClassDetails.{ClassDetails}
 use Rattle.class_details.specs.declared.class_details.PrivateProp.{PrivateProp}
 use Rattle.class_details.specs.declared.found.Found.{Found}

@@ -1,5 +1,5 @@
 -- The last class that declares a name, and the end of a list.
-use Rattle.std.proofs.Common.{◌≡◌, refl, sym, ap, ◌∙◌, ℕ, zero, suc, ◌+◌, ◌<◌, ◌≤◌, List, [], ◌∷◌, ◌++◌, Bool, true, false, Option, Some, None, length, get_or, drop, add-one, arith}
+use Rattle.std.proofs.Common.{◌≡◌, refl, sym, ap, ◌∙◌, ℕ, zero, suc, ◌+◌, ◌<◌, List, [], ◌∷◌, ◌++◌, true, false, Option, Some, None, length, get_or, drop, add-one, arith}
 use Rattle.std.specs.Prelude.{is_some, slice_get, remove}
 use Rattle.std.proofs.lemmas.List.{at_drop_more}
 use Rattle.class_details.specs.Stack.{found, found_from, found_in, or_outer}

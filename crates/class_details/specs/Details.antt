@@ -1,5 +1,5 @@
 -- What can be done with a private member, and by which of its names.
-use Rattle.std.specs.Prelude.{ℕ, List, Bool, true, false, cond, Option, Some, None, is_some}
+use Rattle.std.specs.Prelude.{Bool, true, false, cond, Option, Some, None, is_some}
 use Rattle.es_base.specs.declared.operator.MethodDefinitionKind.{MethodDefinitionKind}
 use Rattle.class_details.specs.declared.found.Found.{Found}
 use Rattle.class_details.specs.declared.found.ResolvedPrivateProp.{ResolvedPrivateProp}

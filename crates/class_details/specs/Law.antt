@@ -1,5 +1,5 @@
 -- The laws of looking a private name up, as the contracts of src/law.rt name them.
-use Rattle.std.specs.Prelude.{◌≡◌, ◌<◌, ℕ, List, Option, Some, None, option_and_then, slice_get}
+use Rattle.std.specs.Prelude.{◌≡◌, ◌<◌, ℕ, List, Some, None, option_and_then, slice_get}
 use Rattle.class_details.specs.Stack.{found, found_in}
 use Rattle.class_details.specs.declared.class_details.ClassDetails.{ClassDetails}
 use Rattle.class_details.specs.declared.found.Found.{Found}

@@ -1,17 +1,17 @@
 -- Scopes whose names are taken, after one more name was bound.
 use Rattle.std.proofs.Common.{◌≡◌, refl, sym, ap, subst, ◌∙◌, ℕ, List, [], ◌∷◌, ◌++◌, Bool, true, false, ◌||◌, cond, Option, Some, None, ◌⊎◌, inl, inr, length, option_map}
-use Rattle.std.specs.Prelude.{bytes_eq}
+use Rattle.std.specs.Prelude.{bytes_eq, is_some, slice_get}
 use Rattle.es_base.specs.Conforms.{is_among}
 use Rattle.es_base.specs.declared.ids.ScopeId.{ScopeId}
 use Rattle.es_base.specs.declared.ids.SymbolId.{SymbolId}
 use Rattle.es_names.specs.Taken.{Strings}
 use Rattle.es_names.proofs.Keyed.{bytes_eq-flip}
 use Rattle.es_scopes.specs.Bindings as bindings
-use Rattle.es_scopes.specs.Table.{Table, names_at, names_of_row, holding, or_else, row_at, with_binding}
+use Rattle.es_scopes.specs.Table.{Table, names_at, names_of_row, holding, new_symbol, or_else, row_at, symbol_at, with_binding}
 use Rattle.es_scopes.specs.declared.flags.SymbolFlags.{SymbolFlags}
 use Rattle.es_scopes.specs.declared.table.Scope.{Scope}
 use Rattle.es_scopes.proofs.BindingLemmas.{lookup-push}
-use Rattle.es_scopes.proofs.RowLemmas.{same_or_other}
+use Rattle.es_scopes.proofs.RowLemmas.{same_or_other, slice_get-push_last}
 use Rattle.es_scopes.proofs.TableLemmas.{row_at-changed_same, row_at-changed_other}
 use Rattle.es_uids.specs.Uids.{AreTaken}
 use Rattle.es_uids.specs.declared.traverse_scoping.TraverseScoping.{TraverseScoping}
@@ -55,3 +55,10 @@ pub taken_still : (old new : TraverseScoping) (scope : ScopeId) (name : List ℕ
 taken_still old new scope name flags names table other before s h =
     ap (λ t. bindings.lookup s (names_at t other)) table
     ∙ taken_after old.scoping old.names scope other name flags before s (sym (ap (is_among s) names) ∙ h)
+
+-- the new symbol is one of the table
+pub bound_in : (old new : Table) (scope : ScopeId) (name : List ℕ) (flags : SymbolFlags) (y : SymbolId) → y.0 ≡ length old.symbols → new ≡ with_binding old scope name flags → is_some (symbol_at new y) ≡ true
+bound_in old new scope name flags y at is =
+    ap (λ t. is_some (symbol_at t y)) is
+    ∙ ap (λ (i : ℕ). is_some (slice_get (old.symbols ++ new_symbol name scope flags ∷ []) i)) at
+    ∙ ap is_some (slice_get-push_last old.symbols (new_symbol name scope flags))

@@ -6,7 +6,7 @@ ghost use Rattle.es_base.specs.Conforms.{is_among};
 ghost use Rattle.es_base.specs.declared.ids.ScopeId.{ScopeId};
 ghost use Rattle.es_base.specs.declared.ledger.GeneratedKind.TheVariants as kinds;
 ghost use Rattle.es_names.specs.Candidates.{base_of, first_free};
-ghost use Rattle.es_scopes.specs.Table.{HasRoom, HasScope};
+ghost use Rattle.es_scopes.specs.Table.{HasRoom, HasScope, HasSymbol};
 ghost use Rattle.program_names.specs.Suggested.{suggested};
 
 use es_base::ids::{NodeId, ScopeId};
@@ -73,6 +73,7 @@ impl TraverseScoping {
         requires taken { AreTaken self.old scope }
         requires room { HasRoom self.old.scoping.symbols }
         ensures generated { IfOk result (IsGenerated self.old self.new (chars base.now) scope flags kind) }
+        ensures bound { IfOk result (λ b. HasSymbol self.new.scoping b.symbol_id) }
         ensures taken { OnOk result ((other : ScopeId) → AreTaken self.old other → AreTaken self.new other) }
     {
         let name = self.names.generate(base)?;
@@ -92,6 +93,7 @@ impl TraverseScoping {
         requires taken { AreTaken self.old scope }
         requires room { HasRoom self.old.scoping.symbols }
         ensures generated { IfOk result (IsGenerated self.old self.new (suggested expression.now) scope flags kinds.Temp) }
+        ensures bound { IfOk result (λ b. HasSymbol self.new.scoping b.symbol_id) }
         ensures taken { OnOk result ((other : ScopeId) → AreTaken self.old other → AreTaken self.new other) }
     {
         let base = suggest(self.alloc, expression)?;

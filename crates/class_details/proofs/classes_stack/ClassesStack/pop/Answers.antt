@@ -1,4 +1,4 @@
-use Rattle.std.proofs.Common.{◌≡◌, ◌∙◌, ◌+◌, ◌-◌, ◌∷◌, ◌++◌, [], ℕ, sym, ap, length, arith}
+use Rattle.std.proofs.Common.{◌≡◌, ◌∙◌, ◌+◌, ◌-◌, ◌∷◌, ◌++◌, [], sym, ap, length, arith}
 use Rattle.class_details.proofs.Places.{last_apart}
 use Rattle.class_details.proofs.classes_stack.ClassesStack.pop.Goals as goal
 
