@@ -1,4 +1,5 @@
-// What all lowerings share: so far, laws of expressions that are evaluated once and read again.
+// What all lowerings share: temporaries that are declared, and laws of expressions that are evaluated once and read again.
 #![tactic(auto)]
 
+pub mod declare;
 pub mod law;

@@ -13,7 +13,7 @@ use Rattle.class_details.proofs.class_bindings.ClassBindings.create_temp_binding
 pub returns-in-None-clause-generated : goal.returns-in-None-clause-generated
 returns-in-None-clause-generated c =
     let base : chars (codes "Class") ≡ class_base (option_map (λ (b : Bor BoundIdentifier). b.now.name) c.args.name) =
-        chars_ascii (codes "Class") refl ∙ ap (λ (o : Option (Bor BoundIdentifier)). class_base (option_map (λ (b : Bor BoundIdentifier). b.now.name) o)) (sym c.in-None.is) in
+    chars_ascii (codes "Class") refl ∙ ap (λ (o : Option (Bor BoundIdentifier)). class_base (option_map (λ (b : Bor BoundIdentifier). b.now.name) o)) (sym c.in-None.is) in
     IfOk-weaker c.generate_uid-in-None.result _ _
-        (λ b given. subst (λ s. IsGenerated c.args.scoping.now c.generate_uid-in-None.new.self s c.args.scope flag.VAR (kinds.ClassTemp c.args.class) b) base given)
-        c.generate_uid-in-None.ensures.generated
+    (λ b given. subst (λ s. IsGenerated c.args.scoping.now c.generate_uid-in-None.new.self s c.args.scope flag.VAR (kinds.ClassTemp c.args.class) b) base given)
+    c.generate_uid-in-None.ensures.generated
