@@ -1,0 +1,4 @@
+pub mod Created
+pub mod Details
+pub mod Law
+pub mod Stack
