@@ -1,0 +1,5 @@
+pub mod Chaining
+pub mod Inner
+pub mod Moved
+pub mod Noted
+pub mod Strings
