@@ -1,5 +1,5 @@
 -- A program of the first form and what it is lowered to declare the same, and nothing of them is written.
-use Rattle.std.specs.Prelude.{◌≡◌, ℕ, ◌+◌, List, [], ◌∷◌, ◌++◌, Bool, true, false, ◌||◌, ◌&&◌, nat_le, codes, Option}
+use Rattle.std.specs.Prelude.{◌≡◌, ℕ, ◌+◌, List, [], ◌∷◌, ◌++◌, Bool, true, false, cond, ◌||◌, ◌&&◌, nat_le, codes, Option}
 use Rattle.std.proofs.Common.{refl, sym, ap, ap₂, ◌∙◌, append_assoc, ◌≤◌, arith}
 use Rattle.std.proofs.lemmas.Bool.{le-leb}
 use Rattle.std.proofs.lemmas.List.{append-nil}
@@ -13,6 +13,7 @@ use Rattle.es_steps.specs.Evaluation.{Environment}
 use Rattle.es_steps.specs.Meaning.{DeclarationKind, ClassDeclared, declared_as, declaring, declaring_items, declared_function, declared_functions, body_of, globals}
 use Rattle.es_steps.specs.Modules.{links_in, exports_in}
 use Rattle.es_steps.specs.PrivateNames.{private_members, members_of_all, elements_members}
+use Rattle.es_steps.specs.KeptReferences.{writing_numbers}
 use Rattle.es_steps.specs.References.{Reference, if_bound, is_free, assigned, item_references, resolve, written_by, written_by_all, written, changing_by, changing_in, varying, writes_free, caught_again, caught_again_in, given_of, changed_otherwise, inner_functions, function_names, gives_inside, changes_free}
 use Rattle.es_steps.specs.Repeated.{Surroundings, places_of, all_places}
 use Rattle.es_steps.specs.Shared.{shared, shared_of}
@@ -41,6 +42,10 @@ names-lowered (more p ps) (a_class n span semantic_id id body hid hbody, h) k = 
 assigned-append : (xs ys : List Reference) → assigned (xs ++ ys) ≡ assigned xs ++ assigned ys
 assigned-append [] ys = refl
 assigned-append (x ∷ xs) ys = rw (assigned-append xs ys) (sym (append_assoc (if_bound x.writes x.to) (assigned xs) (assigned ys)))
+
+writing-append : (xs ys : List Reference) → writing_numbers (xs ++ ys) ≡ writing_numbers xs ++ writing_numbers ys
+writing-append [] ys = refl
+writing-append (x ∷ xs) ys = rw (writing-append xs ys) (sym (append_assoc (cond x.writes (x.number ∷ []) []) (writing_numbers xs) (writing_numbers ys)))
 
 or-assoc : (a b c : Bool) → a || (b || c) ≡ (a || b) || c
 or-assoc true b c = refl
@@ -103,29 +108,30 @@ two-none e f = rw (e, f) refl
 
 pub record Unwritten (ps : Parts) : Type 0 where
   pub assigned : (names : List Declaration) → assigned (item_references names false ps) ≡ []
+  pub writing : (names : List Declaration) → writing_numbers (item_references names false ps) ≡ []
   pub free : (names : List Declaration) → writes_free (codes "arguments") (item_references names false ps) ≡ false
   pub repeated : written_by_all (preorder_of ps) ≡ []
   pub changing : changing_in (preorder_of ps) ≡ []
   pub caught : caught_again_in (preorder_of ps) ≡ []
   pub given : (names : List Declaration) → given_of names ps ≡ []
-  pub inside : gives_inside (codes "arguments") (preorder_of ps) ≡ false
+  pub inside : (s : String) → gives_inside s (preorder_of ps) ≡ false
   pub functions : declared_functions [] (preorder_of ps) ≡ []
   pub members : members_of_all (preorder_of ps) ≡ []
 
 unwritten-end : Unwritten end
-unwritten-end = record { assigned = λ names. refl; free = λ names. refl; repeated = refl; changing = refl; caught = refl; given = λ names. refl; inside = refl; functions = refl; members = refl }
+unwritten-end = record { assigned = λ names. refl; writing = λ names. refl; free = λ names. refl; repeated = refl; changing = refl; caught = refl; given = λ names. refl; inside = λ s. refl; functions = refl; members = refl }
 
 fields-unwritten : (es : Parts) → AreFields es → Unwritten es
 fields-unwritten end h = unwritten-end
-fields-unwritten (more p es) (a_field m span semantic_id key v (a_key i ispan i_semantic_id s) no_value, h) = let u : Unwritten es = fields-unwritten es h in record { assigned = u.assigned; free = u.free; repeated = u.repeated; changing = u.changing; caught = u.caught; given = u.given; inside = u.inside; functions = u.functions; members = u.members }
-fields-unwritten (more p es) (a_field m span semantic_id key v (a_key i ispan i_semantic_id s) (a_literal l lspan l_semantic_id w), h) = let u : Unwritten es = fields-unwritten es h in record { assigned = u.assigned; free = u.free; repeated = u.repeated; changing = u.changing; caught = u.caught; given = u.given; inside = u.inside; functions = u.functions; members = u.members }
-fields-unwritten (more p es) (a_field m span semantic_id key v (a_key i ispan i_semantic_id s) (a_reference r rspan r_semantic_id x), h) = let u : Unwritten es = fields-unwritten es h in record { assigned = u.assigned; free = u.free; repeated = u.repeated; changing = u.changing; caught = u.caught; given = u.given; inside = u.inside; functions = u.functions; members = u.members }
+fields-unwritten (more p es) (a_field m span semantic_id key v (a_key i ispan i_semantic_id s) no_value, h) = let u : Unwritten es = fields-unwritten es h in record { assigned = u.assigned; writing = u.writing; free = u.free; repeated = u.repeated; changing = u.changing; caught = u.caught; given = u.given; inside = u.inside; functions = u.functions; members = u.members }
+fields-unwritten (more p es) (a_field m span semantic_id key v (a_key i ispan i_semantic_id s) (a_literal l lspan l_semantic_id w), h) = let u : Unwritten es = fields-unwritten es h in record { assigned = u.assigned; writing = u.writing; free = u.free; repeated = u.repeated; changing = u.changing; caught = u.caught; given = u.given; inside = u.inside; functions = u.functions; members = u.members }
+fields-unwritten (more p es) (a_field m span semantic_id key v (a_key i ispan i_semantic_id s) (a_reference r rspan r_semantic_id x), h) = let u : Unwritten es = fields-unwritten es h in record { assigned = u.assigned; writing = u.writing; free = u.free; repeated = u.repeated; changing = u.changing; caught = u.caught; given = u.given; inside = u.inside; functions = u.functions; members = u.members }
 
 definitions-unwritten : (es : Parts) → AreFields es → (k : ℕ) → Unwritten (trees (definitions_from k es))
 definitions-unwritten end h k = unwritten-end
-definitions-unwritten (more p es) (a_field m span semantic_id key v hk no_value, h) k = let u : Unwritten (trees (definitions_from (k + 9) es)) = definitions-unwritten es h (k + 9) in record { assigned = u.assigned; free = u.free; repeated = u.repeated; changing = u.changing; caught = u.caught; given = u.given; inside = u.inside; functions = u.functions; members = u.members }
-definitions-unwritten (more p es) (a_field m span semantic_id key v hk (a_literal l lspan l_semantic_id w), h) k = let u : Unwritten (trees (definitions_from (k + 7) es)) = definitions-unwritten es h (k + 7) in record { assigned = u.assigned; free = u.free; repeated = u.repeated; changing = u.changing; caught = u.caught; given = u.given; inside = u.inside; functions = u.functions; members = u.members }
-definitions-unwritten (more p es) (a_field m span semantic_id key v hk (a_reference r rspan r_semantic_id x), h) k = let u : Unwritten (trees (definitions_from (k + 7) es)) = definitions-unwritten es h (k + 7) in record { assigned = u.assigned; free = u.free; repeated = u.repeated; changing = u.changing; caught = u.caught; given = u.given; inside = u.inside; functions = u.functions; members = u.members }
+definitions-unwritten (more p es) (a_field m span semantic_id key v hk no_value, h) k = let u : Unwritten (trees (definitions_from (k + 9) es)) = definitions-unwritten es h (k + 9) in record { assigned = u.assigned; writing = u.writing; free = u.free; repeated = u.repeated; changing = u.changing; caught = u.caught; given = u.given; inside = u.inside; functions = u.functions; members = u.members }
+definitions-unwritten (more p es) (a_field m span semantic_id key v hk (a_literal l lspan l_semantic_id w), h) k = let u : Unwritten (trees (definitions_from (k + 7) es)) = definitions-unwritten es h (k + 7) in record { assigned = u.assigned; writing = u.writing; free = u.free; repeated = u.repeated; changing = u.changing; caught = u.caught; given = u.given; inside = u.inside; functions = u.functions; members = u.members }
+definitions-unwritten (more p es) (a_field m span semantic_id key v hk (a_reference r rspan r_semantic_id x), h) k = let u : Unwritten (trees (definitions_from (k + 7) es)) = definitions-unwritten es h (k + 7) in record { assigned = u.assigned; writing = u.writing; free = u.free; repeated = u.repeated; changing = u.changing; caught = u.caught; given = u.given; inside = u.inside; functions = u.functions; members = u.members }
 
 elements-unwritten : (es : Parts) → AreFields es → (k : ℕ) → Unwritten (lowered_elements k es)
 elements-unwritten end h k = unwritten-end
@@ -133,12 +139,13 @@ elements-unwritten (more p es) h k =
     let ts : Parts = trees (definitions_from (k + 4) (more p es)) in
     let u : Unwritten ts = definitions-unwritten (more p es) h (k + 4) in record {
       assigned = λ names. rw (names-definitions (more p es) h (k + 4), four_ends (item_references names false ts)) (u.assigned names);
+      writing = λ names. rw (names-definitions (more p es) h (k + 4), four_ends (item_references names false ts)) (u.writing names);
       free = λ names. rw (names-definitions (more p es) h (k + 4), four_ends (item_references names false ts)) (u.free names);
       repeated = rw (names-definitions (more p es) h (k + 4), lexical-definitions (more p es) h (k + 4), four_ends (preorder_of ts)) u.repeated;
       changing = rw (four_ends (preorder_of ts)) u.changing;
       caught = rw (four_ends (preorder_of ts)) u.caught;
       given = λ names. four-none (u.given _);
-      inside = rw (function-definitions (more p es) h (k + 4), four_ends (preorder_of ts)) u.inside;
+      inside = λ s. rw (function-definitions (more p es) h (k + 4), four_ends (preorder_of ts)) (u.inside s);
       functions = rw (four_ends (preorder_of ts)) u.functions;
       members = rw (four_ends (preorder_of ts)) u.members;
     }
@@ -155,11 +162,12 @@ lowered-no_members n k (more p es) = refl
 -- a class with these elements in front of these classes
 record ClassUnwritten (n : ℕ) (es ps : Parts) : Type 0 where
   assigned : (names : List Declaration) → assigned (item_references names false es ++ [] ++ [] ++ item_references names false ps) ≡ []
+  writing : (names : List Declaration) → writing_numbers (item_references names false es ++ [] ++ [] ++ item_references names false ps) ≡ []
   free : (names : List Declaration) → writes_free (codes "arguments") (item_references names false es ++ [] ++ [] ++ item_references names false ps) ≡ false
   repeated : written_by_all (preorder_of es ++ [] ++ [] ++ preorder_of ps) ≡ []
   changing : changing_in (preorder_of es ++ [] ++ [] ++ preorder_of ps) ≡ []
   caught : caught_again_in (preorder_of es ++ [] ++ [] ++ preorder_of ps) ≡ []
-  inside : gives_inside (codes "arguments") (preorder_of es ++ [] ++ [] ++ preorder_of ps) ≡ false
+  inside : (s : String) → gives_inside s (preorder_of es ++ [] ++ [] ++ preorder_of ps) ≡ false
   functions : declared_functions [] (preorder_of es ++ [] ++ [] ++ preorder_of ps) ≡ []
   members : elements_members n es ++ members_of_all (preorder_of es ++ [] ++ [] ++ preorder_of ps) ≡ []
 
@@ -168,11 +176,12 @@ class-unwritten n es ps a b none =
     let xs : List Tree = preorder_of es in
     let ys : List Tree = preorder_of ps in record {
       assigned = λ names. rw (two_ends (item_references names false es) (item_references names false ps), assigned-append (item_references names false es) (item_references names false ps), a.assigned names) (b.assigned names);
+      writing = λ names. rw (two_ends (item_references names false es) (item_references names false ps), writing-append (item_references names false es) (item_references names false ps), a.writing names) (b.writing names);
       free = λ names. rw (two_ends (item_references names false es) (item_references names false ps), writes_free-append (codes "arguments") (item_references names false es) (item_references names false ps), a.free names) (b.free names);
       repeated = rw (two_ends xs ys, written_by_all-append xs ys, a.repeated) b.repeated;
       changing = rw (two_ends xs ys, changing_in-append xs ys, a.changing) b.changing;
       caught = rw (two_ends xs ys, caught_again_in-append xs ys, a.caught) b.caught;
-      inside = rw (two_ends xs ys, gives_inside-append (codes "arguments") xs ys, a.inside) b.inside;
+      inside = λ s. rw (two_ends xs ys, gives_inside-append s xs ys, a.inside s) (b.inside s);
       functions = rw (two_ends xs ys, declared_functions-append xs ys, a.functions) b.functions;
       members = rw (none, two_ends xs ys, members_of_all-append xs ys, a.members) b.members;
     }
@@ -182,7 +191,7 @@ classes-unwritten end h = unwritten-end
 classes-unwritten (more p ps) (a_class n span semantic_id id body (a_name i ispan i_semantic_id s free) (a_body m bspan b_semantic_id es he), h) =
     let rest : Unwritten ps = classes-unwritten ps h in
     let u : ClassUnwritten n es ps = class-unwritten n es ps (fields-unwritten es he) rest (fields-no_members n es he) in
-    record { assigned = u.assigned; free = u.free; repeated = u.repeated; changing = u.changing; caught = u.caught; given = λ names. two-none ((fields-unwritten es he).given _) (rest.given names); inside = u.inside; functions = u.functions; members = u.members }
+    record { assigned = u.assigned; writing = u.writing; free = u.free; repeated = u.repeated; changing = u.changing; caught = u.caught; given = λ names. two-none ((fields-unwritten es he).given _) (rest.given names); inside = u.inside; functions = u.functions; members = u.members }
 
 lowered-unwritten : (ps : Parts) → AreClasses ps → (k : ℕ) → Unwritten (lowered_statements k ps)
 lowered-unwritten end h k = unwritten-end
@@ -190,7 +199,7 @@ lowered-unwritten (more p ps) (a_class n span semantic_id id body (a_name i ispa
     let next : ℕ = k + statement_size p in
     let rest : Unwritten (lowered_statements next ps) = lowered-unwritten ps h next in
     let u : ClassUnwritten n (lowered_elements k es) (lowered_statements next ps) = class-unwritten n (lowered_elements k es) (lowered_statements next ps) (elements-unwritten es he k) rest (lowered-no_members n k es) in
-    record { assigned = u.assigned; free = u.free; repeated = u.repeated; changing = u.changing; caught = u.caught; given = λ names. two-none ((elements-unwritten es he k).given _) (rest.given names); inside = u.inside; functions = u.functions; members = u.members }
+    record { assigned = u.assigned; writing = u.writing; free = u.free; repeated = u.repeated; changing = u.changing; caught = u.caught; given = λ names. two-none ((elements-unwritten es he k).given _) (rest.given names); inside = u.inside; functions = u.functions; members = u.members }
 
 -- ---- declaring identifiers: those of the classes
 
@@ -326,6 +335,18 @@ varying-lowered k t (a_program m span semantic_id s all h) =
 pub declaring-lowered : (first k : ℕ) (t : Tree) → IsProgram t → declaring first ClassDeclared (lowered_from k t) ≡ declaring first ClassDeclared t
 declaring-lowered first k t (a_program m span semantic_id s all h) = ap (λ ds. ds ++ []) (classes-declare first all h k ClassDeclared)
 
+-- no reference writes, and no function stands in a block
+pub writing-none : (k : ℕ) (t : Tree) → IsProgram t → writing_numbers (resolve (lowered_from k t)) ≡ []
+writing-none k t (a_program m span semantic_id s all h) =
+    let ps : Parts = lowered_statements k all in
+    let there : Unwritten ps = lowered-unwritten all h k in
+    rw (append-nil (item_references (body_names ps ++ []) false ps)) (there.writing (body_names ps ++ []))
+
+pub inside-none : (t : Tree) → IsProgram t → (s : String) → gives_inside s (preorder t) ≡ false
+inside-none t (a_program m span semantic_id p all h) s =
+    let here : Unwritten all = classes-unwritten all h in
+    rw (append-nil (preorder_of all)) (here.inside s)
+
 -- what a program has none of
 pub record HasNone (t : Tree) : Type 0 where
   pub free : changes_free (codes "arguments") t ≡ false
@@ -340,7 +361,7 @@ neither a b e f = rw (e, f) refl
 pub source-none : (t : Tree) → IsProgram t → HasNone t
 source-none t (a_program m span semantic_id s all h) =
     let here : Unwritten all = classes-unwritten all h in record {
-      free = neither (writes_free (codes "arguments") (resolve (Node Kind.Program m span semantic_id (more (string s) (more (list all) end))))) (gives_inside (codes "arguments") (preorder_of all ++ [])) (rw (append-nil (item_references (body_names all ++ []) false all)) (here.free (body_names all ++ []))) (rw (append-nil (preorder_of all)) here.inside);
+      free = neither (writes_free (codes "arguments") (resolve (Node Kind.Program m span semantic_id (more (string s) (more (list all) end))))) (gives_inside (codes "arguments") (preorder_of all ++ [])) (rw (append-nil (item_references (body_names all ++ []) false all)) (here.free (body_names all ++ []))) (rw (append-nil (preorder_of all)) (here.inside (codes "arguments")));
       functions = rw (append-nil (preorder_of all)) here.functions;
       members = rw (append-nil (preorder_of all)) here.members;
       links = no_links all h;
@@ -351,7 +372,7 @@ pub lowered-none : (k : ℕ) (t : Tree) → IsProgram t → HasNone (lowered_fro
 lowered-none k t (a_program m span semantic_id s all h) =
     let ps : Parts = lowered_statements k all in
     let there : Unwritten ps = lowered-unwritten all h k in record {
-      free = neither (writes_free (codes "arguments") (resolve (Node Kind.Program m span semantic_id (more (string s) (more (list ps) end))))) (gives_inside (codes "arguments") (preorder_of ps ++ [])) (rw (append-nil (item_references (body_names ps ++ []) false ps)) (there.free (body_names ps ++ []))) (rw (append-nil (preorder_of ps)) there.inside);
+      free = neither (writes_free (codes "arguments") (resolve (Node Kind.Program m span semantic_id (more (string s) (more (list ps) end))))) (gives_inside (codes "arguments") (preorder_of ps ++ [])) (rw (append-nil (item_references (body_names ps ++ []) false ps)) (there.free (body_names ps ++ []))) (rw (append-nil (preorder_of ps)) (there.inside (codes "arguments")));
       functions = rw (append-nil (preorder_of ps)) there.functions;
       members = rw (append-nil (preorder_of ps)) there.members;
       links = lowered-no_links all h k;

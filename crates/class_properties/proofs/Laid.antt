@@ -137,11 +137,11 @@ laid-named {ts = t ∷ ts} ps rs (kept a b s rest) = rw (not-expression ps rs t 
 laid-named {ts = t ∷ ts} ps rs (generated e s rest) = rw (not-expression ps rs t (stays-neither (kind_of t) (and_parts (stays (kind_of t)) (not (declares_names (kind_of t))) s).0).0) (laid-named ps rs rest)
 
 -- no variable is declared
-not-declarator : (ps : List Tree) (rs : List Reference) (t : Tree) → declares_variables (kind_of t) ≡ false → reads_itself ps rs t ≡ false
-not-declarator ps rs (Node Kind.VariableDeclarator m span semantic_id qs) e = absurd (true≢false e)
-not-declarator ps rs t e = refl
+not-declarator : (moved ps : List Tree) (rs : List Reference) (t : Tree) → declares_variables (kind_of t) ≡ false → reads_itself moved ps rs t ≡ false
+not-declarator moved ps rs (Node Kind.VariableDeclarator m span semantic_id qs) e = absurd (true≢false e)
+not-declarator moved ps rs t e = refl
 
-pub laid-unread : {first hi m lo n : ℕ} {ts : List Tree} (ps : List Tree) (rs : List Reference) → Laid first hi m lo n ts → none_reads_itself ps rs ts ≡ true
-laid-unread ps rs (none lh e) = refl
-laid-unread {ts = t ∷ ts} ps rs (kept a b s rest) = rw (not-declarator ps rs t (stays-neither (kind_of t) s).1) (laid-unread ps rs rest)
-laid-unread {ts = t ∷ ts} ps rs (generated e s rest) = rw (not-declarator ps rs t (stays-neither (kind_of t) (and_parts (stays (kind_of t)) (not (declares_names (kind_of t))) s).0).1) (laid-unread ps rs rest)
+pub laid-unread : {first hi m lo n : ℕ} {ts : List Tree} (moved ps : List Tree) (rs : List Reference) → Laid first hi m lo n ts → none_reads_itself moved ps rs ts ≡ true
+laid-unread moved ps rs (none lh e) = refl
+laid-unread {ts = t ∷ ts} moved ps rs (kept a b s rest) = rw (not-declarator moved ps rs t (stays-neither (kind_of t) s).1) (laid-unread moved ps rs rest)
+laid-unread {ts = t ∷ ts} moved ps rs (generated e s rest) = rw (not-declarator moved ps rs t (stays-neither (kind_of t) (and_parts (stays (kind_of t)) (not (declares_names (kind_of t))) s).0).1) (laid-unread moved ps rs rest)

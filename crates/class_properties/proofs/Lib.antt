@@ -11,6 +11,7 @@ pub mod Leasts
 pub mod Mapped
 pub mod Numbered
 pub mod OfKinds
+pub mod ReadReferences
 pub mod Owed
 pub mod Printed
 pub mod Remaining

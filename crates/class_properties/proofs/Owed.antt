@@ -13,7 +13,9 @@ use Rattle.es_steps.specs.Generated.{constructor_at, define_at, void_at}
 use Rattle.es_steps.specs.declared.options.Options.{Options}
 use Rattle.es_steps.specs.OwnNames.{own_name_numbers}
 use Rattle.es_steps.specs.PrivateNames.{private_members}
+use Rattle.es_steps.specs.OwnNames.{all_moved}
 use Rattle.es_steps.specs.References.{resolve}
+use Rattle.class_properties.proofs.ReadReferences.{references-stay}
 use Rattle.es_steps.specs.Strict.{none_becomes_strict}
 use Rattle.es_steps.specs.Values.{String}
 use Rattle.class_properties.proofs.Defining.{defining, is_defining}
@@ -127,7 +129,8 @@ module _ (asked : Options) where
           left = laid-left (defining asked) laid;
           declared = refl;
           accounted = laid-accounted (own_name_numbers t (resolve q) (preorder q)) laid;
-          names = both (laid-named (preorder t) (resolve q) laid) (laid-unread (preorder t) (resolve q) laid);
+          names = both (laid-named (preorder t) (resolve q) laid) (laid-unread (all_moved [] (preorder q)) (preorder t) (resolve q) laid);
+          references = references-stay first first t p;
           strict = numbered-strict t p e;
           texts = texts-stay t p e;
           initialized = refl;

@@ -10,7 +10,7 @@ use Rattle.es_base.specs.Preorder.{preorder, preorder_of}
 use Rattle.es_base.specs.Conforms.{is_among}
 use Rattle.es_steps.specs.Reserved.{Words, no_words, strict_words, is_reserved_word, field_words, strict_if, has_reserved, reserved_in, reserved_at}
 use Rattle.es_steps.specs.Strict.{has_use_strict}
-use Rattle.es_steps.specs.Printable.{any_optional, any_uncooked, bare_in, bare_strings, prologue, stays_printable, has_late_directive, has_bad, bad_at, bad_in, Jumps, no_jumps, has_stray, stray_in, is_printable}
+use Rattle.es_steps.specs.Printable.{any_optional, any_uncooked, bare_in, bare_strings, prologue, stays_printable, has_late_directive, has_bad, bad_at, bad_in, Jumps, no_jumps, has_stray, stray_in, has_stray_target, stray_target_of, is_printable}
 use Rattle.class_properties.proofs.Numbered.{definitions_from, lowered_elements, statement_size, lowered_statements, lowered_from}
 use Rattle.class_properties.proofs.Shaped.{no_value, a_literal, a_reference, a_key, a_field, AreFields, a_body, a_name, a_class, AreClasses, IsProgram, a_program}
 use Rattle.es_unchanged.proofs.Standing.{none_of}
@@ -150,6 +150,23 @@ classes-stay j (more p ps) (a_class n span semantic_id id body (a_name i ispan i
 program-stays : (k : ℕ) (t : Tree) → IsProgram t → has_stray (no_jumps false) (lowered_from k t) ≡ false
 program-stays k t (a_program m span semantic_id s all h) = rw (classes-stay (no_jumps false) all h k) refl
 
+-- ---- nor is there a `new.target`
+
+definitions-untargeted : (inside : Bool) (es : Parts) → AreFields es → (k : ℕ) → stray_target_of inside (trees (definitions_from k es)) ≡ false
+definitions-untargeted inside end h k = refl
+definitions-untargeted inside (more p es) (a_field m span semantic_id key v (a_key i ispan i_semantic_id s) no_value, h) k = definitions-untargeted inside es h (k + 9)
+definitions-untargeted inside (more p es) (a_field m span semantic_id key v (a_key i ispan i_semantic_id s) (a_literal l lspan l_semantic_id w), h) k = definitions-untargeted inside es h (k + 7)
+definitions-untargeted inside (more p es) (a_field m span semantic_id key v (a_key i ispan i_semantic_id s) (a_reference r rspan r_semantic_id x), h) k = definitions-untargeted inside es h (k + 7)
+
+classes-untargeted : (inside : Bool) (ps : Parts) → AreClasses ps → (k : ℕ) → stray_target_of inside (lowered_statements k ps) ≡ false
+classes-untargeted inside end h k = refl
+classes-untargeted inside (more p ps) (a_class n span semantic_id id body (a_name i ispan i_semantic_id s free) (a_body b bspan b_semantic_id end he), h) k = classes-untargeted inside ps h _
+classes-untargeted inside (more p ps) (a_class n span semantic_id id body (a_name i ispan i_semantic_id s free) (a_body b bspan b_semantic_id (more e es) he), h) k =
+    rw (definitions-untargeted _ (more e es) he (k + 4)) (classes-untargeted inside ps h _)
+
+program-untargeted : (k : ℕ) (t : Tree) → IsProgram t → has_stray_target false (lowered_from k t) ≡ false
+program-untargeted k t (a_program m span semantic_id s all h) = rw (classes-untargeted _ all h k) refl
+
 -- ---- no name is a reserved word
 
 not-reserved : (w : Words) (s : List ℕ) → is_among s strict_words ≡ false → bytes_eq s (codes "await") ≡ false → bytes_eq s (codes "yield") ≡ false → is_reserved_word w s ≡ false
@@ -229,8 +246,9 @@ program-good k t (a_program m span semantic_id s all h) g =
 
 printable-lowered : (k : ℕ) (t : Tree) → IsProgram t → (not (is_printable t) || is_printable (lowered_from k t)) ≡ true
 printable-lowered k t h =
-    printed (has_bad false false t) (has_bad false false (lowered_from k t)) (has_stray (no_jumps false) t) (has_stray (no_jumps false) (lowered_from k t)) (has_reserved no_words t) (has_reserved no_words (lowered_from k t))
-    (program-good k t h) (program-stays k t h) (program-free k t h)
+    printed (has_bad false false t) (has_bad false false (lowered_from k t)) (has_stray (no_jumps false) t) (has_stray (no_jumps false) (lowered_from k t))
+    (has_stray_target false t || has_reserved no_words t) (has_stray_target false (lowered_from k t) || has_reserved no_words (lowered_from k t))
+    (program-good k t h) (program-stays k t h) (λ i. rw (program-untargeted k t h, program-free k t h (none_of (has_stray_target false t) (has_reserved no_words t) i).1) refl)
 
 pub lowered-stays_printable : (k : ℕ) (t : Tree) → IsProgram t → stays_printable t (lowered_from k t) ≡ true
 lowered-stays_printable k t h = rw (printable-lowered k t h, no-bare k t h) refl

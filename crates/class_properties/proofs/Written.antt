@@ -8,7 +8,7 @@ use Rattle.es_base.specs.Preorder.{nodes, number_of, preorder, preorder_of, numb
 use Rattle.es_base.specs.Tree.{Tree, Parts, Node, end, more, string, literal, trees}
 use Rattle.es_base.specs.declared.kind.Kind.{Kind}
 use Rattle.es_steps.specs.KeptNodes.{stands_equal}
-use Rattle.es_steps.specs.Texts.{are_characters, has_characters, all_have_their_texts, texts_stay}
+use Rattle.es_steps.specs.Texts.{is_new_name, has_characters, all_have_their_texts, texts_stay}
 use Rattle.es_unchanged.proofs.Standing.{In, here, later, in-left, in-right, both, stands-equal}
 use Rattle.es_unchanged.proofs.Names.{or-true}
 use Rattle.es_unchanged.proofs.Unchanged.{Below, numbered-below, old-characters}
@@ -37,8 +37,8 @@ module _ (first : ℕ) (ps : List Tree) where
   old-text t b e i = rw e (stands-equal t ps i)
 
   -- a new name of characters of ASCII, as the helper, its member and the constructor have
-  new-characters : (n : ℕ) (s : List ℕ) → are_characters ps s ≡ true → has_characters true first n ps s ≡ true
-  new-characters n s h = or-true (not (is_new first n)) (are_characters ps s) h
+  new-characters : (n : ℕ) (s : List ℕ) → is_new_name ps s ≡ true → has_characters true first n ps s ≡ true
+  new-characters n s h = or-true (not (is_new first n)) (is_new_name ps s) h
 
   helper-characters : (n : ℕ) → has_characters true first n ps (codes "babelHelpers") ≡ true
   helper-characters n = new-characters n (codes "babelHelpers") refl

@@ -2,9 +2,10 @@
 use Rattle.std.proofs.Common.{◌≡◌, refl, ap, sym, ◌∙◌, List, [], ◌∷◌, ◌++◌, Bool, true, false, cond, ◌&&◌, ◌||◌, Some, None}
 use Rattle.std.specs.List.{list_any}
 use Rattle.es_base.specs.Tree.{Tree, Node}
-use Rattle.es_steps.specs.LoweredClasses.{Element, any_element, is_lowered_element, elements_of}
+use Rattle.es_steps.specs.LoweredClasses.{constructor_in, Element, any_element, is_lowered_element, elements_of}
+use Rattle.es_steps.specs.Parts.{is_present}
 use Rattle.es_steps.specs.PrivateNames.{is_class}
-use Rattle.es_steps.specs.Shapes.{ClassAt, class_at, any_class, lowered_classes, is_static_field, keeps_block}
+use Rattle.es_steps.specs.Shapes.{ClassAt, class_at, any_class, lowered_classes, has_pattern_parameter, is_static_field, initializes_outside, keeps_block}
 use Rattle.es_steps.specs.declared.options.Options.{Options}
 use Rattle.es_shapes.specs.Classes.{element_kinds, passes_by, is_lowered, is_lowered_with}
 use Rattle.es_shapes.specs.declared.element.ElementKinds.{ElementKinds}
@@ -38,8 +39,13 @@ either (e ∷ es) = mix (is_static_field e) e.is_private (either es)
         last false = refl
     mix false false rest = rest
 
-pub block_kept : (k : ClassAt) → keeps_block k ≡ (any_element (λ e. e.is_block) k.elements && (any_element is_static_field k.elements || any_element (λ e. e.is_private) k.elements))
-block_kept k = ap (λ b. any_element (λ e. e.is_block) k.elements && b) (either k.elements)
+pub block_kept : (k : ClassAt) → keeps_block k ≡ (any_element (λ e. e.is_block) k.elements && ((any_element is_static_field k.elements || any_element (λ e. e.is_private) k.elements) || initializes_outside k))
+block_kept k = ap (λ b. any_element (λ e. e.is_block) k.elements && (b || initializes_outside k)) (either k.elements)
 
-pub kept_kinds : (o : Options) (k : ClassAt) (kinds : ElementKinds) → kinds ≡ element_kinds o k.elements → (kinds.has_lowered && (kinds.has_block && (kinds.has_static_field || kinds.has_private))) ≡ (is_lowered o k && keeps_block k)
-kept_kinds o k kinds e = ap (λ (x : ElementKinds). x.has_lowered && (x.has_block && (x.has_static_field || x.has_private))) e ∙ ap (λ b. is_lowered o k && b) (sym (block_kept k))
+pub kept_kinds : (o : Options) (k : ClassAt) (kinds : ElementKinds) (is_outside : Bool) → kinds ≡ element_kinds o k.elements
+    → is_outside ≡ (is_present k.heritage && (kinds.has_instance_initializer && has_pattern_parameter (constructor_in k.body)))
+    → (kinds.has_lowered && (kinds.has_block && ((kinds.has_static_field || kinds.has_private) || is_outside))) ≡ (is_lowered o k && keeps_block k)
+kept_kinds o k kinds is_outside e outside =
+    ap (λ b. kinds.has_lowered && (kinds.has_block && ((kinds.has_static_field || kinds.has_private) || b))) outside
+    ∙ (ap (λ (x : ElementKinds). x.has_lowered && (x.has_block && ((x.has_static_field || x.has_private) || (is_present k.heritage && (x.has_instance_initializer && has_pattern_parameter (constructor_in k.body)))))) e
+    ∙ ap (λ b. is_lowered o k && b) (sym (block_kept k)))

@@ -13,7 +13,7 @@ ghost use Rattle.es_shapes.specs.Parameters.{child_or};
 
 use crate::asked::lowers_fields;
 use crate::class::{ClassRef, class_of, elements_of};
-use crate::element::element_kinds;
+use crate::element::{ElementKinds, element_kinds};
 use crate::walk::{NodeTest, any_node};
 use es_base::kind::Kind;
 use es_base::operator::MethodDefinitionKind;
@@ -57,10 +57,15 @@ fn is_late_class(options: &Options, class: ClassRef) -> bool
 {
     let elements = elements_of(class.body);
     let kinds = element_kinds(options, elements);
-    kinds.has_lowered
-        && class.super_class.is_none()
-        && kinds.has_instance_initializer
-        && has_pattern_parameter(constructor_among(elements))
+    kinds.has_lowered && class.super_class.is_none() && initializes_with_pattern(kinds, elements)
+}
+
+/// Whether a class with these elements, of these kinds, has fields or private methods of instances and a parameter
+/// of its constructor that is no identifier.
+pub fn initializes_with_pattern(kinds: ElementKinds, elements: &[Node]) -> bool
+    ensures { result ≡ (kinds.has_instance_initializer && has_pattern_parameter (constructor_function (trees elements.now))) }
+{
+    kinds.has_instance_initializer && has_pattern_parameter(constructor_among(elements))
 }
 
 /// The function of the constructor among the elements of a class.

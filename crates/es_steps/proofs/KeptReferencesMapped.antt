@@ -10,7 +10,7 @@ use Rattle.es_steps.specs.ClassNames.{is_generated}
 use Rattle.es_steps.specs.Context.{generated_as}
 use Rattle.es_steps.specs.HelperCalls.{part_number}
 use Rattle.es_steps.specs.KeptNodes.{pair_stands, all_pairs_stand, is_constructor_part}
-use Rattle.es_steps.specs.KeptReferences.{plain_target, plain_targets, write_fits, writes_fit, InnerReference, functions_in, inner_reference, inner_references, inner_in, inner_at, inner_of, same_place, stands_where, all_stand_where, inner_names_stay, references_stay}
+use Rattle.es_steps.specs.KeptReferences.{plain_target, plain_targets, writing_numbers, write_fits, writes_fit, InnerReference, functions_in, inner_reference, inner_references, inner_in, inner_at, inner_of, same_place, stands_where, all_stand_where, inner_names_stay, references_stay}
 use Rattle.es_steps.specs.NameScopes.{is_any_function}
 use Rattle.es_steps.specs.Parts.{at, string_of}
 use Rattle.es_steps.specs.References.{Reference, resolve, gives_inside}
@@ -44,12 +44,16 @@ module _ (f : ℕ → ℕ) where
   is_generated-mapped s ledger = rw (generated_as-mapped f s ledger) (is_generated_kind-mapped f (generated_as s ledger))
 
 module _ {first : ℕ} {f : ℕ → ℕ} (r : Renames first f) where
-  write_fits-mapped : (ledger : List LedgerEntry) (targets : List ℕ) (x : Reference) → write_fits first (mapped_ledger f ledger) (map f targets) (mapped_reference f x) ≡ write_fits first ledger targets x
-  write_fits-mapped ledger targets x = rw (is_generated-mapped f x.spelling ledger, has_number-mapped r x.number targets, r.new x.number) refl
+  writing_numbers-mapped : (rs : List Reference) → writing_numbers (map (mapped_reference f) rs) ≡ map f (writing_numbers rs)
+  writing_numbers-mapped [] = refl
+  writing_numbers-mapped (x ∷ rs) = append-mapped f _ _ (cond-mapped (map f) x.writes (x.number ∷ []) [] refl refl) (writing_numbers-mapped rs)
 
-  writes_fit-mapped : (ledger : List LedgerEntry) (targets : List ℕ) (rs : List Reference) → writes_fit first (mapped_ledger f ledger) (map f targets) (map (mapped_reference f) rs) ≡ writes_fit first ledger targets rs
-  writes_fit-mapped ledger targets [] = refl
-  writes_fit-mapped ledger targets (x ∷ rs) = ap₂ (λ a b. a && b) (write_fits-mapped ledger targets x) (writes_fit-mapped ledger targets rs)
+  write_fits-mapped : (ledger : List LedgerEntry) (targets old : List ℕ) (x : Reference) → write_fits (mapped_ledger f ledger) (map f targets) (map f old) (mapped_reference f x) ≡ write_fits ledger targets old x
+  write_fits-mapped ledger targets old x = rw (is_generated-mapped f x.spelling ledger, has_number-mapped r x.number targets, has_number-mapped r x.number old) refl
+
+  writes_fit-mapped : (ledger : List LedgerEntry) (targets old : List ℕ) (rs : List Reference) → writes_fit (mapped_ledger f ledger) (map f targets) (map f old) (map (mapped_reference f) rs) ≡ writes_fit ledger targets old rs
+  writes_fit-mapped ledger targets old [] = refl
+  writes_fit-mapped ledger targets old (x ∷ rs) = ap₂ (λ a b. a && b) (write_fits-mapped ledger targets old x) (writes_fit-mapped ledger targets old rs)
 
   functions_in-mapped : (is_constructor : Bool) (around : List (ℕ × ℕ)) (kind : Kind) (m i : ℕ) → functions_in first is_constructor (map (mapped_held f) around) kind (f m) i ≡ map (mapped_held f) (functions_in first is_constructor around kind m i)
   functions_in-mapped is_constructor around kind m i =
@@ -105,5 +109,5 @@ module _ {first : ℕ} {f : ℕ → ℕ} (r : Renames first f) where
   references_stay-mapped ledger p q =
       ap₂ (λ a b. a && b) (classes_timely-mapped r ledger p q)
       (ap₂ (λ a b. a && b)
-      (ap₂ (writes_fit first (mapped_ledger f ledger)) (ap plain_targets (preorder-mapped f q) ∙ plain_targets-mapped f (preorder q)) (resolve-mapped f q) ∙ writes_fit-mapped ledger (plain_targets (preorder q)) (resolve q))
+      (rw (preorder-mapped f q, plain_targets-mapped f (preorder q), resolve-mapped f p, writing_numbers-mapped (resolve p), resolve-mapped f q) (writes_fit-mapped ledger (plain_targets (preorder q)) (writing_numbers (resolve p)) (resolve q)))
       (inner_names_stay-mapped p q))

@@ -13,8 +13,8 @@ use Rattle.es_steps.specs.Parts.{at, string_of}
 use Rattle.es_steps.specs.References.{Reference, resolve, has_number, gives_inside}
 use Rattle.es_steps.specs.Values.{String}
 
--- ---- a new reference writes a generated name alone, and such a name is written by `=` or an update: what a pattern writes comes
--- before the end of the pattern (13.15.5.2)
+-- ---- a reference writes a generated name, or writes in the source, too; and a generated name is written by `=` or an update: what
+-- a pattern writes comes before the end of the pattern (13.15.5.2)
 
 abbrev pub plain_target : Tree → List ℕ
 plain_target (Node Kind.AssignmentExpression m span semantic_id ps) = cond (bytes_eq (string_of (at 0 ps)) (codes "=")) (part_number (at 1 ps)) []
@@ -25,12 +25,16 @@ abbrev pub plain_targets : List Tree → List ℕ
 plain_targets [] = []
 plain_targets (t ∷ ts) = plain_target t ++ plain_targets ts
 
-abbrev pub write_fits : ℕ → List LedgerEntry → List ℕ → Reference → Bool
-write_fits first ledger targets r = not r.writes || cond (is_generated r.spelling ledger) (has_number r.number targets) (not (is_new first r.number))
+abbrev pub writing_numbers : List Reference → List ℕ
+writing_numbers [] = []
+writing_numbers (r ∷ rs) = cond r.writes (r.number ∷ []) [] ++ writing_numbers rs
 
-abbrev pub writes_fit : ℕ → List LedgerEntry → List ℕ → List Reference → Bool
-writes_fit first ledger targets [] = true
-writes_fit first ledger targets (r ∷ rs) = write_fits first ledger targets r && writes_fit first ledger targets rs
+abbrev pub write_fits : List LedgerEntry → List ℕ → List ℕ → Reference → Bool
+write_fits ledger targets old r = not r.writes || cond (is_generated r.spelling ledger) (has_number r.number targets) (has_number r.number old)
+
+abbrev pub writes_fit : List LedgerEntry → List ℕ → List ℕ → List Reference → Bool
+writes_fit ledger targets old [] = true
+writes_fit ledger targets old (r ∷ rs) = write_fits ledger targets old r && writes_fit ledger targets old rs
 
 -- ---- the name of a function in a block is read in the functions of the source in which it was, constructors aside: in sloppy
 -- code it means a `var` of these (B.3.2)
@@ -82,4 +86,4 @@ abbrev pub inner_names_stay : ℕ → Tree → Tree → Bool
 inner_names_stay first p q = all_stand_where first (inner_references first (preorder p) false [] q) (inner_references first (preorder p) false [] p)
 
 abbrev pub references_stay : ℕ → List LedgerEntry → Tree → Tree → Bool
-references_stay first ledger p q = classes_timely first ledger p q && (writes_fit first ledger (plain_targets (preorder q)) (resolve q) && inner_names_stay first p q)
+references_stay first ledger p q = classes_timely first ledger p q && (writes_fit ledger (plain_targets (preorder q)) (writing_numbers (resolve p)) (resolve q) && inner_names_stay first p q)

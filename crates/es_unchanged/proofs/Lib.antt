@@ -1,5 +1,6 @@
 pub mod First
 pub mod Names
+pub mod References
 pub mod Quiet
 pub mod Shapeless
 pub mod Standing

@@ -1,5 +1,5 @@
 -- A numbered program that has nothing to lower owes nothing as it is.
-use Rattle.std.proofs.Common.{◌≡◌, refl, sym, ap, subst, ℕ, zero, suc, ◌+◌, ◌<◌, ◌≤◌, List, [], ◌∷◌, ◌++◌, map, Bool, true, false, cond, Option, arith}
+use Rattle.std.proofs.Common.{◌≡◌, refl, sym, ap, subst, append_assoc, ℕ, zero, suc, ◌+◌, ◌<◌, ◌≤◌, List, [], ◌∷◌, ◌++◌, map, Bool, true, false, cond, Option, arith}
 use Rattle.std.specs.Prelude.{filter, not, ◌||◌, ◌&&◌, nat_eq, codes}
 use Rattle.std.specs.List.{IsDistinct}
 use Rattle.std.proofs.lemmas.Bool.{lt-leb, true≢false, and_parts}
@@ -13,7 +13,7 @@ use Rattle.es_base.specs.declared.kind.Kind.{Kind}
 use Rattle.es_steps.proofs.Reflexive.{number-same}
 use Rattle.es_steps.specs.Context.{is_constructor}
 use Rattle.es_steps.specs.Definitions.{FieldDefinition, chosen, element_numbers, body_numbers, elements_kept, call_definition, definition_at, definitions_in, definitions_at, definitions_of, function_definitions, super_definitions, constructor_definitions, all_definitions, instance_definitions, static_definitions, is_instance_method, any_of, defined_fields, class_fits, classes_fit, definitions_stand}
-use Rattle.es_steps.specs.HelperCalls.{is_helper_callee, computed_keys, StaticKey, Naming, naming_in, naming_of_element, is_class_body, field_key, method_keys, field_keys, call_fits, calls_fit, calls_in, calls_at, calls_of, calls_of_body}
+use Rattle.es_steps.specs.HelperCalls.{is_new_private, kept_keys, all_by, new_private_names, private_keys, kept_keys_converted, is_helper_callee, computed_keys, StaticKey, Naming, naming_in, naming_of_element, is_class_body, field_key, method_keys, field_keys, call_fits, calls_fit, calls_in, calls_at, calls_of, calls_of_body}
 use Rattle.es_steps.specs.KeptNodes.{stands_equal, statement_list, declared_classes, carried_classes, item_number, item_numbers, free_number, free_numbers, is_static_block, free_lists, free_lists_at, free_lists_in, list_of, is_within, all_within, is_free_statement, stays_in_list, free_statements, free_at, free_in, all_homes, lowered_blocks}
 use Rattle.es_steps.specs.Lowered.{IsLowered, nothing_left, has_new_declarator, is_new_const, is_accounted, all_accounted}
 use Rattle.es_steps.specs.LoweredClasses.{Element, elements_of, is_lowered_element, any_element, is_lowered_class, holds_lowered, has_lowered_class, constructor_function, constructor_in}
@@ -28,6 +28,7 @@ use Rattle.es_steps.specs.Texts.{has_name, has_characters, has_its_text, all_hav
 use Rattle.es_steps.specs.Values.{String}
 use Rattle.es_steps.specs.declared.options.Options.{Options}
 use Rattle.es_unchanged.proofs.Names.{or-true, number-apart, names-stay, strict-stays, classes-stay}
+use Rattle.es_unchanged.proofs.References.{references-stay}
 use Rattle.es_unchanged.proofs.Standing.{stands-equal, both, none_of, In, here, later, in-left, in-right, Among, among-append, all-equal, all-stand, within-more, within-both, within-same, within-append, all_within-append, apart-sym, home-same, temporaries-none}
 use Rattle.es_unchanged.proofs.Unmarked.{names-timely}
 
@@ -457,6 +458,43 @@ elements-stand o (Node kind n span semantic_id ps ∷ ts) qs none h once =
     either true c e = rw (unlowered o (elements_of ps) e, class-body kind n span semantic_id ps qs c once (h (Node kind n span semantic_id ps) here)) (within-same (element_numbers (elements_of ps)))
     either false c e = refl
 
+-- ---- no key is kept by a new object or a new private element
+
+module _ (first : ℕ) (keys : List ℕ) (names privates : List String) where
+  old-private : (p : Part) → Below first (preorder_of_part p) → is_new_private first [] keys p ≡ false
+  old-private (child (Node Kind.PrivateIdentifier d span semantic_id ps)) b = lt-leb first d b.0
+  old-private p b = refl
+
+  old-kept : (t : Tree) → Below first (preorder t) → kept_keys first [] keys names privates t ≡ []
+  old-kept (Node Kind.Property m span semantic_id ps) b = rw (lt-leb first m b.0) refl
+  old-kept (Node Kind.PropertyDefinition m span semantic_id ps) b = rw (old-private (at 0 ps) (part-below first 0 ps b.1)) refl
+  old-kept t b = refl
+
+  kept-append : (ts us : List Tree) → all_by first [] keys (kept_keys first [] keys names privates) (ts ++ us) ≡ all_by first [] keys (kept_keys first [] keys names privates) ts ++ all_by first [] keys (kept_keys first [] keys names privates) us
+  kept-append [] us = refl
+  kept-append (t ∷ ts) us = rw (kept-append ts us) (sym (append_assoc (kept_keys first [] keys names privates t) (all_by first [] keys (kept_keys first [] keys names privates) ts) (all_by first [] keys (kept_keys first [] keys names privates) us)))
+
+  mutual
+    tree-kept : (t : Tree) → Below first (preorder t) → all_by first [] keys (kept_keys first [] keys names privates) (preorder t) ≡ []
+    tree-kept (Node kind m span semantic_id ps) b = rw (old-kept (Node kind m span semantic_id ps) b, parts-kept ps b.1) refl
+
+    part-kept : (p : Part) → Below first (preorder_of_part p) → all_by first [] keys (kept_keys first [] keys names privates) (preorder_of_part p) ≡ []
+    part-kept (child t) b = tree-kept t b
+    part-kept absent b = refl
+    part-kept (list ps) b = parts-kept ps b
+    part-kept (string s) b = refl
+    part-kept no_string b = refl
+    part-kept (boolean x) b = refl
+    part-kept (literal v) b = refl
+
+    parts-kept : (ps : Parts) → Below first (preorder_of ps) → all_by first [] keys (kept_keys first [] keys names privates) (preorder_of ps) ≡ []
+    parts-kept end b = refl
+    parts-kept (more p ps) b =
+        rw (kept-append (preorder_of_part p) (preorder_of ps), part-kept p (below-first first (preorder_of_part p) (preorder_of ps) b), parts-kept ps (below-second first (preorder_of_part p) (preorder_of ps) b)) refl
+
+none-kept : (first : ℕ) (keys : List ℕ) (t : Tree) → Below first (preorder t) → kept_keys_converted first [] keys (preorder t) ≡ true
+none-kept first keys t b = rw (tree-kept first keys (new_private_names first [] keys (preorder t)) (private_keys first [] keys (preorder t)) t b) refl
+
 -- ---- the program
 
 same_or : (b : Bool) → (not b || b) ≡ true
@@ -522,6 +560,7 @@ unchanged-owes o t e h left =
         declared = refl;
         accounted = tree-accounted (nodes t) (own_name_numbers t (resolve t) (preorder t)) t turn.below;
         names = names-stay t turn.once;
+        references = references-stay (nodes t) t;
         strict = strict-stays (nodes t) t;
         texts = old-texts (nodes t) (preorder t) (preorder t) turn.below (λ u i. i);
         initialized = refl;
@@ -535,7 +574,7 @@ unchanged-owes o t e h left =
         homes = home-same (nodes t) (lowered_blocks o t) (all_homes t);
         definitions = definitions-stand o t turn.below h;
         elements = elements-stand o (preorder t) (preorder t) h (λ u i. i) turn.once;
-        calls = calls-fit (nodes t) (computed_keys (preorder t)) none_around t turn.below;
+        calls = both (calls-fit (nodes t) (computed_keys (preorder t)) none_around t turn.below) (none-kept (nodes t) (computed_keys (preorder t)) t turn.below);
         printable = both (same_or (is_printable t)) (all-among (bare_strings (preorder t)));
       };
     }
