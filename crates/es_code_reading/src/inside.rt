@@ -13,7 +13,6 @@ ghost use Rattle.es_seen_names.specs.Frames.{names_in};
 ghost use Rattle.es_code_reading.specs.Contexts.{Seen, context_of, context_with, frame_in, role_of, where_seen};
 
 use crate::context::{Around, Context, FunctionRole, Terms, This};
-use crate::name_kind::{generated_as, is_new};
 use crate::words::spells;
 use es_base::kind::Kind;
 use es_base::ledger::{GeneratedKind, LedgerEntry};
@@ -21,6 +20,8 @@ use es_binding_faults::bound::is_binding_identifier;
 use es_binding_faults::hoisted::part_at;
 use es_binding_faults::scopes::is_body_part;
 use es_codes::event::Home;
+use es_generated::ledger::generated_as;
+use es_generated::numbers::is_new;
 use es_node::node::{Node, Part};
 use es_seen_names::class_in::class_in;
 use es_seen_names::declaration::Declaration;
@@ -71,7 +72,7 @@ fn frame_of(kind: Kind) -> Frame
 fn in_function<'a>(terms: &Terms, node: u32, parts: &'a [Part], around: Around<'a>) -> Around<'a>
     ensures { (seen : Seen) → context_with terms.now seen result ≡ spec.in_function (role_of around.entry.role) node (parts_of parts.now) (context_with terms.now seen around.entry) }
 {
-    let in_new_function = is_new(terms, node);
+    let in_new_function = is_new(terms.first_new, node);
     let rest_name = rest_at(parts, 1);
     match around.role {
         FunctionRole::Function => Around {
@@ -322,7 +323,7 @@ fn in_declarator<'a>(
 ) -> Result<Around<'a>, AllocError>
     ensures { IfOk result (λ r. (i : ℕ) (seen : Seen) → context_with terms.now seen r ≡ spec.framed spec.declarator_frame node (parts_of parts.now) i (context_with terms.now seen around.entry)) }
 {
-    if is_new(terms, node) {
+    if is_new(terms.first_new, node) {
         let let_class = let_class(alloc, terms, parts)?;
         Ok(Around {
             let_class,
@@ -348,7 +349,7 @@ fn framed<'a>(
     match frame {
         Frame::Function => Ok(in_function(terms, node, parts, around)),
         Frame::Arrow => Ok(Around {
-            in_new_function: is_new(terms, node),
+            in_new_function: is_new(terms.first_new, node),
             rest_name: rest_at(parts, 0),
             ..around
         }),

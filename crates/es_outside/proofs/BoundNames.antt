@@ -1,15 +1,17 @@
--- A map of bindings holds what was added, and of a resolution the first of each number.
-use Rattle.std.proofs.Common.{◌≡◌, refl, sym, ap, ◌∙◌, ℕ, List, [], ◌∷◌, nat_eq, Bool, true, false, cond, Option, Some}
+-- A map of bindings holds what was added, and of references the first of each number.
+use Rattle.std.proofs.Common.{◌≡◌, refl, sym, ap, ◌∙◌, ℕ, List, [], ◌∷◌, nat_eq, Bool, true, false, cond, Option, Some, None}
 use Rattle.std.proofs.lemmas.Bool.{eqb-true}
 use Rattle.std.specs.Map as entries
+use Rattle.std.specs.Str.{chars}
 use Rattle.indexmap.specs.IndexMap.{insert_entry}
+use Rattle.es_base.specs.declared.ids.NodeId.{NodeId}
 use Rattle.es_steps.specs.LoweredClasses.{referent_of}
-use Rattle.es_steps.specs.References.{Reference}
-use Rattle.es_steps.specs.Values.{Referent, Bound, Free}
+use Rattle.es_steps.specs.Values.{String}
 use Rattle.es_shapes.specs.Names.{bound_number}
 use Rattle.es_outside.specs.Bindings.{binding_in, first_binding, flat, number_of}
-use Rattle.es_outside.specs.Frames.{binding_of}
-use Rattle.es_outside.specs.Meant.{meant_by_all}
+use Rattle.es_references.specs.References as named
+use Rattle.es_references.specs.References.{references_of}
+use Rattle.es_references.specs.declared.references.Reference.{Reference}
 
 pub looked_up : (m : ℕ) (es : List (ℕ × Option ℕ)) → flat (entries.lookup (nat_eq m) es) ≡ binding_in m es
 looked_up m [] = refl
@@ -44,14 +46,14 @@ inserted k v (e ∷ es) m = elim (nat_eq k e.0) as (λ b. nat_eq k e.0 ≡ b →
 
 -- ---- of a resolution
 
-bound_of : (r : Referent) → number_of (binding_of r) ≡ bound_number (Some r)
-bound_of (Bound b) = refl
-bound_of (Free s) = refl
+bound_again : (s : String) (b : Option NodeId) → number_of b ≡ bound_number (Some (named.referent_of s b))
+bound_again s None = refl
+bound_again s (Some b) = refl
 
-pub bound_first : (m : ℕ) (rs : List Reference) → first_binding m (meant_by_all rs) ≡ bound_number (referent_of m rs)
+pub bound_first : (m : ℕ) (rs : List Reference) → first_binding m rs ≡ bound_number (referent_of m (references_of rs))
 bound_first m [] = refl
-bound_first m (r ∷ rs) = here (nat_eq m r.number) (bound_first m rs)
+bound_first m (r ∷ rs) = here (nat_eq m r.node.0) (bound_first m rs)
   where
-    here : (b : Bool) → first_binding m (meant_by_all rs) ≡ bound_number (referent_of m rs) → cond b (number_of (binding_of r.to)) (first_binding m (meant_by_all rs)) ≡ bound_number (cond b (Some r.to) (referent_of m rs))
-    here true h = bound_of r.to
+    here : (b : Bool) → first_binding m rs ≡ bound_number (referent_of m (references_of rs)) → cond b (number_of r.binding) (first_binding m rs) ≡ bound_number (cond b (Some (named.referent_of (chars r.name.now) r.binding)) (referent_of m (references_of rs)))
+    here true h = bound_again (chars r.name.now) r.binding
     here false h = h

@@ -1,5 +1,6 @@
 -- The names that a catch declares twice.
 use Rattle.std.proofs.Common.{◌≡◌, refl, sym, ap, ◌∙◌, ℕ, ◌+◌, ◌<◌, length, drop, get_or, List, [], ◌++◌, Bool, ◌||◌, Bor}
+use Rattle.std.proofs.Math.Bool.{or_assoc}
 use Rattle.std.proofs.lemmas.List.{at_drop_more}
 use Rattle.es_base.specs.Tree.{Tree, Part, Node}
 use Rattle.es_base.specs.declared.kind.Kind.{Kind}
@@ -14,7 +15,7 @@ use Rattle.es_node.specs.View.{kind_of, parts_in}
 use Rattle.es_steps.specs.Parts.{at}
 use Rattle.es_steps.specs.References.{repeated, caught_again, caught_again_in, has_number}
 use Rattle.es_steps.specs.Scopes.{Declaration, no_class, bound_part, var_part}
-use Rattle.es_outside.proofs.DeclaredNames.{grouped, plain_repeated}
+use Rattle.es_outside.proofs.DeclaredNames.{plain_repeated}
 
 pub in_catch : (t : Tree) → kind_of t ≡ Kind.CatchClause → caught_again t ≡ repeated (bound_part no_class (at 0 (parts_in t)) ++ var_part (at 1 (parts_in t)))
 in_catch (Node Kind.CatchClause m span semantic_id ps) is = refl
@@ -38,7 +39,7 @@ pub next_catch : (n : ℕ) (a b : Bool) (ns : List (Bor Tree)) (i : ℕ) (t : Bo
 next_catch n a b ns i t below is more =
     let rest = caught_again_in (seen (drop (i + 1) ns)) in
     ap (λ c. c || has_number n rest) more
-    ∙ grouped a (has_number n (caught_again t.now)) (has_number n rest)
+    ∙ or_assoc a (has_number n (caught_again t.now)) (has_number n rest)
     ∙ ap (λ c. a || c) (sym (has_number-append n (caught_again t.now) rest))
     ∙ ap (λ (u : Bor Tree). a || has_number n (caught_again u.now ++ rest)) is
     ∙ sym (at_drop_more (λ (xs : List (Bor Tree)). a || has_number n (caught_again_in (seen xs))) ns i t below)

@@ -1,5 +1,8 @@
 -- The names that a node declares by itself, by their numbers.
-use Rattle.std.proofs.Common.{◌≡◌, refl, sym, ap, ◌∙◌, ℕ, ◌+◌, ◌<◌, length, drop, get_or, List, [], ◌∷◌, ◌++◌, Bool, true, false, cond, ◌&&◌, ◌||◌, codes, bytes_eq, Bor}
+use Rattle.std.proofs.Common.{◌≡◌, refl, sym, ap, ◌∙◌, ℕ, ◌+◌, ◌<◌, length, drop, get_or, List, [], ◌∷◌, ◌++◌, Bool, true, false, cond, ◌&&◌, ◌||◌, bytes_eq, Option, Some, None, Bor}
+use Rattle.std.specs.Prelude.{is_none}
+use Rattle.es_base.specs.declared.ids.NodeId.{NodeId}
+use Rattle.std.proofs.Math.Bool.{or_assoc}
 use Rattle.std.proofs.lemmas.List.{at_drop_more}
 use Rattle.std.specs.Str.{chars}
 use Rattle.es_base.specs.Conforms.{is_among}
@@ -17,22 +20,18 @@ use Rattle.es_binding_faults.proofs.HasNumbers.{has_number-append}
 use Rattle.es_binding_faults.proofs.Hoisting.{var-part}
 use Rattle.es_binding_faults.proofs.Plain.{plain-bound_part}
 use Rattle.es_steps.specs.Parts.{at}
-use Rattle.es_steps.specs.References.{Reference, assigned, if_bound, numbers_of, repeated, is_declared, is_for_each, written_by, written_by_all, has_number, is_free, writes_free}
-use Rattle.es_steps.specs.Scopes.{Declaration, own_name, no_class, bound_part, var_part, ScopeForm, program_scope, function_scope, own_function_scope, arrow_scope, own_class_scope, block_scope, static_block_scope, loop_scope, switch_scope, catch_scope, no_scope, scope_form, scope_names}
-use Rattle.es_steps.specs.Values.{Referent, Bound, Free}
-use Rattle.es_outside.specs.Changing.{if_written, assigned_in}
-use Rattle.es_outside.specs.Frames.{binding_of}
-use Rattle.es_outside.specs.Meant.{meant_by_all, write_arguments}
-
-pub grouped : (a b c : Bool) → ((a || b) || c) ≡ (a || (b || c))
-grouped true b c = refl
-grouped false b c = refl
+use Rattle.es_steps.specs.References.{if_bound, numbers_of, repeated, is_declared, is_for_each, written_by, written_by_all, has_number, is_free}
+use Rattle.es_steps.specs.Scopes.{Declaration, own_name, var_part, ScopeForm, program_scope, function_scope, own_function_scope, arrow_scope, own_class_scope, block_scope, static_block_scope, loop_scope, switch_scope, catch_scope, no_scope, scope_form, scope_names}
+use Rattle.es_steps.specs.Values.{String, Referent, Bound, Free}
+use Rattle.es_outside.specs.Changing.{if_written}
+use Rattle.es_references.specs.Frames.{binding_of}
+use Rattle.es_references.specs.References.{referent_of}
 
 pub written_numbers : (n : ℕ) (t : Tree) (b : Bool) → ((b || has_number n (repeated (scope_names (scope_form (kind_of t)) (number_in t) (parts_in t)))) || has_number n (cond (is_for_each (kind_of t)) (numbers_of (var_part (at 0 (parts_in t)))) [])) ≡ (b || has_number n (written_by t))
 written_numbers n (Node kind m span semantic_id ps) b =
     let repeats = repeated (scope_names (scope_form kind) m ps) in
     let heads = cond (is_for_each kind) (numbers_of (var_part (at 0 ps))) [] in
-    grouped b (has_number n repeats) (has_number n heads) ∙ ap (λ c. b || c) (sym (has_number-append n repeats heads))
+    or_assoc b (has_number n repeats) (has_number n heads) ∙ ap (λ c. b || c) (sym (has_number-append n repeats heads))
 
 -- ---- without the classes that names may name
 
@@ -80,13 +79,16 @@ written_if true (Free s) = refl
 written_if false (Bound b) = refl
 written_if false (Free s) = refl
 
-pub assigned_by : (rs : List Reference) → assigned_in (meant_by_all rs) ≡ assigned rs
-assigned_by [] = refl
-assigned_by (r ∷ rs) = ap (λ ns. ns ++ assigned_in (meant_by_all rs)) (written_if r.writes r.to) ∙ ap (λ ns. if_bound r.writes r.to ++ ns) (assigned_by rs)
+pub written_reference : (s : String) (writes : Bool) (b : Option NodeId) → if_bound writes (referent_of s b) ≡ if_written writes b
+written_reference s true None = refl
+written_reference s true (Some b) = refl
+written_reference s false None = refl
+written_reference s false (Some b) = refl
 
-pub arguments_written : (rs : List Reference) → write_arguments (meant_by_all rs) ≡ writes_free (codes "arguments") rs
-arguments_written [] = refl
-arguments_written (r ∷ rs) = ap (λ b. (r.writes && is_free (codes "arguments") r.to) || b) (arguments_written rs)
+-- a free name `arguments` has no binding
+pub free_arguments : (x s : String) (b : Option NodeId) → is_free x (referent_of s b) ≡ (is_none b && bytes_eq x s)
+free_arguments x s None = refl
+free_arguments x s (Some b) = refl
 
 -- ---- of one list or another
 
@@ -132,7 +134,7 @@ pub next_node : (n : ℕ) (a b : Bool) (ns : List (Bor Tree)) (i : ℕ) (t : Bor
 next_node n a b ns i t below is more =
     let rest = written_by_all (seen (drop (i + 1) ns)) in
     ap (λ c. c || has_number n rest) more
-    ∙ grouped a (has_number n (written_by t.now)) (has_number n rest)
+    ∙ or_assoc a (has_number n (written_by t.now)) (has_number n rest)
     ∙ ap (λ c. a || c) (sym (has_number-append n (written_by t.now) rest))
     ∙ ap (λ (u : Bor Tree). a || has_number n (written_by u.now ++ rest)) is
     ∙ sym (at_drop_more (λ (xs : List (Bor Tree)). a || has_number n (written_by_all (seen xs))) ns i t below)

@@ -10,18 +10,15 @@ use Rattle.es_steps.specs.References.{declared, referent, if_bound, meant, inner
 use Rattle.es_steps.specs.Scopes.{Declaration, names_at, is_body_part, scope_of}
 use Rattle.es_steps.specs.Values.{String, Referent}
 use Rattle.es_outside.specs.Changing.{if_written}
-use Rattle.es_outside.specs.Frames.{binding_of}
+use Rattle.es_references.specs.Frames.{binding_of}
 use Rattle.es_outside.specs.Given.{names_passed, given_by, given_from, given_by_part, given_by_items}
 use Rattle.es_outside.proofs.DeclaredNames.{written_if}
-use Rattle.es_outside.proofs.Resolving.{plain_seen, same_binding}
+use Rattle.es_references.proofs.Resolving.{plain_seen, same_referent}
 
 -- ---- what a name means
 
 bound_alike : (s : String) (names : List Declaration) → if_bound true (referent s (declared s names)) ≡ if_bound true (referent s (declared s (plain names)))
-bound_alike s names =
-    sym (written_if true (referent s (declared s names)))
-    ∙ ap (if_written true) (same_binding s names)
-    ∙ written_if true (referent s (declared s (plain names)))
+bound_alike s names = ap (if_bound true) (same_referent s names)
 
 meant_alike : (names : List Declaration) (ss : List String) → meant names ss ≡ meant (plain names) ss
 meant_alike names [] = refl

@@ -2,10 +2,8 @@ pub mod Ascending
 pub mod BoundNames
 pub mod CaughtNames
 pub mod DeclaredNames
-pub mod FirstNames
 pub mod Giving
 pub mod InnerNames
 pub mod PrivateSets
 pub mod PrivateTargets
-pub mod Resolving
 pub mod ChangingNames

@@ -2,6 +2,7 @@
 use Rattle.std.proofs.Common.{◌≡◌, refl, ap, sym, ◌∙◌, ℕ, suc, ◌+◌, arith, List, [], ◌∷◌, ◌++◌, map, Bool, true, false, cond, not, ◌&&◌, ◌||◌, nat_eq, bytes_eq, Option, Some, None}
 use Rattle.std.specs.Str.{chars}
 use Rattle.std.proofs.lemmas.Str.{chars-nil}
+use Rattle.std.proofs.Math.Bool.{or_assoc}
 use Rattle.es_base.specs.Tree.{Tree, Part, Parts, Node, end, more, child, absent, list, string, no_string, boolean, literal}
 use Rattle.es_base.specs.declared.kind.Kind.{Kind}
 use Rattle.es_node.specs.View.{kind_of, number_in, parts_in}
@@ -86,10 +87,6 @@ unwritable_node seen own (Node kind m span semantic_id ps) e =
     ∙ ap (λ (ms : List PrivateMember). unwritable_in (λ i. cond (nat_eq i 2) ms [] ++ seen) ps) e))
 
 -- ---- the members of a class, whose number is that of each
-
-or_assoc : (a b c : Bool) → ((a || b) || c) ≡ (a || (b || c))
-or_assoc true b c = refl
-or_assoc false b c = refl
 
 pub declares_append : (s : String) (xs ys : List PrivateMember) → declares s (xs ++ ys) ≡ (declares s xs || declares s ys)
 declares_append s [] ys = refl

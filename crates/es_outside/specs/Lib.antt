@@ -1,9 +1,7 @@
 pub mod Bindings
 pub mod Changing
-pub mod Frames
 pub mod Given
 pub mod InnerFunctions
-pub mod Meant
 pub mod Outside
 pub mod PrivateMembers
 pub mod PrivateTargets

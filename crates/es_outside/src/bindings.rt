@@ -3,8 +3,8 @@
 ghost use Rattle.std.specs.Prelude.{◌≡◌, ℕ, [], cond, map, nat_eq, option_map, IfOk, OnOk};
 ghost use Rattle.es_outside.specs.Bindings.{binding_in, first_binding, flat, number_of};
 
-use crate::references::Meant;
 use es_base::ids::NodeId;
+use es_references::references::Reference;
 use indexmap::IndexMap;
 use std::alloc::{AllocError, Global};
 use std::marker::Model;
@@ -41,16 +41,16 @@ impl Bindings {
     }
 
     /// Adds a reference, in place of one of its number. Fails on allocation failure alone.
-    fn add(&mut self, reference: &Meant) -> Result<(), AllocError>
-        ensures { OnOk result ((m : ℕ) → binding_in m self.new ≡ cond (nat_eq m reference.now.reference.0) (number_of reference.now.binding) (binding_in m self.old)) }
+    fn add(&mut self, reference: &Reference) -> Result<(), AllocError>
+        ensures { OnOk result ((m : ℕ) → binding_in m self.new ≡ cond (nat_eq m reference.now.node.0) (number_of reference.now.binding) (binding_in m self.old)) }
     {
         let binding = number_of(reference.binding);
-        self.bindings.insert(reference.reference.0, binding)?;
+        self.bindings.insert(reference.node.0, binding)?;
         Ok(())
     }
 
     /// Those of these references: of each number the first. Fails on allocation failure alone.
-    pub fn of(alloc: Global, references: &[Meant]) -> Result<Bindings, AllocError>
+    pub fn of(alloc: Global, references: &[Reference]) -> Result<Bindings, AllocError>
         ensures { IfOk result (λ r. (m : ℕ) → binding_in m r ≡ first_binding m references.now) }
     {
         let mut bindings = Bindings::new(alloc);

@@ -1,6 +1,6 @@
 // The bindings that change without a reference that writes them, and those that are assigned to.
 
-ghost use Rattle.std.specs.Prelude.{◌≡◌, ℕ, ◌++◌, ◌||◌, [], ◌∷◌, bytes_eq, codes, cond, IfOk, OnOk};
+ghost use Rattle.std.specs.Prelude.{◌≡◌, ℕ, ◌++◌, ◌&&◌, ◌||◌, [], ◌∷◌, bytes_eq, codes, cond, IfOk, OnOk};
 ghost use Rattle.std.specs.Str.{chars};
 ghost use Rattle.es_base.specs.Conforms.{is_among};
 ghost use Rattle.es_binding_faults.specs.Named.{named};
@@ -9,37 +9,39 @@ ghost use Rattle.es_name_set.specs.Names.{HaveSame};
 ghost use Rattle.es_node.specs.View.{kind_of, number_in, parts_in};
 ghost use Rattle.es_steps.specs.Parts.{at};
 ghost use Rattle.es_steps.specs.References as spec;
-ghost use Rattle.es_steps.specs.References.{has_number, numbers_of};
+ghost use Rattle.es_steps.specs.References.{has_number, if_bound, is_free, numbers_of, writes_free};
 ghost use Rattle.es_steps.specs.Scopes.{bound_part, no_class, scope_names, scope_form, var_part};
-ghost use Rattle.es_outside.specs.Changing.{ids, assigned_in, own_number};
-ghost use Rattle.es_outside.specs.Meant.{write_arguments, writes_arguments};
+ghost use Rattle.es_references.specs.Frames.{ids};
+ghost use Rattle.es_references.specs.References.{reference_of, references_of};
 
-use crate::references::{Meant, is_arguments};
 use es_base::ids::NodeId;
 use es_base::kind::Kind;
+use es_base::strings::is_word;
 use es_binding_faults::bound::Declared;
 use es_binding_faults::hoisted::{Hoist, add_bound_at};
 use es_binding_faults::scopes::{add_hoisted_at, add_scope_names, scope_form};
 use es_name_set::Names;
 use es_node::node::Node;
+use es_references::references::Reference;
 use std::alloc::{AllocError, Global};
 
 // ---- assigned
 
 /// The bindings that these references write. Fails on allocation failure alone.
-pub fn assigned(alloc: Global, references: &[Meant]) -> Result<Vec<NodeId>, AllocError>
-    ensures { IfOk result (λ r. ids r.items ≡ assigned_in references.now) }
+pub fn assigned(alloc: Global, references: &[Reference]) -> Result<Vec<NodeId>, AllocError>
+    ensures { IfOk result (λ r. ids r.items ≡ spec.assigned (references_of references.now)) }
 {
     let mut bindings = Vec::new(alloc);
     for reference in references {
-        add_if_written(reference, &mut bindings)?;
+        add_if_written(*reference, &mut bindings)?;
     }
     Ok(bindings)
 }
 
 /// Adds the binding, if the reference writes one.
-fn add_if_written(reference: &Meant, bindings: &mut Vec<NodeId>) -> Result<(), AllocError>
-    ensures { OnOk result (ids bindings.new.items ≡ ids bindings.old.items ++ own_number reference.now) }
+#[tactic(auto, using(crate::proofs::DeclaredNames::written_reference))]
+fn add_if_written(reference: Reference, bindings: &mut Vec<NodeId>) -> Result<(), AllocError>
+    ensures { OnOk result (ids bindings.new.items ≡ ids bindings.old.items ++ if_bound (reference_of reference.entry).writes (reference_of reference.entry).to) }
 {
     match reference.binding {
         Some(binding) if reference.writes => {
@@ -51,21 +53,22 @@ fn add_if_written(reference: &Meant, bindings: &mut Vec<NodeId>) -> Result<(), A
 }
 
 /// Whether one of these references writes a free name `arguments`.
-pub fn write_arguments(references: &[Meant]) -> bool
-    ensures { result ≡ write_arguments references.now }
+pub fn write_arguments(references: &[Reference]) -> bool
+    ensures { result ≡ writes_free (codes "arguments") (references_of references.now) }
 {
     for reference in references {
-        if writes_arguments(reference) {
+        if writes_arguments(*reference) {
             return true;
         }
     }
     false
 }
 
-fn writes_arguments(reference: &Meant) -> bool
-    ensures { result ≡ writes_arguments reference.now }
+#[tactic(auto, using(crate::proofs::DeclaredNames::free_arguments))]
+fn writes_arguments(reference: Reference) -> bool
+    ensures { result ≡ ((reference_of reference.entry).writes && is_free (codes "arguments") (reference_of reference.entry).to) }
 {
-    reference.writes && reference.is_free_arguments
+    reference.writes && (reference.binding.is_none() && is_arguments(reference.name))
 }
 
 // ---- declared again
@@ -250,6 +253,14 @@ fn add_if_arguments(declared: Declared, bindings: &mut Vec<NodeId>) -> Result<()
         bindings.push(declared.node)?;
     }
     Ok(())
+}
+
+/// Whether a name is `arguments`.
+#[tactic(auto, using(es_base::proofs::Ascii::chars_ascii))]
+fn is_arguments(name: &str) -> bool
+    ensures { result ≡ bytes_eq (codes "arguments") (chars name.now) }
+{
+    is_word(name, "arguments")
 }
 
 // ---- caught again

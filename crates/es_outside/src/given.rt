@@ -9,20 +9,20 @@ ghost use Rattle.es_node.specs.View.{kind_of, part_of, parts_in, parts_of};
 ghost use Rattle.es_steps.specs.References as spec;
 ghost use Rattle.es_steps.specs.References.{declared, given_around, if_bound, meant, referent};
 ghost use Rattle.es_steps.specs.Scopes.{is_body_part};
-ghost use Rattle.es_outside.specs.Changing.{ids};
+ghost use Rattle.es_references.specs.Frames.{ids};
 ghost use Rattle.es_outside.specs.Given.{given_by, given_by_items, given_by_part, given_from, names_passed};
 ghost use Rattle.es_outside.specs.InnerFunctions.{texts};
-ghost use Rattle.es_outside.specs.Meant.{names_in};
+ghost use Rattle.es_references.specs.References.{names_in};
 
-use crate::frame::Frame;
 use crate::inner_functions::inner_functions;
-use crate::references::{Parent, Scope, binding_of, names_seen};
 use es_base::ids::NodeId;
 use es_base::kind::Kind;
 use es_binding_faults::bound::is_binding_identifier;
 use es_binding_faults::hoisted::part_at;
 use es_binding_faults::scopes::is_body_part;
 use es_node::node::{Node, Part};
+use es_references::frame::Frame;
+use es_references::references::{Parent, Scope, binding_of, names_seen};
 use std::alloc::{AllocError, Global};
 
 /// The bindings that functions in blocks, in cases and in branches of an `if` give a value to. Fails on allocation failure

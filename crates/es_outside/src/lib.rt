@@ -3,11 +3,9 @@
 
 pub mod bindings;
 pub mod changing;
-pub mod frame;
 pub mod given;
 pub mod inner_functions;
 pub mod names;
 pub mod outside;
 pub mod private_names;
 pub mod private_target;
-pub mod references;

@@ -3,23 +3,23 @@
 ghost use Rattle.std.specs.Prelude.{◌≡◌, ◌||◌, [], ℕ, codes, false, IfOk};
 ghost use Rattle.es_shapes.specs.Names.{bound_number};
 ghost use Rattle.es_steps.specs.LoweredClasses.{referent_of};
-ghost use Rattle.es_steps.specs.References.{has_number, resolve, written_by_all, changing_in, caught_again_in, given_around, changes_free};
+ghost use Rattle.es_steps.specs.References.{has_number, resolve, written_by_all, changing_in, caught_again_in, given_around, changes_free, writes_free};
 ghost use Rattle.es_steps.specs.References as spec;
 ghost use Rattle.es_base.specs.Preorder.{preorder};
 ghost use Rattle.es_binding_faults.specs.Seen.{seen};
 ghost use Rattle.es_outside.specs.Bindings.{binding_in};
 ghost use Rattle.es_outside.specs.InnerFunctions.{give_name};
-ghost use Rattle.es_outside.specs.Meant.{meant_by_all, write_arguments};
+ghost use Rattle.es_references.specs.References.{references_of};
 
 use crate::bindings::Bindings;
 use crate::changing;
 use crate::given::given;
 use crate::inner_functions::give_arguments;
-use crate::references::{Meant, references};
 use es_base::ids::NodeId;
 use es_binding_faults::numbers::Numbers;
 use es_binding_faults::preorder::preorder;
 use es_node::node::Node;
+use es_references::references::{Reference, references};
 use es_shapes::facts::NameFacts;
 use std::alloc::{AllocError, Global};
 
@@ -61,14 +61,14 @@ struct Unwritten<'a> {
 
 impl<'a> Unwritten<'a> {
     /// Those of this program, which has these references and nodes. Fails on allocation failure alone.
-    #[tactic(auto, using(crate::proofs::DeclaredNames::arguments_written, crate::proofs::InnerNames::gives_alike))]
+    #[tactic(auto, using(crate::proofs::InnerNames::gives_alike))]
     fn of(
         alloc: Global,
         program: &'a Node,
-        references: &[Meant],
+        references: &[Reference],
         nodes: &[&Node],
     ) -> Result<Unwritten<'a>, AllocError>
-        requires references { references.now ≡ meant_by_all (resolve program.now) }
+        requires references { references_of references.now ≡ resolve program.now }
         requires nodes { seen nodes.now ≡ preorder program.now }
         ensures { IfOk result (λ u. u.program.now ≡ program.now) }
     {
@@ -96,7 +96,7 @@ impl<'a> Unwritten<'a> {
 
 impl<'a> ProgramNames<'a> {
     /// The names of this program. Fails on allocation failure alone.
-    #[tactic(auto, using(crate::proofs::BoundNames::bound_first, crate::proofs::DeclaredNames::assigned_by))]
+    #[tactic(auto, using(crate::proofs::BoundNames::bound_first))]
     pub fn of(alloc: Global, program: &'a Node) -> Result<ProgramNames<'a>, AllocError>
         ensures { IfOk result (λ n. n.program.now ≡ program.now) }
     {
@@ -145,10 +145,10 @@ fn given_numbers(alloc: Global, program: &Node) -> Result<Numbers, AllocError>
 /// Whether a free name `arguments` is given a value. Fails on allocation failure alone.
 fn change_arguments(
     alloc: Global,
-    references: &[Meant],
+    references: &[Reference],
     nodes: &[&Node],
 ) -> Result<bool, AllocError>
-    ensures { IfOk result (λ b. b ≡ (write_arguments references.now || give_name (codes "arguments") (seen nodes.now))) }
+    ensures { IfOk result (λ b. b ≡ (writes_free (codes "arguments") (references_of references.now) || give_name (codes "arguments") (seen nodes.now))) }
 {
     if changing::write_arguments(references) {
         Ok(true)

@@ -1,5 +1,6 @@
 -- The statements that no lowered class touches, node by node.
 use Rattle.std.proofs.Common.{◌≡◌, refl, sym, ap, ◌∙◌, List, [], ◌∷◌, ◌++◌, Bool, true, false, cond, ◌&&◌, ◌||◌}
+use Rattle.std.proofs.Math.Bool.{and_assoc, and-true}
 use Rattle.es_base.specs.Preorder.{preorder}
 use Rattle.es_base.specs.Tree.{Tree, Part, Parts, Node, end, more, child, absent, list, string, no_string, boolean, literal}
 use Rattle.es_node.specs.View.{kind_of, parts_in}
@@ -11,17 +12,9 @@ use Rattle.es_owed.specs.FreeStatements.{free_stand, free_stand_at, free_stand_i
 pub stands_node : (o : Options) (qs : List Tree) (t : Tree) → free_stand o qs t ≡ cond (is_free_statement o t) (stands_equal t qs) (is_lowered_class o (kind_of t) (parts_in t) || free_stand_in o qs (parts_in t))
 stands_node o qs (Node kind m span semantic_id ps) = refl
 
-and-assoc : (a b c : Bool) → ((a && b) && c) ≡ (a && (b && c))
-and-assoc true b c = refl
-and-assoc false b c = refl
-
-and-true : (a : Bool) → (a && true) ≡ a
-and-true true = refl
-and-true false = refl
-
 equal-append : (ts us qs : List Tree) → all_equal (ts ++ us) qs ≡ (all_equal ts qs && all_equal us qs)
 equal-append [] us qs = refl
-equal-append (t ∷ ts) us qs = ap (λ b. stands_equal t qs && b) (equal-append ts us qs) ∙ sym (and-assoc (stands_equal t qs) (all_equal ts qs) (all_equal us qs))
+equal-append (t ∷ ts) us qs = ap (λ b. stands_equal t qs && b) (equal-append ts us qs) ∙ sym (and_assoc (stands_equal t qs) (all_equal ts qs) (all_equal us qs))
 
 one : (free lowered : Bool) (t : Tree) (ts qs : List Tree) (b : Bool) → all_equal ts qs ≡ b → all_equal (cond free (t ∷ []) (cond lowered [] ts)) qs ≡ cond free (stands_equal t qs) (lowered || b)
 one true lowered t ts qs b e = and-true (stands_equal t qs)

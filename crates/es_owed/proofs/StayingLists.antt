@@ -1,5 +1,6 @@
 -- Lists of statements, node by node.
 use Rattle.std.proofs.Common.{◌≡◌, refl, sym, ap, ◌∙◌, ℕ, List, [], ◌∷◌, ◌++◌, Bool, true, false, cond, ◌&&◌, Option, None}
+use Rattle.std.proofs.Math.Bool.{and_assoc, and-true}
 use Rattle.std.specs.Prelude.{nat_eq}
 use Rattle.es_base.specs.Preorder.{preorder, preorder_of, preorder_of_part}
 use Rattle.es_base.specs.Tree.{Tree, Part, Parts, Node, end, more, child, absent, list, string, no_string, boolean, literal}
@@ -16,21 +17,13 @@ use Rattle.es_owed.specs.Lists.{exported_classes, given_class, list_stays, lists
 pub list_stays_node : (o : Options) (qs : List Tree) (t : Tree) → list_stays o qs t ≡ cond (is_static_block (kind_of t)) true (is_within (free_numbers o (statement_list (kind_of t) (parts_in t))) (list_of (number_in t) qs))
 list_stays_node o qs (Node kind m span semantic_id ps) = refl
 
-and-assoc : (a b c : Bool) → ((a && b) && c) ≡ (a && (b && c))
-and-assoc true b c = refl
-and-assoc false b c = refl
-
-and-true : (a : Bool) → (a && true) ≡ a
-and-true true = refl
-and-true false = refl
-
 within-append : (ls ks : List (ℕ × List ℕ)) (qs : List Tree) → all_within (ls ++ ks) qs ≡ (all_within ls qs && all_within ks qs)
 within-append [] ks qs = refl
-within-append (l ∷ ls) ks qs = ap (λ b. is_within l.1 (list_of l.0 qs) && b) (within-append ls ks qs) ∙ sym (and-assoc (is_within l.1 (list_of l.0 qs)) (all_within ls qs) (all_within ks qs))
+within-append (l ∷ ls) ks qs = ap (λ b. is_within l.1 (list_of l.0 qs) && b) (within-append ls ks qs) ∙ sym (and_assoc (is_within l.1 (list_of l.0 qs)) (all_within ls qs) (all_within ks qs))
 
 stay-append : (o : Options) (qs ts us : List Tree) → lists_stay o qs (ts ++ us) ≡ (lists_stay o qs ts && lists_stay o qs us)
 stay-append o qs [] us = refl
-stay-append o qs (t ∷ ts) us = ap (λ b. list_stays o qs t && b) (stay-append o qs ts us) ∙ sym (and-assoc (list_stays o qs t) (lists_stay o qs ts) (lists_stay o qs us))
+stay-append o qs (t ∷ ts) us = ap (λ b. list_stays o qs t && b) (stay-append o qs ts us) ∙ sym (and_assoc (list_stays o qs t) (lists_stay o qs ts) (lists_stay o qs us))
 
 one : (b : Bool) (m : ℕ) (ns : List ℕ) (qs : List Tree) → all_within (cond b [] ((m, ns) ∷ [])) qs ≡ cond b true (is_within ns (list_of m qs))
 one true m ns qs = refl

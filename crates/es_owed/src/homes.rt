@@ -10,9 +10,9 @@ ghost use Rattle.es_steps.specs.KeptNodes.{all_at_home, all_homes, block_numbers
 ghost use Rattle.es_owed.specs.Homes.{block_number, home_here, home_within, homed_all, homed_here, homes_from, is_nowhere};
 
 use crate::listed::Listed;
-use crate::numbers::{has_number, is_new};
 use es_base::kind::Kind;
 use es_base::strings::is_word;
+use es_generated::numbers::{has_number, is_new};
 use es_node::node::{Node, Part};
 use es_seen_names::parts::string_at;
 use es_steps::options::Options;

@@ -5,7 +5,8 @@ ghost use Rattle.es_base.specs.Numbered.{IsNumbered, numbers};
 ghost use Rattle.es_owed.specs.Numbers.{are_distinct, consecutive_from, next_of};
 
 use crate::listed::Listed;
-use crate::numbers::{has_number, is_new, numbers_of};
+use crate::numbers::numbers_of;
+use es_generated::numbers::{has_number, is_new};
 use std::alloc::{AllocError, Global};
 
 /// Whether no number stands twice in what a program was lowered to, and the new ones are `first`, `first + 1`, .. in preorder.

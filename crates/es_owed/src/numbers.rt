@@ -1,34 +1,14 @@
 // Lists of numbers of nodes.
 
 ghost use Rattle.std.specs.Prelude.{◌≡◌, ◌∷◌, ◌≤◌, IfOk, List, drop, length, map, ℕ};
-ghost use Rattle.es_base.specs.Numbered as numbered;
 ghost use Rattle.es_base.specs.Preorder.{number_of, preorder};
 ghost use Rattle.es_binding_faults.specs.Seen.{seen};
 ghost use Rattle.es_steps.specs.KeptNodes as kept;
-ghost use Rattle.es_steps.specs.References as references;
 
 use es_binding_faults::preorder::preorder;
+use es_generated::numbers::{has_number, is_new};
 use es_node::node::Node;
 use std::alloc::{AllocError, Global};
-
-/// Whether the number is that of a node that is new: at least the first one.
-pub fn is_new(first: u32, number: u32) -> bool
-    ensures { result ≡ numbered.is_new first number }
-{
-    first <= number
-}
-
-/// Whether the number is among these.
-pub fn has_number(number: u32, numbers: &[u32]) -> bool
-    ensures { result ≡ references.has_number number numbers.now }
-{
-    for other in numbers {
-        if number == *other {
-            return true;
-        }
-    }
-    false
-}
 
 /// Whether each of these numbers is new or among those that were there.
 pub fn are_new_or_among(first: u32, there: &[u32], numbers: &[u32]) -> bool

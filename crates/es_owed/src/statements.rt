@@ -1,13 +1,13 @@
 // Lists of statements.
 
 ghost use Rattle.std.specs.Prelude.{◌≡◌, ◌&&◌, not};
-ghost use Rattle.es_base.specs.Table as table;
 ghost use Rattle.es_base.specs.Tree.{trees};
 ghost use Rattle.es_node.specs.View.{kind_of, parts_in};
 ghost use Rattle.es_steps.specs.KeptNodes as kept;
 
 use crate::classes::has_lowered_class;
 use es_base::kind::Kind;
+use es_base::table::{Place, fits};
 use es_node::node::Node;
 use es_steps::options::Options;
 use es_tree::class::StaticBlockRef;
@@ -31,44 +31,10 @@ pub fn statement_list(node: &Node) -> &[Node]
     }
 }
 
-fn is_statement(kind: Kind) -> bool
-    ensures { result ≡ table.is_statement kind }
-{
-    match kind {
-        Kind::ExpressionStatement
-        | Kind::BlockStatement
-        | Kind::EmptyStatement
-        | Kind::DebuggerStatement
-        | Kind::WithStatement
-        | Kind::ReturnStatement
-        | Kind::ThrowStatement
-        | Kind::LabeledStatement
-        | Kind::BreakStatement
-        | Kind::ContinueStatement
-        | Kind::IfStatement
-        | Kind::SwitchStatement
-        | Kind::TryStatement
-        | Kind::WhileStatement => true,
-        Kind::DoWhileStatement
-        | Kind::ForStatement
-        | Kind::ForInStatement
-        | Kind::ForOfStatement
-        | Kind::FunctionDeclaration
-        | Kind::VariableDeclaration
-        | Kind::ClassDeclaration
-        | Kind::ImportDeclaration
-        | Kind::ExportNamedDeclaration
-        | Kind::ExportDefaultDeclaration
-        | Kind::ExportAllDeclaration
-        | Kind::Foreign => true,
-        _ => false,
-    }
-}
-
 /// Whether the node is a statement that is no lowered class and holds none.
 #[tactic(auto, using(crate::proofs::Nodes::free_node))]
 pub fn is_free_statement(options: &Options, node: &Node) -> bool
     ensures { result ≡ kept.is_free_statement options.now node.now }
 {
-    is_statement(node.kind()) && !has_lowered_class(options, node)
+    fits(Place::Statement, node.kind()) && !has_lowered_class(options, node)
 }

@@ -1,24 +1,14 @@
 // Strict code.
 
-ghost use Rattle.std.specs.Prelude.{◌≡◌, ◌||◌, ◌++◌, bytes_eq, codes, false, IfOk, OnOk};
-ghost use Rattle.es_base.specs.Words.{source_type_string};
-ghost use Rattle.std.specs.Str.{chars};
-ghost use Rattle.es_base.specs.Tree.{child, nullable, nullable_trees, trees};
+ghost use Rattle.std.specs.Prelude.{◌≡◌, ◌||◌, ◌++◌, false, IfOk, OnOk};
+ghost use Rattle.es_base.specs.Tree.{nullable, nullable_trees, trees};
 ghost use Rattle.es_node.specs.View.{kind_of, part_of, parts_in, parts_of};
-ghost use Rattle.es_steps.specs.Parts.{at, string_of};
 ghost use Rattle.es_steps.specs.Strict as spec;
-ghost use Rattle.es_steps.specs.Strict.{directives, has_use_strict, if_strict, is_use_strict, makes_strict, strict_at, strict_in, strict_numbers};
+ghost use Rattle.es_steps.specs.Strict.{if_strict, makes_strict, strict_at, strict_in, strict_numbers};
 
 use crate::numbers::are_new_or_among;
-use es_base::kind::Kind;
-use es_base::operator::SourceType;
-use es_base::strings::is_word;
 use es_node::node::{Node, Part};
-use es_tree::function::{
-    ArrowFunctionExpressionRef, FunctionDeclarationRef, FunctionExpressionRef,
-};
-use es_tree::program::ProgramRef;
-use es_tree::statement::{BlockStatementRef, ExpressionStatementRef};
+use es_strict::strict::makes_strict;
 use std::alloc::{AllocError, Global};
 
 /// Whether no code becomes strict: each node in strict code of what a program was lowered to is new, or stands in strict code
@@ -53,7 +43,7 @@ fn strict_numbers(alloc: Global, program: &Node) -> Result<Vec<u32>, AllocError>
 fn add_strict(strict: bool, node: &Node, numbers: &mut Vec<u32>) -> Result<(), AllocError>
     ensures { OnOk result (numbers.new.items ≡ numbers.old.items ++ strict_numbers strict node.now) }
 {
-    let strict = strict || makes_strict(node);
+    let strict = strict || makes_strict(node.kind(), node.parts());
     add_if(strict, node.node_id().0, numbers)?;
     add_strict_in(strict, node.parts(), numbers)
 }
@@ -130,85 +120,4 @@ fn add_if(strict: bool, number: u32, numbers: &mut Vec<u32>) -> Result<(), Alloc
         numbers.push(number)?;
     }
     Ok(())
-}
-
-// ---- what makes code strict
-
-/// Whether the node makes its code strict.
-#[tactic(auto, using(crate::proofs::StrictCode::makes_none))]
-fn makes_strict(node: &Node) -> bool
-    ensures { result ≡ makes_strict (kind_of node.now) (parts_in node.now) }
-{
-    match node.kind() {
-        Kind::Program => {
-            let program = ProgramRef::from_node(node, &[]);
-            is_module(program.source_type) || has_use_strict(program.body)
-        }
-        Kind::ClassDeclaration | Kind::ClassExpression => true,
-        Kind::FunctionDeclaration => {
-            has_use_strict(directives(FunctionDeclarationRef::from_node(node).body))
-        }
-        Kind::FunctionExpression => {
-            has_use_strict(directives(FunctionExpressionRef::from_node(node).body))
-        }
-        Kind::ArrowFunctionExpression => {
-            has_use_strict(directives(ArrowFunctionExpressionRef::from_node(node).body))
-        }
-        _ => false,
-    }
-}
-
-fn is_module(source_type: SourceType) -> bool
-    ensures { result ≡ bytes_eq (source_type_string source_type) (codes "module") }
-{
-    match source_type {
-        SourceType::Module => true,
-        SourceType::Script => false,
-    }
-}
-
-/// Whether `"use strict";` is among these statements.
-fn has_use_strict(statements: &[Node]) -> bool
-    ensures { result ≡ has_use_strict (trees statements.now) }
-{
-    for statement in statements {
-        if is_use_strict(statement) {
-            return true;
-        }
-    }
-    false
-}
-
-/// Whether the statement is `"use strict";`.
-#[tactic(auto, using(crate::proofs::StrictCode::no_directive))]
-fn is_use_strict(statement: &Node) -> bool
-    ensures { result ≡ is_use_strict (child statement.now) }
-{
-    match statement.kind() {
-        Kind::ExpressionStatement => {
-            match ExpressionStatementRef::from_node(statement).directive {
-                Some(directive) => is_strict_word(directive.as_str()),
-                None => false,
-            }
-        }
-        _ => false,
-    }
-}
-
-#[tactic(auto, using(es_base::proofs::Ascii::chars_ascii))]
-fn is_strict_word(directive: &str) -> bool
-    ensures { result ≡ bytes_eq (chars directive.now) (codes "use strict") }
-{
-    is_word("use strict", directive)
-}
-
-/// The statements of a function's body.
-#[tactic(auto, using(crate::proofs::StrictCode::no_statements))]
-fn directives(body: &Node) -> &[Node]
-    ensures { trees result.now ≡ directives (child body.now) }
-{
-    match body.kind() {
-        Kind::BlockStatement => BlockStatementRef::from_node(body).body,
-        _ => &[],
-    }
 }

@@ -1,5 +1,5 @@
 -- New declarations, node by node.
-use Rattle.std.proofs.Common.{◌≡◌, refl, ℕ, List, Bool, false, ◌&&◌, ◌||◌}
+use Rattle.std.proofs.Common.{◌≡◌, refl, ℕ, List, false, ◌&&◌, ◌||◌}
 use Rattle.std.specs.Prelude.{not}
 use Rattle.es_base.specs.Numbered.{is_new}
 use Rattle.es_base.specs.Tree.{Tree, Node}

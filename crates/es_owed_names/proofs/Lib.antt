@@ -1,4 +1,3 @@
 pub mod Accounts
 pub mod Declarations
 pub mod OwnClassNames
-pub mod Resolving

@@ -6,17 +6,17 @@ ghost use Rattle.es_base.specs.Tree.{trees};
 ghost use Rattle.es_binding_faults.specs.Seen.{seen};
 ghost use Rattle.es_steps.specs.Lowered as spec;
 ghost use Rattle.es_steps.specs.Lowered.{all_accounted, has_new_declarator, is_accounted, is_new_const};
-ghost use Rattle.es_steps.specs.Scopes as scopes;
 
-use crate::ledger::is_generated;
 use crate::own_names::own_name_numbers;
-use crate::references::references;
 use es_base::kind::Kind;
 use es_base::ledger::LedgerEntry;
 use es_base::operator::VariableDeclarationKind;
+use es_binding_faults::bound::is_binding_identifier;
+use es_generated::ledger::is_generated;
+use es_generated::numbers::{has_number, is_new};
 use es_node::node::Node;
 use es_owed::listed::Listed;
-use es_owed::numbers::{has_number, is_new};
+use es_references::references::references;
 use es_seen_names::parts::string_at;
 use es_tree::statement::VariableDeclarationRef;
 use std::alloc::{AllocError, Global};
@@ -55,14 +55,8 @@ fn is_accounted(first: u32, ledger: &[LedgerEntry], own: &[u32], node: &Node) ->
     ensures { result ≡ is_accounted first ledger.now own.now node.now }
 {
     let number = node.node_id().0;
-    let is_new_name = is_binding_identifier(node.kind()) && is_new(first, number);
+    let is_new_name = is_binding_identifier(node) && is_new(first, number);
     !is_new_name || (is_generated(string_at(node.parts(), 0), ledger) || has_number(number, own))
-}
-
-fn is_binding_identifier(kind: Kind) -> bool
-    ensures { result ≡ scopes.is_binding_identifier kind }
-{
-    matches!(kind, Kind::BindingIdentifier)
 }
 
 /// Whether the node is a `const` that is new, or has a new declarator.

@@ -8,19 +8,19 @@ ghost use Rattle.es_node.specs.View.{kind_of};
 ghost use Rattle.es_steps.specs.KeptNodes as kept;
 ghost use Rattle.es_steps.specs.Lowered as spec;
 ghost use Rattle.es_steps.specs.References.{resolve};
-ghost use Rattle.es_steps.specs.Scopes as scopes;
 ghost use Rattle.es_owed_names.specs.Keys.{is_one_meant, key_at, part_or_absent};
-ghost use Rattle.es_owed_names.specs.References.{reference_of, references_of};
+ghost use Rattle.es_references.specs.References.{reference_of, references_of};
 
-use crate::references::{Reference, references};
 use es_base::kind::Kind;
 use es_base::ledger::{GeneratedKind, LedgerEntry};
 use es_base::strings::is_word;
+use es_binding_faults::bound::is_binding_identifier;
 use es_binding_faults::hoisted::part_at;
+use es_generated::numbers::is_new;
 use es_node::node::{Node, Part};
 use es_owed::homes::is_underscored;
 use es_owed::listed::Listed;
-use es_owed::numbers::is_new;
+use es_references::references::{Reference, references};
 use es_seen_names::parts::string_at;
 use es_tree::class::ClassBodyRef;
 use std::alloc::{AllocError, Global};
@@ -195,7 +195,7 @@ fn is_bound_to(number: u32, reference: Reference) -> bool
     ensures { result ≡ spec.is_bound_to number (reference_of reference.entry).to }
 {
     match reference.binding {
-        Some(binding) => number == binding,
+        Some(binding) => number == binding.0,
         None => false,
     }
 }
@@ -216,16 +216,10 @@ fn declaring_numbers(alloc: Global, name: &str, nodes: &[&Node]) -> Result<Vec<u
 fn add_declaring(name: &str, node: &Node, numbers: &mut Vec<u32>) -> Result<(), AllocError>
     ensures { OnOk result (numbers.new.items ≡ numbers.old.items ++ spec.declaring_number (chars name.now) node.now) }
 {
-    if is_binding_identifier(node.kind()) && is_word(string_at(node.parts(), 0), name) {
+    if is_binding_identifier(node) && is_word(string_at(node.parts(), 0), name) {
         numbers.push(node.node_id().0)?;
     }
     Ok(())
-}
-
-fn is_binding_identifier(kind: Kind) -> bool
-    ensures { result ≡ scopes.is_binding_identifier kind }
-{
-    matches!(kind, Kind::BindingIdentifier)
 }
 
 // ---- private names

@@ -3,6 +3,4 @@
 
 pub mod accounted;
 pub mod declared;
-pub mod ledger;
 pub mod own_names;
-pub mod references;

@@ -7,13 +7,13 @@ ghost use Rattle.es_binding_faults.specs.Seen.{seen};
 ghost use Rattle.es_steps.specs.OwnNames as spec;
 ghost use Rattle.es_steps.specs.OwnNames.{are_none, class_name_at, declares_class, own_name_number, own_name_numbers, references_to};
 ghost use Rattle.es_owed_names.specs.OwnNames.{named_class, own_number};
-ghost use Rattle.es_owed_names.specs.References.{reference_of, references_of};
+ghost use Rattle.es_references.specs.References.{reference_of, references_of};
 
-use crate::references::Reference;
 use es_base::kind::Kind;
 use es_base::strings::is_word;
 use es_node::node::Node;
 use es_owed::listed::Listed;
+use es_references::references::Reference;
 use es_seen_names::parts::string_at;
 use es_tree::class::{ClassDeclarationRef, ClassExpressionRef};
 use std::alloc::{AllocError, Global};
@@ -134,7 +134,7 @@ fn is_bound_to(number: u32, reference: Reference) -> bool
     ensures { result ≡ spec.is_bound_among (number ∷ []) (reference_of reference.entry).to }
 {
     match reference.binding {
-        Some(binding) => binding == number,
+        Some(binding) => binding.0 == number,
         None => false,
     }
 }

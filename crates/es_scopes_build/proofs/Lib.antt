@@ -1,4 +1,3 @@
-pub mod StrictLemmas
 pub mod Stripped
 pub mod WalkLemmas
 pub mod WriteLemmas

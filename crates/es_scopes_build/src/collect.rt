@@ -14,7 +14,6 @@ ghost use Rattle.es_scopes.specs.Surroundings as place;
 
 use crate::flags::scope_flags;
 use crate::inside::{Parent, has_scope, inside, opens};
-use crate::strict::is_strict;
 use es_base::ids::{NodeId, ScopeId};
 use es_base::kind::Kind;
 use es_base::list::List;
@@ -22,7 +21,16 @@ use es_base::name::Name;
 use es_node::node::{Node, Part};
 use es_scopes::entry::Entry;
 use es_scopes::surroundings::{Declarer, Declares, Surroundings};
+use es_strict::strict::makes_strict;
 use std::alloc::{AllocError, Global};
+
+/// Whether the code of a node is strict (ECMA-262, 11.2.2).
+fn is_strict(kind: Kind, parts: &[Part], around: Surroundings) -> bool
+    requires { have_shapes (members_of kind) parts.now ≡ true }
+    ensures { result ≡ is_strict kind (parts_of parts.now) (scope_place around) }
+{
+    around.strict || makes_strict(kind, parts)
+}
 
 /// The name of an identifier that declares.
 fn binding_name(alloc: Global, parts: &[Part]) -> Result<Name, AllocError>

@@ -5,5 +5,4 @@ pub mod build;
 pub mod collect;
 pub mod flags;
 pub mod inside;
-pub mod strict;
 pub mod written;

@@ -1,7 +1,7 @@
 use Rattle.std.proofs.Common.{◌≡◌, ◌++◌, drop}
 use Rattle.es_binding_faults.specs.Named.{named}
 use Rattle.es_steps.specs.References.{numbers_of}
-use Rattle.es_outside.specs.Changing.{ids}
+use Rattle.es_references.specs.Frames.{ids}
 use Rattle.es_outside.proofs.changing.add_numbers.Given as goal
 
 abbrev pub invariant-loop-declared : goal.invariant-loop-declared

@@ -6,7 +6,7 @@ use Rattle.es_steps.specs.Parts.{at}
 use Rattle.es_steps.specs.References.{has_number, is_for_each, numbers_of}
 use Rattle.es_steps.specs.Scopes.{var_part}
 use Rattle.es_outside.proofs.DeclaredNames.{written_numbers}
-use Rattle.es_outside.specs.Changing.{ids}
+use Rattle.es_references.specs.Frames.{ids}
 use Rattle.es_outside.proofs.changing.add_redeclared.Goals as goal
 
 pub returns : goal.returns

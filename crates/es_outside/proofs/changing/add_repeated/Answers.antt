@@ -3,7 +3,7 @@ use Rattle.es_base.specs.Conforms.{is_among}
 use Rattle.es_binding_faults.specs.Named.{named}
 use Rattle.es_steps.specs.References.{has_number, is_declared, repeated}
 use Rattle.es_outside.proofs.DeclaredNames.{one_later, one_repeated}
-use Rattle.es_outside.specs.Changing.{ids}
+use Rattle.es_references.specs.Frames.{ids}
 use Rattle.es_outside.proofs.changing.add_repeated.Goals as goal
 
 pub loop-i-preserved : goal.loop-i-preserved

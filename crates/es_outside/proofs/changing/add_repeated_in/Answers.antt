@@ -2,7 +2,7 @@ use Rattle.std.proofs.Common.{◌∙◌, ◌||◌, ap}
 use Rattle.es_binding_faults.proofs.Appending.{OnOk-map}
 use Rattle.es_binding_faults.specs.Named.{named}
 use Rattle.es_steps.specs.References.{has_number, repeated}
-use Rattle.es_outside.specs.Changing.{ids}
+use Rattle.es_references.specs.Frames.{ids}
 use Rattle.es_outside.proofs.changing.add_repeated_in.Goals as goal
 
 pub returns : goal.returns

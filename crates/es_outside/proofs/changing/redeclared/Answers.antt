@@ -1,7 +1,7 @@
 use Rattle.std.proofs.Common.{◌∙◌}
 use Rattle.es_steps.specs.References.{has_number}
 use Rattle.es_outside.proofs.DeclaredNames.{next_node}
-use Rattle.es_outside.specs.Changing.{ids}
+use Rattle.es_references.specs.Frames.{ids}
 use Rattle.es_outside.proofs.changing.redeclared.Goals as goal
 
 pub loop-node-preserved : goal.loop-node-preserved

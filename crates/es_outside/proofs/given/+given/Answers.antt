@@ -8,9 +8,9 @@ use Rattle.es_node.specs.View.{kind_of, part_of, parts_in, parts_of}
 use Rattle.es_steps.specs.References.{inner_functions, meant}
 use Rattle.es_steps.specs.Scopes.{is_body_part}
 use Rattle.es_outside.proofs.Giving.{given_node}
-use Rattle.es_outside.specs.Changing.{ids}
+use Rattle.es_references.specs.Frames.{ids}
 use Rattle.es_outside.specs.Given.{given_from, names_passed}
-use Rattle.es_outside.specs.Meant.{names_in}
+use Rattle.es_references.specs.References.{names_in}
 use Rattle.es_outside.proofs.given.+given.Goals as goal
 
 pub add_given_in-add_given_of-requires : goal.add_given_in-add_given_of-requires

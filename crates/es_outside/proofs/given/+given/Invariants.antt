@@ -3,9 +3,9 @@ use Rattle.es_base.specs.Preorder.{nodes, nodes_of, nodes_of_part}
 use Rattle.es_base.specs.Tree.{trees, nullable, nullable_trees}
 use Rattle.es_node.specs.View.{part_of, parts_of}
 use Rattle.es_steps.specs.Scopes.{is_body_part}
-use Rattle.es_outside.specs.Changing.{ids}
+use Rattle.es_references.specs.Frames.{ids}
 use Rattle.es_outside.specs.Given.{given_from, given_by_items, names_passed}
-use Rattle.es_outside.specs.Meant.{names_in}
+use Rattle.es_references.specs.References.{names_in}
 use Rattle.es_outside.proofs.given.+given.Given as goal
 
 abbrev pub decreases-add_given : goal.decreases-add_given

@@ -1,8 +1,8 @@
 use Rattle.std.proofs.Common.{◌≡◌, ◌++◌, drop}
 use Rattle.es_steps.specs.References.{meant}
-use Rattle.es_outside.specs.Changing.{ids}
+use Rattle.es_references.specs.Frames.{ids}
 use Rattle.es_outside.specs.InnerFunctions.{texts}
-use Rattle.es_outside.specs.Meant.{names_in}
+use Rattle.es_references.specs.References.{names_in}
 use Rattle.es_outside.proofs.given.add_meant.Given as goal
 
 abbrev pub invariant-loop-name : goal.invariant-loop-name

@@ -5,7 +5,7 @@ use Rattle.es_outside.proofs.bindings.Bindings.add.Goals as goal
 
 pub returns : goal.returns
 returns c = λ m.
-    let k = c.args.reference.now.reference.0 in
+    let k = c.args.reference.now.node.0 in
     ap (binding_in m) c.in_ok-insert.ensures.entries
     ∙ inserted k c.number_of-binding.result c.self.inside.bindings.entries m
     ∙ ap (λ v. cond (nat_eq m k) v (binding_in m c.self.inside.bindings.entries)) c.number_of-binding.ensures

@@ -1,0 +1,4 @@
+//! What makes code strict.
+#![tactic(auto)]
+
+pub mod strict;
