@@ -197,13 +197,38 @@ NOT_MET = {
     'nothing_declared_behind_a_directive': PRINTED,
     'nothing_declared_behind_a_bigint': PRINTED,
     'second_string_that_a_printer_makes_a_directive': PRINTED,
+    'block_in_front_of_its_class': REFERENCES,
+    'value_in_front_of_its_class': REFERENCES,
+    'class_out_of_a_block': REFERENCES,
+    'arrow_out_of_a_block': REFERENCES,
+    'class_in_front_of_a_let': REFERENCES,
+    'map_made_in_each_round': STEADY,
+    'closure_given_in_each_round': STEADY,
+    'map_behind_a_key': TIMELY,
+    'class_asked_for_in_its_key': REFERENCES,
+    'key_kept_by_a_call': CALLS,
+    'key_of_another_member': CALLS,
+    'write_behind_a_pattern': REFERENCES,
+    'super_function_outside_of_a_function': REFERENCES,
+    'copied_regular_expression': TEXTS,
+    'unconverted_kept_key': CALLS,
+    'let_read_in_a_method': OWN_NAMES,
+    'class_read_while_its_block_runs': REFERENCES,
+    'map_made_in_a_block': TIMELY,
+    'class_named_behind_its_block': REFERENCES,
+    'private_method_in_front_of_its_class': REFERENCES,
+    'private_method_outside_of_a_function': REFERENCES,
+    'let_behind_a_call': TIMELY,
+    'new_target_outside': PRINTABLE,
+    'copied_octal_escape': TEXTS,
+    'name_that_begins_as_none': TEXTS,
 }
 # the shapes of the two programs
-SHAPES = {'loose_member_read_once': ('[]', '4 ∷ []'), 'super_key_that_stays': ('[]', '4 ∷ []'), 'suspended_class_written': ('6 ∷ []', '[]'), 'imported_object': ('4 ∷ []', '[]'), 'imported_key': ('4 ∷ []', '[]'), 'imported_key_of_a_method': ('4 ∷ []', '[]'), 'key_that_a_function_in_a_block_gives': ('4 ∷ []', '[]'), 'caught_key': ('4 ∷ []', '[]'), 'key_that_a_branch_gives': ('4 ∷ []', '[]'), 'key_that_a_catch_gives': ('4 ∷ []', '[]'), 'imported_key_behind_a_block': ('4 ∷ []', '[]'), 'changing_key_behind_a_block': ('4 ∷ []', '[]'), 'key_that_is_arguments': ('4 ∷ []', '[]'), 'key_that_is_a_parameter_arguments': ('4 ∷ []', '[]')}
+SHAPES = {'block_beside_a_field_outside': ('3 ∷ []', '[]'), 'loose_member_read_once': ('[]', '4 ∷ []'), 'super_key_that_stays': ('[]', '4 ∷ []'), 'suspended_class_written': ('6 ∷ []', '[]'), 'imported_object': ('4 ∷ []', '[]'), 'imported_key': ('4 ∷ []', '[]'), 'imported_key_of_a_method': ('4 ∷ []', '[]'), 'key_that_a_function_in_a_block_gives': ('4 ∷ []', '[]'), 'caught_key': ('4 ∷ []', '[]'), 'key_that_a_branch_gives': ('4 ∷ []', '[]'), 'key_that_a_catch_gives': ('4 ∷ []', '[]'), 'imported_key_behind_a_block': ('4 ∷ []', '[]'), 'changing_key_behind_a_block': ('4 ∷ []', '[]'), 'key_that_is_arguments': ('4 ∷ []', '[]'), 'key_that_is_a_parameter_arguments': ('4 ∷ []', '[]')}
 # outputs that mean what their sources mean
 RIGHT = ('private_name_beside_a_name', 'branch_of_a_key', 'class_in_a_case', 'key_of_a_binding_for_a_name')
 # outputs that owe nothing either
-OWING_NOTHING = ('tested_name_of_a_class', 'block_of_a_binding', 'own_name_that_nothing_means', 'strict_function_of_a_method', 'block_of_an_arrow', 'class_named_await', 'class_that_suspends', 'classes_that_suspend', 'nameless_class_that_suspends', 'string_in_parentheses', 'directive_with_an_escape', 'hexadecimal_bigint')
+OWING_NOTHING = ('tested_name_of_a_class', 'block_of_a_binding', 'own_name_that_nothing_means', 'strict_function_of_a_method', 'block_of_an_arrow', 'class_named_await', 'class_that_suspends', 'classes_that_suspend', 'nameless_class_that_suspends', 'string_in_parentheses', 'directive_with_an_escape', 'hexadecimal_bigint', 'let_in_front_of_a_function')
 # wrong outputs that have a meaning, and those of programs whose parameters come before their fields
 OTHER = ('branch_of_a_key_of_another', 'elements_dropped', 'static_field_dropped', 'block_dropped', 'block_behind_a_kept_field', 'read_moved', 'import_read_early', 'statements_of_a_case_exchanged', 'statement_of_another_case', 'arrow_moved_into_parameters', 'functions_of_a_block_exchanged', 'default_function_expression', 'let_out_of_a_head', 'class_of_a_head', 'class_of_a_right_side', 'conversions_of_a_template', 'let_beside_a_caught_name', 'arguments_of_a_function_around')
 AFTER = ('field_behind_parameters_dropped', 'field_behind_parameters_doubled', 'fields_behind_parameters_exchanged', 'another_literal_behind_parameters')

@@ -113,6 +113,7 @@ ghost use Rattle.es_rows.specs.witnesses.ArgumentsOfAStaticField.{source_argumen
 ghost use Rattle.es_rows.specs.witnesses.ArgumentsOfAnInnerFunction.{first_arguments_of_an_inner_function, second_arguments_of_an_inner_function, options_arguments_of_an_inner_function};
 ghost use Rattle.es_rows.specs.witnesses.ArgumentsOfAnother.{source_arguments_of_another, output_arguments_of_another, generated_arguments_of_another, options_arguments_of_another};
 ghost use Rattle.es_rows.specs.witnesses.ArrowMovedIntoParameters.{source_arrow_moved_into_parameters, output_arrow_moved_into_parameters, generated_arrow_moved_into_parameters, options_arrow_moved_into_parameters};
+ghost use Rattle.es_rows.specs.witnesses.ArrowOutOfABlock.{source_arrow_out_of_a_block, output_arrow_out_of_a_block, generated_arrow_out_of_a_block, options_arrow_out_of_a_block};
 ghost use Rattle.es_rows.specs.witnesses.ArrowOutOfALoop.{source_arrow_out_of_a_loop, output_arrow_out_of_a_loop, generated_arrow_out_of_a_loop, options_arrow_out_of_a_loop};
 ghost use Rattle.es_rows.specs.witnesses.ArrowThatGivesAnother.{source_arrow_that_gives_another, output_arrow_that_gives_another, generated_arrow_that_gives_another, options_arrow_that_gives_another};
 ghost use Rattle.es_rows.specs.witnesses.ArrowWithoutItsReturn.{source_arrow_without_its_return, output_arrow_without_its_return, generated_arrow_without_its_return, options_arrow_without_its_return};
@@ -124,7 +125,9 @@ ghost use Rattle.es_rows.specs.witnesses.BindingInATemporary.{source_binding_in_
 ghost use Rattle.es_rows.specs.witnesses.BindingNotRenamed.{source_binding_not_renamed, output_binding_not_renamed, generated_binding_not_renamed, options_binding_not_renamed};
 ghost use Rattle.es_rows.specs.witnesses.BlockBehindAKeptField.{source_block_behind_a_kept_field, output_block_behind_a_kept_field, generated_block_behind_a_kept_field, options_block_behind_a_kept_field};
 ghost use Rattle.es_rows.specs.witnesses.BlockBehindFields.{source_block_behind_fields, output_block_behind_fields, generated_block_behind_fields, options_block_behind_fields};
+ghost use Rattle.es_rows.specs.witnesses.BlockBesideAFieldOutside.{first_block_beside_a_field_outside, second_block_beside_a_field_outside, options_block_beside_a_field_outside};
 ghost use Rattle.es_rows.specs.witnesses.BlockDropped.{source_block_dropped, output_block_dropped, generated_block_dropped, options_block_dropped};
+ghost use Rattle.es_rows.specs.witnesses.BlockInFrontOfItsClass.{source_block_in_front_of_its_class, output_block_in_front_of_its_class, generated_block_in_front_of_its_class, options_block_in_front_of_its_class};
 ghost use Rattle.es_rows.specs.witnesses.BlockOfABinding.{source_block_of_a_binding, output_block_of_a_binding, generated_block_of_a_binding, options_block_of_a_binding};
 ghost use Rattle.es_rows.specs.witnesses.BlockOfAnArrow.{source_block_of_an_arrow, output_block_of_an_arrow, generated_block_of_an_arrow, options_block_of_an_arrow};
 ghost use Rattle.es_rows.specs.witnesses.BlockWithoutAFunction.{source_block_without_a_function, output_block_without_a_function, generated_block_without_a_function, options_block_without_a_function};
@@ -140,18 +143,23 @@ ghost use Rattle.es_rows.specs.witnesses.CaughtKey.{first_caught_key, second_cau
 ghost use Rattle.es_rows.specs.witnesses.CaughtNamesExchanged.{first_caught_names_exchanged, second_caught_names_exchanged, options_caught_names_exchanged};
 ghost use Rattle.es_rows.specs.witnesses.ChangingKeyBehindABlock.{first_changing_key_behind_a_block, second_changing_key_behind_a_block, options_changing_key_behind_a_block};
 ghost use Rattle.es_rows.specs.witnesses.CharacterOfNoName.{source_character_of_no_name, output_character_of_no_name, generated_character_of_no_name, options_character_of_no_name};
+ghost use Rattle.es_rows.specs.witnesses.ClassAskedForInItsKey.{source_class_asked_for_in_its_key, output_class_asked_for_in_its_key, generated_class_asked_for_in_its_key, options_class_asked_for_in_its_key};
 ghost use Rattle.es_rows.specs.witnesses.ClassBehindItsUse.{source_class_behind_its_use, output_class_behind_its_use, generated_class_behind_its_use, options_class_behind_its_use};
 ghost use Rattle.es_rows.specs.witnesses.ClassInACase.{source_class_in_a_case, output_class_in_a_case, generated_class_in_a_case, options_class_in_a_case};
 ghost use Rattle.es_rows.specs.witnesses.ClassInAConstructor.{source_class_in_a_constructor, output_class_in_a_constructor, generated_class_in_a_constructor, options_class_in_a_constructor};
+ghost use Rattle.es_rows.specs.witnesses.ClassInFrontOfALet.{source_class_in_front_of_a_let, output_class_in_front_of_a_let, generated_class_in_front_of_a_let, options_class_in_front_of_a_let};
 ghost use Rattle.es_rows.specs.witnesses.ClassInFrontOfItsUse.{source_class_in_front_of_its_use, output_class_in_front_of_its_use, generated_class_in_front_of_its_use, options_class_in_front_of_its_use};
 ghost use Rattle.es_rows.specs.witnesses.ClassNamedArguments.{source_class_named_arguments, output_class_named_arguments, generated_class_named_arguments, options_class_named_arguments};
 ghost use Rattle.es_rows.specs.witnesses.ClassNamedAwait.{source_class_named_await, output_class_named_await, generated_class_named_await, options_class_named_await};
 ghost use Rattle.es_rows.specs.witnesses.ClassNamedAwaitInAnAsyncFunction.{source_class_named_await_in_an_async_function, output_class_named_await_in_an_async_function, generated_class_named_await_in_an_async_function, options_class_named_await_in_an_async_function};
+ghost use Rattle.es_rows.specs.witnesses.ClassNamedBehindItsBlock.{source_class_named_behind_its_block, output_class_named_behind_its_block, generated_class_named_behind_its_block, options_class_named_behind_its_block};
 ghost use Rattle.es_rows.specs.witnesses.ClassNamedEval.{source_class_named_eval, output_class_named_eval, generated_class_named_eval, options_class_named_eval};
 ghost use Rattle.es_rows.specs.witnesses.ClassNamedLet.{source_class_named_let, output_class_named_let, generated_class_named_let, options_class_named_let};
 ghost use Rattle.es_rows.specs.witnesses.ClassNamedOtherwise.{first_class_named_otherwise, second_class_named_otherwise, options_class_named_otherwise};
 ghost use Rattle.es_rows.specs.witnesses.ClassOfAHead.{source_class_of_a_head, output_class_of_a_head, generated_class_of_a_head, options_class_of_a_head};
 ghost use Rattle.es_rows.specs.witnesses.ClassOfARightSide.{source_class_of_a_right_side, output_class_of_a_right_side, generated_class_of_a_right_side, options_class_of_a_right_side};
+ghost use Rattle.es_rows.specs.witnesses.ClassOutOfABlock.{source_class_out_of_a_block, output_class_out_of_a_block, generated_class_out_of_a_block, options_class_out_of_a_block};
+ghost use Rattle.es_rows.specs.witnesses.ClassReadWhileItsBlockRuns.{source_class_read_while_its_block_runs, output_class_read_while_its_block_runs, generated_class_read_while_its_block_runs, options_class_read_while_its_block_runs};
 ghost use Rattle.es_rows.specs.witnesses.ClassRenamed.{source_class_renamed, output_class_renamed, generated_class_renamed, options_class_renamed};
 ghost use Rattle.es_rows.specs.witnesses.ClassTemporaryBeforeItsClass.{source_class_temporary_before_its_class, output_class_temporary_before_its_class, generated_class_temporary_before_its_class, options_class_temporary_before_its_class};
 ghost use Rattle.es_rows.specs.witnesses.ClassTemporaryInItsClass.{source_class_temporary_in_its_class, output_class_temporary_in_its_class, generated_class_temporary_in_its_class, options_class_temporary_in_its_class};
@@ -162,10 +170,13 @@ ghost use Rattle.es_rows.specs.witnesses.ClassesThatSuspend.{source_classes_that
 ghost use Rattle.es_rows.specs.witnesses.ClosureBeforeItsClass.{source_closure_before_its_class, output_closure_before_its_class, generated_closure_before_its_class, options_closure_before_its_class};
 ghost use Rattle.es_rows.specs.witnesses.ClosureCalledInAKey.{source_closure_called_in_a_key, output_closure_called_in_a_key, generated_closure_called_in_a_key, options_closure_called_in_a_key};
 ghost use Rattle.es_rows.specs.witnesses.ClosureGivenBehindItsCall.{source_closure_given_behind_its_call, output_closure_given_behind_its_call, generated_closure_given_behind_its_call, options_closure_given_behind_its_call};
+ghost use Rattle.es_rows.specs.witnesses.ClosureGivenInEachRound.{source_closure_given_in_each_round, output_closure_given_in_each_round, generated_closure_given_in_each_round, options_closure_given_in_each_round};
 ghost use Rattle.es_rows.specs.witnesses.ConstantTemporary.{source_constant_temporary, output_constant_temporary, generated_constant_temporary, options_constant_temporary};
 ghost use Rattle.es_rows.specs.witnesses.ConstructorOfAnotherKey.{source_constructor_of_another_key, output_constructor_of_another_key, generated_constructor_of_another_key, options_constructor_of_another_key};
 ghost use Rattle.es_rows.specs.witnesses.ConversionOfNoKey.{source_conversion_of_no_key, output_conversion_of_no_key, generated_conversion_of_no_key, options_conversion_of_no_key};
 ghost use Rattle.es_rows.specs.witnesses.ConversionsOfATemplate.{source_conversions_of_a_template, output_conversions_of_a_template, generated_conversions_of_a_template, options_conversions_of_a_template};
+ghost use Rattle.es_rows.specs.witnesses.CopiedOctalEscape.{source_copied_octal_escape, output_copied_octal_escape, generated_copied_octal_escape, options_copied_octal_escape};
+ghost use Rattle.es_rows.specs.witnesses.CopiedRegularExpression.{source_copied_regular_expression, output_copied_regular_expression, generated_copied_regular_expression, options_copied_regular_expression};
 ghost use Rattle.es_rows.specs.witnesses.CopyOfANumber.{source_copy_of_a_number, output_copy_of_a_number, generated_copy_of_a_number, options_copy_of_a_number};
 ghost use Rattle.es_rows.specs.witnesses.DeadTemporary.{source_dead_temporary, output_dead_temporary, generated_dead_temporary, options_dead_temporary};
 ghost use Rattle.es_rows.specs.witnesses.DeclarationOfNothing.{source_declaration_of_nothing, output_declaration_of_nothing, generated_declaration_of_nothing, options_declaration_of_nothing};
@@ -227,9 +238,11 @@ ghost use Rattle.es_rows.specs.witnesses.KeyGivenAgain.{source_key_given_again, 
 ghost use Rattle.es_rows.specs.witnesses.KeyGivenBehindTheFields.{source_key_given_behind_the_fields, output_key_given_behind_the_fields, generated_key_given_behind_the_fields, options_key_given_behind_the_fields};
 ghost use Rattle.es_rows.specs.witnesses.KeyGivenInItsValue.{source_key_given_in_its_value, output_key_given_in_its_value, generated_key_given_in_its_value, options_key_given_in_its_value};
 ghost use Rattle.es_rows.specs.witnesses.KeyHeadsExchanged.{first_key_heads_exchanged, second_key_heads_exchanged, options_key_heads_exchanged};
+ghost use Rattle.es_rows.specs.witnesses.KeyKeptByACall.{source_key_kept_by_a_call, output_key_kept_by_a_call, generated_key_kept_by_a_call, options_key_kept_by_a_call};
 ghost use Rattle.es_rows.specs.witnesses.KeyOfABindingForAName.{source_key_of_a_binding_for_a_name, output_key_of_a_binding_for_a_name, generated_key_of_a_binding_for_a_name, options_key_of_a_binding_for_a_name};
 ghost use Rattle.es_rows.specs.witnesses.KeyOfABindingInATemporary.{source_key_of_a_binding_in_a_temporary, output_key_of_a_binding_in_a_temporary, generated_key_of_a_binding_in_a_temporary, options_key_of_a_binding_in_a_temporary};
 ghost use Rattle.es_rows.specs.witnesses.KeyOfAMethod.{first_key_of_a_method, second_key_of_a_method, options_key_of_a_method};
+ghost use Rattle.es_rows.specs.witnesses.KeyOfAnotherMember.{source_key_of_another_member, output_key_of_another_member, generated_key_of_another_member, options_key_of_another_member};
 ghost use Rattle.es_rows.specs.witnesses.KeyOutsideOfACalledFunction.{source_key_outside_of_a_called_function, output_key_outside_of_a_called_function, generated_key_outside_of_a_called_function, options_key_outside_of_a_called_function};
 ghost use Rattle.es_rows.specs.witnesses.KeyReadLate.{source_key_read_late, output_key_read_late, generated_key_read_late, options_key_read_late};
 ghost use Rattle.es_rows.specs.witnesses.KeyReadTwice.{source_key_read_twice, output_key_read_twice, generated_key_read_twice, options_key_read_twice};
@@ -239,22 +252,28 @@ ghost use Rattle.es_rows.specs.witnesses.KeyThatAFunctionInABlockGives.{first_ke
 ghost use Rattle.es_rows.specs.witnesses.KeyThatIsAParameterArguments.{first_key_that_is_a_parameter_arguments, second_key_that_is_a_parameter_arguments, options_key_that_is_a_parameter_arguments};
 ghost use Rattle.es_rows.specs.witnesses.KeyThatIsArguments.{first_key_that_is_arguments, second_key_that_is_arguments, options_key_that_is_arguments};
 ghost use Rattle.es_rows.specs.witnesses.LabelledFunctionInABlock.{first_labelled_function_in_a_block, second_labelled_function_in_a_block, options_labelled_function_in_a_block};
+ghost use Rattle.es_rows.specs.witnesses.LetBehindACall.{source_let_behind_a_call, output_let_behind_a_call, generated_let_behind_a_call, options_let_behind_a_call};
 ghost use Rattle.es_rows.specs.witnesses.LetBehindAConstructor.{source_let_behind_a_constructor, output_let_behind_a_constructor, generated_let_behind_a_constructor, options_let_behind_a_constructor};
 ghost use Rattle.es_rows.specs.witnesses.LetBehindAField.{source_let_behind_a_field, output_let_behind_a_field, generated_let_behind_a_field, options_let_behind_a_field};
 ghost use Rattle.es_rows.specs.witnesses.LetBehindAnArrow.{source_let_behind_an_arrow, output_let_behind_an_arrow, generated_let_behind_an_arrow, options_let_behind_an_arrow};
 ghost use Rattle.es_rows.specs.witnesses.LetBesideACaughtName.{source_let_beside_a_caught_name, output_let_beside_a_caught_name, generated_let_beside_a_caught_name, options_let_beside_a_caught_name};
+ghost use Rattle.es_rows.specs.witnesses.LetInFrontOfAFunction.{source_let_in_front_of_a_function, output_let_in_front_of_a_function, generated_let_in_front_of_a_function, options_let_in_front_of_a_function};
 ghost use Rattle.es_rows.specs.witnesses.LetInStrictCode.{source_let_in_strict_code, output_let_in_strict_code, generated_let_in_strict_code, options_let_in_strict_code};
 ghost use Rattle.es_rows.specs.witnesses.LetOfAHead.{first_let_of_a_head, second_let_of_a_head, options_let_of_a_head};
 ghost use Rattle.es_rows.specs.witnesses.LetOfAnotherCase.{source_let_of_another_case, output_let_of_another_case, generated_let_of_another_case, options_let_of_another_case};
 ghost use Rattle.es_rows.specs.witnesses.LetOutOfAHead.{source_let_out_of_a_head, output_let_out_of_a_head, generated_let_out_of_a_head, options_let_out_of_a_head};
 ghost use Rattle.es_rows.specs.witnesses.LetOutOfALoop.{first_let_out_of_a_loop, second_let_out_of_a_loop, options_let_out_of_a_loop};
 ghost use Rattle.es_rows.specs.witnesses.LetOutOfItsBlock.{source_let_out_of_its_block, output_let_out_of_its_block, generated_let_out_of_its_block, options_let_out_of_its_block};
+ghost use Rattle.es_rows.specs.witnesses.LetReadInAMethod.{source_let_read_in_a_method, output_let_read_in_a_method, generated_let_read_in_a_method, options_let_read_in_a_method};
 ghost use Rattle.es_rows.specs.witnesses.LetReadInItsValue.{source_let_read_in_its_value, output_let_read_in_its_value, generated_let_read_in_its_value, options_let_read_in_its_value};
 ghost use Rattle.es_rows.specs.witnesses.LoopHeadsExchanged.{first_loop_heads_exchanged, second_loop_heads_exchanged, options_loop_heads_exchanged};
 ghost use Rattle.es_rows.specs.witnesses.LooseMemberReadOnce.{first_loose_member_read_once, second_loose_member_read_once, options_loose_member_read_once};
+ghost use Rattle.es_rows.specs.witnesses.MapBehindAKey.{source_map_behind_a_key, output_map_behind_a_key, generated_map_behind_a_key, options_map_behind_a_key};
+ghost use Rattle.es_rows.specs.witnesses.MapMadeInABlock.{source_map_made_in_a_block, output_map_made_in_a_block, generated_map_made_in_a_block, options_map_made_in_a_block};
 ghost use Rattle.es_rows.specs.witnesses.MapMadeInABranch.{source_map_made_in_a_branch, output_map_made_in_a_branch, generated_map_made_in_a_branch, options_map_made_in_a_branch};
 ghost use Rattle.es_rows.specs.witnesses.MapMadeInACalledArrow.{source_map_made_in_a_called_arrow, output_map_made_in_a_called_arrow, generated_map_made_in_a_called_arrow, options_map_made_in_a_called_arrow};
 ghost use Rattle.es_rows.specs.witnesses.MapMadeInAPattern.{source_map_made_in_a_pattern, output_map_made_in_a_pattern, generated_map_made_in_a_pattern, options_map_made_in_a_pattern};
+ghost use Rattle.es_rows.specs.witnesses.MapMadeInEachRound.{source_map_made_in_each_round, output_map_made_in_each_round, generated_map_made_in_each_round, options_map_made_in_each_round};
 ghost use Rattle.es_rows.specs.witnesses.MapOfAFunctionExpression.{source_map_of_a_function_expression, output_map_of_a_function_expression, generated_map_of_a_function_expression, options_map_of_a_function_expression};
 ghost use Rattle.es_rows.specs.witnesses.MapOutsideOfACalledFunction.{source_map_outside_of_a_called_function, output_map_outside_of_a_called_function, generated_map_outside_of_a_called_function, options_map_outside_of_a_called_function};
 ghost use Rattle.es_rows.specs.witnesses.MapOutsideOfAPrivateMethod.{source_map_outside_of_a_private_method, output_map_outside_of_a_private_method, generated_map_outside_of_a_private_method, options_map_outside_of_a_private_method};
@@ -270,6 +289,7 @@ ghost use Rattle.es_rows.specs.witnesses.NameInAStaticBlock.{source_name_in_a_st
 ghost use Rattle.es_rows.specs.witnesses.NameOfAClassWithABlock.{source_name_of_a_class_with_a_block, output_name_of_a_class_with_a_block, generated_name_of_a_class_with_a_block, options_name_of_a_class_with_a_block};
 ghost use Rattle.es_rows.specs.witnesses.NameOfANamedClass.{source_name_of_a_named_class, output_name_of_a_named_class, generated_name_of_a_named_class, options_name_of_a_named_class};
 ghost use Rattle.es_rows.specs.witnesses.NameOfNoMember.{source_name_of_no_member, output_name_of_no_member, generated_name_of_no_member, options_name_of_no_member};
+ghost use Rattle.es_rows.specs.witnesses.NameThatBeginsAsNone.{source_name_that_begins_as_none, output_name_that_begins_as_none, generated_name_that_begins_as_none, options_name_that_begins_as_none};
 ghost use Rattle.es_rows.specs.witnesses.NameTwice.{source_name_twice, output_name_twice, generated_name_twice, options_name_twice};
 ghost use Rattle.es_rows.specs.witnesses.NameWithoutASign.{source_name_without_a_sign, output_name_without_a_sign, generated_name_without_a_sign, options_name_without_a_sign};
 ghost use Rattle.es_rows.specs.witnesses.NamedValue.{source_named_value, output_named_value, generated_named_value, options_named_value};
@@ -277,6 +297,7 @@ ghost use Rattle.es_rows.specs.witnesses.NamelessClassThatSuspends.{source_namel
 ghost use Rattle.es_rows.specs.witnesses.NamesOfAConstructor.{source_names_of_a_constructor, output_names_of_a_constructor, generated_names_of_a_constructor, options_names_of_a_constructor};
 ghost use Rattle.es_rows.specs.witnesses.NewImport.{source_new_import, output_new_import, generated_new_import, options_new_import};
 ghost use Rattle.es_rows.specs.witnesses.NewTargetOfAProgram.{source_new_target_of_a_program, output_new_target_of_a_program, generated_new_target_of_a_program, options_new_target_of_a_program};
+ghost use Rattle.es_rows.specs.witnesses.NewTargetOutside.{source_new_target_outside, output_new_target_outside, generated_new_target_outside, options_new_target_outside};
 ghost use Rattle.es_rows.specs.witnesses.NothingDeclaredBehindABigint.{source_nothing_declared_behind_a_bigint, output_nothing_declared_behind_a_bigint, generated_nothing_declared_behind_a_bigint, options_nothing_declared_behind_a_bigint};
 ghost use Rattle.es_rows.specs.witnesses.NothingDeclaredBehindADirective.{source_nothing_declared_behind_a_directive, output_nothing_declared_behind_a_directive, generated_nothing_declared_behind_a_directive, options_nothing_declared_behind_a_directive};
 ghost use Rattle.es_rows.specs.witnesses.NothingDeclaredBehindAString.{source_nothing_declared_behind_a_string, output_nothing_declared_behind_a_string, generated_nothing_declared_behind_a_string, options_nothing_declared_behind_a_string};
@@ -303,7 +324,9 @@ ghost use Rattle.es_rows.specs.witnesses.PatternOfNoRegularExpression.{source_pa
 ghost use Rattle.es_rows.specs.witnesses.PickedByAnAsyncArrow.{source_picked_by_an_async_arrow, output_picked_by_an_async_arrow, generated_picked_by_an_async_arrow, options_picked_by_an_async_arrow};
 ghost use Rattle.es_rows.specs.witnesses.PrivateFieldDropped.{source_private_field_dropped, output_private_field_dropped, generated_private_field_dropped, options_private_field_dropped};
 ghost use Rattle.es_rows.specs.witnesses.PrivateMethodDropped.{source_private_method_dropped, output_private_method_dropped, generated_private_method_dropped, options_private_method_dropped};
+ghost use Rattle.es_rows.specs.witnesses.PrivateMethodInFrontOfItsClass.{source_private_method_in_front_of_its_class, output_private_method_in_front_of_its_class, generated_private_method_in_front_of_its_class, options_private_method_in_front_of_its_class};
 ghost use Rattle.es_rows.specs.witnesses.PrivateMethodOfAnotherClass.{first_private_method_of_another_class, second_private_method_of_another_class, options_private_method_of_another_class};
+ghost use Rattle.es_rows.specs.witnesses.PrivateMethodOutsideOfAFunction.{source_private_method_outside_of_a_function, output_private_method_outside_of_a_function, generated_private_method_outside_of_a_function, options_private_method_outside_of_a_function};
 ghost use Rattle.es_rows.specs.witnesses.PrivateNameBesideAName.{source_private_name_beside_a_name, output_private_name_beside_a_name, generated_private_name_beside_a_name, options_private_name_beside_a_name};
 ghost use Rattle.es_rows.specs.witnesses.PrivateNameConstructor.{source_private_name_constructor, output_private_name_constructor, generated_private_name_constructor, options_private_name_constructor};
 ghost use Rattle.es_rows.specs.witnesses.PrivateNameOfAnotherClass.{source_private_name_of_another_class, output_private_name_of_another_class, generated_private_name_of_another_class, options_private_name_of_another_class};
@@ -343,6 +366,7 @@ ghost use Rattle.es_rows.specs.witnesses.StringInParentheses.{source_string_in_p
 ghost use Rattle.es_rows.specs.witnesses.StringThatAPrinterMakesADirective.{source_string_that_a_printer_makes_a_directive, output_string_that_a_printer_makes_a_directive, generated_string_that_a_printer_makes_a_directive, options_string_that_a_printer_makes_a_directive};
 ghost use Rattle.es_rows.specs.witnesses.SuperFunctionBehindACall.{source_super_function_behind_a_call, output_super_function_behind_a_call, generated_super_function_behind_a_call, options_super_function_behind_a_call};
 ghost use Rattle.es_rows.specs.witnesses.SuperFunctionBehindItsCalls.{source_super_function_behind_its_calls, output_super_function_behind_its_calls, generated_super_function_behind_its_calls, options_super_function_behind_its_calls};
+ghost use Rattle.es_rows.specs.witnesses.SuperFunctionOutsideOfAFunction.{source_super_function_outside_of_a_function, output_super_function_outside_of_a_function, generated_super_function_outside_of_a_function, options_super_function_outside_of_a_function};
 ghost use Rattle.es_rows.specs.witnesses.SuperGivesZero.{source_super_gives_zero, output_super_gives_zero, generated_super_gives_zero, options_super_gives_zero};
 ghost use Rattle.es_rows.specs.witnesses.SuperKeyThatStays.{first_super_key_that_stays, second_super_key_that_stays, options_super_key_that_stays};
 ghost use Rattle.es_rows.specs.witnesses.SuspendedClassWritten.{first_suspended_class_written, second_suspended_class_written, options_suspended_class_written};
@@ -368,14 +392,17 @@ ghost use Rattle.es_rows.specs.witnesses.TwoConstructors.{source_two_constructor
 ghost use Rattle.es_rows.specs.witnesses.TwoFunctions.{source_two_functions, output_two_functions, generated_two_functions, options_two_functions};
 ghost use Rattle.es_rows.specs.witnesses.TwoMaps.{source_two_maps, output_two_maps, generated_two_maps, options_two_maps};
 ghost use Rattle.es_rows.specs.witnesses.TypeofOfAName.{first_typeof_of_a_name, second_typeof_of_a_name, options_typeof_of_a_name};
+ghost use Rattle.es_rows.specs.witnesses.UnconvertedKeptKey.{source_unconverted_kept_key, output_unconverted_kept_key, generated_unconverted_kept_key, options_unconverted_kept_key};
 ghost use Rattle.es_rows.specs.witnesses.UnconvertedNameOfAClass.{source_unconverted_name_of_a_class, output_unconverted_name_of_a_class, generated_unconverted_name_of_a_class, options_unconverted_name_of_a_class};
 ghost use Rattle.es_rows.specs.witnesses.UncookedTemplate.{source_uncooked_template, output_uncooked_template, generated_uncooked_template, options_uncooked_template};
 ghost use Rattle.es_rows.specs.witnesses.UntestedNameOfAClass.{source_untested_name_of_a_class, output_untested_name_of_a_class, generated_untested_name_of_a_class, options_untested_name_of_a_class};
 ghost use Rattle.es_rows.specs.witnesses.ValueAsAKey.{source_value_as_a_key, output_value_as_a_key, generated_value_as_a_key, options_value_as_a_key};
+ghost use Rattle.es_rows.specs.witnesses.ValueInFrontOfItsClass.{source_value_in_front_of_its_class, output_value_in_front_of_its_class, generated_value_in_front_of_its_class, options_value_in_front_of_its_class};
 ghost use Rattle.es_rows.specs.witnesses.VarArguments.{first_var_arguments, second_var_arguments, options_var_arguments};
 ghost use Rattle.es_rows.specs.witnesses.VarOfAStaticBlock.{first_var_of_a_static_block, second_var_of_a_static_block, options_var_of_a_static_block};
 ghost use Rattle.es_rows.specs.witnesses.VoidOfATemplate.{first_void_of_a_template, second_void_of_a_template, options_void_of_a_template};
 ghost use Rattle.es_rows.specs.witnesses.WeakMapInAnotherFunction.{source_weak_map_in_another_function, output_weak_map_in_another_function, generated_weak_map_in_another_function, options_weak_map_in_another_function};
+ghost use Rattle.es_rows.specs.witnesses.WriteBehindAPattern.{source_write_behind_a_pattern, output_write_behind_a_pattern, generated_write_behind_a_pattern, options_write_behind_a_pattern};
 ghost use Rattle.es_rows.specs.witnesses.YieldInAGenerator.{source_yield_in_a_generator, output_yield_in_a_generator, generated_yield_in_a_generator, options_yield_in_a_generator};
 
 /// Instance fields and their keys, defined and set, and what is kept as a property.
@@ -650,8 +677,10 @@ pub fn clauses_are_not_met()
     ensures another_literal_of_a_written_class { definitions_stand (nodes source_another_literal_of_a_written_class) options_another_literal_of_a_written_class generated_another_literal_of_a_written_class (private_members source_another_literal_of_a_written_class) source_another_literal_of_a_written_class output_another_literal_of_a_written_class ≡ false }
     ensures arguments_in_a_static_block { stays_printable source_arguments_in_a_static_block output_arguments_in_a_static_block ≡ false }
     ensures arguments_of_a_static_field { stays_printable source_arguments_of_a_static_field output_arguments_of_a_static_field ≡ false }
+    ensures arrow_out_of_a_block { references_stay (nodes source_arrow_out_of_a_block) generated_arrow_out_of_a_block source_arrow_out_of_a_block output_arrow_out_of_a_block ≡ false }
     ensures await_in_a_static_block { stays_printable source_await_in_a_static_block output_await_in_a_static_block ≡ false }
     ensures await_in_an_async_function { stays_printable source_await_in_an_async_function output_await_in_an_async_function ≡ false }
+    ensures block_in_front_of_its_class { references_stay (nodes source_block_in_front_of_its_class) generated_block_in_front_of_its_class source_block_in_front_of_its_class output_block_in_front_of_its_class ≡ false }
     ensures block_without_a_function { homes_kept (nodes source_block_without_a_function) options_block_without_a_function source_block_without_a_function output_block_without_a_function ≡ false }
     ensures body_dropped { definitions_stand (nodes source_body_dropped) options_body_dropped generated_body_dropped (private_members source_body_dropped) source_body_dropped output_body_dropped ≡ false }
     ensures body_in_an_arrow { homes_kept (nodes source_body_in_an_arrow) options_body_in_an_arrow source_body_in_an_arrow output_body_in_an_arrow ≡ false }
@@ -659,12 +688,17 @@ pub fn clauses_are_not_met()
     ensures break_in_an_arrow { is_printable output_break_in_an_arrow ≡ false }
     ensures break_in_an_arrow_beside_await { stays_printable source_break_in_an_arrow_beside_await output_break_in_an_arrow_beside_await ≡ false }
     ensures character_of_no_name { texts_stay (nodes source_character_of_no_name) source_character_of_no_name output_character_of_no_name ≡ false }
+    ensures class_asked_for_in_its_key { references_stay (nodes source_class_asked_for_in_its_key) generated_class_asked_for_in_its_key source_class_asked_for_in_its_key output_class_asked_for_in_its_key ≡ false }
     ensures class_behind_its_use { lists_kept options_class_behind_its_use source_class_behind_its_use output_class_behind_its_use ≡ false }
     ensures class_in_a_constructor { lists_kept options_class_in_a_constructor source_class_in_a_constructor output_class_in_a_constructor ≡ false }
+    ensures class_in_front_of_a_let { references_stay (nodes source_class_in_front_of_a_let) generated_class_in_front_of_a_let source_class_in_front_of_a_let output_class_in_front_of_a_let ≡ false }
     ensures class_named_arguments { stays_printable source_class_named_arguments output_class_named_arguments ≡ false }
     ensures class_named_await_in_an_async_function { stays_printable source_class_named_await_in_an_async_function output_class_named_await_in_an_async_function ≡ false }
+    ensures class_named_behind_its_block { references_stay (nodes source_class_named_behind_its_block) generated_class_named_behind_its_block source_class_named_behind_its_block output_class_named_behind_its_block ≡ false }
     ensures class_named_eval { stays_printable source_class_named_eval output_class_named_eval ≡ false }
     ensures class_named_let { stays_printable source_class_named_let output_class_named_let ≡ false }
+    ensures class_out_of_a_block { references_stay (nodes source_class_out_of_a_block) generated_class_out_of_a_block source_class_out_of_a_block output_class_out_of_a_block ≡ false }
+    ensures class_read_while_its_block_runs { references_stay (nodes source_class_read_while_its_block_runs) generated_class_read_while_its_block_runs source_class_read_while_its_block_runs output_class_read_while_its_block_runs ≡ false }
     ensures class_temporary_before_its_class { names_timely (nodes source_class_temporary_before_its_class) generated_class_temporary_before_its_class (private_members source_class_temporary_before_its_class) output_class_temporary_before_its_class ≡ false }
     ensures class_temporary_in_its_class { names_timely (nodes source_class_temporary_in_its_class) generated_class_temporary_in_its_class (private_members source_class_temporary_in_its_class) output_class_temporary_in_its_class ≡ false }
     ensures class_temporary_of_a_function_expression { initializations_stand (nodes source_class_temporary_of_a_function_expression) generated_class_temporary_of_a_function_expression (private_members source_class_temporary_of_a_function_expression) output_class_temporary_of_a_function_expression generated_class_temporary_of_a_function_expression ≡ false }
@@ -672,8 +706,11 @@ pub fn clauses_are_not_met()
     ensures closure_before_its_class { names_timely (nodes source_closure_before_its_class) generated_closure_before_its_class (private_members source_closure_before_its_class) output_closure_before_its_class ≡ false }
     ensures closure_called_in_a_key { names_timely (nodes source_closure_called_in_a_key) generated_closure_called_in_a_key (private_members source_closure_called_in_a_key) output_closure_called_in_a_key ≡ false }
     ensures closure_given_behind_its_call { names_timely (nodes source_closure_given_behind_its_call) generated_closure_given_behind_its_call (private_members source_closure_given_behind_its_call) output_closure_given_behind_its_call ≡ false }
+    ensures closure_given_in_each_round { temporaries_steady (nodes source_closure_given_in_each_round) generated_closure_given_in_each_round (private_members source_closure_given_in_each_round) output_closure_given_in_each_round ≡ false }
     ensures constant_temporary { declarations_accounted (nodes source_constant_temporary) generated_constant_temporary source_constant_temporary output_constant_temporary ≡ false }
     ensures conversion_of_no_key { helper_calls_fit (nodes source_conversion_of_no_key) generated_conversion_of_no_key (computed_keys (preorder source_conversion_of_no_key)) output_conversion_of_no_key ≡ false }
+    ensures copied_octal_escape { texts_stay (nodes source_copied_octal_escape) source_copied_octal_escape output_copied_octal_escape ≡ false }
+    ensures copied_regular_expression { texts_stay (nodes source_copied_regular_expression) source_copied_regular_expression output_copied_regular_expression ≡ false }
     ensures copy_of_a_number { texts_stay (nodes source_copy_of_a_number) source_copy_of_a_number output_copy_of_a_number ≡ false }
     ensures dead_temporary { names_timely (nodes source_dead_temporary) generated_dead_temporary (private_members source_dead_temporary) output_dead_temporary ≡ false }
     ensures declaration_of_nothing { stays_printable source_declaration_of_nothing output_declaration_of_nothing ≡ false }
@@ -691,17 +728,24 @@ pub fn clauses_are_not_met()
     ensures function_out_of_its_block { lists_kept options_function_out_of_its_block source_function_out_of_its_block output_function_out_of_its_block ≡ false }
     ensures hidden_body { conforms Place.Program output_hidden_body ≡ false }
     ensures key_given_again { initializations_stand (nodes source_key_given_again) generated_key_given_again (private_members source_key_given_again) output_key_given_again generated_key_given_again ≡ false }
+    ensures key_kept_by_a_call { helper_calls_fit (nodes source_key_kept_by_a_call) generated_key_kept_by_a_call (computed_keys (preorder source_key_kept_by_a_call)) output_key_kept_by_a_call ≡ false }
+    ensures key_of_another_member { helper_calls_fit (nodes source_key_of_another_member) generated_key_of_another_member (computed_keys (preorder source_key_of_another_member)) output_key_of_another_member ≡ false }
     ensures key_outside_of_a_called_function { names_timely (nodes source_key_outside_of_a_called_function) generated_key_outside_of_a_called_function (private_members source_key_outside_of_a_called_function) output_key_outside_of_a_called_function ≡ false }
+    ensures let_behind_a_call { names_timely (nodes source_let_behind_a_call) generated_let_behind_a_call (private_members source_let_behind_a_call) output_let_behind_a_call ≡ false }
     ensures let_behind_a_constructor { names_timely (nodes source_let_behind_a_constructor) generated_let_behind_a_constructor (private_members source_let_behind_a_constructor) output_let_behind_a_constructor ≡ false }
     ensures let_behind_a_field { names_timely (nodes source_let_behind_a_field) generated_let_behind_a_field (private_members source_let_behind_a_field) output_let_behind_a_field ≡ false }
     ensures let_behind_an_arrow { names_timely (nodes source_let_behind_an_arrow) generated_let_behind_an_arrow (private_members source_let_behind_an_arrow) output_let_behind_an_arrow ≡ false }
     ensures let_in_strict_code { stays_printable source_let_in_strict_code output_let_in_strict_code ≡ false }
     ensures let_of_another_case { names_timely (nodes source_let_of_another_case) generated_let_of_another_case (private_members source_let_of_another_case) output_let_of_another_case ≡ false }
     ensures let_out_of_its_block { lists_kept options_let_out_of_its_block source_let_out_of_its_block output_let_out_of_its_block ≡ false }
+    ensures let_read_in_a_method { own_names_stay generated_let_read_in_a_method source_let_read_in_a_method output_let_read_in_a_method ≡ false }
     ensures let_read_in_its_value { own_names_stay generated_let_read_in_its_value source_let_read_in_its_value output_let_read_in_its_value ≡ false }
+    ensures map_behind_a_key { names_timely (nodes source_map_behind_a_key) generated_map_behind_a_key (private_members source_map_behind_a_key) output_map_behind_a_key ≡ false }
+    ensures map_made_in_a_block { names_timely (nodes source_map_made_in_a_block) generated_map_made_in_a_block (private_members source_map_made_in_a_block) output_map_made_in_a_block ≡ false }
     ensures map_made_in_a_branch { names_timely (nodes source_map_made_in_a_branch) generated_map_made_in_a_branch (private_members source_map_made_in_a_branch) output_map_made_in_a_branch ≡ false }
     ensures map_made_in_a_called_arrow { names_timely (nodes source_map_made_in_a_called_arrow) generated_map_made_in_a_called_arrow (private_members source_map_made_in_a_called_arrow) output_map_made_in_a_called_arrow ≡ false }
     ensures map_made_in_a_pattern { names_timely (nodes source_map_made_in_a_pattern) generated_map_made_in_a_pattern (private_members source_map_made_in_a_pattern) output_map_made_in_a_pattern ≡ false }
+    ensures map_made_in_each_round { temporaries_steady (nodes source_map_made_in_each_round) generated_map_made_in_each_round (private_members source_map_made_in_each_round) output_map_made_in_each_round ≡ false }
     ensures map_of_a_function_expression { initializations_stand (nodes source_map_of_a_function_expression) generated_map_of_a_function_expression (private_members source_map_of_a_function_expression) output_map_of_a_function_expression generated_map_of_a_function_expression ≡ false }
     ensures map_outside_of_a_called_function { names_timely (nodes source_map_outside_of_a_called_function) generated_map_outside_of_a_called_function (private_members source_map_outside_of_a_called_function) output_map_outside_of_a_called_function ≡ false }
     ensures map_outside_of_a_private_method { names_timely (nodes source_map_outside_of_a_private_method) generated_map_outside_of_a_private_method (private_members source_map_outside_of_a_private_method) output_map_outside_of_a_private_method ≡ false }
@@ -714,8 +758,10 @@ pub fn clauses_are_not_met()
     ensures name_of_a_class_with_a_block { helper_calls_fit (nodes source_name_of_a_class_with_a_block) generated_name_of_a_class_with_a_block (computed_keys (preorder source_name_of_a_class_with_a_block)) output_name_of_a_class_with_a_block ≡ false }
     ensures name_of_a_named_class { helper_calls_fit (nodes source_name_of_a_named_class) generated_name_of_a_named_class (computed_keys (preorder source_name_of_a_named_class)) output_name_of_a_named_class ≡ false }
     ensures name_of_no_member { initializations_stand (nodes source_name_of_no_member) generated_name_of_no_member (private_members source_name_of_no_member) output_name_of_no_member generated_name_of_no_member ≡ false }
+    ensures name_that_begins_as_none { texts_stay (nodes source_name_that_begins_as_none) source_name_that_begins_as_none output_name_that_begins_as_none ≡ false }
     ensures name_twice { names_declared (nodes source_name_twice) generated_name_twice output_name_twice ≡ false }
     ensures name_without_a_sign { names_declared (nodes source_name_without_a_sign) generated_name_without_a_sign output_name_without_a_sign ≡ false }
+    ensures new_target_outside { is_printable output_new_target_outside ≡ false }
     ensures nothing_declared_behind_a_bigint { stays_printable source_nothing_declared_behind_a_bigint output_nothing_declared_behind_a_bigint ≡ false }
     ensures nothing_declared_behind_a_directive { stays_printable source_nothing_declared_behind_a_directive output_nothing_declared_behind_a_directive ≡ false }
     ensures nothing_declared_behind_a_string { stays_printable source_nothing_declared_behind_a_string output_nothing_declared_behind_a_string ≡ false }
@@ -726,6 +772,8 @@ pub fn clauses_are_not_met()
     ensures parameter_read_later { temporaries_steady (nodes source_parameter_read_later) generated_parameter_read_later (private_members source_parameter_read_later) output_parameter_read_later ≡ false }
     ensures parameter_renamed { homes_kept (nodes source_parameter_renamed) options_parameter_renamed source_parameter_renamed output_parameter_renamed ≡ false }
     ensures pattern_of_no_regular_expression { texts_stay (nodes source_pattern_of_no_regular_expression) source_pattern_of_no_regular_expression output_pattern_of_no_regular_expression ≡ false }
+    ensures private_method_in_front_of_its_class { references_stay (nodes source_private_method_in_front_of_its_class) generated_private_method_in_front_of_its_class source_private_method_in_front_of_its_class output_private_method_in_front_of_its_class ≡ false }
+    ensures private_method_outside_of_a_function { references_stay (nodes source_private_method_outside_of_a_function) generated_private_method_outside_of_a_function source_private_method_outside_of_a_function output_private_method_outside_of_a_function ≡ false }
     ensures private_name_constructor { texts_stay (nodes source_private_name_constructor) source_private_name_constructor output_private_name_constructor ≡ false }
     ensures private_name_of_another_member { texts_stay (nodes source_private_name_of_another_member) source_private_name_of_another_member output_private_name_of_another_member ≡ false }
     ensures private_name_twice { names_declared (nodes source_private_name_twice) generated_private_name_twice output_private_name_twice ≡ false }
@@ -738,6 +786,7 @@ pub fn clauses_are_not_met()
     ensures string_that_a_printer_makes_a_directive { stays_printable source_string_that_a_printer_makes_a_directive output_string_that_a_printer_makes_a_directive ≡ false }
     ensures super_function_behind_a_call { names_timely (nodes source_super_function_behind_a_call) generated_super_function_behind_a_call (private_members source_super_function_behind_a_call) output_super_function_behind_a_call ≡ false }
     ensures super_function_behind_its_calls { names_timely (nodes source_super_function_behind_its_calls) generated_super_function_behind_its_calls (private_members source_super_function_behind_its_calls) output_super_function_behind_its_calls ≡ false }
+    ensures super_function_outside_of_a_function { references_stay (nodes source_super_function_outside_of_a_function) generated_super_function_outside_of_a_function source_super_function_outside_of_a_function output_super_function_outside_of_a_function ≡ false }
     ensures temporary_given_again { temporaries_steady (nodes source_temporary_given_again) generated_temporary_given_again (private_members source_temporary_given_again) output_temporary_given_again ≡ false }
     ensures temporary_given_again_in_a_branch { initializations_stand (nodes source_temporary_given_again_in_a_branch) generated_temporary_given_again_in_a_branch (private_members source_temporary_given_again_in_a_branch) output_temporary_given_again_in_a_branch generated_temporary_given_again_in_a_branch ≡ false }
     ensures temporary_given_again_in_a_loop { temporaries_steady (nodes source_temporary_given_again_in_a_loop) generated_temporary_given_again_in_a_loop (private_members source_temporary_given_again_in_a_loop) output_temporary_given_again_in_a_loop ≡ false }
@@ -748,10 +797,13 @@ pub fn clauses_are_not_met()
     ensures two_brands { names_declared (nodes source_two_brands) generated_two_brands output_two_brands ≡ false }
     ensures two_functions { names_declared (nodes source_two_functions) generated_two_functions output_two_functions ≡ false }
     ensures two_maps { names_declared (nodes source_two_maps) generated_two_maps output_two_maps ≡ false }
+    ensures unconverted_kept_key { helper_calls_fit (nodes source_unconverted_kept_key) generated_unconverted_kept_key (computed_keys (preorder source_unconverted_kept_key)) output_unconverted_kept_key ≡ false }
     ensures unconverted_name_of_a_class { helper_calls_fit (nodes source_unconverted_name_of_a_class) generated_unconverted_name_of_a_class (computed_keys (preorder source_unconverted_name_of_a_class)) output_unconverted_name_of_a_class ≡ false }
     ensures uncooked_template { stays_printable source_uncooked_template output_uncooked_template ≡ false }
     ensures untested_name_of_a_class { helper_calls_fit (nodes source_untested_name_of_a_class) generated_untested_name_of_a_class (computed_keys (preorder source_untested_name_of_a_class)) output_untested_name_of_a_class ≡ false }
+    ensures value_in_front_of_its_class { references_stay (nodes source_value_in_front_of_its_class) generated_value_in_front_of_its_class source_value_in_front_of_its_class output_value_in_front_of_its_class ≡ false }
     ensures weak_map_in_another_function { names_timely (nodes source_weak_map_in_another_function) generated_weak_map_in_another_function (private_members source_weak_map_in_another_function) output_weak_map_in_another_function ≡ false }
+    ensures write_behind_a_pattern { references_stay (nodes source_write_behind_a_pattern) generated_write_behind_a_pattern source_write_behind_a_pattern output_write_behind_a_pattern ≡ false }
     ensures yield_in_a_generator { stays_printable source_yield_in_a_generator output_yield_in_a_generator ≡ false }
 {}
 
@@ -772,6 +824,7 @@ pub fn outputs_owe_nothing()
     ensures classes_that_suspend { Kept options_classes_that_suspend generated_classes_that_suspend source_classes_that_suspend output_classes_that_suspend [] }
     ensures directive_with_an_escape { Kept options_directive_with_an_escape generated_directive_with_an_escape source_directive_with_an_escape output_directive_with_an_escape [] }
     ensures hexadecimal_bigint { Kept options_hexadecimal_bigint generated_hexadecimal_bigint source_hexadecimal_bigint output_hexadecimal_bigint [] }
+    ensures let_in_front_of_a_function { Kept options_let_in_front_of_a_function generated_let_in_front_of_a_function source_let_in_front_of_a_function output_let_in_front_of_a_function [] }
     ensures nameless_class_that_suspends { Kept options_nameless_class_that_suspends generated_nameless_class_that_suspends source_nameless_class_that_suspends output_nameless_class_that_suspends [] }
     ensures own_name_that_nothing_means { Kept options_own_name_that_nothing_means generated_own_name_that_nothing_means source_own_name_that_nothing_means output_own_name_that_nothing_means [] }
     ensures strict_function_of_a_method { Kept options_strict_function_of_a_method generated_strict_function_of_a_method source_strict_function_of_a_method output_strict_function_of_a_method [] }
@@ -781,6 +834,7 @@ pub fn outputs_owe_nothing()
 
 /// Pairs of programs that have different shapes.
 pub fn shapes_are_told()
+    ensures block_beside_a_field_outside { HaveShapes options_block_beside_a_field_outside first_block_beside_a_field_outside (3 ∷ []) second_block_beside_a_field_outside ([]) }
     ensures caught_key { HaveShapes options_caught_key first_caught_key (4 ∷ []) second_caught_key ([]) }
     ensures changing_key_behind_a_block { HaveShapes options_changing_key_behind_a_block first_changing_key_behind_a_block (4 ∷ []) second_changing_key_behind_a_block ([]) }
     ensures imported_key { HaveShapes options_imported_key first_imported_key (4 ∷ []) second_imported_key ([]) }

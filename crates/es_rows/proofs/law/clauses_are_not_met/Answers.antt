@@ -10,11 +10,17 @@ returns-clause-arguments_in_a_static_block c = refl
 pub returns-clause-arguments_of_a_static_field : goal.returns-clause-arguments_of_a_static_field
 returns-clause-arguments_of_a_static_field c = refl
 
+pub returns-clause-arrow_out_of_a_block : goal.returns-clause-arrow_out_of_a_block
+returns-clause-arrow_out_of_a_block c = refl
+
 pub returns-clause-await_in_a_static_block : goal.returns-clause-await_in_a_static_block
 returns-clause-await_in_a_static_block c = refl
 
 pub returns-clause-await_in_an_async_function : goal.returns-clause-await_in_an_async_function
 returns-clause-await_in_an_async_function c = refl
+
+pub returns-clause-block_in_front_of_its_class : goal.returns-clause-block_in_front_of_its_class
+returns-clause-block_in_front_of_its_class c = refl
 
 pub returns-clause-block_without_a_function : goal.returns-clause-block_without_a_function
 returns-clause-block_without_a_function c = refl
@@ -37,11 +43,17 @@ returns-clause-break_in_an_arrow_beside_await c = refl
 pub returns-clause-character_of_no_name : goal.returns-clause-character_of_no_name
 returns-clause-character_of_no_name c = refl
 
+pub returns-clause-class_asked_for_in_its_key : goal.returns-clause-class_asked_for_in_its_key
+returns-clause-class_asked_for_in_its_key c = refl
+
 pub returns-clause-class_behind_its_use : goal.returns-clause-class_behind_its_use
 returns-clause-class_behind_its_use c = refl
 
 pub returns-clause-class_in_a_constructor : goal.returns-clause-class_in_a_constructor
 returns-clause-class_in_a_constructor c = refl
+
+pub returns-clause-class_in_front_of_a_let : goal.returns-clause-class_in_front_of_a_let
+returns-clause-class_in_front_of_a_let c = refl
 
 pub returns-clause-class_named_arguments : goal.returns-clause-class_named_arguments
 returns-clause-class_named_arguments c = refl
@@ -49,11 +61,20 @@ returns-clause-class_named_arguments c = refl
 pub returns-clause-class_named_await_in_an_async_function : goal.returns-clause-class_named_await_in_an_async_function
 returns-clause-class_named_await_in_an_async_function c = refl
 
+pub returns-clause-class_named_behind_its_block : goal.returns-clause-class_named_behind_its_block
+returns-clause-class_named_behind_its_block c = refl
+
 pub returns-clause-class_named_eval : goal.returns-clause-class_named_eval
 returns-clause-class_named_eval c = refl
 
 pub returns-clause-class_named_let : goal.returns-clause-class_named_let
 returns-clause-class_named_let c = refl
+
+pub returns-clause-class_out_of_a_block : goal.returns-clause-class_out_of_a_block
+returns-clause-class_out_of_a_block c = refl
+
+pub returns-clause-class_read_while_its_block_runs : goal.returns-clause-class_read_while_its_block_runs
+returns-clause-class_read_while_its_block_runs c = refl
 
 pub returns-clause-class_temporary_before_its_class : goal.returns-clause-class_temporary_before_its_class
 returns-clause-class_temporary_before_its_class c = refl
@@ -76,11 +97,20 @@ returns-clause-closure_called_in_a_key c = refl
 pub returns-clause-closure_given_behind_its_call : goal.returns-clause-closure_given_behind_its_call
 returns-clause-closure_given_behind_its_call c = refl
 
+pub returns-clause-closure_given_in_each_round : goal.returns-clause-closure_given_in_each_round
+returns-clause-closure_given_in_each_round c = refl
+
 pub returns-clause-constant_temporary : goal.returns-clause-constant_temporary
 returns-clause-constant_temporary c = refl
 
 pub returns-clause-conversion_of_no_key : goal.returns-clause-conversion_of_no_key
 returns-clause-conversion_of_no_key c = refl
+
+pub returns-clause-copied_octal_escape : goal.returns-clause-copied_octal_escape
+returns-clause-copied_octal_escape c = refl
+
+pub returns-clause-copied_regular_expression : goal.returns-clause-copied_regular_expression
+returns-clause-copied_regular_expression c = refl
 
 pub returns-clause-copy_of_a_number : goal.returns-clause-copy_of_a_number
 returns-clause-copy_of_a_number c = refl
@@ -133,8 +163,17 @@ returns-clause-hidden_body c = refl
 pub returns-clause-key_given_again : goal.returns-clause-key_given_again
 returns-clause-key_given_again c = refl
 
+pub returns-clause-key_kept_by_a_call : goal.returns-clause-key_kept_by_a_call
+returns-clause-key_kept_by_a_call c = refl
+
+pub returns-clause-key_of_another_member : goal.returns-clause-key_of_another_member
+returns-clause-key_of_another_member c = refl
+
 pub returns-clause-key_outside_of_a_called_function : goal.returns-clause-key_outside_of_a_called_function
 returns-clause-key_outside_of_a_called_function c = refl
+
+pub returns-clause-let_behind_a_call : goal.returns-clause-let_behind_a_call
+returns-clause-let_behind_a_call c = refl
 
 pub returns-clause-let_behind_a_constructor : goal.returns-clause-let_behind_a_constructor
 returns-clause-let_behind_a_constructor c = refl
@@ -154,8 +193,17 @@ returns-clause-let_of_another_case c = refl
 pub returns-clause-let_out_of_its_block : goal.returns-clause-let_out_of_its_block
 returns-clause-let_out_of_its_block c = refl
 
+pub returns-clause-let_read_in_a_method : goal.returns-clause-let_read_in_a_method
+returns-clause-let_read_in_a_method c = refl
+
 pub returns-clause-let_read_in_its_value : goal.returns-clause-let_read_in_its_value
 returns-clause-let_read_in_its_value c = refl
+
+pub returns-clause-map_behind_a_key : goal.returns-clause-map_behind_a_key
+returns-clause-map_behind_a_key c = refl
+
+pub returns-clause-map_made_in_a_block : goal.returns-clause-map_made_in_a_block
+returns-clause-map_made_in_a_block c = refl
 
 pub returns-clause-map_made_in_a_branch : goal.returns-clause-map_made_in_a_branch
 returns-clause-map_made_in_a_branch c = refl
@@ -165,6 +213,9 @@ returns-clause-map_made_in_a_called_arrow c = refl
 
 pub returns-clause-map_made_in_a_pattern : goal.returns-clause-map_made_in_a_pattern
 returns-clause-map_made_in_a_pattern c = refl
+
+pub returns-clause-map_made_in_each_round : goal.returns-clause-map_made_in_each_round
+returns-clause-map_made_in_each_round c = refl
 
 pub returns-clause-map_of_a_function_expression : goal.returns-clause-map_of_a_function_expression
 returns-clause-map_of_a_function_expression c = refl
@@ -202,11 +253,17 @@ returns-clause-name_of_a_named_class c = refl
 pub returns-clause-name_of_no_member : goal.returns-clause-name_of_no_member
 returns-clause-name_of_no_member c = refl
 
+pub returns-clause-name_that_begins_as_none : goal.returns-clause-name_that_begins_as_none
+returns-clause-name_that_begins_as_none c = refl
+
 pub returns-clause-name_twice : goal.returns-clause-name_twice
 returns-clause-name_twice c = refl
 
 pub returns-clause-name_without_a_sign : goal.returns-clause-name_without_a_sign
 returns-clause-name_without_a_sign c = refl
+
+pub returns-clause-new_target_outside : goal.returns-clause-new_target_outside
+returns-clause-new_target_outside c = refl
 
 pub returns-clause-nothing_declared_behind_a_bigint : goal.returns-clause-nothing_declared_behind_a_bigint
 returns-clause-nothing_declared_behind_a_bigint c = refl
@@ -237,6 +294,12 @@ returns-clause-parameter_renamed c = refl
 
 pub returns-clause-pattern_of_no_regular_expression : goal.returns-clause-pattern_of_no_regular_expression
 returns-clause-pattern_of_no_regular_expression c = refl
+
+pub returns-clause-private_method_in_front_of_its_class : goal.returns-clause-private_method_in_front_of_its_class
+returns-clause-private_method_in_front_of_its_class c = refl
+
+pub returns-clause-private_method_outside_of_a_function : goal.returns-clause-private_method_outside_of_a_function
+returns-clause-private_method_outside_of_a_function c = refl
 
 pub returns-clause-private_name_constructor : goal.returns-clause-private_name_constructor
 returns-clause-private_name_constructor c = refl
@@ -274,6 +337,9 @@ returns-clause-super_function_behind_a_call c = refl
 pub returns-clause-super_function_behind_its_calls : goal.returns-clause-super_function_behind_its_calls
 returns-clause-super_function_behind_its_calls c = refl
 
+pub returns-clause-super_function_outside_of_a_function : goal.returns-clause-super_function_outside_of_a_function
+returns-clause-super_function_outside_of_a_function c = refl
+
 pub returns-clause-temporary_given_again : goal.returns-clause-temporary_given_again
 returns-clause-temporary_given_again c = refl
 
@@ -304,6 +370,9 @@ returns-clause-two_functions c = refl
 pub returns-clause-two_maps : goal.returns-clause-two_maps
 returns-clause-two_maps c = refl
 
+pub returns-clause-unconverted_kept_key : goal.returns-clause-unconverted_kept_key
+returns-clause-unconverted_kept_key c = refl
+
 pub returns-clause-unconverted_name_of_a_class : goal.returns-clause-unconverted_name_of_a_class
 returns-clause-unconverted_name_of_a_class c = refl
 
@@ -313,8 +382,14 @@ returns-clause-uncooked_template c = refl
 pub returns-clause-untested_name_of_a_class : goal.returns-clause-untested_name_of_a_class
 returns-clause-untested_name_of_a_class c = refl
 
+pub returns-clause-value_in_front_of_its_class : goal.returns-clause-value_in_front_of_its_class
+returns-clause-value_in_front_of_its_class c = refl
+
 pub returns-clause-weak_map_in_another_function : goal.returns-clause-weak_map_in_another_function
 returns-clause-weak_map_in_another_function c = refl
+
+pub returns-clause-write_behind_a_pattern : goal.returns-clause-write_behind_a_pattern
+returns-clause-write_behind_a_pattern c = refl
 
 pub returns-clause-yield_in_a_generator : goal.returns-clause-yield_in_a_generator
 returns-clause-yield_in_a_generator c = refl

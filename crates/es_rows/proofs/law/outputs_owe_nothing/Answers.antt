@@ -23,6 +23,9 @@ returns-clause-directive_with_an_escape c = (refl, refl, lowered refl, refl)
 pub returns-clause-hexadecimal_bigint : goal.returns-clause-hexadecimal_bigint
 returns-clause-hexadecimal_bigint c = (refl, refl, lowered refl, refl)
 
+pub returns-clause-let_in_front_of_a_function : goal.returns-clause-let_in_front_of_a_function
+returns-clause-let_in_front_of_a_function c = (refl, refl, lowered refl, refl)
+
 pub returns-clause-nameless_class_that_suspends : goal.returns-clause-nameless_class_that_suspends
 returns-clause-nameless_class_that_suspends c = (refl, refl, lowered refl, refl)
 

@@ -1,6 +1,9 @@
 use Rattle.std.specs.Prelude.{refl}
 use Rattle.es_rows.proofs.law.shapes_are_told.Goals as goal
 
+pub returns-clause-block_beside_a_field_outside : goal.returns-clause-block_beside_a_field_outside
+returns-clause-block_beside_a_field_outside c = (refl, refl)
+
 pub returns-clause-caught_key : goal.returns-clause-caught_key
 returns-clause-caught_key c = (refl, refl)
 
