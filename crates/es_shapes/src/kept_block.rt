@@ -64,5 +64,7 @@ fn initializes_outside(kinds: ElementKinds, class: ClassRef) -> bool
 fn is_block_kept(kinds: ElementKinds, is_outside: bool) -> bool
     ensures { result ≡ (kinds.has_lowered && (kinds.has_block && ((kinds.has_static_field || kinds.has_private) || is_outside))) }
 {
-    kinds.has_lowered && kinds.has_block && (kinds.has_static_field || kinds.has_private || is_outside)
+    kinds.has_lowered
+        && kinds.has_block
+        && (kinds.has_static_field || kinds.has_private || is_outside)
 }
