@@ -282,22 +282,22 @@ text = '''// Worked rows and witnesses: functions that do nothing. Printed by to
 
 ghost use Rattle.std.specs.Prelude.{◌≡◌, [], ◌∷◌, false};
 ghost use Rattle.es_rows.specs.Owed.{Kept, KeptAfter, Owed, TellsApart, Refused, MeansOther, RefusedAfter, Means, HaveShapes};
-ghost use Rattle.es_steps.specs.Definitions.{definitions_stand};
+ghost use Rattle.es_lowered.specs.Definitions.{definitions_stand};
 ghost use Rattle.es_base.specs.Conforms.{conforms};
 ghost use Rattle.es_base.specs.Preorder.{nodes, preorder};
 ghost use Rattle.es_base.specs.declared.table.Place.{Place};
-ghost use Rattle.es_steps.specs.HelperCalls.{computed_keys, helper_calls_fit};
+ghost use Rattle.es_lowered.specs.HelperCalls.{computed_keys, helper_calls_fit};
 ghost use Rattle.es_steps.specs.KeptNodes.{classes_kept, lists_kept, homes_kept};
-ghost use Rattle.es_steps.specs.Lowered.{names_declared, declarations_accounted, initializations_stand};
+ghost use Rattle.es_lowered.specs.Lowered.{names_declared, declarations_accounted, initializations_stand};
 ghost use Rattle.es_steps.specs.Meaning.{source_means};
-ghost use Rattle.es_steps.specs.KeptReferences.{references_stay};
-ghost use Rattle.es_steps.specs.OwnNames.{own_names_stay};
+ghost use Rattle.es_lowered.specs.KeptReferences.{references_stay};
+ghost use Rattle.es_lowered.specs.OwnNames.{own_names_stay};
 ghost use Rattle.es_steps.specs.Printable.{is_printable, stays_printable};
 ghost use Rattle.es_steps.specs.PrivateNames.{private_members};
 ghost use Rattle.es_steps.specs.Strict.{none_becomes_strict};
-ghost use Rattle.es_steps.specs.Temporaries.{temporaries_steady};
-ghost use Rattle.es_steps.specs.Texts.{texts_stay};
-ghost use Rattle.es_steps.specs.Timely.{names_timely};
+ghost use Rattle.es_lowered.specs.Temporaries.{temporaries_steady};
+ghost use Rattle.es_lowered.specs.Texts.{texts_stay};
+ghost use Rattle.es_lowered.specs.Timely.{names_timely};
 ''' + '\n'.join(uses) + '\n\n' + '\n'.join(functions)
 write(f'{CRATE}/src/law.rt', text)
 witnesses = {n for group in (pairs, wrong, kept, not_met, shaped, right, owing_nothing, other, after) for n, _ in group}

@@ -8,7 +8,7 @@ use Rattle.es_base.specs.Preorder.{preorder, preorder_of}
 use Rattle.es_base.specs.Tree.{Tree, Parts, end, more, trees}
 use Rattle.es_steps.specs.Values.{String}
 use Rattle.class_properties.proofs.Declared.{four_ends, two_ends}
-use Rattle.es_steps.specs.HelperCalls.{kept_keys, all_by, new_private_names, private_keys, kept_keys_converted, StaticKey, Naming, calls_of, calls_of_body, helper_calls_fit}
+use Rattle.es_lowered.specs.HelperCalls.{kept_keys, all_by, new_private_names, private_keys, kept_keys_converted, StaticKey, Naming, calls_of, calls_of_body, helper_calls_fit}
 use Rattle.class_properties.proofs.Numbered.{definitions_from, lowered_elements, statement_size, lowered_statements, lowered_from}
 use Rattle.class_properties.proofs.Shaped.{no_value, a_literal, a_reference, a_field, AreFields, a_body, a_name, a_class, AreClasses, IsProgram, a_program}
 

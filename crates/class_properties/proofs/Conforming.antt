@@ -14,7 +14,7 @@ use Rattle.es_base.specs.declared.table.Sort.{Sort}
 use Rattle.es_base.specs.declared.table.Words.{Words}
 use Rattle.es_steps.specs.FirstForm.{is_first_form}
 use Rattle.es_steps.specs.LoweredClasses.{holds_lowered, has_lowered_class}
-use Rattle.es_steps.specs.Lowered.{IsUnchanged}
+use Rattle.es_lowered.specs.Lowered.{IsUnchanged}
 use Rattle.es_steps.specs.declared.options.Options.{Options}
 use Rattle.class_properties.proofs.Defining.{defining, is_defining}
 use Rattle.class_properties.proofs.Numbered.{definitions_from, lowered_elements, lowered_statements, lowered_from}

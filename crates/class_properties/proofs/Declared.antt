@@ -13,7 +13,7 @@ use Rattle.es_steps.specs.Evaluation.{Environment}
 use Rattle.es_steps.specs.Meaning.{DeclarationKind, ClassDeclared, declared_as, declaring, declaring_items, declared_function, declared_functions, body_of, globals}
 use Rattle.es_steps.specs.Modules.{links_in, exports_in}
 use Rattle.es_steps.specs.PrivateNames.{private_members, members_of_all, elements_members}
-use Rattle.es_steps.specs.KeptReferences.{writing_numbers}
+use Rattle.es_lowered.specs.KeptReferences.{writing_numbers}
 use Rattle.es_steps.specs.References.{Reference, if_bound, is_free, assigned, item_references, resolve, written_by, written_by_all, written, changing_by, changing_in, varying, writes_free, caught_again, caught_again_in, given_of, changed_otherwise, inner_functions, function_names, gives_inside, changes_free}
 use Rattle.es_steps.specs.Repeated.{Surroundings, places_of, all_places}
 use Rattle.es_steps.specs.Shared.{shared, shared_of}

@@ -7,11 +7,12 @@ use Rattle.es_base.specs.Numbered.{is_new, EachOnce}
 use Rattle.es_base.specs.Preorder.{number_of, preorder, preorder_of}
 use Rattle.es_base.specs.Tree.{Tree, Parts, Node, end, more, absent, trees}
 use Rattle.es_base.specs.declared.kind.Kind.{Kind}
+use Rattle.es_left.proofs.Booleans.{both}
 use Rattle.es_steps.proofs.Reflexive.{number-same}
 use Rattle.es_steps.specs.KeptNodes.{are_new_or_among, numbers_in_class, none_enters, classes_kept}
 use Rattle.es_steps.specs.References.{has_number}
 use Rattle.es_unchanged.proofs.Names.{or-true, class-numbers}
-use Rattle.es_unchanged.proofs.Standing.{here, later, in-left, in-right, Among, both}
+use Rattle.es_unchanged.proofs.Standing.{here, later, in-left, in-right, Among}
 use Rattle.class_properties.proofs.Numbered.{definitions_from, lowered_elements, lowered_statements, lowered_from, statement_size}
 use Rattle.class_properties.proofs.Shaped.{no_value, a_literal, a_reference, a_key, a_field, AreFields, a_name, a_body, a_class, AreClasses, IsProgram, a_program}
 

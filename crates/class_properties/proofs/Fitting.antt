@@ -6,8 +6,9 @@ use Rattle.std.proofs.lemmas.List.{append-nil}
 use Rattle.es_base.specs.Preorder.{preorder, preorder_of, nodes_of_part, numbered_from, numbered_parts}
 use Rattle.es_base.specs.Tree.{Tree, Part, Parts, Node, end, more, child, absent, list, string, no_string, boolean, literal, trees}
 use Rattle.es_base.specs.declared.kind.Kind.{Kind}
+use Rattle.es_left.proofs.Booleans.{both}
 use Rattle.es_steps.proofs.Reflexive.{number-same, string-same}
-use Rattle.es_steps.specs.Definitions.{PublicKey, FieldDefinition, definition_at, definitions_of, function_definitions, super_definitions, constructor_definitions, all_definitions, on_this, is_static_of, statics_of, static_definitions, Names, all_fit, is_instance_method, any_of, defined_fields, names_of, class_fits, classes_fit, definitions_stand}
+use Rattle.es_lowered.specs.Definitions.{PublicKey, FieldDefinition, definition_at, definitions_of, function_definitions, super_definitions, constructor_definitions, all_definitions, on_this, is_static_of, statics_of, static_definitions, Names, all_fit, is_instance_method, any_of, defined_fields, names_of, class_fits, classes_fit, definitions_stand}
 use Rattle.es_steps.specs.Generated.{node, string_literal}
 use Rattle.es_steps.specs.LoweredClasses.{Element, elements_in, is_private_key, constructor_in}
 use Rattle.es_steps.specs.declared.options.Options.{Options}
@@ -18,7 +19,7 @@ use Rattle.class_properties.proofs.Defining.{defining}
 use Rattle.class_properties.proofs.Declared.{two_ends, four_ends}
 use Rattle.class_properties.proofs.Numbered.{key_string, value_from, field_size, definitions_from, lowered_elements, statement_size, lowered_statements, lowered_from}
 use Rattle.class_properties.proofs.Shaped.{no_value, a_literal, a_reference, a_key, a_field, AreFields, a_body, a_name, a_class, AreClasses, IsProgram, a_program}
-use Rattle.es_unchanged.proofs.Standing.{still_new, both, or_left, stands-equal, here, apart-sym}
+use Rattle.es_unchanged.proofs.Standing.{still_new, or_left, stands-equal, here, apart-sym}
 
 -- ---- the numbers of classes rise
 

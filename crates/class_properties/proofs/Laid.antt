@@ -8,13 +8,14 @@ use Rattle.es_base.specs.Numbered.{is_new, AreConsecutive, EachOnce}
 use Rattle.es_base.specs.Preorder.{number_of}
 use Rattle.es_base.specs.Tree.{Tree, Node}
 use Rattle.es_base.specs.declared.kind.Kind.{Kind}
-use Rattle.es_steps.specs.Lowered.{is_lowered_kind, kind_of, none_lowered, is_new_const, all_accounted}
+use Rattle.es_left.proofs.Booleans.{none_of}
+use Rattle.es_lowered.specs.Lowered.{is_new_const, all_accounted}
+use Rattle.es_steps.specs.LoweredClasses.{is_lowered_kind, kind_of, none_lowered}
 use Rattle.es_steps.specs.Options.{both_lowered}
-use Rattle.es_steps.specs.OwnNames.{loses_name, none_loses_name, reads_itself, none_reads_itself}
+use Rattle.es_lowered.specs.OwnNames.{loses_name, none_loses_name, reads_itself, none_reads_itself}
 use Rattle.es_steps.specs.References.{Reference}
 use Rattle.es_steps.specs.Scopes.{is_binding_identifier, is_class_expression}
 use Rattle.es_steps.specs.declared.options.Options.{Options}
-use Rattle.es_unchanged.proofs.Standing.{none_of}
 
 -- kinds of nodes that declare names, kinds that stay, and kinds of new nodes
 abbrev pub declares_names : Kind → Bool

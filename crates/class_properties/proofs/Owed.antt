@@ -6,14 +6,15 @@ use Rattle.es_base.specs.Numbered.{EachOnce, numbers}
 use Rattle.es_base.specs.Preorder.{nodes, nodes_of, nodes_of_part, preorder, preorder_of, preorder_of_part, numbered_from, numbered_part, numbered_parts}
 use Rattle.es_base.specs.Tree.{Tree, Part, Parts, end, more, absent, trees}
 use Rattle.es_base.specs.declared.table.Place.{Place}
+use Rattle.es_left.proofs.Booleans.{both}
 use Rattle.es_steps.specs.FirstForm.{is_first_form}
-use Rattle.es_steps.specs.HelperCalls.{computed_keys}
-use Rattle.es_steps.specs.Lowered.{IsLowered}
+use Rattle.es_lowered.specs.HelperCalls.{computed_keys}
+use Rattle.es_lowered.specs.Lowered.{IsLowered}
 use Rattle.es_steps.specs.Generated.{constructor_at, define_at, void_at}
 use Rattle.es_steps.specs.declared.options.Options.{Options}
-use Rattle.es_steps.specs.OwnNames.{own_name_numbers}
+use Rattle.es_lowered.specs.OwnNames.{own_name_numbers}
 use Rattle.es_steps.specs.PrivateNames.{private_members}
-use Rattle.es_steps.specs.OwnNames.{all_moved}
+use Rattle.es_lowered.specs.OwnNames.{all_moved}
 use Rattle.es_steps.specs.References.{resolve}
 use Rattle.class_properties.proofs.ReadReferences.{references-stay}
 use Rattle.es_steps.specs.Strict.{none_becomes_strict}
@@ -30,7 +31,7 @@ use Rattle.class_properties.proofs.Printed.{lowered-stays_printable}
 use Rattle.class_properties.proofs.Remaining.{Remains, remains}
 use Rattle.class_properties.proofs.Strictness.{no-directive, no-lowered_directive, program-strict}
 use Rattle.class_properties.proofs.Written.{texts-stay}
-use Rattle.es_unchanged.proofs.Standing.{both, temporaries-none}
+use Rattle.es_unchanged.proofs.Standing.{temporaries-none}
 use Rattle.es_unchanged.proofs.Unchanged.{numbered-once}
 use Rattle.es_unchanged.proofs.Unmarked.{names-timely}
 use Rattle.class_properties.specs.Lowering.{lowered}

@@ -8,12 +8,12 @@ use Rattle.std.proofs.lemmas.List.{append-nil}
 use Rattle.std.proofs.Common.{append_assoc}
 use Rattle.es_base.specs.Preorder.{preorder, preorder_of}
 use Rattle.es_base.specs.Conforms.{is_among}
+use Rattle.es_left.proofs.Booleans.{none_of}
 use Rattle.es_steps.specs.Reserved.{Words, no_words, strict_words, is_reserved_word, field_words, strict_if, has_reserved, reserved_in, reserved_at}
 use Rattle.es_steps.specs.Strict.{has_use_strict}
 use Rattle.es_steps.specs.Printable.{any_optional, any_uncooked, bare_in, bare_strings, prologue, stays_printable, has_late_directive, has_bad, bad_at, bad_in, Jumps, no_jumps, has_stray, stray_in, has_stray_target, stray_target_of, is_printable}
 use Rattle.class_properties.proofs.Numbered.{definitions_from, lowered_elements, statement_size, lowered_statements, lowered_from}
 use Rattle.class_properties.proofs.Shaped.{no_value, a_literal, a_reference, a_key, a_field, AreFields, a_body, a_name, a_class, AreClasses, IsProgram, a_program}
-use Rattle.es_unchanged.proofs.Standing.{none_of}
 
 -- ---- no chain
 

@@ -5,7 +5,7 @@ use Rattle.es_base.specs.Preorder.{preorder}
 use Rattle.es_base.specs.Tree.{Tree, Part, Parts, Node, end, more, child, absent, list, string, no_string, boolean, literal}
 use Rattle.es_base.specs.declared.kind.Kind.{Kind}
 use Rattle.es_steps.specs.KeptNodes.{is_constructor_part}
-use Rattle.es_steps.specs.KeptReferences.{plain_targets, writing_numbers, writes_fit, InnerReference, functions_in, inner_reference, inner_references, inner_in, inner_at, inner_of, references_stay}
+use Rattle.es_lowered.specs.KeptReferences.{plain_targets, writing_numbers, writes_fit, InnerReference, functions_in, inner_reference, inner_references, inner_in, inner_at, inner_of, references_stay}
 use Rattle.es_steps.specs.Parts.{at, string_of}
 use Rattle.es_steps.specs.References.{Reference, resolve, gives_inside}
 use Rattle.es_steps.specs.Values.{String}

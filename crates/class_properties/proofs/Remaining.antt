@@ -6,9 +6,10 @@ use Rattle.std.proofs.lemmas.Bool.{and_parts}
 use Rattle.std.proofs.lemmas.List.{append-nil}
 use Rattle.es_base.specs.Preorder.{preorder, preorder_of}
 use Rattle.es_base.specs.Tree.{Tree, Part, Parts, Node, end, more}
+use Rattle.es_left.proofs.Booleans.{both}
 use Rattle.es_steps.proofs.Reflexive.{number-same}
-use Rattle.es_steps.specs.Definitions.{chosen, element_numbers, body_numbers, elements_kept}
-use Rattle.es_steps.specs.HelperCalls.{helper_calls_fit}
+use Rattle.es_lowered.specs.Definitions.{chosen, element_numbers, body_numbers, elements_kept}
+use Rattle.es_lowered.specs.HelperCalls.{helper_calls_fit}
 use Rattle.es_steps.specs.KeptNodes.{a_class as class_sort, sort_of, is_kept_sort, stands_as, all_stand, nodes_kept, free_in, all_equal, statements_kept, item_numbers, free_numbers, free_lists_in, list_of, is_within, all_within, lists_kept, Homed, HomeHere, homes_of, all_homes, homes_kept, lowered_blocks}
 use Rattle.es_steps.specs.LoweredClasses.{elements_of, elements_in, is_lowered_element}
 use Rattle.es_steps.specs.declared.options.Options.{Options}
@@ -18,7 +19,7 @@ use Rattle.class_properties.proofs.Called.{program-calls}
 use Rattle.class_properties.proofs.Declared.{two_ends}
 use Rattle.class_properties.proofs.Numbered.{lowered_elements, statement_size, lowered_statements, lowered_from}
 use Rattle.class_properties.proofs.Shaped.{no_value, a_literal, a_reference, a_key, a_field, AreFields, a_body, a_name, a_class, AreClasses, IsProgram, a_program}
-use Rattle.es_unchanged.proofs.Standing.{both, here, later, in-left, in-right, Among, stands_as-in, stands-equal, within-more, within-both, all_within-append, all_found, found-both, found-behind, found-home}
+use Rattle.es_unchanged.proofs.Standing.{here, later, in-left, in-right, Among, stands_as-in, stands-equal, within-more, within-both, all_within-append, all_found, found-both, found-behind, found-home}
 
 -- ---- classes
 

@@ -9,6 +9,7 @@ use Rattle.es_base.specs.Tree.{Tree, Part, Parts, Node, end, more, child, absent
 use Rattle.es_base.specs.declared.kind.Kind.{Kind}
 use Rattle.es_base.specs.declared.shape.Shape.{Shape}
 use Rattle.es_base.specs.declared.table.Place.{Place}
+use Rattle.es_left.proofs.Booleans.{none_of}
 use Rattle.es_steps.specs.FirstForm.{is_first_form}
 use Rattle.es_steps.specs.LoweredClasses.{elements_in, any_element, is_lowered_class, constructor_function}
 use Rattle.es_steps.specs.Options.{lowers_fields, lowers_blocks}
@@ -21,7 +22,6 @@ use Rattle.es_steps.specs.Shapes.{ClassAt, class_at, lowered_classes, any_class,
 use Rattle.es_steps.specs.declared.options.Options.{Options}
 use Rattle.class_properties.proofs.Declared.{two_ends}
 use Rattle.class_properties.proofs.Shaped.{no_value, a_literal, a_reference, a_key, a_field, AreFields, a_body, a_name, a_class, AreClasses, IsProgram, a_program, first_form-shaped}
-use Rattle.es_unchanged.proofs.Standing.{none_of}
 
 -- ---- the classes that are lowered
 

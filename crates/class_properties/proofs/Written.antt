@@ -7,9 +7,10 @@ use Rattle.es_base.specs.Numbered.{is_new}
 use Rattle.es_base.specs.Preorder.{nodes, number_of, preorder, preorder_of, numbered_from}
 use Rattle.es_base.specs.Tree.{Tree, Parts, Node, end, more, string, literal, trees}
 use Rattle.es_base.specs.declared.kind.Kind.{Kind}
+use Rattle.es_left.proofs.Booleans.{both}
 use Rattle.es_steps.specs.KeptNodes.{stands_equal}
-use Rattle.es_steps.specs.Texts.{is_new_name, has_characters, all_have_their_texts, texts_stay}
-use Rattle.es_unchanged.proofs.Standing.{In, here, later, in-left, in-right, both, stands-equal}
+use Rattle.es_lowered.specs.Texts.{is_new_name, has_characters, all_have_their_texts, texts_stay}
+use Rattle.es_unchanged.proofs.Standing.{In, here, later, in-left, in-right, stands-equal}
 use Rattle.es_unchanged.proofs.Names.{or-true}
 use Rattle.es_unchanged.proofs.Unchanged.{Below, numbered-below, old-characters}
 use Rattle.class_properties.proofs.Numbered.{definitions_from, lowered_elements, lowered_statements, lowered_from, statement_size}

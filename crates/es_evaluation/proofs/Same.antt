@@ -343,7 +343,7 @@ module _ (opens : Opened → Evaluation) (opens_d : Opened → Step Value) (open
     follows (chain m e) = follows_as (settle (of.held m (Part 0) (None) (ev opens e))) (of.held m (Part 0) (None) (ev opens e)) (settled (direct.held m (Part 0) (None) (settled (form opens_d e)))) (λ env. settle-held m (Part 0) None env (ev opens e env)) (follows_settle (of.held m (Part 0) (None) (ev opens e)) (direct.held m (Part 0) (None) (settled (form opens_d e))) (follows_held m (Part 0) (None) (ev opens e) (settled (form opens_d e)) (follows e)))
     follows (short e) = follows_settle (bind (ev opens e) (λ v. of.event (Short v) (v))) (and_then (settled (form opens_d e)) (λ v. emit (single (Short v)) (v))) (follows_bind (ev opens e) (settled (form opens_d e)) (λ v. of.event (Short v) (v)) (λ v. emit (single (Short v)) (v)) (follows e) (λ v. follows_event (Short v) (v) (single (Short v)) refl refl))
     follows (tested o again e) = follows_settle (tested_then (ev opens o) (λ v. ev_again opens v again) (ev opens e)) (and_then (test_with (settled (form opens_d o)) (λ v. once_more opens_d v again)) (λ w. settled (form opens_d e))) (test_follows (ev opens o) (settled (form opens_d o)) (λ v. ev_again opens v again) (λ v. once_more opens_d v again) (ev opens e) (settled (form opens_d e)) (follows o) (λ v. again_follows v again) (follows e))
-    follows (pattern m to) = follows_settle (ev_target opens to (λ r. bind (write_ready r (Undefined)) (λ w. of.gives (Undefined)))) (and_then (operands opens_d to) (λ t. and_then (write opens_d to t (Undefined)) (λ w. direct.gives (Undefined)))) (target_follows to (λ r. bind (write_ready r (Undefined)) (λ w. of.gives (Undefined))) (λ t. and_then (write opens_d to t (Undefined)) (λ w. direct.gives (Undefined))) (λ t. follows_bind (write_ready (ready_of opens to t) (Undefined)) (write opens_d to t (Undefined)) (λ w. of.gives (Undefined)) (λ w. direct.gives (Undefined)) (write_follows to t (Undefined)) (λ w. follows_gives (Undefined))))
+    follows (pattern m to) = follows_as (settle (of.no_meaning)) (of.no_meaning) (settled (direct.no_meaning)) (λ env. refl) (follows_settle (of.no_meaning) (direct.no_meaning) (follows_none))
     follows (steps es) = follows_settle (ev_all opens es (λ vs. of.gives (Undefined))) (and_then (all opens_d [] es) (λ vs. direct.gives (Undefined))) (all_follows [] es (λ vs. of.gives (Undefined)) (λ vs. direct.gives (Undefined)) (λ vs. follows_gives (Undefined)))
     follows (gives_to m to) = follows_settle (ev_target opens to (λ r. bind (write_ready r (ResultOf m)) (λ w. of.gives (Undefined)))) (and_then (operands opens_d to) (λ t. and_then (write opens_d to t (ResultOf m)) (λ w. direct.gives (Undefined)))) (target_follows to (λ r. bind (write_ready r (ResultOf m)) (λ w. of.gives (Undefined))) (λ t. and_then (write opens_d to t (ResultOf m)) (λ w. direct.gives (Undefined))) (λ t. follows_bind (write_ready (ready_of opens to t) (ResultOf m)) (write opens_d to t (ResultOf m)) (λ w. of.gives (Undefined)) (λ w. direct.gives (Undefined)) (write_follows to t (ResultOf m)) (λ w. follows_gives (Undefined))))
     follows (export_default e) = follows_settle (bind (ev opens e) (λ v. of.stands_for default_key v)) (and_then (settled (form opens_d e)) (λ v. direct.stands_for default_key v)) (follows_bind (ev opens e) (settled (form opens_d e)) (λ v. of.stands_for default_key v) (λ v. direct.stands_for default_key v) (follows e) (λ v. follows_stands default_key v))

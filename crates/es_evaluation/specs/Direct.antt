@@ -292,7 +292,7 @@ module _ (opens : Opened → Step Value) where
     form (chain m e) = held m (Part 0) None (settled (form e))
     form (short e) = and_then (settled (form e)) (λ v. emit (single (Short v)) v)
     form (tested o again e) = and_then (test_with (settled (form o)) (λ v. once_more v again)) (λ w. settled (form e))
-    form (pattern m to) = and_then (operands to) (λ t. and_then (write to t Undefined) (λ w. gives Undefined))
+    form (pattern m to) = no_meaning
     form (takes m ds k to) = no_meaning
     form (steps es) = and_then (all [] es) (λ vs. gives Undefined)
     form (gives_to m to) = and_then (operands to) (λ t. and_then (write to t (ResultOf m)) (λ w. gives Undefined))

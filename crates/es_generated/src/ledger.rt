@@ -3,7 +3,6 @@
 ghost use Rattle.std.specs.Prelude.{◌≡◌};
 ghost use Rattle.std.specs.Str.{chars};
 ghost use Rattle.es_steps.specs.Context as spec;
-ghost use Rattle.es_steps.specs.Lowered as lowered;
 
 use es_base::ledger::{GeneratedKind, LedgerEntry};
 use es_base::strings::is_word;
@@ -29,12 +28,9 @@ pub fn generated_as(name: &str, ledger: &[LedgerEntry]) -> Option<GeneratedKind>
 
 /// Whether the name of an identifier was generated.
 pub fn is_generated(name: &str, ledger: &[LedgerEntry]) -> bool
-    ensures { result ≡ lowered.is_generated (spec.generated_as (chars name.now) ledger.now) }
+    ensures { result ≡ spec.is_generated (chars name.now) ledger.now }
 {
-    match generated_as(name, ledger) {
-        Some(kind) => !is_private_entry(kind),
-        None => false,
-    }
+    generated_as(name, ledger).is_some()
 }
 
 /// Whether it is a private name that was generated for this class.

@@ -17,7 +17,7 @@ use es_shapes::private_chain::has_private_chain;
 use es_shapes::twice_read::has_twice_read_name;
 use es_shapes::written_class::has_written_class;
 use es_steps::options::Options;
-use es_unchanged::left::nothing_left;
+use es_left::left::nothing_left;
 use std::alloc::{AllocError, Global};
 
 /// The shapes of a program under these options: ascending, each once. Fails on allocation failure alone.
@@ -41,7 +41,7 @@ pub fn outside_shapes(
 }
 
 /// Whether the program has no shape, since nothing in it is lowered.
-#[tactic(auto, using(es_unchanged::proofs::Shapeless::no_shapes))]
+#[tactic(auto, using(es_left::proofs::Shapeless::no_shapes))]
 fn stays_as_it_is(program: &Node, options: &Options) -> bool
     ensures { result ≡ true → shapes options.now program.now ≡ [] }
 {

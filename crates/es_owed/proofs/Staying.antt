@@ -3,7 +3,7 @@ use Rattle.std.proofs.Common.{◌≡◌, refl, sym, ap, ◌∙◌, ℕ, List, []
 use Rattle.std.specs.Prelude.{nat_eq, not}
 use Rattle.es_base.specs.Tree.{Tree, Node, child, trees}
 use Rattle.es_node.specs.View.{kind_of, number_in, parts_in}
-use Rattle.es_steps.specs.Definitions.{body_numbers, chosen, element_numbers, elements_kept}
+use Rattle.es_lowered.specs.Definitions.{body_numbers, chosen, element_numbers, elements_kept}
 use Rattle.es_steps.specs.KeptNodes.{is_within}
 use Rattle.es_steps.specs.LoweredClasses.{Element, body_elements, element_of, elements_in, elements_of, is_lowered_element}
 use Rattle.es_steps.specs.Parts.{at}

@@ -1,7 +1,7 @@
 -- The elements of a class, one by one.
 use Rattle.std.specs.Prelude.{ℕ, List, [], ◌∷◌, ◌++◌, not}
 use Rattle.es_base.specs.Tree.{Tree, child}
-use Rattle.es_steps.specs.Definitions.{chosen, element_numbers}
+use Rattle.es_lowered.specs.Definitions.{chosen, element_numbers}
 use Rattle.es_steps.specs.LoweredClasses.{Element, element_of, is_lowered_element}
 use Rattle.es_steps.specs.declared.options.Options.{Options}
 

@@ -7,7 +7,7 @@ ghost use Rattle.es_base.specs.Tree.{child};
 ghost use Rattle.es_binding_faults.specs.Seen.{seen};
 ghost use Rattle.es_node.specs.View.{kind_of, number_in, parts_in};
 ghost use Rattle.es_shapes.specs.Classes.{element_view};
-ghost use Rattle.es_steps.specs.Definitions as spec;
+ghost use Rattle.es_lowered.specs.Definitions as spec;
 ghost use Rattle.es_steps.specs.KeptNodes as kept;
 ghost use Rattle.es_steps.specs.LoweredClasses as classes;
 ghost use Rattle.es_steps.specs.LoweredClasses.{element_of};

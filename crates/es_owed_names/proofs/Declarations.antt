@@ -6,7 +6,7 @@ use Rattle.es_base.specs.declared.kind.Kind.{Kind}
 use Rattle.es_base.specs.declared.ledger.LedgerEntry.{LedgerEntry}
 use Rattle.es_node.specs.View.{kind_of, number_in, parts_in}
 use Rattle.es_steps.specs.KeptNodes.{is_underscored}
-use Rattle.es_steps.specs.Lowered.{declared_by_kind, declaring_number, has_another_name, is_named_again, is_one_new, keys_of_body, keys_of_class, names_declared, private_key}
+use Rattle.es_lowered.specs.Lowered.{declared_by_kind, declaring_number, has_another_name, is_named_again, is_one_new, keys_of_body, keys_of_class, names_declared, private_key}
 use Rattle.es_steps.specs.Parts.{at, string_of}
 use Rattle.es_steps.specs.References.{Reference, resolve}
 use Rattle.es_steps.specs.Scopes.{is_binding_identifier}

@@ -5,7 +5,7 @@ use Rattle.es_base.specs.Conforms.{is_among}
 use Rattle.es_base.specs.Tree.{Tree, Parts, Node, more, child, absent}
 use Rattle.es_base.specs.declared.kind.Kind.{Kind}
 use Rattle.es_node.specs.View.{kind_of}
-use Rattle.es_steps.specs.OwnNames.{are_none, class_name_at, is_bound_among, own_name_number, references_to}
+use Rattle.es_lowered.specs.OwnNames.{are_none, class_name_at, is_bound_among, own_name_number, references_to}
 use Rattle.es_steps.specs.Parts.{at, string_of}
 use Rattle.es_steps.specs.References.{Reference}
 use Rattle.es_steps.specs.Values.{String}

@@ -6,7 +6,7 @@ use Rattle.es_base.specs.declared.kind.Kind.{Kind}
 use Rattle.es_node.specs.View.{part_of}
 use Rattle.es_node.specs.declared.node.Part as code
 use Rattle.es_base.specs.Numbered.{is_new}
-use Rattle.es_steps.specs.Lowered.{all_mean}
+use Rattle.es_lowered.specs.Lowered.{all_mean}
 use Rattle.es_steps.specs.Parts.{at, string_of}
 use Rattle.es_steps.specs.References.{Reference}
 use Rattle.es_steps.specs.Values.{String}

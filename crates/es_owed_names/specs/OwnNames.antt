@@ -2,7 +2,7 @@
 use Rattle.std.specs.Prelude.{ℕ, List, [], ◌∷◌, Bool, cond, ◌&&◌, ◌||◌, bytes_eq}
 use Rattle.es_base.specs.Preorder.{preorder}
 use Rattle.es_base.specs.Tree.{Tree, Node}
-use Rattle.es_steps.specs.OwnNames.{are_none, declares_class, references_to}
+use Rattle.es_lowered.specs.OwnNames.{are_none, declares_class, references_to}
 use Rattle.es_steps.specs.Parts.{at, string_of}
 use Rattle.es_steps.specs.References.{Reference}
 use Rattle.es_steps.specs.Values.{String}

@@ -4,8 +4,8 @@ ghost use Rattle.std.specs.Prelude.{◌≡◌, bytes_eq, codes, IfOk};
 ghost use Rattle.es_base.specs.Words.{variable_declaration_kind_string};
 ghost use Rattle.es_base.specs.Tree.{trees};
 ghost use Rattle.es_binding_faults.specs.Seen.{seen};
-ghost use Rattle.es_steps.specs.Lowered as spec;
-ghost use Rattle.es_steps.specs.Lowered.{all_accounted, has_new_declarator, is_accounted, is_new_const};
+ghost use Rattle.es_lowered.specs.Lowered as spec;
+ghost use Rattle.es_lowered.specs.Lowered.{all_accounted, has_new_declarator, is_accounted, is_new_const};
 
 use crate::own_names::own_name_numbers;
 use es_base::kind::Kind;

@@ -6,7 +6,7 @@ ghost use Rattle.es_base.specs.Tree.{child, trees};
 ghost use Rattle.es_binding_faults.specs.Seen.{seen};
 ghost use Rattle.es_node.specs.View.{kind_of};
 ghost use Rattle.es_steps.specs.KeptNodes as kept;
-ghost use Rattle.es_steps.specs.Lowered as spec;
+ghost use Rattle.es_lowered.specs.Lowered as spec;
 ghost use Rattle.es_steps.specs.References.{resolve};
 ghost use Rattle.es_owed_names.specs.Keys.{is_one_meant, key_at, part_or_absent};
 ghost use Rattle.es_references.specs.References.{reference_of, references_of};

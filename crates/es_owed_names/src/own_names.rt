@@ -4,8 +4,8 @@ ghost use Rattle.std.specs.Prelude.{◌≡◌, ◌++◌, ◌∷◌, [], cond, If
 ghost use Rattle.std.specs.Str.{chars};
 ghost use Rattle.es_base.specs.Conforms.{is_among};
 ghost use Rattle.es_binding_faults.specs.Seen.{seen};
-ghost use Rattle.es_steps.specs.OwnNames as spec;
-ghost use Rattle.es_steps.specs.OwnNames.{are_none, class_name_at, declares_class, own_name_number, own_name_numbers, references_to};
+ghost use Rattle.es_lowered.specs.OwnNames as spec;
+ghost use Rattle.es_lowered.specs.OwnNames.{are_none, class_name_at, declares_class, own_name_number, own_name_numbers, references_to};
 ghost use Rattle.es_owed_names.specs.OwnNames.{named_class, own_number};
 ghost use Rattle.es_references.specs.References.{reference_of, references_of};
 

@@ -7,19 +7,20 @@ use Rattle.es_base.specs.Numbered.{IsNumbered, EachOnce, AreConsecutive, numbers
 use Rattle.es_base.specs.Preorder.{preorder, nodes}
 use Rattle.es_base.specs.Tree.{Tree}
 use Rattle.es_base.specs.declared.ledger.LedgerEntry.{LedgerEntry}
-use Rattle.es_steps.specs.Definitions.{definitions_stand, all_temporaries, elements_kept}
-use Rattle.es_steps.specs.HelperCalls.{computed_keys, helper_calls_fit}
+use Rattle.es_lowered.specs.Definitions.{definitions_stand, all_temporaries, elements_kept}
+use Rattle.es_lowered.specs.HelperCalls.{computed_keys, helper_calls_fit}
 use Rattle.es_steps.specs.KeptNodes.{nodes_kept, classes_kept, statements_kept, lists_kept, homes_kept}
-use Rattle.es_steps.specs.KeptReferences.{references_stay}
-use Rattle.es_steps.specs.Lowered.{nothing_left, names_declared, declarations_accounted, initializations_stand, keys_stand, IsLowered}
-use Rattle.es_steps.specs.OwnNames.{own_names_stay}
+use Rattle.es_lowered.specs.KeptReferences.{references_stay}
+use Rattle.es_lowered.specs.Lowered.{names_declared, declarations_accounted, initializations_stand, keys_stand, IsLowered}
+use Rattle.es_lowered.specs.OwnNames.{own_names_stay}
+use Rattle.es_steps.specs.LoweredClasses.{nothing_left}
 use Rattle.es_steps.specs.Printable.{stays_printable}
 use Rattle.es_steps.specs.PrivateNames.{private_members}
 use Rattle.es_steps.specs.References.{has_number}
 use Rattle.es_steps.specs.Strict.{none_becomes_strict}
-use Rattle.es_steps.specs.Temporaries.{temporaries_steady}
-use Rattle.es_steps.specs.Texts.{texts_stay}
-use Rattle.es_steps.specs.Timely.{names_timely}
+use Rattle.es_lowered.specs.Temporaries.{temporaries_steady}
+use Rattle.es_lowered.specs.Texts.{texts_stay}
+use Rattle.es_lowered.specs.Timely.{names_timely}
 use Rattle.es_steps.specs.declared.options.Options.{Options}
 
 -- no number stands twice, and the new ones are first, first + 1, .. in preorder

@@ -3,7 +3,7 @@ use Rattle.std.specs.Prelude.{◌≡◌, ℕ, List, true, false}
 use Rattle.es_base.specs.Preorder.{nodes}
 use Rattle.es_base.specs.Tree.{Tree}
 use Rattle.es_base.specs.declared.ledger.LedgerEntry.{LedgerEntry}
-use Rattle.es_steps.specs.Lowered.{IsLowered}
+use Rattle.es_lowered.specs.Lowered.{IsLowered}
 use Rattle.es_steps.specs.Meaning.{source_means, lowered_means, has_meaning}
 use Rattle.es_steps.specs.SameMeanings.{same_meanings}
 use Rattle.es_steps.specs.Shapes.{shape_numbers, source_means_after}

@@ -11,7 +11,7 @@ ghost use Rattle.es_rows.specs.witnesses.FieldsExchanged.{source_fields_exchange
 ghost use Rattle.es_rows.specs.witnesses.FreeName.{source_free_name, options_free_name};
 ghost use Rattle.es_rows.specs.witnesses.NestedClasses.{source_nested_classes};
 ghost use Rattle.es_steps.specs.Events.{then, none, Define, ReadName, Set, Get, Call, Operate};
-ghost use Rattle.es_steps.specs.Lowered.{nothing_left};
+ghost use Rattle.es_steps.specs.LoweredClasses.{nothing_left};
 ghost use Rattle.es_steps.specs.Meaning.{source_means, lowered_means};
 ghost use Rattle.es_steps.specs.PrivateNames.{a_field, a_getter, member, private_members, used, resolve_privates};
 ghost use Rattle.es_steps.specs.Values.{BindingOf, ThisOf, ResultOf, Undefined, Free};

@@ -6,7 +6,7 @@ use Rattle.es_base.specs.Tree.{Tree, Part, Parts, Node, end, more, child, list}
 use Rattle.es_base.specs.declared.kind.Kind.{Kind}
 use Rattle.es_base.specs.declared.ledger.GeneratedKind.{GeneratedKind}
 use Rattle.es_base.specs.declared.ledger.LedgerEntry.{LedgerEntry}
-use Rattle.es_steps.specs.Context.{NameKind, Fixed, Changing, MeansClass, FunctionRole, a_function, constructor_of, method_on, super_function_of, Context, is_private_entry, generated_as, is_private_for, is_generated_private, if_around, around_inside, unless_varying, declared_kind, found_kind, generated_or, name_kind, is_super_call, holds_super, part_holds_super, parts_hold_super, rest_among, super_statement, first_super, initializing_call, Frame, function_frame, arrow_frame, class_frame, field_frame, method_frame, static_block_frame, object_frame, property_frame, assignment_frame, declarator_frame, same_frame, frame_of, in_function, in_element, is_constructor, method_role, property_role, role_of_generated, name_in, let_class_of, framed, role_in, inner_name, inside}
+use Rattle.es_steps.specs.Context.{NameKind, Fixed, Changing, MeansClass, FunctionRole, a_function, constructor_of, method_on, super_function_of, Context, is_private_entry, generated_as, is_generated, is_private_for, is_generated_private, if_around, around_inside, unless_varying, declared_kind, found_kind, generated_or, name_kind, is_super_call, holds_super, part_holds_super, parts_hold_super, rest_among, super_statement, first_super, initializing_call, Frame, function_frame, arrow_frame, class_frame, field_frame, method_frame, static_block_frame, object_frame, property_frame, assignment_frame, declarator_frame, same_frame, frame_of, in_function, in_element, is_constructor, method_role, property_role, role_of_generated, name_in, let_class_of, framed, role_in, inner_name, inside}
 use Rattle.es_steps.specs.Meaning.{Terms, start}
 use Rattle.es_steps.specs.Parts.{at, items, block_items, string_of, is_true, is_present}
 use Rattle.es_steps.specs.PrivateNames.{seen_members}
@@ -14,7 +14,7 @@ use Rattle.es_steps.specs.References.{declared, has_number, names_around}
 use Rattle.es_steps.specs.Scopes.{ClassName, no_class, declares, own_name, let_names, Declaration, bound_part, names_at, class_in}
 use Rattle.es_steps.specs.Values.{String, Bound, Home, OfClass, OfPrototype}
 use Rattle.es_steps.proofs.Mapped.{mapped, mapped_part, mapped_parts, mapped_class_name, mapped_declaration, mapped_declarations, mapped_option, mapped_generated, mapped_ledger, mapped_name_kind, mapped_private, mapped_home, mapped_role, mapped_pair, mapped_context, mapped_terms, Renames}
-use Rattle.es_steps.proofs.PartsMapped.{cond-mapped, append-mapped, at-mapped, items_at-mapped, block_items_at-mapped, string_at-mapped, is_true_at-mapped, is_present_at-mapped, number_of-mapped}
+use Rattle.es_steps.proofs.PartsMapped.{cond-mapped, append-mapped, is_some-mapped, at-mapped, items_at-mapped, block_items_at-mapped, string_at-mapped, is_true_at-mapped, is_present_at-mapped, number_of-mapped}
 use Rattle.es_steps.proofs.PrivatesMapped.{seen_members-mapped}
 use Rattle.es_steps.proofs.ReferencesMapped.{declared-mapped, has_number-mapped, changes_free-mapped, varying-mapped, names_around-mapped}
 use Rattle.es_steps.proofs.ScopesMapped.{bound_at-mapped, names_at-mapped, class_in-mapped}
@@ -31,6 +31,9 @@ module _ (f : ℕ → ℕ) where
   generated_as-mapped s (e ∷ es) =
       rw (is_private_entry-mapped e.kind)
       (cond-mapped (mapped_option (mapped_generated f)) (is_private_entry e.kind) (generated_as s es) _ (generated_as-mapped s es) (cond-mapped (mapped_option (mapped_generated f)) (bytes_eq s e.name) (Some e.kind) _ refl (generated_as-mapped s es)))
+
+  pub is_generated-mapped : (s : String) (es : List LedgerEntry) → is_generated s (mapped_ledger f es) ≡ is_generated s es
+  is_generated-mapped s es = rw (generated_as-mapped s es) (is_some-mapped (mapped_generated f) (generated_as s es))
 
   -- ---- which `super(..)` runs the initializers
 

@@ -405,7 +405,7 @@ module _ {first : ℕ} {f : ℕ → ℕ} (r : Renames first f) where
       ev-follows (chain m e) = held-follows f m (Part 0) None (ev-follows e)
       ev-follows (short e) = settle-follows f (bind-follows f _ _ (ev-follows e) (λ v. event-follows f (Short v) v))
       ev-follows (tested o again e) = settle-follows f (tested-follows f _ _ (ev-follows o) (λ v. ev_again-follows v again) (ev-follows e))
-      ev-follows (pattern m to) = settle-follows f (ev_target-follows to _ _ (λ t u x. bind-follows f _ _ (x.writes Undefined) (λ w. gives-follows f Undefined)))
+      ev-follows (pattern m to) = no_meaning-follows f
       ev-follows (takes m ds k to) = no_meaning-follows f
       ev-follows (steps es) = settle-follows f (ev_all-follows es _ _ (λ vs. gives-follows f Undefined))
       ev-follows (gives_to m to) = settle-follows f (ev_target-follows to _ _ (λ t u x. bind-follows f _ _ (x.writes (ResultOf m)) (λ w. gives-follows f Undefined)))

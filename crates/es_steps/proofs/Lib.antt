@@ -27,13 +27,3 @@ pub mod Renaming
 pub mod Renumbering
 pub mod PrintableMapped
 pub mod KeptNodesMapped
-pub mod DefinitionsMapped
-pub mod HelperCallsMapped
-pub mod OwnNamesMapped
-pub mod LoweredMapped
-pub mod TemporariesMapped
-pub mod TextsMapped
-pub mod TimelyMapped
-pub mod ClassNamesMapped
-pub mod KeptReferencesMapped
-pub mod Clauses

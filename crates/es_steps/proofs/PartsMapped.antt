@@ -1,12 +1,12 @@
 -- Members, items and strings of parts stand where they stood under other numbers; what is chosen or put together is mapped part by part.
-use Rattle.std.specs.Prelude.{◌≡◌, ℕ, zero, suc, List, ◌∷◌, ◌++◌, map, Bool, true, false, cond, not, ◌||◌, None}
+use Rattle.std.specs.Prelude.{◌≡◌, ℕ, zero, suc, List, ◌∷◌, ◌++◌, map, Bool, true, false, cond, not, ◌||◌, Option, Some, None, is_some}
 use Rattle.std.proofs.Common.{refl, sym, ap, ap₂, ◌∙◌}
 use Rattle.std.proofs.lemmas.List.{map-append}
 use Rattle.es_base.specs.Preorder.{number_of, preorder, preorder_of_part, preorder_of}
 use Rattle.es_base.specs.Tree.{Tree, Part, Parts, Node, end, more, child, absent, list, string, boolean}
 use Rattle.es_base.specs.declared.kind.Kind.{Kind}
 use Rattle.es_steps.specs.Parts.{at, items, block_items, string_of, is_true, is_present, is_simple_parameter, has_pattern}
-use Rattle.es_steps.proofs.Mapped.{mapped, mapped_part, mapped_parts}
+use Rattle.es_steps.proofs.Mapped.{mapped, mapped_part, mapped_parts, mapped_option}
 
 -- ---- choices and lists
 
@@ -16,6 +16,10 @@ cond-mapped g false x y p q = q
 
 pub append-mapped : {A B : Type 0} (g : A → B) (xs ys : List A) {vs ws : List B} → vs ≡ map g xs → ws ≡ map g ys → vs ++ ws ≡ map g (xs ++ ys)
 append-mapped g xs ys p q = rw (p, q) (sym (map-append g xs ys))
+
+pub is_some-mapped : {A B : Type 0} (g : A → B) (x : Option A) → is_some (mapped_option g x) ≡ is_some x
+is_some-mapped g None = refl
+is_some-mapped g (Some a) = refl
 
 -- ---- parts
 

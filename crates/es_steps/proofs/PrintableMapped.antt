@@ -315,6 +315,7 @@ module _ (f : ℕ → ℕ) where
   is_stray-mapped : (j : Jumps) (kind : Kind) (ps : Parts) → is_stray j kind (mapped_parts f ps) ≡ is_stray j kind ps
   is_stray-mapped j Kind.BreakStatement ps = ap not (label_at-mapped j.breaks j.labels ps)
   is_stray-mapped j Kind.ContinueStatement ps = ap not (label_at-mapped j.continues j.loops ps)
+  is_stray-mapped j Kind.LabeledStatement ps = ap (λ s. is_among s j.labels) (ap name_of_part (at-mapped f 0 ps) ∙ name_of_part-mapped (at 0 ps))
   is_stray-mapped j kind ps = refl
 
   mutual

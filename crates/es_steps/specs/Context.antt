@@ -1,7 +1,7 @@
 -- What is known at a place of a tree: which names are seen there, what `this` is, which class stands around.
 -- (ECMA-262, 9.1, 9.2 and 9.4: environments, private environments, execution contexts. What new nodes and generated
 -- names are is our own.)
-use Rattle.std.specs.Prelude.{ℕ, List, [], ◌∷◌, ◌++◌, Bool, true, false, cond, ◌||◌, ◌&&◌, codes, bytes_eq, nat_eq, Option, Some, None}
+use Rattle.std.specs.Prelude.{ℕ, List, [], ◌∷◌, ◌++◌, Bool, true, false, cond, ◌||◌, ◌&&◌, codes, bytes_eq, nat_eq, Option, Some, None, is_some}
 use Rattle.es_base.specs.Numbered.{is_new}
 use Rattle.es_base.specs.Tree.{Tree, Part, Parts, Node, end, more, child, list}
 use Rattle.es_base.specs.declared.kind.Kind.{Kind}
@@ -85,6 +85,10 @@ is_private_entry g = false
 abbrev pub generated_as : String → List LedgerEntry → Option GeneratedKind
 generated_as s [] = None
 generated_as s (e ∷ es) = cond (is_private_entry e.kind) (generated_as s es) (cond (bytes_eq s e.name) (Some e.kind) (generated_as s es))
+
+-- whether an identifier of this spelling was generated
+abbrev pub is_generated : String → List LedgerEntry → Bool
+is_generated s ledger = is_some (generated_as s ledger)
 
 -- whether a private name of this spelling was generated for class n
 abbrev pub is_private_for : ℕ → GeneratedKind → Bool

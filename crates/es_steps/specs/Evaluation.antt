@@ -358,7 +358,8 @@ module _ (opens : Opened → Evaluation) where
     ev (chain m e) = held m (Part 0) None (ev e)
     ev (short e) = settle (bind (ev e) (λ v. event (Short v) v))
     ev (tested o again e) = settle (tested_then (ev o) (λ v. ev_again v again) (ev e))
-    ev (pattern m to) = settle (ev_target to (λ t. bind (write_ready t Undefined) (λ w. gives Undefined)))
+    -- a declarator that is a pattern has an initializer (14.3.1, 14.3.2)
+    ev (pattern m to) = no_meaning
     ev (takes m ds k to) = no_meaning
     ev (steps es) = settle (ev_all es (λ vs. gives Undefined))
     ev (gives_to m to) = settle (ev_target to (λ t. bind (write_ready t (ResultOf m)) (λ w. gives Undefined)))

@@ -14,13 +14,12 @@ use Rattle.es_steps.specs.Evaluation.{Evaluation, ev, bind, settle, event}
 use Rattle.es_steps.specs.Events.{Define}
 use Rattle.es_steps.specs.FirstForm.{is_first_form}
 use Rattle.es_steps.specs.GeneratedForms.{known_object}
-use Rattle.es_steps.specs.Lowered.{MeetsClauses, IsLowered}
 use Rattle.es_steps.specs.Meaning.{Meaning, Terms, means, source_means, has_meaning}
 use Rattle.es_steps.specs.PrivateNames.{private_members, resolve_privates}
 use Rattle.es_steps.specs.Reading.{read}
 use Rattle.es_steps.specs.References.{declared}
 use Rattle.es_steps.specs.SameMeanings.{same_meanings}
-use Rattle.es_steps.specs.Standing.{meaning_numbers, terms_numbers, all_old, all_numbers, ledger_numbers}
+use Rattle.es_steps.specs.Standing.{meaning_numbers, terms_numbers, all_old}
 use Rattle.es_steps.specs.Values.{Value, ResultOf, as_key}
 use Rattle.es_steps.specs.declared.options.Options.{Options}
 
@@ -43,10 +42,6 @@ PrivateSemanticIdsLaw = (t : Tree) → (private_members (stripped t) ≡ private
 -- giving the new nodes their numbers anew, in preorder, keeps a meaning, if none of them stands in it or in its terms
 abbrev pub RenumberingLaw : Type 0
 RenumberingLaw = (o : Terms) (t : Tree) (m : Meaning) → EachOnce (numbers t) → all_old o.first_new (terms_numbers o) ≡ true → means o t ≡ Some m → all_old o.first_new (meaning_numbers m) ≡ true → means o (renumbered o.first_new o.first_new t) ≡ Some m
-
--- and gives a program that owes nothing but its numbers what it owes, where the source and the ledger tell of no new node
-abbrev pub ClausesLaw : Type 0
-ClausesLaw = (first : ℕ) (o : Options) (ledger : List LedgerEntry) (p q : Tree) → EachOnce (numbers q) → all_old first (numbers p) ≡ true → all_old first (all_numbers ledger_numbers ledger) ≡ true → MeetsClauses first o ledger p q → IsLowered first o ledger p (renumbered first first q)
 
 -- a program of the table's grammar that is of the first form has a meaning, under all options
 abbrev pub FirstFormLaw : Type 0

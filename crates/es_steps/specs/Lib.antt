@@ -1,7 +1,5 @@
-pub mod ClassNames
 pub mod Code
 pub mod Context
-pub mod Definitions
 pub mod Entries
 pub mod Evaluation
 pub mod Events
@@ -9,12 +7,9 @@ pub mod Expressions
 pub mod FirstForm
 pub mod Generated
 pub mod GeneratedForms
-pub mod HelperCalls
 pub mod Helpers
 pub mod KeptNodes
-pub mod KeptReferences
 pub mod Law
-pub mod Lowered
 pub mod LoweredClasses
 pub mod Meaning
 pub mod Members
@@ -22,7 +17,6 @@ pub mod Modules
 pub mod NameScopes
 pub mod Opening
 pub mod Options
-pub mod OwnNames
 pub mod Parts
 pub mod Printable
 pub mod PrivateNames
@@ -40,8 +34,5 @@ pub mod Shared
 pub mod Statements
 pub mod Standing
 pub mod Strict
-pub mod Temporaries
-pub mod Texts
-pub mod Timely
 pub mod Told
 pub mod Values

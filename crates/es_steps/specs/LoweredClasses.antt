@@ -108,3 +108,22 @@ is_hoisted_key written references e = e.computed && needs_temporary written refe
 -- a field without any event but its key's
 abbrev pub is_left_out : Options → Element → Bool
 is_left_out o e = leaves_out_fields o && (e.is_field && (not e.is_private && not (is_present e.value)))
+
+-- ---- nothing that the options lower is left
+
+abbrev pub is_lowered_kind : Options → Kind → Bool
+is_lowered_kind o Kind.PropertyDefinition = lowers_fields o
+is_lowered_kind o Kind.PrivateIdentifier = lowers_fields o
+is_lowered_kind o Kind.PrivateIn = lowers_fields o
+is_lowered_kind o Kind.StaticBlock = lowers_blocks o
+is_lowered_kind o kind = false
+
+abbrev pub kind_of : Tree → Kind
+kind_of (Node kind m span semantic_id ps) = kind
+
+abbrev pub none_lowered : Options → List Tree → Bool
+none_lowered o [] = true
+none_lowered o (t ∷ ts) = not (is_lowered_kind o (kind_of t)) && none_lowered o ts
+
+abbrev pub nothing_left : Options → Tree → Bool
+nothing_left o q = none_lowered o (preorder q)

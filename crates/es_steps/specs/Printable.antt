@@ -514,6 +514,7 @@ abbrev pub is_stray : Jumps → Kind → Parts → Bool
 is_stray j Kind.BreakStatement ps = not (is_label_among j.breaks j.labels (at 0 ps))
 is_stray j Kind.ContinueStatement ps = not (is_label_among j.continues j.loops (at 0 ps))
 is_stray j Kind.ReturnStatement ps = not j.returns
+is_stray j Kind.LabeledStatement ps = is_among (name_of_part (at 0 ps)) j.labels
 is_stray j kind ps = false
 
 -- whether a statement is a loop, behind its labels

@@ -1,6 +1,6 @@
 // The laws of meanings: functions that do nothing.
 
-ghost use Rattle.es_steps.specs.Law.{DifferenceLaw, SemanticIdsLaw, SourceSemanticIdsLaw, PrivateSemanticIdsLaw, RenumberingLaw, ClausesLaw, FirstFormLaw, DefineLaw};
+ghost use Rattle.es_steps.specs.Law.{DifferenceLaw, SemanticIdsLaw, SourceSemanticIdsLaw, PrivateSemanticIdsLaw, RenumberingLaw, FirstFormLaw, DefineLaw};
 
 /// Meanings that are found to differ are not equal.
 pub fn different_meanings_are_not_equal()
@@ -19,12 +19,6 @@ pub fn semantic_ids_mean_nothing()
 /// number stands twice and no number of a new node stands in the meaning or in its terms.
 pub fn renumbering_keeps_meaning()
     ensures { RenumberingLaw }
-{}
-
-/// It keeps what a lowered program owes beside, and numbers it, if the source and the generated names
-/// tell of no new node.
-pub fn renumbering_keeps_what_is_owed()
-    ensures { ClausesLaw }
 {}
 
 /// A program of the first form has a meaning, under all options.

@@ -1,4 +1,4 @@
-//! What a program means: names, values, events, evaluation, classes, and what a lowered program owes.
+//! What a program means: names, values, events, evaluation, classes; and what may be printed.
 //! docs/MEANING.md has each definition in plain words.
 #![tactic(auto)]
 

@@ -1,9 +1,5 @@
-pub mod First
 pub mod Names
 pub mod References
-pub mod Quiet
-pub mod Shapeless
 pub mod Standing
 pub mod Unchanged
-pub mod Unlowered
 pub mod Unmarked

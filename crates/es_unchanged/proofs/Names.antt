@@ -7,15 +7,16 @@ use Rattle.es_base.specs.Numbered.{is_new, EachOnce}
 use Rattle.es_base.specs.Preorder.{number_of, preorder, preorder_of_part}
 use Rattle.es_base.specs.Tree.{Tree, Parts, Node, end, more, child, absent}
 use Rattle.es_base.specs.declared.kind.Kind.{Kind}
+use Rattle.es_left.proofs.Booleans.{both}
 use Rattle.es_steps.proofs.Reflexive.{number-same}
 use Rattle.es_steps.specs.KeptNodes.{are_new_or_among, numbers_in_class, none_enters, classes_kept}
-use Rattle.es_steps.specs.OwnNames.{is_bound_among, references_to, identifier_at, identifiers_at, any_stands, loses_name, none_loses_name, declares_by, any_declares, all_moved, reads_itself, none_reads_itself, own_names_stay}
+use Rattle.es_lowered.specs.OwnNames.{is_bound_among, references_to, identifier_at, identifiers_at, any_stands, loses_name, none_loses_name, declares_by, any_declares, all_moved, reads_itself, none_reads_itself, own_names_stay}
 use Rattle.es_steps.specs.Parts.{at}
 use Rattle.es_steps.specs.PrivateNames.{is_class}
 use Rattle.es_steps.specs.References.{Reference, resolve, has_number}
 use Rattle.es_steps.specs.Strict.{strict_numbers, none_becomes_strict}
 use Rattle.es_steps.specs.Values.{Referent, Bound}
-use Rattle.es_unchanged.proofs.Standing.{both, In, here, later, Among, apart-sym}
+use Rattle.es_unchanged.proofs.Standing.{In, here, later, Among, apart-sym}
 
 pub or-true : (a b : Bool) → b ≡ true → (a || b) ≡ true
 or-true true b h = refl

@@ -3,11 +3,12 @@ use Rattle.std.specs.Prelude.{◌≡◌, ℕ, List, [], ◌∷◌, ◌++◌, Boo
 use Rattle.std.proofs.Common.{refl}
 use Rattle.es_base.specs.Preorder.{preorder}
 use Rattle.es_base.specs.Tree.{Tree}
+use Rattle.es_left.proofs.Booleans.{both}
 use Rattle.es_steps.proofs.Reflexive.{number-same}
 use Rattle.es_steps.specs.KeptNodes.{pair_stands, all_pairs_stand}
-use Rattle.es_steps.specs.KeptReferences.{plain_targets, writing_numbers, write_fits, writes_fit, InnerReference, inner_references, same_place, stands_where, all_stand_where, references_stay}
+use Rattle.es_lowered.specs.KeptReferences.{plain_targets, writing_numbers, write_fits, writes_fit, InnerReference, inner_references, same_place, stands_where, all_stand_where, references_stay}
 use Rattle.es_steps.specs.References.{Reference, resolve, has_number}
-use Rattle.es_unchanged.proofs.Standing.{both, or_left, or_right}
+use Rattle.es_unchanged.proofs.Standing.{or_left, or_right}
 
 -- old are numbers of references that write
 writes-own : (targets old : List ℕ) (rs : List Reference) → ((m : ℕ) → has_number m (writing_numbers rs) ≡ true → has_number m old ≡ true) → writes_fit [] targets old rs ≡ true

@@ -8,7 +8,7 @@ use Rattle.es_base.specs.declared.literal.LiteralValue.{LiteralValue}
 use Rattle.es_base.specs.declared.literal.LiteralValue.TheVariants as literal_value
 use Rattle.es_steps.proofs.FirstMeaning.{no_false}
 use Rattle.es_steps.proofs.Reflexive.{number-same, string-same}
-use Rattle.es_steps.specs.Definitions.{DefinedKey, BrandKey, PrivateKey, PublicKey, FieldDefinition, key_temporary, key_temporaries, all_temporaries}
+use Rattle.es_lowered.specs.Definitions.{DefinedKey, BrandKey, PrivateKey, PublicKey, FieldDefinition, key_temporary, key_temporaries, all_temporaries}
 use Rattle.es_steps.specs.KeptNodes.{NodeSort, a_class, a_function, a_call, a_construction, another, sort_of, is_kept_sort, same_sort, stands_as, all_stand, stands_equal, all_equal, list_of, is_within, all_within, Homed, is_underscored, home_fits, name_fits, stands_at_home, stands_nowhere, all_at_home}
 use Rattle.es_steps.specs.PrivateNames.{PrivateMember, is_class}
 use Rattle.es_steps.specs.References.{has_number}
@@ -17,19 +17,12 @@ use Rattle.es_steps.specs.SameValues.{same_boolean, same_nullable_string}
 use Rattle.es_steps.specs.Values.{String}
 use Rattle.es_steps.specs.declared.options.Options.{Options}
 
-pub both : {a b : Bool} → a ≡ true → b ≡ true → a && b ≡ true
-both {a = a} {b = b} p q = and_from a b p q
-
 pub or_left : (a b : Bool) → a ≡ true → a || b ≡ true
 or_left a b h = rw h refl
 
 pub or_right : (a b : Bool) → b ≡ true → a || b ≡ true
 or_right true b h = refl
 or_right false b h = h
-
-pub none_of : (a b : Bool) → (a || b) ≡ false → (a ≡ false) × (b ≡ false)
-none_of true b h = absurd (true≢false h)
-none_of false b h = (refl, h)
 
 pub still_new : {first : ℕ} (k j : ℕ) → first ≤ k → first ≤ k + j
 still_new k j new = omega (arith, new)

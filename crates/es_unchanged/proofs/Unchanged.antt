@@ -10,26 +10,27 @@ use Rattle.es_base.specs.Numbered.{is_new, AreConsecutive, EachOnce, IsNumbered,
 use Rattle.es_base.specs.Preorder.{nodes, nodes_of, nodes_of_part, preorder, preorder_of, preorder_of_part, number_of, numbered_from, numbered_part, numbered_parts}
 use Rattle.es_base.specs.Tree.{Tree, Part, Parts, Node, end, more, child, absent, list, string, no_string, boolean, literal}
 use Rattle.es_base.specs.declared.kind.Kind.{Kind}
+use Rattle.es_left.proofs.Booleans.{both, none_of}
 use Rattle.es_steps.proofs.Reflexive.{number-same}
 use Rattle.es_steps.specs.Context.{is_constructor}
-use Rattle.es_steps.specs.Definitions.{FieldDefinition, chosen, element_numbers, body_numbers, elements_kept, call_definition, definition_at, definitions_in, definitions_at, definitions_of, function_definitions, super_definitions, constructor_definitions, all_definitions, instance_definitions, static_definitions, is_instance_method, any_of, defined_fields, class_fits, classes_fit, definitions_stand}
-use Rattle.es_steps.specs.HelperCalls.{is_new_private, kept_keys, all_by, new_private_names, private_keys, kept_keys_converted, is_helper_callee, computed_keys, StaticKey, Naming, naming_in, naming_of_element, is_class_body, field_key, method_keys, field_keys, call_fits, calls_fit, calls_in, calls_at, calls_of, calls_of_body}
+use Rattle.es_lowered.specs.Definitions.{FieldDefinition, chosen, element_numbers, body_numbers, elements_kept, call_definition, definition_at, definitions_in, definitions_at, definitions_of, function_definitions, super_definitions, constructor_definitions, all_definitions, instance_definitions, static_definitions, is_instance_method, any_of, defined_fields, class_fits, classes_fit, definitions_stand}
+use Rattle.es_lowered.specs.HelperCalls.{is_new_private, kept_keys, all_by, new_private_names, private_keys, kept_keys_converted, is_helper_callee, computed_keys, StaticKey, Naming, naming_in, naming_of_element, is_class_body, field_key, method_keys, field_keys, call_fits, calls_fit, calls_in, calls_at, calls_of, calls_of_body}
 use Rattle.es_steps.specs.KeptNodes.{stands_equal, statement_list, declared_classes, carried_classes, item_number, item_numbers, free_number, free_numbers, is_static_block, free_lists, free_lists_at, free_lists_in, list_of, is_within, all_within, is_free_statement, stays_in_list, free_statements, free_at, free_in, all_homes, lowered_blocks}
-use Rattle.es_steps.specs.Lowered.{IsLowered, nothing_left, has_new_declarator, is_new_const, is_accounted, all_accounted}
-use Rattle.es_steps.specs.LoweredClasses.{Element, elements_of, is_lowered_element, any_element, is_lowered_class, holds_lowered, has_lowered_class, constructor_function, constructor_in}
+use Rattle.es_lowered.specs.Lowered.{IsLowered, has_new_declarator, is_new_const, is_accounted, all_accounted}
+use Rattle.es_steps.specs.LoweredClasses.{Element, elements_of, is_lowered_element, any_element, is_lowered_class, holds_lowered, has_lowered_class, constructor_function, constructor_in, nothing_left}
 use Rattle.es_steps.specs.Options.{lowers_fields, lowers_blocks}
-use Rattle.es_steps.specs.OwnNames.{own_name_numbers}
+use Rattle.es_lowered.specs.OwnNames.{own_name_numbers}
 use Rattle.es_steps.specs.Parts.{at, items, string_of}
 use Rattle.es_steps.specs.Printable.{is_printable, bare_strings, all_among}
 use Rattle.es_steps.specs.PrivateNames.{private_members, is_class}
 use Rattle.es_steps.specs.References.{resolve, has_number}
 use Rattle.es_steps.specs.Scopes.{is_binding_identifier}
-use Rattle.es_steps.specs.Texts.{has_name, has_characters, has_its_text, all_have_their_texts}
+use Rattle.es_lowered.specs.Texts.{has_name, has_characters, has_its_text, all_have_their_texts}
 use Rattle.es_steps.specs.Values.{String}
 use Rattle.es_steps.specs.declared.options.Options.{Options}
 use Rattle.es_unchanged.proofs.Names.{or-true, number-apart, names-stay, strict-stays, classes-stay}
 use Rattle.es_unchanged.proofs.References.{references-stay}
-use Rattle.es_unchanged.proofs.Standing.{stands-equal, both, none_of, In, here, later, in-left, in-right, Among, among-append, all-equal, all-stand, within-more, within-both, within-same, within-append, all_within-append, apart-sym, home-same, temporaries-none}
+use Rattle.es_unchanged.proofs.Standing.{stands-equal, In, here, later, in-left, in-right, Among, among-append, all-equal, all-stand, within-more, within-both, within-same, within-append, all_within-append, apart-sym, home-same, temporaries-none}
 use Rattle.es_unchanged.proofs.Unmarked.{names-timely}
 
 -- ---- no number is new

@@ -3,10 +3,10 @@ use Rattle.std.proofs.Common.{◌≡◌, refl, ℕ, suc, List, [], ◌++◌, Boo
 use Rattle.es_base.specs.Preorder.{preorder}
 use Rattle.es_base.specs.Tree.{Tree, Part, Parts, Node, end, more, child, list}
 use Rattle.es_base.specs.declared.kind.Kind.{Kind}
-use Rattle.es_steps.specs.HelperCalls.{is_class_body, runs_with_class}
+use Rattle.es_lowered.specs.HelperCalls.{is_class_body, runs_with_class}
 use Rattle.es_steps.specs.Parts.{at}
 use Rattle.es_steps.specs.PrivateNames.{PrivateMember, is_element}
-use Rattle.es_steps.specs.Timely.{MarkForm, is_named, leading_lets, nowhere, is_same, Mark, Around, declared_mark, initialized_mark, marks_before, marks_behind, marks, marks_in, marks_at, marks_of, around_in, is_given, let_form, is_called_arrow, key_marks, value_marks, names_timely}
+use Rattle.es_lowered.specs.Timely.{MarkForm, is_named, leading_lets, nowhere, is_same, Mark, Around, declared_mark, initialized_mark, marks_before, marks_behind, marks, marks_in, marks_at, marks_of, around_in, is_given, let_form, is_called_arrow, key_marks, value_marks, names_timely}
 
 abbrev Unmarked : List Mark → Type 0
 Unmarked ms = ms ≡ []

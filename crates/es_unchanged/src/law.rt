@@ -1,11 +1,6 @@
 // The laws of programs that have nothing to lower: functions that do nothing.
 
-ghost use Rattle.es_unchanged.specs.Law.{UnloweredLaw, UnchangedLaw, SameLaw, UnshapedLaw};
-
-/// In a program that holds nothing that the options lower, no class is lowered.
-pub fn unchanged_programs_have_no_lowered_class()
-    ensures { UnloweredLaw }
-{}
+ghost use Rattle.es_unchanged.specs.Law.{UnchangedLaw, SameLaw};
 
 /// A program that is numbered in preorder and has nothing that the options lower owes nothing as it is, without generated
 /// names.
@@ -16,9 +11,4 @@ pub fn unchanged_programs_owe_nothing()
 /// And it means as a lowered program what it means as a source, if it has a meaning.
 pub fn unchanged_programs_mean_the_same()
     ensures { SameLaw }
-{}
-
-/// And it has no shape, where it is a program of the table's grammar and static blocks are not lowered.
-pub fn unchanged_programs_have_no_shape()
-    ensures { UnshapedLaw }
 {}

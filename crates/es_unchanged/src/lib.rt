@@ -1,5 +1,4 @@
-//! Programs that have nothing to lower, and come back as they are.
+//! Programs that have nothing to lower owe nothing, and mean the same, as they are.
 #![tactic(auto)]
 
 pub mod law;
-pub mod left;

@@ -150,11 +150,12 @@ no_super_form a kind ps one two three = refl
 
 -- ---- jumps
 
-pub no_stray : (j : jumps.Jumps) (kind : Kind) (ps : Parts) → (kind ≡ Kind.BreakStatement → ⊥) → (kind ≡ Kind.ContinueStatement → ⊥) → (kind ≡ Kind.ReturnStatement → ⊥) → is_stray j kind ps ≡ false
-no_stray j Kind.BreakStatement ps one two three = absurd (one refl)
-no_stray j Kind.ContinueStatement ps one two three = absurd (two refl)
-no_stray j Kind.ReturnStatement ps one two three = absurd (three refl)
-no_stray j kind ps one two three = refl
+pub no_stray : (j : jumps.Jumps) (kind : Kind) (ps : Parts) → (kind ≡ Kind.BreakStatement → ⊥) → (kind ≡ Kind.ContinueStatement → ⊥) → (kind ≡ Kind.ReturnStatement → ⊥) → (kind ≡ Kind.LabeledStatement → ⊥) → is_stray j kind ps ≡ false
+no_stray j Kind.BreakStatement ps one two three four = absurd (one refl)
+no_stray j Kind.ContinueStatement ps one two three four = absurd (two refl)
+no_stray j Kind.ReturnStatement ps one two three four = absurd (three refl)
+no_stray j Kind.LabeledStatement ps one two three four = absurd (four refl)
+no_stray j kind ps one two three four = refl
 
 pub no_label_looping : (t : Tree) → (kind_of t ≡ Kind.LabeledStatement → ⊥) → is_looping t ≡ is_loop (kind_of t)
 no_label_looping (Node Kind.LabeledStatement m span semantic_id ps) other = absurd (other refl)

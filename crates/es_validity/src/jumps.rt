@@ -68,7 +68,8 @@ fn has_loop(labels: &Labels, name: &str) -> bool
     }
 }
 
-/// Whether the node is a `break`, `continue` or `return` without what it leaves.
+/// Whether the node is a `break`, `continue` or `return` without what it leaves, or a statement with a label that it stands in
+/// already (ECMA-262, 14.13.1).
 #[tactic(auto, using(crate::proofs::OfKinds::return_kind, crate::proofs::OfKinds::no_stray))]
 pub fn is_stray(jumps: &Jumps, node: &Node) -> bool
     ensures { result ≡ printable.is_stray (jumps_of jumps.now) (kind_of node.now) (parts_in node.now) }
@@ -83,6 +84,9 @@ pub fn is_stray(jumps: &Jumps, node: &Node) -> bool
             None => !jumps.continues,
         },
         Kind::ReturnStatement => !jumps.returns,
+        Kind::LabeledStatement => {
+            has_label(&jumps.labels, name_of(LabeledStatementRef::from_node(node).label))
+        }
         _ => false,
     }
 }

@@ -2,6 +2,7 @@
 use Rattle.std.proofs.Common.{inl, inr, ◌≡◌, refl, sym, ap, ap₂, ◌∙◌, subst, ℕ, ◌<◌, ◌≤◌, List, length, Option, Some, None, Result, Ok, Err, true, true≢false, arith}
 use Rattle.std.specs.Prelude.{◌⊎◌, nat_le, is_none}
 use Rattle.std.proofs.lemmas.Bool.{leb-true}
+use Rattle.es_steps.specs.LoweredClasses.{nothing_left}
 use Rattle.serde_json.specs.Data.{Data}
 use Rattle.serde_json.specs.Read.{read as read_text}
 use Rattle.es_base.specs.Tree.{Tree}
@@ -10,7 +11,6 @@ use Rattle.es_reading.specs.Reading.{read, root}
 use Rattle.es_reading.specs.declared.numbers.Numbers.{Numbers}
 use Rattle.es_base.specs.Preorder.{nodes}
 use Rattle.es_steps.specs.FirstForm.{most_nodes}
-use Rattle.es_steps.specs.Lowered.{nothing_left}
 use Rattle.es_steps.specs.declared.options.Options.{Options}
 use Rattle.es_node.proofs.Shapes.{left_of, right_of}
 use Rattle.es_validity.specs.Facts.{facts_of}

@@ -5,9 +5,9 @@ use Rattle.es_base.specs.Preorder.{preorder, number_of}
 use Rattle.es_base.specs.Tree.{Tree}
 use Rattle.es_base.specs.declared.ids.NodeId.{NodeId}
 use Rattle.es_steps.specs.FirstForm.{breaches, is_first_form, least, not_yet}
-use Rattle.es_steps.specs.Lowered.{is_lowered_kind, kind_of, none_lowered, nothing_left}
+use Rattle.es_steps.specs.LoweredClasses.{is_lowered_kind, kind_of, none_lowered, nothing_left}
 use Rattle.es_steps.specs.declared.options.Options.{Options}
-use Rattle.es_unchanged.specs.Left.{first_left, first_lowered}
+use Rattle.es_left.specs.Left.{first_left, first_lowered}
 use Rattle.class_properties.specs.Options.{defines_fields}
 use Rattle.lower_run.specs.Outcome.{IsOfForm, not_yet_lowered}
 

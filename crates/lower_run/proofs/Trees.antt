@@ -2,6 +2,7 @@
 -- and means the same.
 use Rattle.std.proofs.Common.{inl, inr, ◌≡◌, refl, sym, ap, ◌∙◌, subst, ℕ, List, [], map, true, true≢false}
 use Rattle.std.specs.Prelude.{◌⊎◌}
+use Rattle.es_steps.specs.LoweredClasses.{nothing_left}
 use Rattle.serde_json.specs.Written.{compact_text}
 use Rattle.es_base.specs.Carried.{stripped}
 use Rattle.es_base.specs.Conforms.{conforms}
@@ -16,7 +17,7 @@ use Rattle.es_writing.specs.Kept.{IsKept}
 use Rattle.es_writing.specs.Lowered.{write_lowered}
 use Rattle.es_steps.proofs.FirstMeaning.{first_form_law}
 use Rattle.es_steps.specs.FirstForm.{is_first_form}
-use Rattle.es_steps.specs.Lowered.{IsLowered, IsUnchanged, nothing_left}
+use Rattle.es_lowered.specs.Lowered.{IsLowered, IsUnchanged}
 use Rattle.es_steps.specs.Meaning.{lowered_means}
 use Rattle.es_steps.specs.Shapes.{shapes}
 use Rattle.es_steps.specs.Told.{warnings_of}
@@ -28,7 +29,7 @@ use Rattle.class_properties.proofs.Shapeless.{first_form-shapes}
 use Rattle.class_properties.specs.Lowering.{lowered}
 use Rattle.class_properties.specs.Options.{defines_fields}
 use Rattle.es_unchanged.proofs.Unchanged.{unchanged-owes}
-use Rattle.es_unchanged.proofs.Unlowered.{no_lowered_class}
+use Rattle.es_left.proofs.Unlowered.{no_lowered_class}
 use Rattle.lower_run.specs.Lines.{line}
 use Rattle.lower_run.proofs.Rising.{warnings-arranged}
 use Rattle.lower_run.proofs.Written.{IsWrittenSo, written-text}

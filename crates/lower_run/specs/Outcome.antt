@@ -1,5 +1,6 @@
 -- What a run ends with, and why: the tree of the bytes, what is written of it, and the cause of each status.
 use Rattle.std.specs.Prelude.{◌≡◌, ◌≤◌, ◌<◌, List, [], ◌++◌, map, ℕ, length, Option, Some, None, IfSome, OnSome, Ok, Err, IsUtf8, ◌⊎◌, true, false, cond}
+use Rattle.es_steps.specs.LoweredClasses.{nothing_left}
 use Rattle.serde_json.specs.Data.{Data}
 use Rattle.serde_json.specs.Read.{read as read_text}
 use Rattle.serde_json.specs.Written.{compact_text}
@@ -17,7 +18,7 @@ use Rattle.es_reading.specs.Reading.{read, root}
 use Rattle.es_reading.specs.declared.fault.ReadError.{ReadError}
 use Rattle.es_reading.specs.declared.numbers.Numbers.{Numbers}
 use Rattle.es_steps.specs.FirstForm.{not_yet, is_first_form}
-use Rattle.es_steps.specs.Lowered.{IsLowered, IsUnchanged, nothing_left}
+use Rattle.es_lowered.specs.Lowered.{IsLowered, IsUnchanged}
 use Rattle.es_steps.specs.Meaning.{has_meaning, lowered_means, source_means}
 use Rattle.es_steps.specs.Shapes.{shapes}
 use Rattle.es_steps.specs.Told.{warnings_of}
@@ -25,7 +26,7 @@ use Rattle.es_steps.specs.declared.options.Options.{Options}
 use Rattle.es_validity.specs.Facts.{facts_of}
 use Rattle.es_validity.specs.Validity.{is_valid, IsRefusedBy}
 use Rattle.es_validity.specs.declared.error.LowerError.{LowerError}
-use Rattle.es_unchanged.specs.Left.{first_left}
+use Rattle.es_left.specs.Left.{first_left}
 use Rattle.class_properties.specs.Lowering.{lowered}
 use Rattle.class_properties.specs.Options.{defines_fields}
 use Rattle.lower_run.specs.Lines.{line, bad_arguments_line, read_fault_line, too_long_line, json_line, fault_line, refusal_line}

@@ -6,6 +6,7 @@ ghost use Rattle.es_base.specs.Preorder.{nodes, numbered_from};
 ghost use Rattle.es_base.specs.declared.kind.Kind.{Kind};
 ghost use Rattle.es_base.specs.declared.table.Place.{Place};
 ghost use Rattle.es_node.specs.View.{kind_of};
+ghost use Rattle.es_steps.specs.LoweredClasses.{nothing_left};
 ghost use Rattle.es_writing.specs.Kept.{IsKept};
 ghost use Rattle.es_reading.specs.Reading.{read, root};
 ghost use Rattle.borrowed_json.specs.View.{view};
@@ -13,7 +14,6 @@ ghost use Rattle.es_reading.specs.Told.{Tells, ids, values};
 ghost use Rattle.es_reading.specs.declared.numbers.Numbers.{Numbers};
 ghost use Rattle.es_validity.specs.Validity.{is_valid};
 ghost use Rattle.es_shapes.specs.Warnings.{numbers};
-ghost use Rattle.es_steps.specs.Lowered.{nothing_left};
 ghost use Rattle.es_steps.specs.Shapes.{shapes};
 ghost use Rattle.es_steps.specs.Told.{warnings_of};
 ghost use Rattle.lower_run.specs.Outcome.{IsOutputOfBytes, IsOutputOfValue, IsOutputOfTree, IsLineOf, IsLoweredTo, IsRefused, IsTextOf, most_bytes, not_yet_lowered};
@@ -38,7 +38,7 @@ use es_reading::numbers::Numbers;
 use es_reading::tree::read_tree;
 use es_shapes::warnings::warnings;
 use es_steps::options::Options;
-use es_unchanged::left::{first_left, nothing_left};
+use es_left::left::{first_left, nothing_left};
 use es_validity::error::LowerError;
 use es_writing::program::lowered_text;
 use json::Scratch;
@@ -167,7 +167,7 @@ fn lower_tree(
 }
 
 /// The shapes of a program with nothing to lower, which has none where static blocks stay as well.
-#[tactic(auto, using(es_unchanged::proofs::Shapeless::no_shapes))]
+#[tactic(auto, using(es_left::proofs::Shapeless::no_shapes))]
 fn shapes_of_unchanged(
     alloc: Global,
     program: &Node,

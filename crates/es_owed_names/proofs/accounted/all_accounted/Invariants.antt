@@ -1,6 +1,6 @@
 use Rattle.std.proofs.Common.{◌≡◌, drop}
 use Rattle.es_binding_faults.specs.Seen.{seen}
-use Rattle.es_steps.specs.Lowered.{all_accounted}
+use Rattle.es_lowered.specs.Lowered.{all_accounted}
 use Rattle.es_owed_names.proofs.accounted.all_accounted.Given as goal
 
 abbrev pub invariant-loop-node : goal.invariant-loop-node

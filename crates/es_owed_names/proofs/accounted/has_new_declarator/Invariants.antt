@@ -1,6 +1,6 @@
 use Rattle.std.proofs.Common.{◌≡◌, drop}
 use Rattle.es_base.specs.Tree.{trees}
-use Rattle.es_steps.specs.Lowered.{has_new_declarator}
+use Rattle.es_lowered.specs.Lowered.{has_new_declarator}
 use Rattle.es_owed_names.proofs.accounted.has_new_declarator.Given as goal
 
 abbrev pub invariant-loop-declarator : goal.invariant-loop-declarator

@@ -1,7 +1,7 @@
 use Rattle.std.proofs.Common.{◌≡◌, ◌++◌, drop}
 use Rattle.std.specs.Str.{chars}
 use Rattle.es_base.specs.Tree.{trees}
-use Rattle.es_steps.specs.Lowered.{private_keys}
+use Rattle.es_lowered.specs.Lowered.{private_keys}
 use Rattle.es_owed_names.proofs.declared.add_keys_among.Given as goal
 
 abbrev pub invariant-loop-element : goal.invariant-loop-element

@@ -1,6 +1,6 @@
 use Rattle.std.proofs.Common.{◌≡◌, drop}
 use Rattle.std.specs.Str.{chars}
-use Rattle.es_steps.specs.Lowered.{all_mean}
+use Rattle.es_lowered.specs.Lowered.{all_mean}
 use Rattle.es_references.specs.References.{references_of}
 use Rattle.es_owed_names.proofs.declared.all_mean.Given as goal
 

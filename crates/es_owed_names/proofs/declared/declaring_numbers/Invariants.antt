@@ -1,7 +1,7 @@
 use Rattle.std.proofs.Common.{◌≡◌, ◌++◌, drop}
 use Rattle.std.specs.Str.{chars}
 use Rattle.es_binding_faults.specs.Seen.{seen}
-use Rattle.es_steps.specs.Lowered.{declaring_numbers}
+use Rattle.es_lowered.specs.Lowered.{declaring_numbers}
 use Rattle.es_owed_names.proofs.declared.declaring_numbers.Given as goal
 
 abbrev pub invariant-loop-node : goal.invariant-loop-node

@@ -1,5 +1,5 @@
 use Rattle.std.proofs.Common.{◌≡◌, drop}
-use Rattle.es_steps.specs.Lowered.{has_another_name}
+use Rattle.es_lowered.specs.Lowered.{has_another_name}
 use Rattle.es_owed_names.proofs.declared.has_another_name.Given as goal
 
 abbrev pub invariant-loop-other : goal.invariant-loop-other

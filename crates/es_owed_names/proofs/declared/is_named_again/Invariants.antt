@@ -1,5 +1,5 @@
 use Rattle.std.proofs.Common.{◌≡◌, drop}
-use Rattle.es_steps.specs.Lowered.{is_named_again}
+use Rattle.es_lowered.specs.Lowered.{is_named_again}
 use Rattle.es_owed_names.proofs.declared.is_named_again.Given as goal
 
 abbrev pub invariant-loop-other : goal.invariant-loop-other

@@ -1,7 +1,7 @@
 use Rattle.std.proofs.Common.{◌≡◌, ◌++◌, drop}
 use Rattle.std.specs.Str.{chars}
 use Rattle.es_binding_faults.specs.Seen.{seen}
-use Rattle.es_steps.specs.Lowered.{keys_in}
+use Rattle.es_lowered.specs.Lowered.{keys_in}
 use Rattle.es_owed_names.proofs.declared.keys_in.Given as goal
 
 abbrev pub invariant-loop-node : goal.invariant-loop-node

@@ -1,5 +1,5 @@
 use Rattle.std.proofs.Common.{◌≡◌, drop}
-use Rattle.es_steps.specs.Lowered.{names_declared}
+use Rattle.es_lowered.specs.Lowered.{names_declared}
 use Rattle.es_owed_names.proofs.declared.names_declared.Given as goal
 
 abbrev pub invariant-loop-i : goal.invariant-loop-i

@@ -1,5 +1,5 @@
 use Rattle.std.proofs.Common.{◌≡◌, ◌∷◌, [], drop}
-use Rattle.es_steps.specs.OwnNames.{are_none, references_to}
+use Rattle.es_lowered.specs.OwnNames.{are_none, references_to}
 use Rattle.es_references.specs.References.{references_of}
 use Rattle.es_owed_names.proofs.own_names.is_unread.Given as goal
 

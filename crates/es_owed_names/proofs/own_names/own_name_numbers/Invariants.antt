@@ -1,6 +1,6 @@
 use Rattle.std.proofs.Common.{◌≡◌, ◌++◌, drop}
 use Rattle.es_binding_faults.specs.Seen.{seen}
-use Rattle.es_steps.specs.OwnNames.{own_name_numbers}
+use Rattle.es_lowered.specs.OwnNames.{own_name_numbers}
 use Rattle.es_references.specs.References.{references_of}
 use Rattle.es_owed_names.proofs.own_names.own_name_numbers.Given as goal
 

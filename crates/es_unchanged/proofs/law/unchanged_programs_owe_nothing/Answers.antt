@@ -1,5 +1,5 @@
 use Rattle.es_unchanged.proofs.Unchanged.{unchanged-owes}
-use Rattle.es_unchanged.proofs.Unlowered.{no_lowered_class}
+use Rattle.es_left.proofs.Unlowered.{no_lowered_class}
 use Rattle.es_unchanged.proofs.law.unchanged_programs_owe_nothing.Goals as goal
 
 pub returns : goal.returns

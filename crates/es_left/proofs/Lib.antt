@@ -1,0 +1,5 @@
+pub mod Booleans
+pub mod First
+pub mod Unlowered
+pub mod Quiet
+pub mod Shapeless

@@ -1,0 +1,10 @@
+pub mod DefinitionsMapped
+pub mod HelperCallsMapped
+pub mod TemporariesMapped
+pub mod TextsMapped
+pub mod TimelyMapped
+pub mod ClassNamesMapped
+pub mod KeptReferencesMapped
+pub mod OwnNamesMapped
+pub mod LoweredMapped
+pub mod Clauses

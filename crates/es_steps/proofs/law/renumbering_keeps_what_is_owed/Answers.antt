@@ -1,5 +1,0 @@
-use Rattle.es_steps.proofs.Clauses.{clauses_law}
-use Rattle.es_steps.proofs.law.renumbering_keeps_what_is_owed.Goals as goal
-
-pub returns : goal.returns
-returns c = clauses_law

@@ -1,5 +1,0 @@
-use Rattle.es_unchanged.proofs.Shapeless.{no_shapes}
-use Rattle.es_unchanged.proofs.law.unchanged_programs_have_no_shape.Goals as goal
-
-pub returns : goal.returns
-returns c = no_shapes
