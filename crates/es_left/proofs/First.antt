@@ -5,11 +5,12 @@ use Rattle.es_base.specs.Preorder.{preorder, preorder_of, preorder_of_part, numb
 use Rattle.es_base.specs.Tree.{Tree, Part, Parts, Node, end, more, child, absent, list, string, no_string, boolean, literal}
 use Rattle.es_base.specs.declared.ids.NodeId.{NodeId}
 use Rattle.es_node.specs.View.{kind_of, number_in, parts_in}
-use Rattle.es_steps.specs.LoweredClasses.{is_lowered_kind, kind_of, none_lowered, nothing_left}
+use Rattle.es_steps.specs.LoweredClasses as lowered
+use Rattle.es_steps.specs.LoweredClasses.{is_lowered_kind, none_lowered, nothing_left}
 use Rattle.es_steps.specs.declared.options.Options.{Options}
 use Rattle.es_left.specs.Left.{first_lowered, first_left, or_else, first_in, first_in_part, first_in_parts}
 
-pub first_node : (o : Options) (t : Tree) → first_in o t ≡ cond (is_lowered_kind o (kind_of t)) (Some (number_in t)) (first_in_parts o (parts_in t))
+pub first_node : (o : Options) (t : Tree) → first_in o t ≡ cond (is_lowered_kind o (lowered.kind_of t)) (Some (number_in t)) (first_in_parts o (parts_in t))
 first_node o (Node kind m span semantic_id ps) = refl
 
 or_first : (b : Bool) (m : ℕ) (n k : Option ℕ) → or_else (cond b (Some m) n) k ≡ cond b (Some m) (or_else n k)
@@ -19,8 +20,8 @@ or_first false m n k = refl
 first-append : (o : Options) (ts us : List Tree) → first_lowered o (ts ++ us) ≡ or_else (first_lowered o ts) (first_lowered o us)
 first-append o [] us = refl
 first-append o (t ∷ ts) us =
-    ap (cond (is_lowered_kind o (kind_of t)) (Some (number_of t))) (first-append o ts us)
-    ∙ sym (or_first (is_lowered_kind o (kind_of t)) (number_of t) (first_lowered o ts) (first_lowered o us))
+    ap (cond (is_lowered_kind o (lowered.kind_of t)) (Some (number_of t))) (first-append o ts us)
+    ∙ sym (or_first (is_lowered_kind o (lowered.kind_of t)) (number_of t) (first_lowered o ts) (first_lowered o us))
 
 mutual
   tree-first : (o : Options) (t : Tree) → first_in o t ≡ first_lowered o (preorder t)
@@ -46,7 +47,7 @@ left_first o t = tree-first o t
 
 none-first : (o : Options) (ts : List Tree) → is_none (first_lowered o ts) ≡ none_lowered o ts
 none-first o [] = refl
-none-first o (t ∷ ts) = of (is_lowered_kind o (kind_of t)) ∙ ap (λ b. not (is_lowered_kind o (kind_of t)) && b) (none-first o ts)
+none-first o (t ∷ ts) = of (is_lowered_kind o (lowered.kind_of t)) ∙ ap (λ b. not (is_lowered_kind o (lowered.kind_of t)) && b) (none-first o ts)
   where
     of : (b : Bool) → is_none (cond b (Some (number_of t)) (first_lowered o ts)) ≡ (not b && is_none (first_lowered o ts))
     of true = refl
