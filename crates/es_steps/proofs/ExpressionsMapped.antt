@@ -294,8 +294,8 @@ module _ {first : ℕ} {f : ℕ → ℕ} (r : Renames first f) (c : Context) (e 
   deleted_as-mapped m q = refl
 
   chain_or-mapped : (m : ℕ) (test middle q whole : Code) → chain_or there (f m) (mapped_code f test) (mapped_code f middle) (mapped_code f q) (mapped_code f whole) ≡ mapped_code f (chain_or c m test middle q whole)
-  chain_or-mapped m test (value Undefined) q whole = rw (tested_object-mapped f test, spliced-mapped (tested_object test), again_of-mapped f test, spliced-mapped q, ended_alone-mapped f (spliced c q)) refl
-  chain_or-mapped m test (value (ConstantOf (BooleanOf true))) q whole = rw (tested_object-mapped f test, spliced-mapped (tested_object test), again_of-mapped f test, spliced-mapped q, deleted_as-mapped m (spliced c q)) refl
+  chain_or-mapped m test (value Undefined) q whole = rw (tested_object-mapped f test, again_of-mapped f test, spliced-mapped q, ended_alone-mapped f (spliced c q)) refl
+  chain_or-mapped m test (value (ConstantOf (BooleanOf true))) q whole = rw (tested_object-mapped f test, again_of-mapped f test, spliced-mapped q, deleted_as-mapped m (spliced c q)) refl
   chain_or-mapped m test middle q whole = refl
 
   abbrev conditional_of : Context → ℕ → Code → Code → Code → Code → Code

@@ -1,5 +1,5 @@
 -- Whether a tree can be printed does not depend on its numbers.
-use Rattle.std.specs.Prelude.{◌≡◌, ℕ, suc, Bool, false, cond, not, ◌&&◌, ◌||◌, codes, List, [], ◌∷◌, map}
+use Rattle.std.specs.Prelude.{◌≡◌, ℕ, suc, Bool, false, cond, bytes_eq, not, ◌&&◌, ◌||◌, codes, List, [], ◌∷◌, map}
 use Rattle.std.proofs.Common.{refl, ap, ap₂, ◌∙◌}
 use Rattle.es_base.specs.Conforms.{is_among}
 use Rattle.es_base.specs.Preorder.{preorder}
@@ -7,8 +7,9 @@ use Rattle.es_base.specs.Tree.{Tree, Part, Parts, Node, end, more, child, absent
 use Rattle.es_base.specs.declared.kind.Kind.{Kind}
 use Rattle.es_base.specs.declared.literal.LiteralValue.TheVariants as literal_value
 use Rattle.es_steps.specs.KeptNodes.{statement_list}
-use Rattle.es_steps.specs.Parts.{at, items, is_present}
-use Rattle.es_steps.specs.Printable.{is_bad_name, is_bad_label_name, is_bad_label, is_bad_literal, tails_fit, is_bad_template, lacks_cooked, is_uncooked, any_uncooked, has_uncooked, is_bare_string, is_directive_of, is_bad_directive, is_directive, has_late_directive, are_names, is_strict_with_patterns, has_bad_prologue, count, is_kind_of, is_default, is_function_expression, is_identifier_name, name_of_part, shorthand_name, has_id, is_suspending, is_bad_property, is_spelled, is_bad_method, is_bad_field, is_meta_property, only_named, are_behind_default, are_specifiers, is_declaration_body, is_lexical_body, ends_open, part_ends_open, is_bad_if, is_super_part, has_optional, part_has_optional, is_spine_kind, any_optional, behind_first, has_stray_optional, is_bad_form, is_bad_node, is_default_export, is_module, is_declaration_without_name, is_bad_in, has_bad, bad_at, bad_in, Jumps, no_jumps, is_label_among, is_stray, is_looping, part_is_looping, jumps_inside, has_stray, stray_at, stray_in, is_new_target, has_target, has_stray_target, stray_target_at, stray_target_in, stray_target_of, is_literal_part, has_string_name, prologue, statement_number, bare_in, bare_strings, all_among, is_printable, stays_printable}
+use Rattle.es_steps.specs.Parts.{at, items, is_present, string_of}
+use Rattle.es_steps.specs.Printable.{is_bad_name, is_bad_label_name, is_bad_label, is_bad_literal, tails_fit, is_bad_template, lacks_cooked, is_uncooked, any_uncooked, has_uncooked, is_bare_string, is_directive_of, is_bad_directive, is_directive, has_late_directive, are_names, is_strict_with_patterns, has_bad_prologue, count, is_kind_of, is_default, is_function_expression, is_identifier_name, name_of_part, shorthand_name, has_id, is_suspending, is_bad_property, is_spelled, is_bad_method, is_bad_field, is_meta_property, only_named, are_behind_default, are_specifiers, is_declaration_body, is_lexical_body, ends_open, part_ends_open, is_bad_if, is_super_part, has_optional, part_has_optional, is_spine_kind, any_optional, behind_first, has_stray_optional, lacks_initializer, is_bare_declaration, any_bare, has_bare_declaration, is_bad_form, is_bad_node, is_default_export, is_module, is_declaration_without_name, is_bad_in, has_bad, bad_at, bad_in, Jumps, no_jumps, is_label_among, is_stray, is_looping, part_is_looping, jumps_inside, has_stray, stray_at, stray_in, is_new_target, has_target, has_stray_target, stray_target_at, stray_target_in, stray_target_of, is_literal_part, has_string_name, prologue, statement_number, bare_in, bare_strings, all_among, is_printable, stays_printable}
+use Rattle.es_steps.specs.References.{is_for_each}
 use Rattle.es_steps.specs.Reserved.{no_words}
 use Rattle.es_steps.specs.Values.{String}
 use Rattle.es_steps.proofs.KeptNodesMapped.{statement_list-mapped}
@@ -226,6 +227,23 @@ module _ (f : ℕ → ℕ) where
   has_stray_optional-mapped : (kind : Kind) (ps : Parts) → has_stray_optional kind (mapped_parts f ps) ≡ has_stray_optional kind ps
   has_stray_optional-mapped kind ps = ap any_optional (cond-mapped (mapped_parts f) (is_spine_kind kind) (behind_first ps) ps (behind_first-mapped ps) refl) ∙ any_optional-mapped (cond (is_spine_kind kind) (behind_first ps) ps)
 
+  lacks_initializer-mapped : (b : Bool) (ps : Parts) → lacks_initializer b (mapped_parts f ps) ≡ lacks_initializer b ps
+  lacks_initializer-mapped b end = refl
+  lacks_initializer-mapped b (more (child (Node kind m span semantic_id (more id (more absent end)))) ps) = rw (is_declaring-mapped f id, lacks_initializer-mapped b ps) refl
+  lacks_initializer-mapped b (more p ps) = lacks_initializer-mapped b ps
+
+  is_bare_declaration-mapped : (p : Part) → is_bare_declaration (mapped_part f p) ≡ is_bare_declaration p
+  is_bare_declaration-mapped (child (Node Kind.VariableDeclaration m span semantic_id ps)) = rw (string_at-mapped f 0 ps, items_at-mapped f 1 ps) (lacks_initializer-mapped (bytes_eq (string_of (at 0 ps)) (codes "const")) (items (at 1 ps)))
+  is_bare_declaration-mapped p = refl
+
+  any_bare-mapped : (ps : Parts) → any_bare (mapped_parts f ps) ≡ any_bare ps
+  any_bare-mapped end = refl
+  any_bare-mapped (more (list ps) rest) = ap₂ (λ a b. a || b) (any_bare-mapped ps) (any_bare-mapped rest)
+  any_bare-mapped (more p rest) = ap₂ (λ a b. a || b) (is_bare_declaration-mapped p) (any_bare-mapped rest)
+
+  has_bare_declaration-mapped : (kind : Kind) (ps : Parts) → has_bare_declaration kind (mapped_parts f ps) ≡ has_bare_declaration kind ps
+  has_bare_declaration-mapped kind ps = ap any_bare (cond-mapped (mapped_parts f) (is_for_each kind) (behind_first ps) ps (behind_first-mapped ps) refl) ∙ any_bare-mapped (cond (is_for_each kind) (behind_first ps) ps)
+
   default_at-mapped : (ps : Parts) → is_kind_of is_default (at 0 (mapped_parts f ps)) ≡ is_kind_of is_default (at 0 ps)
   default_at-mapped ps = ap (is_kind_of is_default) (at-mapped f 0 ps) ∙ is_kind_of-mapped is_default (at 0 ps)
 
@@ -275,7 +293,7 @@ module _ (f : ℕ → ℕ) where
   is_bad_form-mapped kind ps = refl
 
   is_bad_node-mapped : (kind : Kind) (ps : Parts) → is_bad_node kind (mapped_parts f ps) ≡ is_bad_node kind ps
-  is_bad_node-mapped kind ps = rw (is_bad_name-mapped kind ps, is_bad_label-mapped kind ps, is_bad_literal-mapped kind ps, is_bad_template-mapped kind ps, is_bad_directive-mapped kind ps, has_bad_prologue-mapped kind ps, is_bad_form-mapped kind ps, has_stray_optional-mapped kind ps, has_uncooked-mapped kind ps) refl
+  is_bad_node-mapped kind ps = rw (is_bad_name-mapped kind ps, is_bad_label-mapped kind ps, is_bad_literal-mapped kind ps, is_bad_template-mapped kind ps, is_bad_directive-mapped kind ps, has_bad_prologue-mapped kind ps, is_bad_form-mapped kind ps, has_stray_optional-mapped kind ps, has_uncooked-mapped kind ps, has_bare_declaration-mapped kind ps) refl
 
   is_module-mapped : (kind : Kind) (ps : Parts) → is_module kind (mapped_parts f ps) ≡ is_module kind ps
   is_module-mapped Kind.Program ps = rw (string_at-mapped f 0 ps) refl

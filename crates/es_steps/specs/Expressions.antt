@@ -261,8 +261,8 @@ ended_alone e = from_call e
 
 -- `T ? void 0 : r` and `T ? true : delete r`, T a new test of an object for null and undefined, are the chain m
 abbrev pub chain_or : Context → ℕ → Code → Code → Code → Code → Code
-chain_or c m test (value Undefined) e whole = chain m (tested (spliced c (tested_object test)) (again_of test) (ended_alone (spliced c e)))
-chain_or c m test (value (ConstantOf (BooleanOf true))) e whole = chain m (tested (spliced c (tested_object test)) (again_of test) (deleted_as c m (spliced c e)))
+chain_or c m test (value Undefined) e whole = chain m (tested (tested_object test) (again_of test) (ended_alone (spliced c e)))
+chain_or c m test (value (ConstantOf (BooleanOf true))) e whole = chain m (tested (tested_object test) (again_of test) (deleted_as c m (spliced c e)))
 chain_or c m test middle e whole = whole
 
 abbrev pub conditional_code : Context → ℕ → Members → Code

@@ -338,8 +338,13 @@ abbrev pub is_pick : Codes → Code → Bool
 is_pick (and (binding b p (Generated GeneratedKind.Param)) (and (binding b2 q (Generated GeneratedKind.Param)) done)) (member m (name k s (Generated g)) (name k2 t (Generated g2))) = bytes_eq s q && bytes_eq t p
 is_pick ps body = false
 
+-- a private element is read there, since it may not be there yet
+abbrev pub picked_with : Code → Code → Code
+picked_with (private_value s) e = from_call (sequence (and (private_value s) (and e done)))
+picked_with k e = from_call e
+
 abbrev pub picked : Code → Option (Code × Code) → Code
-picked k (Some p) = cond (is_same_key k p.0) (from_call p.1) no_rule
+picked k (Some p) = cond (is_same_key k p.0) (picked_with k p.1) no_rule
 picked k None = no_rule
 
 abbrev pub new_function_call : Context → FunctionForm → Codes → Code → Codes → Code
@@ -363,9 +368,15 @@ abbrev pub getter_or_received : ℕ → Option PrivateMember → Code → Codes 
 getter_or_received m (Some x) f es = cond (is_getter_kind x.kind) (getter_call m x es) (received_call m f es)
 getter_or_received m None f es = received_call m f es
 
+-- a `super(..)`, and no call of what stands for one
+abbrev pub is_super_itself : Option Opened → Bool
+is_super_itself None = true
+is_super_itself (Some (InitializersOf n)) = true
+is_super_itself o = false
+
 -- `F.call(super(a))`
 abbrev pub super_function_call : ℕ → ℕ → String → Codes → Code
-super_function_call m n s (and (super_call k n2 behind es) done) = cond (nat_eq n n2) (super_call m n (Some (CalledBodyOf s)) es) no_rule
+super_function_call m n s (and (super_call k n2 behind es) done) = cond (nat_eq n n2 && is_super_itself behind) (super_call m n (Some (CalledBodyOf s)) es) no_rule
 super_function_call m n s es = no_rule
 
 abbrev pub called_with : Context → ℕ → Code → Codes → Code

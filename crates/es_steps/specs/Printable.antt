@@ -11,7 +11,7 @@ use Rattle.es_steps.specs.Context.{is_constructor, is_function}
 use Rattle.es_steps.specs.KeptNodes.{statement_list}
 use Rattle.es_steps.specs.Parts.{at, items, string_of, is_true, is_present}
 use Rattle.es_steps.specs.Repeated.{is_loop, is_arrow}
-use Rattle.es_steps.specs.References.{has_number}
+use Rattle.es_steps.specs.References.{has_number, is_for_each}
 use Rattle.es_steps.specs.Reserved.{no_words, has_reserved}
 use Rattle.es_steps.specs.Scopes.{is_declaring}
 use Rattle.es_steps.specs.Strict.{has_use_strict, directives}
@@ -403,6 +403,24 @@ behind_first (more p ps) = ps
 abbrev pub has_stray_optional : Kind → Parts → Bool
 has_stray_optional kind ps = any_optional (cond (is_spine_kind kind) (behind_first ps) ps)
 
+-- a `const`, or a pattern, without an initializer, but in the head of a for-in or for-of (14.3.1.1)
+abbrev pub lacks_initializer : Bool → Parts → Bool
+lacks_initializer is_const end = false
+lacks_initializer is_const (more (child (Node kind m span semantic_id (more id (more absent end)))) ps) = (is_const || not (is_declaring id)) || lacks_initializer is_const ps
+lacks_initializer is_const (more p ps) = lacks_initializer is_const ps
+
+abbrev pub is_bare_declaration : Part → Bool
+is_bare_declaration (child (Node Kind.VariableDeclaration m span semantic_id ps)) = lacks_initializer (bytes_eq (string_of (at 0 ps)) (codes "const")) (items (at 1 ps))
+is_bare_declaration p = false
+
+abbrev pub any_bare : Parts → Bool
+any_bare end = false
+any_bare (more (list ps) rest) = any_bare ps || any_bare rest
+any_bare (more p rest) = is_bare_declaration p || any_bare rest
+
+abbrev pub has_bare_declaration : Kind → Parts → Bool
+has_bare_declaration kind ps = any_bare (cond (is_for_each kind) (behind_first ps) ps)
+
 -- `export { "a" as b }` without a source (16.2.3.1)
 abbrev pub is_literal_part : Part → Bool
 is_literal_part (child (Node Kind.Literal m span semantic_id ps)) = true
@@ -461,7 +479,7 @@ is_module_item Kind.ExportAllDeclaration = true
 is_module_item kind = false
 
 abbrev pub is_bad_node : Kind → Parts → Bool
-is_bad_node kind ps = (is_bad_name kind ps || is_bad_label kind ps) || ((is_bad_literal kind ps || is_bad_template kind ps) || ((is_bad_directive kind ps || has_bad_prologue kind ps) || (is_bad_form kind ps || (has_stray_optional kind ps || has_uncooked kind ps))))
+is_bad_node kind ps = (is_bad_name kind ps || is_bad_label kind ps) || ((is_bad_literal kind ps || is_bad_template kind ps) || ((is_bad_directive kind ps || has_bad_prologue kind ps) || (is_bad_form kind ps || (has_stray_optional kind ps || (has_uncooked kind ps || has_bare_declaration kind ps)))))
 
 -- a tree under a node that allows a declaration without a name or not, and imports and exports or not
 abbrev pub is_default_export : Kind → Bool
