@@ -42,7 +42,6 @@ pub constant_in-of : (c : Constant) → constant_in (constant_of c) ≡ c
 constant_in-of (Constant.StringOf s) = refl
 constant_in-of (Constant.NumberOf s) = refl
 constant_in-of (Constant.BigIntOf s) = refl
-constant_in-of (Constant.RegExpOf p f) = refl
 constant_in-of (Constant.BooleanOf b) = refl
 constant_in-of Constant.Null = refl
 constant_in-of (Constant.RawTemplate s) = refl

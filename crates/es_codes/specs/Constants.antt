@@ -7,7 +7,6 @@ abbrev pub constant_of : Constant → of.Constant
 constant_of (Constant.StringOf s) = of.StringOf s
 constant_of (Constant.NumberOf s) = of.NumberOf s
 constant_of (Constant.BigIntOf s) = of.BigIntOf s
-constant_of (Constant.RegExpOf p f) = of.RegExpOf p f
 constant_of (Constant.BooleanOf b) = of.BooleanOf b
 constant_of Constant.Null = of.Null
 constant_of (Constant.RawTemplate s) = of.RawTemplate s

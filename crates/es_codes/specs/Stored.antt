@@ -13,7 +13,6 @@ abbrev pub constant_in : of.Constant → Constant
 constant_in (of.StringOf s) = Constant.StringOf s
 constant_in (of.NumberOf s) = Constant.NumberOf s
 constant_in (of.BigIntOf s) = Constant.BigIntOf s
-constant_in (of.RegExpOf p f) = Constant.RegExpOf p f
 constant_in (of.BooleanOf b) = Constant.BooleanOf b
 constant_in of.Null = Constant.Null
 constant_in (of.RawTemplate s) = Constant.RawTemplate s
@@ -23,7 +22,6 @@ pub constant_of-in : (c : of.Constant) → constant_of (constant_in c) ≡ c
 constant_of-in (of.StringOf s) = refl
 constant_of-in (of.NumberOf s) = refl
 constant_of-in (of.BigIntOf s) = refl
-constant_of-in (of.RegExpOf p f) = refl
 constant_of-in (of.BooleanOf b) = refl
 constant_of-in of.Null = refl
 constant_of-in (of.RawTemplate s) = refl

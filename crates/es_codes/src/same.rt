@@ -51,13 +51,6 @@ pub fn same_constant(left: &Constant, right: &Constant) -> bool
             Constant::BigIntOf(y) => same_name(x, y),
             _ => false,
         },
-        Constant::RegExpOf { pattern, flags } => match right {
-            Constant::RegExpOf {
-                pattern: pattern_2,
-                flags: flags_2,
-            } => same_name(pattern, pattern_2) && same_name(flags, flags_2),
-            _ => false,
-        },
         Constant::BooleanOf(x) => match right {
             Constant::BooleanOf(y) => *x == *y,
             _ => false,

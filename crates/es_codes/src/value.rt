@@ -8,13 +8,13 @@ use es_base::name::Name;
 use std::alloc::{AllocError, Global};
 use std::marker::Model;
 
-/// A literal, or what is alike: the name of a property, a template without expressions (ECMA-262, 12.9).
+/// A literal but a regular expression, or what is alike: the name of a property, a template without expressions (ECMA-262,
+/// 12.9).
 #[derive(Drop)]
 pub enum Constant {
     StringOf(Name),
     NumberOf(Name),
     BigIntOf(Name),
-    RegExpOf { pattern: Name, flags: Name },
     BooleanOf(bool),
     Null,
     /// A template without expressions whose string has no cooked form.
@@ -24,26 +24,6 @@ pub enum Constant {
 }
 
 impl Constant {
-    ghost use Rattle.es_steps.specs.Values.{ConstantOf};
-    ghost use Rattle.es_steps.specs.Evaluation.{is_binding_value};
-    ghost use Rattle.es_codes.specs.Constants.{constant_of};
-
-    /// Whether it is a regular expression, which is another object each time (ECMA-262, 13.2.7).
-    pub fn is_reg_exp(&self) -> bool
-        ensures { result ≡ is_binding_value (ConstantOf (constant_of self.now)) }
-    {
-        match self {
-            Constant::RegExpOf { .. } => true,
-            Constant::StringOf(_) => false,
-            Constant::NumberOf(_) => false,
-            Constant::BigIntOf(_) => false,
-            Constant::BooleanOf(_) => false,
-            Constant::Null => false,
-            Constant::RawTemplate(_) => false,
-            Constant::TagString { .. } => false,
-        }
-    }
-
     /// A copy. Fails on allocation failure alone.
     pub fn try_clone(&self, alloc: Global) -> Result<Constant, AllocError>
         ensures { IfOk result (λ c. c ≡ self.now) }
@@ -52,11 +32,6 @@ impl Constant {
             Constant::StringOf(string) => Constant::StringOf(string.try_clone(alloc)?),
             Constant::NumberOf(raw) => Constant::NumberOf(raw.try_clone(alloc)?),
             Constant::BigIntOf(digits) => Constant::BigIntOf(digits.try_clone(alloc)?),
-            Constant::RegExpOf { pattern, flags } => {
-                let pattern = pattern.try_clone(alloc)?;
-                let flags = flags.try_clone(alloc)?;
-                Constant::RegExpOf { pattern, flags }
-            }
             Constant::BooleanOf(boolean) => Constant::BooleanOf(*boolean),
             Constant::Null => Constant::Null,
             Constant::RawTemplate(raw) => Constant::RawTemplate(raw.try_clone(alloc)?),
@@ -224,13 +199,13 @@ impl Value {
         self.key_depth > 0
     }
 
-    /// Whether it is no value of a temporary: what a binding holds, a regular expression, or the key of one.
+    /// Whether it is no value of a temporary: what a binding holds, or the key of one.
     #[tactic(auto, using(crate::proofs::Keys::binding_keyed))]
     pub fn is_of_binding(&self) -> bool
         ensures { result ≡ is_binding_value self.now }
     {
         match &self.origin {
-            Origin::ConstantOf(constant) => constant.is_reg_exp(),
+            Origin::ConstantOf(_) => false,
             Origin::BindingOf(_) => true,
             Origin::Undefined => false,
             Origin::FunctionOf(_) => false,

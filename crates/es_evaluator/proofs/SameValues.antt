@@ -5,7 +5,7 @@ use Rattle.std.proofs.lemmas.Bool.{and_parts}
 use Rattle.std.proofs.lemmas.Bool.Decides.{nat_tests, same_from_decides}
 use Rattle.std.proofs.lemmas.Slice.Eq.{bytes_eq-Decides}
 use Rattle.es_steps.specs.SameValues.{same_boolean, same_nullable_string, same_constant, same_value}
-use Rattle.es_steps.specs.Values.{String, Constant, StringOf, NumberOf, BigIntOf, RegExpOf, BooleanOf, Null, RawTemplate, TagString, Value, ConstantOf, Undefined, BindingOf, FunctionOf, ClassOf, ThisOf, ArgumentsOf, NewTargetOf, ResultOf, FormerOf, KeyOf}
+use Rattle.es_steps.specs.Values.{String, Constant, StringOf, NumberOf, BigIntOf, BooleanOf, Null, RawTemplate, TagString, Value, ConstantOf, Undefined, BindingOf, FunctionOf, ClassOf, ThisOf, ArgumentsOf, NewTargetOf, ResultOf, FormerOf, KeyOf}
 use Rattle.es_codes.specs.View.{tokens_of}
 use Rattle.es_codes.specs.declared.event.Token.{Token}
 use Rattle.es_evaluation.specs.Direct.{is_none}
@@ -50,7 +50,6 @@ one_constant : (c d : Constant) → same_constant c d ≡ true → c ≡ d
 one_constant (StringOf p) (StringOf q) h = ap StringOf (one_string p q h)
 one_constant (StringOf p) (NumberOf q) h = cc
 one_constant (StringOf p) (BigIntOf q) h = cc
-one_constant (StringOf p) (RegExpOf q g) h = cc
 one_constant (StringOf p) (BooleanOf q) h = cc
 one_constant (StringOf p) Null h = cc
 one_constant (StringOf p) (RawTemplate q) h = cc
@@ -58,7 +57,6 @@ one_constant (StringOf p) (TagString q g) h = cc
 one_constant (NumberOf p) (StringOf q) h = cc
 one_constant (NumberOf p) (NumberOf q) h = ap NumberOf (one_string p q h)
 one_constant (NumberOf p) (BigIntOf q) h = cc
-one_constant (NumberOf p) (RegExpOf q g) h = cc
 one_constant (NumberOf p) (BooleanOf q) h = cc
 one_constant (NumberOf p) Null h = cc
 one_constant (NumberOf p) (RawTemplate q) h = cc
@@ -66,23 +64,13 @@ one_constant (NumberOf p) (TagString q g) h = cc
 one_constant (BigIntOf p) (StringOf q) h = cc
 one_constant (BigIntOf p) (NumberOf q) h = cc
 one_constant (BigIntOf p) (BigIntOf q) h = ap BigIntOf (one_string p q h)
-one_constant (BigIntOf p) (RegExpOf q g) h = cc
 one_constant (BigIntOf p) (BooleanOf q) h = cc
 one_constant (BigIntOf p) Null h = cc
 one_constant (BigIntOf p) (RawTemplate q) h = cc
 one_constant (BigIntOf p) (TagString q g) h = cc
-one_constant (RegExpOf p f) (StringOf q) h = cc
-one_constant (RegExpOf p f) (NumberOf q) h = cc
-one_constant (RegExpOf p f) (BigIntOf q) h = cc
-one_constant (RegExpOf p f) (RegExpOf q g) h = let e = and_parts (bytes_eq p q) (bytes_eq f g) h in ap₂ RegExpOf (one_string p q e.0) (one_string f g e.1)
-one_constant (RegExpOf p f) (BooleanOf q) h = cc
-one_constant (RegExpOf p f) Null h = cc
-one_constant (RegExpOf p f) (RawTemplate q) h = cc
-one_constant (RegExpOf p f) (TagString q g) h = cc
 one_constant (BooleanOf p) (StringOf q) h = cc
 one_constant (BooleanOf p) (NumberOf q) h = cc
 one_constant (BooleanOf p) (BigIntOf q) h = cc
-one_constant (BooleanOf p) (RegExpOf q g) h = cc
 one_constant (BooleanOf p) (BooleanOf q) h = ap BooleanOf (one_boolean p q h)
 one_constant (BooleanOf p) Null h = cc
 one_constant (BooleanOf p) (RawTemplate q) h = cc
@@ -90,7 +78,6 @@ one_constant (BooleanOf p) (TagString q g) h = cc
 one_constant Null (StringOf q) h = cc
 one_constant Null (NumberOf q) h = cc
 one_constant Null (BigIntOf q) h = cc
-one_constant Null (RegExpOf q g) h = cc
 one_constant Null (BooleanOf q) h = cc
 one_constant Null Null h = refl
 one_constant Null (RawTemplate q) h = cc
@@ -98,7 +85,6 @@ one_constant Null (TagString q g) h = cc
 one_constant (RawTemplate p) (StringOf q) h = cc
 one_constant (RawTemplate p) (NumberOf q) h = cc
 one_constant (RawTemplate p) (BigIntOf q) h = cc
-one_constant (RawTemplate p) (RegExpOf q g) h = cc
 one_constant (RawTemplate p) (BooleanOf q) h = cc
 one_constant (RawTemplate p) Null h = cc
 one_constant (RawTemplate p) (RawTemplate q) h = ap RawTemplate (one_string p q h)
@@ -106,7 +92,6 @@ one_constant (RawTemplate p) (TagString q g) h = cc
 one_constant (TagString p f) (StringOf q) h = cc
 one_constant (TagString p f) (NumberOf q) h = cc
 one_constant (TagString p f) (BigIntOf q) h = cc
-one_constant (TagString p f) (RegExpOf q g) h = cc
 one_constant (TagString p f) (BooleanOf q) h = cc
 one_constant (TagString p f) Null h = cc
 one_constant (TagString p f) (RawTemplate q) h = cc
@@ -116,7 +101,6 @@ same_with_constant : (c : Constant) → same_constant c c ≡ true
 same_with_constant (StringOf p) = same_string p
 same_with_constant (NumberOf p) = same_string p
 same_with_constant (BigIntOf p) = same_string p
-same_with_constant (RegExpOf p f) = both (bytes_eq p p) (bytes_eq f f) (same_string p) (same_string f)
 same_with_constant (BooleanOf p) = same_with_itself p
 same_with_constant Null = refl
 same_with_constant (RawTemplate p) = same_string p

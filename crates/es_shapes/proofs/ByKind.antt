@@ -6,8 +6,9 @@ use Rattle.es_base.specs.Tree.{Tree, Parts, Node, end, child, list, trees}
 use Rattle.es_base.specs.declared.kind.Kind.{Kind}
 use Rattle.es_node.specs.View.{kind_of, number_in, parts_in}
 use Rattle.es_steps.specs.LoweredClasses.{has_no_items}
+use Rattle.es_steps.specs.Parts.{at}
 use Rattle.es_steps.specs.PrivateNames.{is_class}
-use Rattle.es_steps.specs.Quiet.{Around, id_number, class_name, is_new, is_this, deletes_this, is_constant, is_identifier, has_one_item, reads_name, acts, is_evaluated}
+use Rattle.es_steps.specs.Quiet.{Around, id_number, class_name, is_new, is_this, deletes_this, is_regular_expression, is_constant, is_identifier, has_one_item, reads_name, acts, is_evaluated}
 use Rattle.es_steps.specs.Shapes.{ClassAt, class_at}
 use Rattle.es_steps.specs.Values.{String, Referent, Bound, Free}
 use Rattle.es_steps.specs.declared.options.Options.{Options}
@@ -33,29 +34,29 @@ name_of_class (Node kind m span semantic_id ps) = here (is_class kind)
 
 -- ---- events by kind
 
-pub acts_by_kind : (o : Options) (program : Tree) (a : Around) (kind : Kind) (m : ℕ) (ps : Parts) → (kind ≡ Kind.MetaProperty → ⊥) → (kind ≡ Kind.IdentifierReference → ⊥) → (kind ≡ Kind.UnaryExpression → ⊥) → (kind ≡ Kind.TemplateLiteral → ⊥) → (kind ≡ Kind.PropertyDefinition → ⊥) → (kind ≡ Kind.ClassDeclaration → ⊥) → (kind ≡ Kind.FunctionDeclaration → ⊥) → (kind ≡ Kind.VariableDeclarator → ⊥) → acts o program a kind m ps ≡ not (is_quiet_kind kind)
-acts_by_kind o program a Kind.MetaProperty m ps meta name unary template field class function declarator = absurd (meta refl)
-acts_by_kind o program a Kind.IdentifierReference m ps meta name unary template field class function declarator = absurd (name refl)
-acts_by_kind o program a Kind.UnaryExpression m ps meta name unary template field class function declarator = absurd (unary refl)
-acts_by_kind o program a Kind.TemplateLiteral m ps meta name unary template field class function declarator = absurd (template refl)
-acts_by_kind o program a Kind.PropertyDefinition m ps meta name unary template field class function declarator = absurd (field refl)
-acts_by_kind o program a Kind.ClassDeclaration m ps meta name unary template field class function declarator = absurd (class refl)
-acts_by_kind o program a Kind.FunctionDeclaration m ps meta name unary template field class function declarator = absurd (function refl)
-acts_by_kind o program a Kind.VariableDeclarator m ps meta name unary template field class function declarator = absurd (declarator refl)
-acts_by_kind o program a Kind.Literal m ps meta name unary template field class function declarator = refl
-acts_by_kind o program a Kind.ThisExpression m ps meta name unary template field class function declarator = refl
-acts_by_kind o program a Kind.SequenceExpression m ps meta name unary template field class function declarator = refl
-acts_by_kind o program a Kind.FunctionExpression m ps meta name unary template field class function declarator = refl
-acts_by_kind o program a Kind.ArrowFunctionExpression m ps meta name unary template field class function declarator = refl
-acts_by_kind o program a Kind.ClassExpression m ps meta name unary template field class function declarator = refl
-acts_by_kind o program a Kind.ClassBody m ps meta name unary template field class function declarator = refl
-acts_by_kind o program a Kind.MethodDefinition m ps meta name unary template field class function declarator = refl
-acts_by_kind o program a Kind.StaticBlock m ps meta name unary template field class function declarator = refl
-acts_by_kind o program a Kind.VariableDeclaration m ps meta name unary template field class function declarator = refl
-acts_by_kind o program a Kind.ExpressionStatement m ps meta name unary template field class function declarator = refl
-acts_by_kind o program a Kind.BlockStatement m ps meta name unary template field class function declarator = refl
-acts_by_kind o program a Kind.EmptyStatement m ps meta name unary template field class function declarator = refl
-acts_by_kind o program a kind m ps meta name unary template field class function declarator = refl
+pub acts_by_kind : (o : Options) (program : Tree) (a : Around) (kind : Kind) (m : ℕ) (ps : Parts) → (kind ≡ Kind.Literal → ⊥) → (kind ≡ Kind.MetaProperty → ⊥) → (kind ≡ Kind.IdentifierReference → ⊥) → (kind ≡ Kind.UnaryExpression → ⊥) → (kind ≡ Kind.TemplateLiteral → ⊥) → (kind ≡ Kind.PropertyDefinition → ⊥) → (kind ≡ Kind.ClassDeclaration → ⊥) → (kind ≡ Kind.FunctionDeclaration → ⊥) → (kind ≡ Kind.VariableDeclarator → ⊥) → acts o program a kind m ps ≡ not (is_quiet_kind kind)
+acts_by_kind o program a Kind.MetaProperty m ps constant meta name unary template field class function declarator = absurd (meta refl)
+acts_by_kind o program a Kind.IdentifierReference m ps constant meta name unary template field class function declarator = absurd (name refl)
+acts_by_kind o program a Kind.UnaryExpression m ps constant meta name unary template field class function declarator = absurd (unary refl)
+acts_by_kind o program a Kind.TemplateLiteral m ps constant meta name unary template field class function declarator = absurd (template refl)
+acts_by_kind o program a Kind.PropertyDefinition m ps constant meta name unary template field class function declarator = absurd (field refl)
+acts_by_kind o program a Kind.ClassDeclaration m ps constant meta name unary template field class function declarator = absurd (class refl)
+acts_by_kind o program a Kind.FunctionDeclaration m ps constant meta name unary template field class function declarator = absurd (function refl)
+acts_by_kind o program a Kind.VariableDeclarator m ps constant meta name unary template field class function declarator = absurd (declarator refl)
+acts_by_kind o program a Kind.Literal m ps constant meta name unary template field class function declarator = absurd (constant refl)
+acts_by_kind o program a Kind.ThisExpression m ps constant meta name unary template field class function declarator = refl
+acts_by_kind o program a Kind.SequenceExpression m ps constant meta name unary template field class function declarator = refl
+acts_by_kind o program a Kind.FunctionExpression m ps constant meta name unary template field class function declarator = refl
+acts_by_kind o program a Kind.ArrowFunctionExpression m ps constant meta name unary template field class function declarator = refl
+acts_by_kind o program a Kind.ClassExpression m ps constant meta name unary template field class function declarator = refl
+acts_by_kind o program a Kind.ClassBody m ps constant meta name unary template field class function declarator = refl
+acts_by_kind o program a Kind.MethodDefinition m ps constant meta name unary template field class function declarator = refl
+acts_by_kind o program a Kind.StaticBlock m ps constant meta name unary template field class function declarator = refl
+acts_by_kind o program a Kind.VariableDeclaration m ps constant meta name unary template field class function declarator = refl
+acts_by_kind o program a Kind.ExpressionStatement m ps constant meta name unary template field class function declarator = refl
+acts_by_kind o program a Kind.BlockStatement m ps constant meta name unary template field class function declarator = refl
+acts_by_kind o program a Kind.EmptyStatement m ps constant meta name unary template field class function declarator = refl
+acts_by_kind o program a kind m ps constant meta name unary template field class function declarator = refl
 
 pub evaluated_by_kind : (kind : Kind) (ps : Parts) (i : ℕ) → (kind ≡ Kind.SequenceExpression → ⊥) → (kind ≡ Kind.ClassBody → ⊥) → (kind ≡ Kind.StaticBlock → ⊥) → (kind ≡ Kind.VariableDeclaration → ⊥) → (kind ≡ Kind.ExpressionStatement → ⊥) → (kind ≡ Kind.BlockStatement → ⊥) → (kind ≡ Kind.ClassExpression → ⊥) → (kind ≡ Kind.ClassDeclaration → ⊥) → (kind ≡ Kind.MethodDefinition → ⊥) → (kind ≡ Kind.PropertyDefinition → ⊥) → is_evaluated kind ps i ≡ false
 evaluated_by_kind Kind.SequenceExpression ps i sequence body block variables statement braces expression declaration method field = absurd (sequence refl)
@@ -79,7 +80,7 @@ reads_by_binding varying writes_arguments a s (Some (Free x)) b e = ap (reads_bo
 
 -- ---- parts
 
-pub literal_is_constant : (t : Tree) → kind_of t ≡ Kind.Literal → is_constant (child t) ≡ true
+pub literal_is_constant : (t : Tree) → kind_of t ≡ Kind.Literal → is_constant (child t) ≡ not (is_regular_expression (at 0 (parts_in t)))
 literal_is_constant (Node Kind.Literal m span semantic_id ps) is = refl
 literal_is_constant (Node kind m span semantic_id ps) is = absurd (cc)
 

@@ -8,7 +8,6 @@ use Rattle.es_steps.specs.Values.{String}
 
 -- the kinds that have no events by themselves, whatever their parts are
 abbrev pub is_quiet_kind : Kind → Bool
-is_quiet_kind Kind.Literal = true
 is_quiet_kind Kind.ThisExpression = true
 is_quiet_kind Kind.SequenceExpression = true
 is_quiet_kind Kind.FunctionExpression = true

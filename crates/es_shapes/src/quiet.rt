@@ -18,6 +18,7 @@ use crate::asked::leaves_out_fields;
 use crate::element::is_private_key;
 use crate::facts::NameFacts;
 use es_base::kind::Kind;
+use es_base::literal::LiteralValue;
 use es_base::name::Name;
 use es_base::operator::UnaryOperator;
 use es_base::strings::is_word;
@@ -27,6 +28,7 @@ use es_tree::class::{ClassDeclarationRef, MethodDefinitionRef, PropertyDefinitio
 use es_tree::expression::{MetaPropertyRef, TemplateLiteralRef, UnaryExpressionRef};
 use es_tree::function::FunctionDeclarationRef;
 use es_tree::identifier::{IdentifierNameRef, IdentifierReferenceRef};
+use es_tree::literal::LiteralRef;
 use es_tree::statement::VariableDeclaratorRef;
 
 /// Whether the node has an event by itself, whatever its parts do.
@@ -41,6 +43,8 @@ pub fn acts<F: NameFacts>(
     ensures { result ≡ spec.acts options.now (F.program facts.now) (around (ids_in names.now) standing) (kind_of node.now) (number_in node.now) (parts_in node.now) }
 {
     match node.kind() {
+        // /a/
+        Kind::Literal => is_regular_expression(node),
         // new.target
         Kind::MetaProperty => !is_new(MetaPropertyRef::from_node(node).meta),
         Kind::IdentifierReference => reads_name(facts, names, standing, node),
@@ -71,8 +75,7 @@ fn is_quiet_kind(kind: Kind) -> bool
 {
     matches!(
         kind,
-        Kind::Literal
-            | Kind::ThisExpression
+        Kind::ThisExpression
             | Kind::SequenceExpression
             | Kind::FunctionExpression
             | Kind::ArrowFunctionExpression
@@ -168,13 +171,21 @@ fn is_one_string(node: &Node) -> bool
     template.quasis.len() == 1 && template.expressions.is_empty()
 }
 
-/// Whether the node is a literal, or `delete this`.
+/// Whether the literal is a regular expression, which is an object that is made (ECMA-262, 13.2.7).
+fn is_regular_expression(node: &Node) -> bool
+    requires { kind_of node.now ≡ Kind.Literal }
+    ensures { result ≡ spec.is_regular_expression (at 0 (parts_in node.now)) }
+{
+    matches!(LiteralRef::from_node(node).value, LiteralValue::RegExp { .. })
+}
+
+/// Whether the node is a literal but a regular expression, or `delete this`.
 #[tactic(auto, using(crate::proofs::ByKind::literal_is_constant, crate::proofs::ByKind::unary_is_constant, crate::proofs::ByKind::no_constant))]
 fn is_constant(node: &Node) -> bool
     ensures { result ≡ is_constant (child node.now) }
 {
     match node.kind() {
-        Kind::Literal => true,
+        Kind::Literal => !is_regular_expression(node),
         Kind::UnaryExpression => {
             let unary = UnaryExpressionRef::from_node(node);
             unary.operator == UnaryOperator::Delete && is_this(unary.argument)

@@ -9,7 +9,7 @@ use Rattle.es_steps.specs.Context.{NameKind, Fixed, Changing, MeansClass, Genera
 use Rattle.es_steps.specs.Evaluation.{added, is_private_key, without_private, only_private, outside_run, outside, is_binding_value, element_holds, kept_as, given_as, Environment, Run, Evaluation, no_meaning, gives, event, run_behind, go_on, bind, settle_run, settle, held_run, held, quiet_run, quiet, is_none, same_run, stays, class_run, gives_class, this_run, gives_this, found, give_found, read_given, read_generated, read_name, stands_for, write_generated, write_name, private_key, default_key, read_private, write_private, Ready, ready_member, ready_private, ready_setter, ready_pattern, read_ready, write_ready, initialized, last_of, new_or_former, nullable_gives, has_receiver, receiver_in, ev_template, tag_values, bind_parameters, tested_then, has_instance_methods, brand_first, declared_first, ev_behind, ev, ev_target, ev_taken, ev_take, ev_callee, ev_again, ev_all, ev_converted, ev_held, ev_keys, ev_key, ev_statics, ev_static, ev_fields, ev_field, ev_initializers}
 use Rattle.es_steps.specs.Events.{OfKind, Take, Index, Place, RightOf, Default, Part, Event, AddBrand, SuperCall, SuperCallWithAll, InitializeClass, Throw, Events, none, then, is_throw, throws, behind, value_behind, Short, Operate}
 use Rattle.es_steps.specs.SameValues.{same_value}
-use Rattle.es_steps.specs.Values.{String, RegExpOf, Value, ConstantOf, Undefined, BindingOf, FunctionOf, ClassOf, ThisOf, ArgumentsOf, NewTargetOf, ResultOf, FormerOf, KeyOf, TagString, as_key, is_class_value}
+use Rattle.es_steps.specs.Values.{String, Value, ConstantOf, Undefined, BindingOf, FunctionOf, ClassOf, ThisOf, ArgumentsOf, NewTargetOf, ResultOf, FormerOf, KeyOf, TagString, as_key, is_class_value}
 
 -- a write whose value is what is written
 abbrev pub write_and_give : Ready → Value → Evaluation
@@ -149,7 +149,6 @@ module _ (f : ℕ → ℕ) where
 
   is_binding_value-mapped : (v : Value) → is_binding_value (mapped_value f v) ≡ is_binding_value v
   is_binding_value-mapped (BindingOf b) = refl
-  is_binding_value-mapped (ConstantOf (RegExpOf s t)) = refl
   is_binding_value-mapped (KeyOf v) = is_binding_value-mapped v
   is_binding_value-mapped v = refl
 

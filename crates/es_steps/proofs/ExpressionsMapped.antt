@@ -3,11 +3,13 @@ use Rattle.std.specs.Prelude.{◌≡◌, ℕ, [], ◌∷◌, ◌++◌, Bool, tru
 use Rattle.std.proofs.Common.{refl, ap, ap₂, ◌∙◌}
 use Rattle.es_base.specs.Numbered.{is_new}
 use Rattle.es_base.specs.declared.kind.Kind.{Kind}
+use Rattle.es_base.specs.declared.literal.LiteralValue.{LiteralValue}
+use Rattle.es_base.specs.declared.literal.LiteralValue.TheVariants as literal_value
 use Rattle.es_base.specs.declared.ledger.GeneratedKind.{GeneratedKind}
 use Rattle.es_steps.specs.Code.{Code, Codes, Target, Callee, no_rule, value, spelled, private_name, name, super, member, private_member, super_member, private_in, compound, logical, logical_assign, call, tag, template_string, template, operation, piece, chain, tested, private_value, on_chain, behind_test, done, and, from_call, from_member, bound, with_receiver}
 use Rattle.es_steps.specs.Context.{Context, NameKind, Changing, Generated, StaticMethod, name_kind, new_here}
 use Rattle.es_steps.specs.Events.{Operand, Spelled, Flag, OfKind, Delete}
-use Rattle.es_steps.specs.Expressions.{operation_of, the_code, literal_code, is_arguments, static_method, arguments_of, name_or_arguments, name_code, private_name_code, cooked_of, template_string_code, template_strings, template_code, spelling_of, meta_code, key_code, super_member_at, checked_object, member_on, member_code, is_made_private, names_class, private_on, private_field_of, private_field_code, private_in_of, private_in_code, target_of, is_logical, without_sign, assignment_code, update_code, void_code, deleted, delete_code, is_free_name, is_any_name, unary_operation, unary_code, binary_code, quiet_logical, logical_code, chain_code, spliced, deleted_as, ended_alone, chain_or, conditional_code, callee_of, checked_callee, call_code, new_code, tag_of, tag_code, is_prototype, key_details, property_code}
+use Rattle.es_steps.specs.Expressions.{operation_of, the_code, value_code, literal_code, is_arguments, static_method, arguments_of, name_or_arguments, name_code, private_name_code, cooked_of, template_string_code, template_strings, template_code, spelling_of, meta_code, key_code, super_member_at, checked_object, member_on, member_code, is_made_private, names_class, private_on, private_field_of, private_field_code, private_in_of, private_in_code, target_of, is_logical, without_sign, assignment_code, update_code, void_code, deleted, delete_code, is_free_name, is_any_name, unary_operation, unary_code, binary_code, quiet_logical, logical_code, chain_code, spliced, deleted_as, ended_alone, chain_or, conditional_code, callee_of, checked_callee, call_code, new_code, tag_of, tag_code, is_prototype, key_details, property_code}
 use Rattle.es_steps.specs.GeneratedForms.{generated_member, generated_call, generated_assignment, is_undefined_test, tested_object, class_named, is_method_kind}
 use Rattle.es_steps.specs.Members.{Member, Members, code, string, literal, at, codes_of, word_of, flag_of, details}
 use Rattle.es_steps.specs.PrivateNames.{PrivateMember, PrivateReference, member_at}
@@ -32,12 +34,20 @@ module _ (f : ℕ → ℕ) where
 
   -- ---- constants
 
-  literal_code-mapped : (p : Member) → literal_code (mapped_member f p) ≡ mapped_code f (literal_code p)
-  literal_code-mapped (literal v) = refl
-  literal_code-mapped p = refl
+  value_code-mapped : (m : ℕ) (v : LiteralValue) → value_code (f m) v ≡ mapped_code f (value_code m v)
+  value_code-mapped m (literal_value.RegExp source flags) = refl
+  value_code-mapped m (literal_value.String s raw) = refl
+  value_code-mapped m (literal_value.Number raw) = refl
+  value_code-mapped m (literal_value.BigInt s) = refl
+  value_code-mapped m (literal_value.Boolean b) = refl
+  value_code-mapped m literal_value.Null = refl
 
-  pub literal_at-mapped : (i : ℕ) (ps : Members) → literal_code (at i (mapped_members f ps)) ≡ mapped_code f (literal_code (at i ps))
-  literal_at-mapped i ps = ap literal_code (at-mapped f i ps) ∙ literal_code-mapped (at i ps)
+  literal_code-mapped : (m : ℕ) (p : Member) → literal_code (f m) (mapped_member f p) ≡ mapped_code f (literal_code m p)
+  literal_code-mapped m (literal v) = value_code-mapped m v
+  literal_code-mapped m p = refl
+
+  pub literal_at-mapped : (m i : ℕ) (ps : Members) → literal_code (f m) (at i (mapped_members f ps)) ≡ mapped_code f (literal_code m (at i ps))
+  literal_at-mapped m i ps = ap (literal_code (f m)) (at-mapped f i ps) ∙ literal_code-mapped m (at i ps)
 
   cooked_of-mapped : (p : Member) → cooked_of (mapped_member f p) ≡ cooked_of p
   cooked_of-mapped (string s) = refl

@@ -11,13 +11,15 @@ use Rattle.es_base.specs.Table.{members_of}
 use Rattle.es_base.specs.Tree as tree
 use Rattle.es_base.specs.Tree.{Tree, Part, Parts, Node}
 use Rattle.es_base.specs.declared.kind.Kind.{Kind}
+use Rattle.es_base.specs.declared.literal.LiteralValue.{LiteralValue}
+use Rattle.es_base.specs.declared.literal.LiteralValue.TheVariants as literal_value
 use Rattle.es_base.specs.declared.table.Place.{Place}
 use Rattle.es_base.specs.declared.table.Sort.{Sort}
 use Rattle.es_base.specs.declared.table.Words.{Words}
 use Rattle.es_steps.specs.Code.{Code, Codes, Opened, spelled, name, steps, done, and, joined}
 use Rattle.es_steps.specs.Context.{Context, NameKind, Fixed, Changing, MeansClass, found_kind, declared_kind, unless_varying, inside}
-use Rattle.es_steps.specs.Expressions.{constant_of, is_arguments, arguments_of, name_or_arguments, name_code}
-use Rattle.es_steps.specs.FirstForm.{is_plain_value, is_plain_key, is_plain_field, is_new_name, unless, element_breaches, elements_breaches, body_breaches, statement_breaches, statements_breaches, class_names, breaches, no_numbers, most_nodes}
+use Rattle.es_steps.specs.Expressions.{value_code, is_arguments, arguments_of, name_or_arguments, name_code}
+use Rattle.es_steps.specs.FirstForm.{is_plain_literal, is_plain_value, is_plain_key, is_plain_field, is_new_name, unless, element_breaches, elements_breaches, body_breaches, statement_breaches, statements_breaches, class_names, breaches, no_numbers, most_nodes}
 use Rattle.es_steps.specs.Law.{FirstFormLaw}
 use Rattle.es_steps.specs.Meaning.{Terms, MemberEntry, start, source_terms, body_of, in_body, with_all, means_of, has_meaning, member_entries, private_functions, all_exports}
 use Rattle.es_steps.specs.Modules.{Exported, exports_of, exports_in}
@@ -30,7 +32,7 @@ use Rattle.es_steps.specs.Reading.{read, read_part, read_parts, read_items}
 use Rattle.es_steps.specs.References.{has_number, declared}
 use Rattle.es_steps.specs.Scopes.{ClassName, no_class, declares, own_name, let_names, Declaration}
 use Rattle.es_steps.specs.Statements.{value_or_undefined, field_code, declared_by, elements_of, class_of}
-use Rattle.es_steps.specs.Values.{String, Value, ConstantOf, Undefined, ArgumentsOf, Bound, Free}
+use Rattle.es_steps.specs.Values.{String, StringOf, NumberOf, BooleanOf, Null, Value, ConstantOf, Undefined, ArgumentsOf, Bound, Free}
 use Rattle.es_steps.proofs.PlainClasses.{IsNotGenerated, fixed, changing, means_class, IsPlain, a_value, a_name, IsField, plain_field, AreFields, IsClass, plain_class, AreClasses, classes-run, all-there}
 
 pub no_false : {A : Type 0} → false ≡ true → A
@@ -93,9 +95,16 @@ plain-name c m s kind (means_class n b) = a_name m s (MeansClass n b) (means_cla
 plain-name_code : (c : Context) (m : ℕ) (s : String) → c.ledger ≡ [] → IsPlain (name_code c m s)
 plain-name_code c m s l = rw l (plain-name c m s (found_kind c.first_new c.varying s (declared s c.names)) (not_generated-found c.first_new c.varying s (declared s c.names)))
 
+pub plain-literal : (m : ℕ) (v : LiteralValue) → is_plain_literal v ≡ true → IsPlain (value_code m v)
+plain-literal m (literal_value.String s raw) h = a_value (ConstantOf (StringOf s))
+plain-literal m (literal_value.Number raw) h = a_value (ConstantOf (NumberOf raw))
+plain-literal m (literal_value.Boolean b) h = a_value (ConstantOf (BooleanOf b))
+plain-literal m literal_value.Null h = a_value (ConstantOf Null)
+plain-literal m v h = no_false h
+
 plain-value : (names : List String) (c : Context) (v : Part) → c.ledger ≡ [] → is_plain_value names v ≡ true → IsPlain (value_or_undefined (read_part c v))
 plain-value names c tree.absent l h = a_value Undefined
-plain-value names c (tree.child (Node Kind.Literal m span semantic_id (tree.more (tree.literal v) tree.end))) l h = a_value (ConstantOf (constant_of v))
+plain-value names c (tree.child (Node Kind.Literal m span semantic_id (tree.more (tree.literal v) tree.end))) l h = plain-literal m v h
 plain-value names c (tree.child (Node Kind.IdentifierReference m span semantic_id (tree.more (tree.string s) tree.end))) l h = plain-name_code c m s l
 plain-value names c p l h = no_false h
 

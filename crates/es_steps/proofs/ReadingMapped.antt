@@ -77,7 +77,7 @@ module _ {first : ℕ} {f : ℕ → ℕ} (r : Renames first f) (c : Context) (e 
   code_of-mapped Kind.BindingIdentifier m ps = rw (word_at-mapped f 0 ps, name_kind-mapped r c e (word_of (at 0 ps))) refl
   code_of-mapped Kind.IdentifierName m ps = ap spelled (word_at-mapped f 0 ps)
   code_of-mapped Kind.PrivateIdentifier m ps = rw (word_at-mapped f 0 ps) (private_name_code-mapped r c e m (word_of (at 0 ps)))
-  code_of-mapped Kind.Literal m ps = literal_at-mapped f 0 ps
+  code_of-mapped Kind.Literal m ps = literal_at-mapped f m 0 ps
   code_of-mapped Kind.ThisExpression m ps = refl
   code_of-mapped Kind.Super m ps = refl
   code_of-mapped Kind.TemplateElement m ps = template_string_code-mapped f ps

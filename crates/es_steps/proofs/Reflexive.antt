@@ -11,7 +11,7 @@ use Rattle.es_steps.specs.SameMeanings.{same_list, same_option, same_detail, sam
 use Rattle.es_steps.specs.PrivateNames.{PrivateKind, a_field, a_method, a_getter, a_setter}
 use Rattle.es_steps.specs.SameTrees.{kind_number}
 use Rattle.es_steps.specs.SameValues.{same_boolean, same_nullable_string, same_constant, same_value}
-use Rattle.es_steps.specs.Values.{String, Constant, StringOf, NumberOf, BigIntOf, RegExpOf, BooleanOf, Null, RawTemplate, TagString, Value, ConstantOf, Undefined, BindingOf, FunctionOf, ClassOf, ThisOf, ArgumentsOf, NewTargetOf, ResultOf, FormerOf, KeyOf, Referent, Bound, Free, Home, OfClass, OfPrototype, OfObject, PrivateTest, HasField, HasBrand, IsClass}
+use Rattle.es_steps.specs.Values.{String, Constant, StringOf, NumberOf, BigIntOf, BooleanOf, Null, RawTemplate, TagString, Value, ConstantOf, Undefined, BindingOf, FunctionOf, ClassOf, ThisOf, ArgumentsOf, NewTargetOf, ResultOf, FormerOf, KeyOf, Referent, Bound, Free, Home, OfClass, OfPrototype, OfObject, PrivateTest, HasField, HasBrand, IsClass}
 
 both : {a b : Bool} → a ≡ true → b ≡ true → a && b ≡ true
 both {a = a} {b = b} p q = and_from a b p q
@@ -42,7 +42,6 @@ constant-same : (x : Constant) → same_constant x x ≡ true
 constant-same (StringOf s) = string-same s
 constant-same (NumberOf s) = string-same s
 constant-same (BigIntOf s) = string-same s
-constant-same (RegExpOf p f) = both (string-same p) (string-same f)
 constant-same (BooleanOf b) = boolean-same b
 constant-same Null = refl
 constant-same (RawTemplate s) = string-same s

@@ -7,7 +7,7 @@ use Rattle.es_steps.specs.Code.{Code, Codes, Target, Callee, FieldForm, defines,
 use Rattle.es_steps.specs.Context.{NameKind, Fixed, Changing, MeansClass, Generated, StaticMethod}
 use Rattle.es_steps.specs.Events.{Detail, Operation, OfKind, Take, Operand, Empty, Spelled, Flag, Index, Place, RightOf, Default, Part, Event, ReadName, SetName, Get, Set, Define, Call, Construct, Operate, Update, PrivateGet, PrivateSet, PrivateInitialize, PrivateIn, AddBrand, SuperGet, SuperSet, SuperCall, SuperCallWithAll, InitializeClass, Throw, Short, Held, Events, none, then, throws, behind, value_behind}
 use Rattle.es_steps.specs.SameValues.{same_value}
-use Rattle.es_steps.specs.Values.{String, Constant, StringOf, RegExpOf, RawTemplate, TagString, Value, ConstantOf, Undefined, BindingOf, FunctionOf, ClassOf, ThisOf, ResultOf, FormerOf, KeyOf, Bound, Home, as_key, is_class_value}
+use Rattle.es_steps.specs.Values.{String, Constant, StringOf, RawTemplate, TagString, Value, ConstantOf, Undefined, BindingOf, FunctionOf, ClassOf, ThisOf, ResultOf, FormerOf, KeyOf, Bound, Home, as_key, is_class_value}
 
 -- the values of temporaries, the last given first
 abbrev pub Environment : Type 0
@@ -125,11 +125,9 @@ read_name m s (StaticMethod d n) = event (PrivateGet m d (ClassOf n)) (ResultOf 
 abbrev pub stands_for : String → Value → Evaluation
 stands_for s v env = Some (record { events = none; value = v; after = (s, v) ∷ env })
 
--- what a binding holds is no value of a temporary, which may be read where the binding holds another one; nor is a regular
--- expression, which is another object each time (13.2.7)
+-- what a binding holds is no value of a temporary, which may be read where the binding holds another one
 abbrev pub is_binding_value : Value → Bool
 is_binding_value (BindingOf b) = true
-is_binding_value (ConstantOf (RegExpOf p f)) = true
 is_binding_value (KeyOf v) = is_binding_value v
 is_binding_value v = false
 

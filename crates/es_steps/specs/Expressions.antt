@@ -10,7 +10,7 @@ use Rattle.es_steps.specs.Events.{Detail, Operand, Spelled, Flag, Key, Prototype
 use Rattle.es_steps.specs.GeneratedForms.{helper_member, generated_member, generated_call, generated_binary, generated_assignment, is_undefined_test, again_of, tested_object, class_named, is_method_kind}
 use Rattle.es_steps.specs.Members.{Member, Members, code, string, literal, at, operands, details, codes_of, word_of, flag_of}
 use Rattle.es_steps.specs.PrivateNames.{PrivateMember, PrivateReference, private_reference, test_of, member_at}
-use Rattle.es_steps.specs.Values.{String, Constant, StringOf, NumberOf, BigIntOf, RegExpOf, BooleanOf, Null, Value, ConstantOf, Undefined, ResultOf, ThisOf, ClassOf, ArgumentsOf, Bound, Free, Home}
+use Rattle.es_steps.specs.Values.{String, StringOf, NumberOf, BigIntOf, BooleanOf, Null, Value, ConstantOf, Undefined, ResultOf, ThisOf, ClassOf, ArgumentsOf, Bound, Free, Home}
 
 -- the rule of all kinds that have none of their own: the operands in order, then the operation
 abbrev pub operation_of : Kind → ℕ → Members → Code
@@ -22,17 +22,18 @@ the_code p = no_rule
 
 -- ---- names and constants
 
-abbrev pub constant_of : LiteralValue → Constant
-constant_of (literal_value.String s raw) = StringOf s
-constant_of (literal_value.Number raw) = NumberOf raw
-constant_of (literal_value.BigInt s) = BigIntOf s
-constant_of (literal_value.RegExp source flags) = RegExpOf source flags
-constant_of (literal_value.Boolean b) = BooleanOf b
-constant_of literal_value.Null = Null
+-- a regular expression is another object each time (13.2.7)
+abbrev pub value_code : ℕ → LiteralValue → Code
+value_code m (literal_value.String s raw) = value (ConstantOf (StringOf s))
+value_code m (literal_value.Number raw) = value (ConstantOf (NumberOf raw))
+value_code m (literal_value.BigInt s) = value (ConstantOf (BigIntOf s))
+value_code m (literal_value.RegExp source flags) = operation m (OfKind Kind.Literal (Spelled source ∷ Spelled flags ∷ [])) done done
+value_code m (literal_value.Boolean b) = value (ConstantOf (BooleanOf b))
+value_code m literal_value.Null = value (ConstantOf Null)
 
-abbrev pub literal_code : Member → Code
-literal_code (literal v) = value (ConstantOf (constant_of v))
-literal_code p = no_rule
+abbrev pub literal_code : ℕ → Member → Code
+literal_code m (literal v) = value_code m v
+literal_code m p = no_rule
 
 abbrev pub is_arguments : String → Bool
 is_arguments s = bytes_eq s (codes "arguments")

@@ -2,8 +2,9 @@
 -- quiet here is, in a program that has a meaning, what evaluation gives no events of. (Our own; docs/DECISIONS.md says why
 -- it is told by form.)
 use Rattle.std.specs.Prelude.{ℕ, suc, List, [], ◌∷◌, ◌++◌, Bool, true, false, cond, not, ◌&&◌, ◌||◌, nat_eq, codes, bytes_eq, Option, Some}
-use Rattle.es_base.specs.Tree.{Tree, Part, Parts, Node, end, more, child, list}
+use Rattle.es_base.specs.Tree.{Tree, Part, Parts, Node, end, more, child, list, literal}
 use Rattle.es_base.specs.declared.kind.Kind.{Kind}
+use Rattle.es_base.specs.declared.literal.LiteralValue.TheVariants as literal_value
 use Rattle.es_steps.specs.Expressions.{is_arguments}
 use Rattle.es_steps.specs.LoweredClasses.{has_no_items, is_private_key, referent_of}
 use Rattle.es_steps.specs.Options.{leaves_out_fields}
@@ -63,9 +64,14 @@ is_this p = false
 abbrev pub deletes_this : Parts → Bool
 deletes_this ps = bytes_eq (string_of (at 0 ps)) (codes "delete") && is_this (at 1 ps)
 
--- a literal, or `delete this`
+-- a regular expression is an object that is made (13.2.7)
+abbrev pub is_regular_expression : Part → Bool
+is_regular_expression (literal (literal_value.RegExp source flags)) = true
+is_regular_expression p = false
+
+-- a literal but a regular expression, or `delete this`
 abbrev pub is_constant : Part → Bool
-is_constant (child (Node Kind.Literal m span semantic_id ps)) = true
+is_constant (child (Node Kind.Literal m span semantic_id ps)) = not (is_regular_expression (at 0 ps))
 is_constant (child (Node Kind.UnaryExpression m span semantic_id ps)) = deletes_this ps
 is_constant p = false
 
@@ -94,7 +100,7 @@ reads_name varying writes_arguments a s r = not (is_arguments s && (a.has_argume
 module _ (o : Options) (program : Tree) where
   -- whether a node of this kind has an event by itself, or may have: a form that is not named here has
   abbrev pub acts : Around → Kind → ℕ → Parts → Bool
-  acts a Kind.Literal m ps = false
+  acts a Kind.Literal m ps = is_regular_expression (at 0 ps)
   acts a Kind.ThisExpression m ps = false
   acts a Kind.MetaProperty m ps = not (is_new (at 0 ps))
   acts a Kind.IdentifierReference m ps = reads_name (varying program) (changes_free (codes "arguments") program) a (string_of (at 0 ps)) (referent_of m (resolve program))

@@ -1,6 +1,6 @@
 -- Whether two values are one.
 use Rattle.std.specs.Prelude.{Bool, true, false, ◌&&◌, bytes_eq, nat_eq, Option, Some, None}
-use Rattle.es_steps.specs.Values.{String, Constant, StringOf, NumberOf, BigIntOf, RegExpOf, BooleanOf, Null, RawTemplate, TagString, Value, ConstantOf, Undefined, BindingOf, FunctionOf, ClassOf, ThisOf, ArgumentsOf, NewTargetOf, ResultOf, FormerOf, KeyOf}
+use Rattle.es_steps.specs.Values.{String, Constant, StringOf, NumberOf, BigIntOf, BooleanOf, Null, RawTemplate, TagString, Value, ConstantOf, Undefined, BindingOf, FunctionOf, ClassOf, ThisOf, ArgumentsOf, NewTargetOf, ResultOf, FormerOf, KeyOf}
 
 abbrev pub same_boolean : Bool → Bool → Bool
 same_boolean true b = b
@@ -16,7 +16,6 @@ abbrev pub same_constant : Constant → Constant → Bool
 same_constant (StringOf s) (StringOf t) = bytes_eq s t
 same_constant (NumberOf s) (NumberOf t) = bytes_eq s t
 same_constant (BigIntOf s) (BigIntOf t) = bytes_eq s t
-same_constant (RegExpOf p f) (RegExpOf q g) = bytes_eq p q && bytes_eq f g
 same_constant (BooleanOf b) (BooleanOf c) = same_boolean b c
 same_constant Null Null = true
 same_constant (RawTemplate s) (RawTemplate t) = bytes_eq s t

@@ -5,12 +5,11 @@ use Rattle.std.specs.Prelude.{ℕ, List, Bool, false, nat_eq, Option}
 abbrev pub String : Type 0
 String = List ℕ
 
--- A literal, or what is alike: the name of a property, a template without expressions.
+-- A literal but a regular expression, or what is alike: the name of a property, a template without expressions.
 pub data Constant : Type 0 where
   StringOf : (string : String) → Constant
   NumberOf : (raw : String) → Constant
   BigIntOf : (string : String) → Constant
-  RegExpOf : (pattern flags : String) → Constant
   BooleanOf : (boolean : Bool) → Constant
   Null : Constant
   -- a template without expressions whose string has no cooked form
