@@ -7,7 +7,7 @@ use Rattle.es_base.specs.Tree.{Tree, Part, Parts, Node, end, more, child}
 use Rattle.es_base.specs.declared.kind.Kind.{Kind}
 use Rattle.es_base.specs.declared.ledger.GeneratedKind.{GeneratedKind}
 use Rattle.es_base.specs.declared.ledger.LedgerEntry.{LedgerEntry}
-use Rattle.es_lowered.specs.ClassNames.{numbers_of, numbers_of_key, element_numbers, body_numbers, numbers_inside, class_numbers, is_written_at, naming, without, numbers_of_class, head_numbers, common, free_naming, naming_in_source, MovedFunction, function_numbers, moved_function, moved_at, moved_functions, any_among, outside_class, names_holding, is_reference_to, reading, reaching, without_functions, is_behind, is_class_mark, stand_behind, is_asked, is_none, class_runs, any_name, asked_names, functions_outside, asked_references, stand_in_time, class_timely, all_classes_timely, has_none, classes_timely}
+use Rattle.es_lowered.specs.ClassNames.{numbers_of, numbers_of_key, element_numbers, body_numbers, numbers_inside, class_numbers, is_written_at, naming, without, numbers_of_class, head_numbers, common, free_naming, naming_in_source, MovedFunction, function_numbers, moved_function, moved_at, moved_functions, any_among, outside_class, names_holding, is_reference_to, reading, reaching, without_functions, is_behind, is_class_mark, stand_behind, is_asked, is_none, class_runs, any_name, asked_names, functions_outside, asked_references, stand_in_time, class_timely, all_classes_timely, classes_timely}
 use Rattle.es_steps.specs.Context.{generated_as, is_generated}
 use Rattle.es_lowered.specs.Definitions.{spelling, class_identifiers, names_class}
 use Rattle.es_lowered.specs.HelperCalls.{body_runs}
@@ -91,10 +91,6 @@ module _ (f : ℕ → ℕ) where
   is_reference_to-mapped : (ss : List String) (t : Tree) → is_reference_to ss (mapped f t) ≡ is_reference_to ss t
   is_reference_to-mapped ss (Node Kind.IdentifierReference m span semantic_id ps) = rw (string_at-mapped f 0 ps) refl
   is_reference_to-mapped ss t = refl
-
-  has_none-mapped : (ledger : List LedgerEntry) → has_none (mapped_ledger f ledger) ≡ has_none ledger
-  has_none-mapped [] = refl
-  has_none-mapped (e ∷ es) = refl
 
   is_none-mapped : (ns : List ℕ) → is_none (map f ns) ≡ is_none ns
   is_none-mapped [] = refl
@@ -234,6 +230,5 @@ module _ {first : ℕ} {f : ℕ → ℕ} (r : Renames first f) where
 
   pub classes_timely-mapped : (ledger : List LedgerEntry) (p q : Tree) → classes_timely first (mapped_ledger f ledger) (mapped f p) (mapped f q) ≡ classes_timely first ledger p q
   classes_timely-mapped ledger p q =
-      ap₂ (λ a b. a || b) (has_none-mapped f ledger)
-      (ap (all_classes_timely first (mapped_ledger f ledger) (mapped f p) (mapped f q)) (ap class_numbers (preorder-mapped f p) ∙ class_numbers-mapped f (preorder p))
-      ∙ all_classes_timely-mapped ledger p q (class_numbers (preorder p)))
+      ap (all_classes_timely first (mapped_ledger f ledger) (mapped f p) (mapped f q)) (ap class_numbers (preorder-mapped f p) ∙ class_numbers-mapped f (preorder p))
+      ∙ all_classes_timely-mapped ledger p q (class_numbers (preorder p))

@@ -188,10 +188,5 @@ abbrev pub all_classes_timely : ℕ → List LedgerEntry → Tree → Tree → L
 all_classes_timely first ledger p q [] = true
 all_classes_timely first ledger p q (n ∷ ns) = class_timely first ledger p q n && all_classes_timely first ledger p q ns
 
--- without generated names nothing is moved past another thing
-abbrev pub has_none : List LedgerEntry → Bool
-has_none [] = true
-has_none (e ∷ es) = false
-
 abbrev pub classes_timely : ℕ → List LedgerEntry → Tree → Tree → Bool
-classes_timely first ledger p q = has_none ledger || all_classes_timely first ledger p q (class_numbers (preorder p))
+classes_timely first ledger p q = all_classes_timely first ledger p q (class_numbers (preorder p))
