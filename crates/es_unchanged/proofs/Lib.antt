@@ -1,3 +1,4 @@
+pub mod ClassNames
 pub mod Names
 pub mod References
 pub mod Standing

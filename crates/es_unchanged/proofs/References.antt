@@ -6,8 +6,9 @@ use Rattle.es_base.specs.Tree.{Tree}
 use Rattle.es_left.proofs.Booleans.{both}
 use Rattle.es_steps.proofs.Reflexive.{number-same}
 use Rattle.es_steps.specs.KeptNodes.{pair_stands, all_pairs_stand}
-use Rattle.es_lowered.specs.KeptReferences.{plain_targets, writing_numbers, write_fits, writes_fit, InnerReference, inner_references, same_place, stands_where, all_stand_where, references_stay}
+use Rattle.es_lowered.specs.KeptReferences.{plain_targets, writing_numbers, writes_fit, InnerReference, inner_references, same_place, stands_where, all_stand_where, references_stay}
 use Rattle.es_steps.specs.References.{Reference, resolve, has_number}
+use Rattle.es_unchanged.proofs.ClassNames.{classes-timely}
 use Rattle.es_unchanged.proofs.Standing.{or_left, or_right}
 
 -- old are numbers of references that write
@@ -39,4 +40,4 @@ stand-where first (r ∷ rs) xs h =
 pub references-stay : (first : ℕ) (t : Tree) → references_stay first [] t t ≡ true
 references-stay first t =
     let inner : List InnerReference = inner_references first (preorder t) false [] t in
-    both (writes-own (plain_targets (preorder t)) (writing_numbers (resolve t)) (resolve t) (λ m i. i)) (stand-where first inner inner (λ r i. i))
+    both (classes-timely first t) (both (writes-own (plain_targets (preorder t)) (writing_numbers (resolve t)) (resolve t) (λ m i. i)) (stand-where first inner inner (λ r i. i)))
