@@ -6,6 +6,7 @@ pub mod Declared
 pub mod Defining
 pub mod Entering
 pub mod Fitting
+pub mod FreeNames
 pub mod Laid
 pub mod Leasts
 pub mod Mapped

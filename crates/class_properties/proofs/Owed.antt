@@ -118,8 +118,8 @@ numbered-laid t p e =
     (whole.0, subst (λ u. Laid (nodes t) (nodes t) whole.0 0 (nodes t) (preorder (lowered_from (nodes t) u))) (sym e) whole.1)
 
 module _ (asked : Options) where
-  numbered-owes : (t : Tree) → IsProgram t → t ≡ numbered_from 0 t → IsLowered (nodes t) (defining asked) [] t (numbered.lowered t)
-  numbered-owes t p e =
+  numbered-owes : (t : Tree) → IsProgram t → is_first_form t [] ≡ true → t ≡ numbered_from 0 t → IsLowered (nodes t) (defining asked) [] t (numbered.lowered t)
+  numbered-owes t p f e =
       let first : ℕ = nodes t in
       let q : Tree = numbered.lowered t in
       let whole = numbered-laid t p e in
@@ -131,7 +131,7 @@ module _ (asked : Options) where
           declared = refl;
           accounted = laid-accounted (own_name_numbers t (resolve q) (preorder q)) laid;
           names = both (laid-named (preorder t) (resolve q) laid) (laid-unread (all_moved [] (preorder q)) (preorder t) (resolve q) laid);
-          references = references-stay first first t p;
+          references = references-stay first first t p f;
           strict = numbered-strict t p e;
           texts = texts-stay t p e;
           initialized = refl;
@@ -151,7 +151,7 @@ module _ (asked : Options) where
       }
 
   form-owes : (t : Tree) → conforms Place.Program t ≡ true → is_first_form t [] ≡ true → t ≡ numbered_from 0 t → IsLowered (nodes t) (defining asked) [] t (lowered t)
-  form-owes t f h e = subst (IsLowered (nodes t) (defining asked) [] t) (sym (lowered-numbered t f h e)) (numbered-owes t (first_form-shaped t [] f h) e)
+  form-owes t f h e = subst (IsLowered (nodes t) (defining asked) [] t) (sym (lowered-numbered t f h e)) (numbered-owes t (first_form-shaped t [] f h) h e)
 
 pub lowered-owes : (o : Options) (t : Tree) → defines_fields o ≡ true → conforms Place.Program t ≡ true → is_first_form t [] ≡ true → t ≡ numbered_from 0 t → IsLowered (nodes t) o [] t (lowered t)
 lowered-owes o t d f h e = subst (λ x. IsLowered (nodes t) x [] t (lowered t)) (is_defining o d) (form-owes o t f h e)

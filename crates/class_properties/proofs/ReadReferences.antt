@@ -1,15 +1,17 @@
--- What a program of the first form is lowered to writes no name, and no function stands in a block.
-use Rattle.std.specs.Prelude.{◌≡◌, ℕ, suc, List, [], ◌∷◌, ◌++◌, Bool, true, false, cond, not, ◌&&◌, ◌||◌}
+-- What a program of the first form is lowered to reads no name of a class and writes no name, and no function stands in a block.
+use Rattle.std.specs.Prelude.{◌≡◌, ℕ, suc, List, [], ◌∷◌, ◌++◌, Bool, true, false, cond}
 use Rattle.std.proofs.Common.{refl}
 use Rattle.es_base.specs.Preorder.{preorder}
 use Rattle.es_base.specs.Tree.{Tree, Part, Parts, Node, end, more, child, absent, list, string, no_string, boolean, literal}
 use Rattle.es_base.specs.declared.kind.Kind.{Kind}
+use Rattle.es_steps.specs.FirstForm.{is_first_form}
 use Rattle.es_steps.specs.KeptNodes.{is_constructor_part}
-use Rattle.es_lowered.specs.KeptReferences.{plain_targets, writing_numbers, writes_fit, InnerReference, functions_in, inner_reference, inner_references, inner_in, inner_at, inner_of, references_stay}
+use Rattle.es_lowered.specs.KeptReferences.{plain_targets, writing_numbers, writes_fit, functions_in, inner_reference, inner_references, inner_in, inner_at, inner_of, references_stay}
 use Rattle.es_steps.specs.Parts.{at, string_of}
 use Rattle.es_steps.specs.References.{Reference, resolve, gives_inside}
 use Rattle.es_steps.specs.Values.{String}
 use Rattle.class_properties.proofs.Declared.{writing-none, inside-none}
+use Rattle.class_properties.proofs.FreeNames.{classes-timely}
 use Rattle.class_properties.proofs.Numbered.{lowered_from}
 use Rattle.class_properties.proofs.Shaped.{IsProgram}
 
@@ -47,6 +49,6 @@ module _ (first : ℕ) (ps : List Tree) (none : (s : String) → gives_inside s 
     list-none around end = refl
     list-none around (more q qs) = rw (part-none false around q, list-none around qs) refl
 
-pub references-stay : (first k : ℕ) (t : Tree) → IsProgram t → references_stay first [] t (lowered_from k t) ≡ true
-references-stay first k t p =
-    rw (tree-none first (preorder t) (inside-none t p) false [] (lowered_from k t), unwriting (plain_targets (preorder (lowered_from k t))) (writing_numbers (resolve t)) (resolve (lowered_from k t)) (writing-none k t p)) refl
+pub references-stay : (first k : ℕ) (t : Tree) → IsProgram t → is_first_form t [] ≡ true → references_stay first [] t (lowered_from k t) ≡ true
+references-stay first k t p f =
+    rw (classes-timely first k t p f, tree-none first (preorder t) (inside-none t p) false [] (lowered_from k t), unwriting (plain_targets (preorder (lowered_from k t))) (writing_numbers (resolve t)) (resolve (lowered_from k t)) (writing-none k t p)) refl
