@@ -35,6 +35,7 @@ use Rattle.es_steps.specs.declared.options.Options.{Options}
 use Rattle.class_properties.proofs.Defining.{defining, is_defining}
 use Rattle.class_properties.proofs.Constructions.{Fields, no_fields, with_field, ArePlain, field_codes, Defines, none_defined, defined, AreLowered, no_constructor, one_constructor, pair_of_classes, ArePairs, RunAlike, ran, value_behind-undefined, pairs-run}
 use Rattle.class_properties.proofs.Declared.{HasNone, source-none, lowered-none, names-definitions, names-lowered, varying-lowered, declaring-lowered, globals-lowered, shared-lowered, places-lowered}
+use Rattle.class_properties.proofs.FreeNames.{leaves}
 use Rattle.class_properties.proofs.Shaped.{IsValue, no_value, a_literal, a_reference, a_key, a_field, AreFields, a_body, a_name as a_class_name, a_class, AreClasses, IsProgram, a_program, first_form-shaped}
 use Rattle.class_properties.proofs.Numbered.{key_string, value_from, definitions_from, lowered_elements, lowered_statements}
 use Rattle.class_properties.proofs.Numbered as numbered
@@ -201,12 +202,6 @@ module _ (asked : Options) where
 
   -- ---- programs
 
-  -- the name of the helpers is free
-  helpers-free : (ps : Parts) → AreClasses ps → declared (codes "babelHelpers") (body_names ps ++ []) ≡ None
-  helpers-free tree.end h = refl
-  helpers-free (tree.more p ps) (a_class n span semantic_id id body (a_class_name i ispan i_semantic_id s other) hbody, h) =
-      rw (or_false (bytes_eq (codes "babelHelpers") s) _ other) (helpers-free ps h)
-
   abbrev terms : ℕ → Options → List PrivateMember → Terms
   terms first options members = record { first_new = first; options = options; ledger = []; members = members; late = [] }
 
@@ -247,7 +242,7 @@ module _ (asked : Options) where
       let d : Context = inside (start o q) Kind.Program m (tree.more (tree.string s) (tree.more (tree.list low) tree.end)) 1 in
       let np : HasNone t = source-none t p in
       let nq : HasNone q = lowered-none first t p in
-      let plain : IsPlainContext c = record { ledger = refl; options = refl; helpers = helpers-free all h } in
+      let plain : IsPlainContext c = record { ledger = refl; options = refl; helpers = (leaves all h).helpers } in
       let alike : AreAlike c d = record { ledger = refl; first_new = refl; varying = varying-lowered first t p; writes_arguments = nq.free ∙ sym np.free; names = ap (λ ns. ns ++ []) (names-lowered all h first); class = refl } in
       let here : Codes = codes_in (read_items c all) in
       let there : Codes = codes_in (read_items d low) in
