@@ -11,7 +11,7 @@ use Rattle.es_base.specs.Conforms.{is_among}
 use Rattle.es_left.proofs.Booleans.{none_of}
 use Rattle.es_steps.specs.Reserved.{Words, no_words, strict_words, is_reserved_word, field_words, strict_if, has_reserved, reserved_in, reserved_at}
 use Rattle.es_steps.specs.Strict.{has_use_strict}
-use Rattle.es_steps.specs.Printable.{any_optional, any_uncooked, bare_in, bare_strings, prologue, stays_printable, has_late_directive, has_bad, bad_at, bad_in, Jumps, no_jumps, has_stray, stray_in, has_stray_target, stray_target_of, is_printable}
+use Rattle.es_steps.specs.Printable.{any_optional, any_uncooked, any_bare, bare_in, bare_strings, prologue, stays_printable, has_late_directive, has_bad, bad_at, bad_in, Jumps, no_jumps, has_stray, stray_in, has_stray_target, stray_target_of, is_printable}
 use Rattle.class_properties.proofs.Numbered.{definitions_from, lowered_elements, statement_size, lowered_statements, lowered_from}
 use Rattle.class_properties.proofs.Shaped.{no_value, a_literal, a_reference, a_key, a_field, AreFields, a_body, a_name, a_class, AreClasses, IsProgram, a_program}
 
@@ -46,6 +46,16 @@ definitions-cooked (more p es) (a_field m span semantic_id key v hk hv, h) k = d
 lowered-cooked : (ps : Parts) → AreClasses ps → (k : ℕ) → any_uncooked (lowered_statements k ps) ≡ false
 lowered-cooked end h k = refl
 lowered-cooked (more p ps) (a_class n span semantic_id id body hid (a_body j bspan b_semantic_id es he), h) k = lowered-cooked ps h _
+
+-- ---- no declaration without an initializer
+
+definitions-initialized : (es : Parts) → AreFields es → (k : ℕ) → any_bare (trees (definitions_from k es)) ≡ false
+definitions-initialized end h k = refl
+definitions-initialized (more p es) (a_field m span semantic_id key v hk hv, h) k = definitions-initialized es h _
+
+lowered-initialized : (ps : Parts) → AreClasses ps → (k : ℕ) → any_bare (lowered_statements k ps) ≡ false
+lowered-initialized end h k = refl
+lowered-initialized (more p ps) (a_class n span semantic_id id body hid (a_body j bspan b_semantic_id es he), h) k = lowered-initialized ps h _
 
 -- ---- no directive, and no string that is printed as one
 
@@ -114,7 +124,7 @@ definitions-good (more p es) (a_field m span semantic_id key v (a_key i ispan i_
 
 elements-good : (es : Parts) → AreFields es → (k : ℕ) → bad_in false false es ≡ false → bad_in false false (lowered_elements k es) ≡ false
 elements-good end h k g = refl
-elements-good (more p es) h k g = rw (definitions-undirected (more p es) h (k + 4) false, definitions-cooked (more p es) h (k + 4), definitions-plain (more p es) h (k + 4), definitions-good (more p es) h (k + 4) g) refl
+elements-good (more p es) h k g = rw (definitions-undirected (more p es) h (k + 4) false, definitions-cooked (more p es) h (k + 4), definitions-initialized (more p es) h (k + 4), definitions-plain (more p es) h (k + 4), definitions-good (more p es) h (k + 4) g) refl
 
 -- ---- classes
 
@@ -124,7 +134,7 @@ classes-good in_module (more p ps) (a_class n span semantic_id id body (a_name i
     let all = none_of (bad_at false in_module p) (bad_in false in_module ps) g in
     let named = none_of (bad_at false false id) (bad_at false false body || false) all.0 in
     let in_body = none_of (bad_at false false body) false named.1 in
-    let elements = none_of (((any_optional es || false) || (any_uncooked es || false)) || false) (bad_in false false es || false) in_body.0 in
+    let elements = none_of (((any_optional es || false) || ((any_uncooked es || false) || (any_bare es || false))) || false) (bad_in false false es || false) in_body.0 in
     let good : bad_in false false (lowered_elements k es) ≡ false = elements-good es he k (none_of (bad_in false false es) false elements.1).0 in
     lowered-good es he named.0 good (classes-good in_module ps h _ all.1)
   where
@@ -240,9 +250,9 @@ printed false b false d false f h none i = rw (h refl, none, i refl) refl
 
 program-good : (k : ℕ) (t : Tree) → IsProgram t → has_bad false false t ≡ false → has_bad false false (lowered_from k t) ≡ false
 program-good k t (a_program m span semantic_id s all h) g =
-    let inside = none_of ((has_late_directive false all || ((any_optional all || false) || (any_uncooked all || false))) || false) (bad_in false (bytes_eq s (codes "module")) all || false) g in
+    let inside = none_of ((has_late_directive false all || ((any_optional all || false) || ((any_uncooked all || false) || (any_bare all || false)))) || false) (bad_in false (bytes_eq s (codes "module")) all || false) g in
     let good = none_of (bad_in false (bytes_eq s (codes "module")) all) false inside.1 in
-    rw (lowered-undirected all h k false, lowered-cooked all h k, lowered-plain all h k, classes-good (bytes_eq s (codes "module")) all h k good.0) refl
+    rw (lowered-undirected all h k false, lowered-cooked all h k, lowered-initialized all h k, lowered-plain all h k, classes-good (bytes_eq s (codes "module")) all h k good.0) refl
 
 printable-lowered : (k : ℕ) (t : Tree) → IsProgram t → (not (is_printable t) || is_printable (lowered_from k t)) ≡ true
 printable-lowered k t h =
