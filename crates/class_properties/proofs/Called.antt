@@ -16,7 +16,7 @@ module _ (first : ℕ) (keys : List ℕ) where
   definitions-called : (es : Parts) → AreFields es → (k : ℕ) (x : Naming) → calls_of first [] keys x (trees (definitions_from k es)) ≡ true
   definitions-called end h k x = refl
   definitions-called (more p es) (a_field m span semantic_id key v hk no_value, h) k x = rw (and-false (is_new first (k + 3))) (definitions-called es h (k + 9) x)
-  definitions-called (more p es) (a_field m span semantic_id key v hk (a_literal l lspan l_semantic_id w), h) k x = rw (and-false (is_new first (k + 3))) (definitions-called es h (k + 7) x)
+  definitions-called (more p es) (a_field m span semantic_id key v hk (a_literal l lspan l_semantic_id w fine), h) k x = rw (and-false (is_new first (k + 3))) (definitions-called es h (k + 7) x)
   definitions-called (more p es) (a_field m span semantic_id key v hk (a_reference r rspan r_semantic_id y), h) k x = rw (and-false (is_new first (k + 3))) (definitions-called es h (k + 7) x)
 
   elements-called : (es : Parts) → AreFields es → (k : ℕ) (x : Naming) (all methods front : List StaticKey) → calls_of_body first [] keys x all methods front (lowered_elements k es) ≡ true
@@ -41,7 +41,7 @@ module _ (first : ℕ) (keys : List ℕ) where
     definitions-kept : (es : Parts) → AreFields es → (k : ℕ) → kept (preorder_of (trees (definitions_from k es))) ≡ []
     definitions-kept end h k = refl
     definitions-kept (more p es) (a_field m span semantic_id key v hk no_value, h) k = definitions-kept es h (k + 9)
-    definitions-kept (more p es) (a_field m span semantic_id key v hk (a_literal l lspan l_semantic_id w), h) k = definitions-kept es h (k + 7)
+    definitions-kept (more p es) (a_field m span semantic_id key v hk (a_literal l lspan l_semantic_id w fine), h) k = definitions-kept es h (k + 7)
     definitions-kept (more p es) (a_field m span semantic_id key v hk (a_reference r rspan r_semantic_id y), h) k = definitions-kept es h (k + 7)
 
     elements-kept : (es : Parts) → AreFields es → (k : ℕ) → kept (preorder_of (lowered_elements k es)) ≡ []

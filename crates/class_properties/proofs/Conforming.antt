@@ -36,7 +36,7 @@ definitions-conform : (es : Parts) → AreFields es → (k : ℕ) → items_conf
 definitions-conform end h k f = refl
 definitions-conform (more p es) (a_field m span semantic_id key v (a_key i ispan i_semantic_id s) no_value, h) k f =
     definitions-conform es h (k + 9) (and_parts _ (items_conform false Place.ClassElement es) f).1
-definitions-conform (more p es) (a_field m span semantic_id key v (a_key i ispan i_semantic_id s) (a_literal l lspan l_semantic_id w), h) k f =
+definitions-conform (more p es) (a_field m span semantic_id key v (a_key i ispan i_semantic_id s) (a_literal l lspan l_semantic_id w fine), h) k f =
     let fits = and_parts _ (items_conform false Place.ClassElement es) f in
     let fine : part_conforms false (Sort.Child Place.Expression) v ≡ true = value-conforms _ (part_conforms false (Sort.Child Place.Expression) v) true fits.0 in
     rw (fine, definitions-conform es h (k + 7) fits.1) refl

@@ -90,7 +90,7 @@ gives_inside-append s (Node kind m span semantic_id ps ∷ xs) ys = rw (gives_in
 function-definitions : (es : Parts) → AreFields es → (k : ℕ) → function_names (trees (definitions_from k es)) ≡ []
 function-definitions end h k = refl
 function-definitions (more p es) (a_field m span semantic_id key v hk no_value, h) k = function-definitions es h (k + 9)
-function-definitions (more p es) (a_field m span semantic_id key v hk (a_literal l lspan l_semantic_id w), h) k = function-definitions es h (k + 7)
+function-definitions (more p es) (a_field m span semantic_id key v hk (a_literal l lspan l_semantic_id w fine), h) k = function-definitions es h (k + 7)
 function-definitions (more p es) (a_field m span semantic_id key v hk (a_reference r rspan r_semantic_id x), h) k = function-definitions es h (k + 7)
 
 -- what is empty, with nothing behind
@@ -124,13 +124,13 @@ unwritten-end = record { assigned = λ names. refl; writing = λ names. refl; fr
 fields-unwritten : (es : Parts) → AreFields es → Unwritten es
 fields-unwritten end h = unwritten-end
 fields-unwritten (more p es) (a_field m span semantic_id key v (a_key i ispan i_semantic_id s) no_value, h) = let u : Unwritten es = fields-unwritten es h in record { assigned = u.assigned; writing = u.writing; free = u.free; repeated = u.repeated; changing = u.changing; caught = u.caught; given = u.given; inside = u.inside; functions = u.functions; members = u.members }
-fields-unwritten (more p es) (a_field m span semantic_id key v (a_key i ispan i_semantic_id s) (a_literal l lspan l_semantic_id w), h) = let u : Unwritten es = fields-unwritten es h in record { assigned = u.assigned; writing = u.writing; free = u.free; repeated = u.repeated; changing = u.changing; caught = u.caught; given = u.given; inside = u.inside; functions = u.functions; members = u.members }
+fields-unwritten (more p es) (a_field m span semantic_id key v (a_key i ispan i_semantic_id s) (a_literal l lspan l_semantic_id w fine), h) = let u : Unwritten es = fields-unwritten es h in record { assigned = u.assigned; writing = u.writing; free = u.free; repeated = u.repeated; changing = u.changing; caught = u.caught; given = u.given; inside = u.inside; functions = u.functions; members = u.members }
 fields-unwritten (more p es) (a_field m span semantic_id key v (a_key i ispan i_semantic_id s) (a_reference r rspan r_semantic_id x), h) = let u : Unwritten es = fields-unwritten es h in record { assigned = u.assigned; writing = u.writing; free = u.free; repeated = u.repeated; changing = u.changing; caught = u.caught; given = u.given; inside = u.inside; functions = u.functions; members = u.members }
 
 definitions-unwritten : (es : Parts) → AreFields es → (k : ℕ) → Unwritten (trees (definitions_from k es))
 definitions-unwritten end h k = unwritten-end
 definitions-unwritten (more p es) (a_field m span semantic_id key v hk no_value, h) k = let u : Unwritten (trees (definitions_from (k + 9) es)) = definitions-unwritten es h (k + 9) in record { assigned = u.assigned; writing = u.writing; free = u.free; repeated = u.repeated; changing = u.changing; caught = u.caught; given = u.given; inside = u.inside; functions = u.functions; members = u.members }
-definitions-unwritten (more p es) (a_field m span semantic_id key v hk (a_literal l lspan l_semantic_id w), h) k = let u : Unwritten (trees (definitions_from (k + 7) es)) = definitions-unwritten es h (k + 7) in record { assigned = u.assigned; writing = u.writing; free = u.free; repeated = u.repeated; changing = u.changing; caught = u.caught; given = u.given; inside = u.inside; functions = u.functions; members = u.members }
+definitions-unwritten (more p es) (a_field m span semantic_id key v hk (a_literal l lspan l_semantic_id w fine), h) k = let u : Unwritten (trees (definitions_from (k + 7) es)) = definitions-unwritten es h (k + 7) in record { assigned = u.assigned; writing = u.writing; free = u.free; repeated = u.repeated; changing = u.changing; caught = u.caught; given = u.given; inside = u.inside; functions = u.functions; members = u.members }
 definitions-unwritten (more p es) (a_field m span semantic_id key v hk (a_reference r rspan r_semantic_id x), h) k = let u : Unwritten (trees (definitions_from (k + 7) es)) = definitions-unwritten es h (k + 7) in record { assigned = u.assigned; writing = u.writing; free = u.free; repeated = u.repeated; changing = u.changing; caught = u.caught; given = u.given; inside = u.inside; functions = u.functions; members = u.members }
 
 elements-unwritten : (es : Parts) → AreFields es → (k : ℕ) → Unwritten (lowered_elements k es)
@@ -209,13 +209,13 @@ Undeclaring first ps = (d : DeclarationKind) → declaring_items first d ps ≡ 
 fields-declare : (first : ℕ) (es : Parts) → AreFields es → Undeclaring first es
 fields-declare first end h d = refl
 fields-declare first (more p es) (a_field m span semantic_id key v (a_key i ispan i_semantic_id s) no_value, h) d = fields-declare first es h d
-fields-declare first (more p es) (a_field m span semantic_id key v (a_key i ispan i_semantic_id s) (a_literal l lspan l_semantic_id w), h) d = fields-declare first es h d
+fields-declare first (more p es) (a_field m span semantic_id key v (a_key i ispan i_semantic_id s) (a_literal l lspan l_semantic_id w fine), h) d = fields-declare first es h d
 fields-declare first (more p es) (a_field m span semantic_id key v (a_key i ispan i_semantic_id s) (a_reference r rspan r_semantic_id x), h) d = fields-declare first es h d
 
 definitions-declare : (first : ℕ) (es : Parts) → AreFields es → (k : ℕ) → Undeclaring first (trees (definitions_from k es))
 definitions-declare first end h k d = refl
 definitions-declare first (more p es) (a_field m span semantic_id key v hk no_value, h) k d = definitions-declare first es h (k + 9) d
-definitions-declare first (more p es) (a_field m span semantic_id key v hk (a_literal l lspan l_semantic_id w), h) k d = definitions-declare first es h (k + 7) d
+definitions-declare first (more p es) (a_field m span semantic_id key v hk (a_literal l lspan l_semantic_id w fine), h) k d = definitions-declare first es h (k + 7) d
 definitions-declare first (more p es) (a_field m span semantic_id key v hk (a_reference r rspan r_semantic_id x), h) k d = definitions-declare first es h (k + 7) d
 
 elements-declare : (first : ℕ) (es : Parts) → AreFields es → (k : ℕ) → Undeclaring first (lowered_elements k es)
@@ -235,13 +235,13 @@ Unshared ps = shared_of ps ≡ []
 fields-shared : (es : Parts) → AreFields es → Unshared es
 fields-shared end h = refl
 fields-shared (more p es) (a_field m span semantic_id key v (a_key i ispan i_semantic_id s) no_value, h) = fields-shared es h
-fields-shared (more p es) (a_field m span semantic_id key v (a_key i ispan i_semantic_id s) (a_literal l lspan l_semantic_id w), h) = fields-shared es h
+fields-shared (more p es) (a_field m span semantic_id key v (a_key i ispan i_semantic_id s) (a_literal l lspan l_semantic_id w fine), h) = fields-shared es h
 fields-shared (more p es) (a_field m span semantic_id key v (a_key i ispan i_semantic_id s) (a_reference r rspan r_semantic_id x), h) = fields-shared es h
 
 definitions-shared : (es : Parts) → AreFields es → (k : ℕ) → Unshared (trees (definitions_from k es))
 definitions-shared end h k = refl
 definitions-shared (more p es) (a_field m span semantic_id key v hk no_value, h) k = definitions-shared es h (k + 9)
-definitions-shared (more p es) (a_field m span semantic_id key v hk (a_literal l lspan l_semantic_id w), h) k = definitions-shared es h (k + 7)
+definitions-shared (more p es) (a_field m span semantic_id key v hk (a_literal l lspan l_semantic_id w fine), h) k = definitions-shared es h (k + 7)
 definitions-shared (more p es) (a_field m span semantic_id key v hk (a_reference r rspan r_semantic_id x), h) k = definitions-shared es h (k + 7)
 
 elements-shared : (es : Parts) → AreFields es → (k : ℕ) → Unshared (lowered_elements k es)
@@ -269,13 +269,13 @@ Unplaced first ps = (s : Surroundings) → places_of first [] [] s ps ≡ []
 fields-placed : (first : ℕ) (es : Parts) → AreFields es → Unplaced first es
 fields-placed first end h s = refl
 fields-placed first (more p es) (a_field m span semantic_id key v (a_key i ispan i_semantic_id x) no_value, h) s = fields-placed first es h s
-fields-placed first (more p es) (a_field m span semantic_id key v (a_key i ispan i_semantic_id x) (a_literal l lspan l_semantic_id w), h) s = fields-placed first es h s
+fields-placed first (more p es) (a_field m span semantic_id key v (a_key i ispan i_semantic_id x) (a_literal l lspan l_semantic_id w fine), h) s = fields-placed first es h s
 fields-placed first (more p es) (a_field m span semantic_id key v (a_key i ispan i_semantic_id x) (a_reference r rspan r_semantic_id y), h) s = fields-placed first es h s
 
 definitions-placed : (first : ℕ) (es : Parts) → AreFields es → (k : ℕ) → Unplaced first (trees (definitions_from k es))
 definitions-placed first end h k s = refl
 definitions-placed first (more p es) (a_field m span semantic_id key v hk no_value, h) k s = definitions-placed first es h (k + 9) s
-definitions-placed first (more p es) (a_field m span semantic_id key v hk (a_literal l lspan l_semantic_id w), h) k s = definitions-placed first es h (k + 7) s
+definitions-placed first (more p es) (a_field m span semantic_id key v hk (a_literal l lspan l_semantic_id w fine), h) k s = definitions-placed first es h (k + 7) s
 definitions-placed first (more p es) (a_field m span semantic_id key v hk (a_reference r rspan r_semantic_id x), h) k s = definitions-placed first es h (k + 7) s
 
 elements-placed : (first : ℕ) (es : Parts) → AreFields es → (k : ℕ) → first ≤ k → Unplaced first (lowered_elements k es)

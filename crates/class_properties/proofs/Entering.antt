@@ -42,7 +42,7 @@ module _ (first : ℕ) (there : List ℕ) where
   fields-among (more p es) (a_field m span semantic_id k v (a_key km kspan k_semantic_id s) no_value, h) f n l =
       rw (le-leb first n l, le-leb first (n + 1) (omega (arith, l)), le-leb first (n + 2) (omega (arith, l)), le-leb first (n + 3) (omega (arith, l)), le-leb first (n + 4) (omega (arith, l)), le-leb first (n + 5) (omega (arith, l)), le-leb first (n + 6) (omega (arith, l)), le-leb first (n + 7) (omega (arith, l)), le-leb first (n + 7 + 1) (omega (arith, l)))
       (fields-among es h (λ x i. f x (or-true (nat_eq x m) _ (or-true (nat_eq x km) _ i))) (n + 9) (omega (arith, l)))
-  fields-among (more p es) (a_field m span semantic_id k v (a_key km kspan k_semantic_id s) (a_literal vm vspan v_semantic_id x), h) f n l =
+  fields-among (more p es) (a_field m span semantic_id k v (a_key km kspan k_semantic_id s) (a_literal vm vspan v_semantic_id x fine), h) f n l =
       rw (le-leb first n l, le-leb first (n + 1) (omega (arith, l)), le-leb first (n + 2) (omega (arith, l)), le-leb first (n + 3) (omega (arith, l)), le-leb first (n + 4) (omega (arith, l)), le-leb first (n + 5) (omega (arith, l)), le-leb first (n + 6) (omega (arith, l)))
       (both (or-true (is_new first vm) (has_number vm there) (f vm (or-true (nat_eq vm m) _ (or-true (nat_eq vm km) _ (rw (number-same vm) refl)))))
       (fields-among es h (λ y i. f y (or-true (nat_eq y m) _ (or-true (nat_eq y km) _ (or-true (nat_eq y vm) _ i)))) (n + 7) (omega (arith, l))))
@@ -64,7 +64,7 @@ module _ (first : ℕ) (us : List Tree) where
   fields-plain : (es : Parts) → AreFields es → (n : ℕ) → none_enters first us (preorder_of (trees (definitions_from n es))) ≡ true
   fields-plain end h n = refl
   fields-plain (more p es) (a_field m span semantic_id k v hk no_value, h) n = fields-plain es h (n + 9)
-  fields-plain (more p es) (a_field m span semantic_id k v hk (a_literal vm vspan v_semantic_id x), h) n = fields-plain es h (n + 7)
+  fields-plain (more p es) (a_field m span semantic_id k v hk (a_literal vm vspan v_semantic_id x fine), h) n = fields-plain es h (n + 7)
   fields-plain (more p es) (a_field m span semantic_id k v hk (a_reference vm vspan v_semantic_id x), h) n = fields-plain es h (n + 7)
 
   elements-plain : (es : Parts) → AreFields es → (n : ℕ) → none_enters first us (preorder_of (lowered_elements n es)) ≡ true

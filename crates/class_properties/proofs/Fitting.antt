@@ -93,7 +93,7 @@ module _ (asked : Options) where
     statements-define n (more p es) (a_field m span semantic_id key v (a_key i ispan i_semantic_id s) no_value, h) k new =
         let later : nat_le first (k + 3) ≡ true = le-leb first (k + 3) (omega (arith, new)) in
         rw later (ap (λ ds. field_definition k (more key (more absent end)) ∷ ds) (statements-define n es h (k + 9) (still_new k 9 new)))
-    statements-define n (more p es) (a_field m span semantic_id key v (a_key i ispan i_semantic_id s) (a_literal l lspan l_semantic_id w), h) k new =
+    statements-define n (more p es) (a_field m span semantic_id key v (a_key i ispan i_semantic_id s) (a_literal l lspan l_semantic_id w fine), h) k new =
         let later : nat_le first (k + 3) ≡ true = le-leb first (k + 3) (omega (arith, new)) in
         rw later (ap (λ ds. field_definition k (more key (more v end)) ∷ ds) (statements-define n es h (k + 7) (still_new k 7 new)))
     statements-define n (more p es) (a_field m span semantic_id key v (a_key i ispan i_semantic_id s) (a_reference r rspan r_semantic_id x), h) k new =
@@ -117,7 +117,7 @@ module _ (asked : Options) where
     statements-none : (n : ℕ) (es : Parts) → AreFields es → (k : ℕ) → constructors n (preorder_of (trees (definitions_from k es))) ≡ []
     statements-none n end h k = refl
     statements-none n (more p es) (a_field m span semantic_id key v hk no_value, h) k = statements-none n es h (k + 9)
-    statements-none n (more p es) (a_field m span semantic_id key v hk (a_literal l lspan l_semantic_id w), h) k = statements-none n es h (k + 7)
+    statements-none n (more p es) (a_field m span semantic_id key v hk (a_literal l lspan l_semantic_id w fine), h) k = statements-none n es h (k + 7)
     statements-none n (more p es) (a_field m span semantic_id key v hk (a_reference r rspan r_semantic_id x), h) k = statements-none n es h (k + 7)
 
     elements-none : (n : ℕ) (es : Parts) → AreFields es → (k : ℕ) → constructors n (preorder_of (lowered_elements k es)) ≡ []
@@ -142,7 +142,7 @@ module _ (asked : Options) where
     definitions-no_static n members rs ids (more p es) (a_field m span semantic_id key v hk no_value, h) k new =
         let later : nat_le first (k + 3) ≡ true = le-leb first (k + 3) (omega (arith, new)) in
         rw later (definitions-no_static n members rs ids es h (k + 9) (still_new k 9 new))
-    definitions-no_static n members rs ids (more p es) (a_field m span semantic_id key v hk (a_literal l lspan l_semantic_id w), h) k new =
+    definitions-no_static n members rs ids (more p es) (a_field m span semantic_id key v hk (a_literal l lspan l_semantic_id w fine), h) k new =
         let later : nat_le first (k + 3) ≡ true = le-leb first (k + 3) (omega (arith, new)) in
         rw later (definitions-no_static n members rs ids es h (k + 7) (still_new k 7 new))
     definitions-no_static n members rs ids (more p es) (a_field m span semantic_id key v hk (a_reference r rspan r_semantic_id x), h) k new =
@@ -182,7 +182,7 @@ module _ (asked : Options) where
     fields-fit x n end h k = refl
     fields-fit x n (more p es) (a_field m span semantic_id key v (a_key i ispan i_semantic_id s) no_value, h) k =
         both (both (string-same s) refl) (fields-fit x n es h (k + 9))
-    fields-fit x n (more p es) (a_field m span semantic_id key v (a_key i ispan i_semantic_id s) (a_literal l lspan l_semantic_id w), h) k =
+    fields-fit x n (more p es) (a_field m span semantic_id key v (a_key i ispan i_semantic_id s) (a_literal l lspan l_semantic_id w fine), h) k =
         both (both (string-same s) (stands-equal (Node Kind.Literal l lspan l_semantic_id (more (literal w) end)) (Node Kind.Literal l lspan l_semantic_id (more (literal w) end) ∷ []) here)) (fields-fit x n es h (k + 7))
     fields-fit x n (more p es) (a_field m span semantic_id key v (a_key i ispan i_semantic_id s) (a_reference r rspan r_semantic_id y), h) k =
         both (both (string-same s) (or_left (nat_eq r r) false (number-same r))) (fields-fit x n es h (k + 7))
@@ -190,7 +190,7 @@ module _ (asked : Options) where
     fields-pass : (members : List PrivateMember) (p q : Tree) (es : Parts) → AreFields es → (ts : List Tree) → classes_fit first (defining asked) [] members p q (preorder_of es ++ ts) ≡ classes_fit first (defining asked) [] members p q ts
     fields-pass members p q end h ts = refl
     fields-pass members p q (more e es) (a_field m span semantic_id key v (a_key i ispan i_semantic_id s) no_value, h) ts = fields-pass members p q es h ts
-    fields-pass members p q (more e es) (a_field m span semantic_id key v (a_key i ispan i_semantic_id s) (a_literal l lspan l_semantic_id w), h) ts = fields-pass members p q es h ts
+    fields-pass members p q (more e es) (a_field m span semantic_id key v (a_key i ispan i_semantic_id s) (a_literal l lspan l_semantic_id w fine), h) ts = fields-pass members p q es h ts
     fields-pass members p q (more e es) (a_field m span semantic_id key v (a_key i ispan i_semantic_id s) (a_reference r rspan r_semantic_id x), h) ts = fields-pass members p q es h ts
 
     -- where the constructors of the classes from number lo on stand in q as here

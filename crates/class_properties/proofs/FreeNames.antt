@@ -62,7 +62,7 @@ module _ (classes : List String) (names : List Declaration) (l : Leaves classes 
   definitions-free (more p es) (a_field m span semantic_id key v hk no_value, h) f k =
       let free = both_empty (unless (is_plain_key key && true) m) (elements_breaches classes es) f in
       (helpers-free, definitions-free es h free.1 (k + 9))
-  definitions-free (more p es) (a_field m span semantic_id key v hk (a_literal i ispan i_semantic_id w), h) f k =
+  definitions-free (more p es) (a_field m span semantic_id key v hk (a_literal i ispan i_semantic_id w fine), h) f k =
       let free = both_empty (unless (is_plain_key key && is_plain_value classes v) m) (elements_breaches classes es) f in
       (helpers-free, definitions-free es h free.1 (k + 7))
   definitions-free (more p es) (a_field m span semantic_id key v hk (a_reference i ispan i_semantic_id s), h) f k =

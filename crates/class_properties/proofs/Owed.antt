@@ -61,7 +61,7 @@ FieldsLaid first lo n es = Laid first (lo + nodes_of es) (n + fields_size (numbe
 field-laid : (first lo n : ℕ) (p : Part) (es : Parts) → IsField p → lo + nodes_of (more p es) ≤ first → ((k : ℕ) → FieldsLaid first (lo + nodes_of_part p) k es) → FieldsLaid first lo n (more p es)
 field-laid first lo n p es (a_field m span semantic_id k v (a_key km kspan k_semantic_id s) no_value) l rest =
     laid-upto _ _ (omega arith) (omega arith) (laid-append (define-laid n s (void_at (n + 7)) (void-laid (n + 7) (omega arith) (omega arith))) (rest (n + 9)))
-field-laid first lo n p es (a_field m span semantic_id k v (a_key km kspan k_semantic_id s) (a_literal vm vspan v_semantic_id x)) l rest =
+field-laid first lo n p es (a_field m span semantic_id k v (a_key km kspan k_semantic_id s) (a_literal vm vspan v_semantic_id x fine)) l rest =
     laid-upto _ _ (omega arith) (omega arith) (laid-append (define-laid n s _ (kept (omega arith) (omega (arith, l)) refl (none (omega arith) refl))) (rest (n + 7)))
 field-laid first lo n p es (a_field m span semantic_id k v (a_key km kspan k_semantic_id s) (a_reference vm vspan v_semantic_id x)) l rest =
     laid-upto _ _ (omega arith) (omega arith) (laid-append (define-laid n s _ (kept (omega arith) (omega (arith, l)) refl (none (omega arith) refl))) (rest (n + 7)))

@@ -74,7 +74,7 @@ bare-append (Node kind m span semantic_id ps ∷ ts) us = rw (bare-append ts us)
 all-bare-definitions : (es : Parts) → AreFields es → (k : ℕ) → bare_strings (preorder_of (trees (definitions_from k es))) ≡ []
 all-bare-definitions end h k = refl
 all-bare-definitions (more p es) (a_field m span semantic_id key v (a_key i ispan i_semantic_id s) no_value, h) k = all-bare-definitions es h (k + 9)
-all-bare-definitions (more p es) (a_field m span semantic_id key v (a_key i ispan i_semantic_id s) (a_literal l lspan l_semantic_id x), h) k = all-bare-definitions es h (k + 7)
+all-bare-definitions (more p es) (a_field m span semantic_id key v (a_key i ispan i_semantic_id s) (a_literal l lspan l_semantic_id x fine), h) k = all-bare-definitions es h (k + 7)
 all-bare-definitions (more p es) (a_field m span semantic_id key v (a_key i ispan i_semantic_id s) (a_reference r rspan r_semantic_id x), h) k = all-bare-definitions es h (k + 7)
 
 all-bare-elements : (es : Parts) → AreFields es → (k : ℕ) → bare_strings (preorder_of (lowered_elements k es)) ≡ []
@@ -117,7 +117,7 @@ definitions-good : (es : Parts) → AreFields es → (k : ℕ) → bad_in false 
 definitions-good end h k g = refl
 definitions-good (more p es) (a_field m span semantic_id key v (a_key i ispan i_semantic_id s) no_value, h) k g =
     definitions-good es h (k + 9) (none_of (bad_at false false p) (bad_in false false es) g).1
-definitions-good (more p es) (a_field m span semantic_id key v (a_key i ispan i_semantic_id s) (a_literal l lspan l_semantic_id w), h) k g =
+definitions-good (more p es) (a_field m span semantic_id key v (a_key i ispan i_semantic_id s) (a_literal l lspan l_semantic_id w fine), h) k g =
     let good = first_value v _ _ es g in rw (good.0, definitions-good es h (k + 7) good.1) refl
 definitions-good (more p es) (a_field m span semantic_id key v (a_key i ispan i_semantic_id s) (a_reference r rspan r_semantic_id x), h) k g =
     let good = first_value v _ _ es g in rw (good.0, definitions-good es h (k + 7) good.1) refl
@@ -148,7 +148,7 @@ classes-good in_module (more p ps) (a_class n span semantic_id id body (a_name i
 definitions-stay : (j : Jumps) (es : Parts) → AreFields es → (k : ℕ) → stray_in j (trees (definitions_from k es)) ≡ false
 definitions-stay j end h k = refl
 definitions-stay j (more p es) (a_field m span semantic_id key v (a_key i ispan i_semantic_id s) no_value, h) k = definitions-stay j es h (k + 9)
-definitions-stay j (more p es) (a_field m span semantic_id key v (a_key i ispan i_semantic_id s) (a_literal l lspan l_semantic_id w), h) k = definitions-stay j es h (k + 7)
+definitions-stay j (more p es) (a_field m span semantic_id key v (a_key i ispan i_semantic_id s) (a_literal l lspan l_semantic_id w fine), h) k = definitions-stay j es h (k + 7)
 definitions-stay j (more p es) (a_field m span semantic_id key v (a_key i ispan i_semantic_id s) (a_reference r rspan r_semantic_id x), h) k = definitions-stay j es h (k + 7)
 
 classes-stay : (j : Jumps) (ps : Parts) → AreClasses ps → (k : ℕ) → stray_in j (lowered_statements k ps) ≡ false
@@ -165,7 +165,7 @@ program-stays k t (a_program m span semantic_id s all h) = rw (classes-stay (no_
 definitions-untargeted : (inside : Bool) (es : Parts) → AreFields es → (k : ℕ) → stray_target_of inside (trees (definitions_from k es)) ≡ false
 definitions-untargeted inside end h k = refl
 definitions-untargeted inside (more p es) (a_field m span semantic_id key v (a_key i ispan i_semantic_id s) no_value, h) k = definitions-untargeted inside es h (k + 9)
-definitions-untargeted inside (more p es) (a_field m span semantic_id key v (a_key i ispan i_semantic_id s) (a_literal l lspan l_semantic_id w), h) k = definitions-untargeted inside es h (k + 7)
+definitions-untargeted inside (more p es) (a_field m span semantic_id key v (a_key i ispan i_semantic_id s) (a_literal l lspan l_semantic_id w fine), h) k = definitions-untargeted inside es h (k + 7)
 definitions-untargeted inside (more p es) (a_field m span semantic_id key v (a_key i ispan i_semantic_id s) (a_reference r rspan r_semantic_id x), h) k = definitions-untargeted inside es h (k + 7)
 
 classes-untargeted : (inside : Bool) (ps : Parts) → AreClasses ps → (k : ℕ) → stray_target_of inside (lowered_statements k ps) ≡ false
@@ -203,7 +203,7 @@ definitions-free : (w : Words) (es : Parts) → AreFields es → (k : ℕ) → r
 definitions-free w end h k g = refl
 definitions-free w (more p es) (a_field m span semantic_id key v (a_key i ispan i_semantic_id s) no_value, h) k g =
     rw (helper-free (constructor_words w)) (definitions-free w es h (k + 9) g)
-definitions-free w (more p es) (a_field m span semantic_id key v (a_key i ispan i_semantic_id s) (a_literal l lspan l_semantic_id x), h) k g =
+definitions-free w (more p es) (a_field m span semantic_id key v (a_key i ispan i_semantic_id s) (a_literal l lspan l_semantic_id x fine), h) k g =
     rw (helper-free (constructor_words w)) (definitions-free w es h (k + 7) g)
 definitions-free w (more p es) (a_field m span semantic_id key v (a_key i ispan i_semantic_id s) (a_reference r rspan r_semantic_id x), h) k g =
     let free = value-free w v es g in

@@ -32,7 +32,7 @@ all_stand-append (Node kind m span semantic_id ps ∷ ts) us qs h i =
 fields-stand : (es : Parts) → AreFields es → (qs : List Tree) → all_stand (preorder_of es) qs ≡ true
 fields-stand end h qs = refl
 fields-stand (more p es) (a_field m span semantic_id key v (a_key i ispan i_semantic_id s) no_value, h) qs = fields-stand es h qs
-fields-stand (more p es) (a_field m span semantic_id key v (a_key i ispan i_semantic_id s) (a_literal l lspan l_semantic_id w), h) qs = fields-stand es h qs
+fields-stand (more p es) (a_field m span semantic_id key v (a_key i ispan i_semantic_id s) (a_literal l lspan l_semantic_id w fine), h) qs = fields-stand es h qs
 fields-stand (more p es) (a_field m span semantic_id key v (a_key i ispan i_semantic_id s) (a_reference r rspan r_semantic_id x), h) qs = fields-stand es h qs
 
 -- behind the first class
@@ -73,7 +73,7 @@ module _ (asked : Options) where
   fields-lists : (es : Parts) → AreFields es → (qs : List Tree) → all_within (free_lists_in (defining asked) es) qs ≡ true
   fields-lists end h qs = refl
   fields-lists (more p es) (a_field m span semantic_id key v (a_key i ispan i_semantic_id s) no_value, h) qs = fields-lists es h qs
-  fields-lists (more p es) (a_field m span semantic_id key v (a_key i ispan i_semantic_id s) (a_literal l lspan l_semantic_id w), h) qs = fields-lists es h qs
+  fields-lists (more p es) (a_field m span semantic_id key v (a_key i ispan i_semantic_id s) (a_literal l lspan l_semantic_id w fine), h) qs = fields-lists es h qs
   fields-lists (more p es) (a_field m span semantic_id key v (a_key i ispan i_semantic_id s) (a_reference r rspan r_semantic_id x), h) qs = fields-lists es h qs
 
   lists-empty : (ps : Parts) → AreClasses ps → (qs : List Tree) → all_within (free_lists_in (defining asked) ps) qs ≡ true
@@ -87,7 +87,7 @@ module _ (asked : Options) where
   fields-homes : (es : Parts) → AreFields es → (x : HomeHere) → homes_of x es ≡ []
   fields-homes end h x = refl
   fields-homes (more p es) (a_field m span semantic_id key v (a_key i ispan i_semantic_id s) no_value, h) x = fields-homes es h x
-  fields-homes (more p es) (a_field m span semantic_id key v (a_key i ispan i_semantic_id s) (a_literal l lspan l_semantic_id w), h) x = fields-homes es h x
+  fields-homes (more p es) (a_field m span semantic_id key v (a_key i ispan i_semantic_id s) (a_literal l lspan l_semantic_id w fine), h) x = fields-homes es h x
   fields-homes (more p es) (a_field m span semantic_id key v (a_key i ispan i_semantic_id s) (a_reference r rspan r_semantic_id y), h) x = fields-homes es h x
 
   -- inside the statements of a program, and in a class
@@ -115,7 +115,7 @@ module _ (asked : Options) where
   fields-elements : (es : Parts) → AreFields es → (qs : List Tree) → elements_kept (defining asked) (preorder_of es) qs ≡ true
   fields-elements end h qs = refl
   fields-elements (more p es) (a_field m span semantic_id key v (a_key i ispan i_semantic_id s) no_value, h) qs = fields-elements es h qs
-  fields-elements (more p es) (a_field m span semantic_id key v (a_key i ispan i_semantic_id s) (a_literal l lspan l_semantic_id w), h) qs = fields-elements es h qs
+  fields-elements (more p es) (a_field m span semantic_id key v (a_key i ispan i_semantic_id s) (a_literal l lspan l_semantic_id w fine), h) qs = fields-elements es h qs
   fields-elements (more p es) (a_field m span semantic_id key v (a_key i ispan i_semantic_id s) (a_reference r rspan r_semantic_id x), h) qs = fields-elements es h qs
 
   all-lowered : (es : Parts) → AreFields es → chosen (λ e. not (is_lowered_element (defining asked) e)) (elements_in es) ≡ []

@@ -104,12 +104,12 @@ module _ (first : ℕ) (fits : first ≤ unnumbered) where
 
   value-numbered : (n : ℕ) (v : Part) → IsValue v → news_of_part first v ≡ 0 → renumbered first n (value_or_void v) ≡ numbered.value_from n v
   value-numbered n v no_value none = void-numbered n
-  value-numbered n v (a_literal m span semantic_id x) none = renumbered-old first n _ none
+  value-numbered n v (a_literal m span semantic_id x fine) none = renumbered-old first n _ none
   value-numbered n v (a_reference m span semantic_id s) none = renumbered-old first n _ none
 
   value-news : (v : Part) → IsValue v → news_of_part first v ≡ 0 → news first (value_or_void v) ≡ numbered.value_size v
   value-news v no_value none = news-void
-  value-news v (a_literal m span semantic_id x) none = none
+  value-news v (a_literal m span semantic_id x fine) none = none
   value-news v (a_reference m span semantic_id s) none = none
 
   definitions-numbered : (es : Parts) → AreFields es → news_of first es ≡ 0 → (n k : ℕ) → k ≡ n → renumbered_parts first k (trees (map definition (children es))) ≡ trees (numbered.definitions_from n es)

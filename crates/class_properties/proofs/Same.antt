@@ -80,7 +80,7 @@ module _ (asked : Options) where
 
   value-plain : (c : Context) (v : Part) → c.ledger ≡ [] → IsValue v → IsPlain (value_or_undefined (read_part c v))
   value-plain c v l no_value = a_value Undefined
-  value-plain c v l (a_literal i span semantic_id w) = a_value (ConstantOf (constant_of w))
+  value-plain c v l (a_literal i span semantic_id w fine) = plain-literal i w fine
   value-plain c v l (a_reference i span semantic_id s) = name-plain c i s l
 
   fields-plain : (c : Context) (es : Parts) → c.ledger ≡ [] → AreFields es → ArePlain (fields_of c es)
@@ -109,7 +109,7 @@ module _ (asked : Options) where
   -- a value reads in the constructor as in the field
   value-same : (c d : Context) (k m : ℕ) (key v : Part) → c.ledger ≡ [] → IsInConstructor c d → IsValue v → read d (value_from k v) ≡ value_in c m key v
   value-same c d k m key v l i no_value = refl
-  value-same c d k m key v l i (a_literal j span semantic_id w) = refl
+  value-same c d k m key v l i (a_literal j span semantic_id w fine) = refl
   value-same c d k m key v l i (a_reference j span semantic_id s) =
       name-same (inside c Kind.PropertyDefinition m (field_parts key v) 1) d j s l i.ledger i.first_new i.varying i.names i.writes_arguments i.arguments
 

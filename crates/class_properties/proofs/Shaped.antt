@@ -13,7 +13,7 @@ use Rattle.es_base.specs.declared.table.Place.{Place}
 use Rattle.es_base.specs.declared.table.Sort.{Sort}
 use Rattle.es_base.specs.declared.table.Words.{Words}
 use Rattle.es_steps.proofs.FirstMeaning.{no_false, both_empty, unless_true}
-use Rattle.es_steps.specs.FirstForm.{helper_names, is_plain_value, is_plain_key, is_plain_field, is_new_name, unless, element_breaches, elements_breaches, body_breaches, statement_breaches, statements_breaches, class_names, breaches, no_numbers, most_nodes, is_first_form}
+use Rattle.es_steps.specs.FirstForm.{helper_names, is_plain_literal, is_plain_value, is_plain_key, is_plain_field, is_new_name, unless, element_breaches, elements_breaches, body_breaches, statement_breaches, statements_breaches, class_names, breaches, no_numbers, most_nodes, is_first_form}
 use Rattle.es_steps.specs.Values.{String}
 use Rattle.std.specs.List.{All}
 use Rattle.std.proofs.lemmas.List.Elements.{All-nil, All-cons}
@@ -22,7 +22,7 @@ use Rattle.class_properties.specs.Lowering.{children}
 
 pub data IsValue : Part → Type 0 where
   no_value : IsValue absent
-  a_literal : (m : ℕ) (span : Option (ℕ × ℕ)) (semantic_id : Option ℕ) (v : LiteralValue) → IsValue (child (Node Kind.Literal m span semantic_id (more (literal v) end)))
+  a_literal : (m : ℕ) (span : Option (ℕ × ℕ)) (semantic_id : Option ℕ) (v : LiteralValue) → is_plain_literal v ≡ true → IsValue (child (Node Kind.Literal m span semantic_id (more (literal v) end)))
   a_reference : (m : ℕ) (span : Option (ℕ × ℕ)) (semantic_id : Option ℕ) (s : String) → IsValue (child (Node Kind.IdentifierReference m span semantic_id (more (string s) end)))
 
 pub data IsKey : Part → Type 0 where
@@ -56,7 +56,7 @@ pub data IsProgram : Tree → Type 0 where
 
 value-shaped : (names : List String) (v : Part) → is_plain_value names v ≡ true → IsValue v
 value-shaped names absent h = no_value
-value-shaped names (child (Node Kind.Literal m span semantic_id (more (literal v) end))) h = a_literal m span semantic_id v
+value-shaped names (child (Node Kind.Literal m span semantic_id (more (literal v) end))) h = a_literal m span semantic_id v h
 value-shaped names (child (Node Kind.IdentifierReference m span semantic_id (more (string s) end))) h = a_reference m span semantic_id s
 value-shaped names p h = no_false h
 

@@ -47,7 +47,7 @@ lowered-append o (Node kind n span semantic_id ps ∷ ts) us h i = either (is_lo
 fields-lowered : (o : Options) (es : Parts) → AreFields es → ArePlainAt (lowered_classes o (preorder_of es))
 fields-lowered o end h = tt
 fields-lowered o (more p es) (a_field m span semantic_id key v (a_key i ispan i_semantic_id s) no_value, h) = fields-lowered o es h
-fields-lowered o (more p es) (a_field m span semantic_id key v (a_key i ispan i_semantic_id s) (a_literal l lspan l_semantic_id w), h) = fields-lowered o es h
+fields-lowered o (more p es) (a_field m span semantic_id key v (a_key i ispan i_semantic_id s) (a_literal l lspan l_semantic_id w fine), h) = fields-lowered o es h
 fields-lowered o (more p es) (a_field m span semantic_id key v (a_key i ispan i_semantic_id s) (a_reference r rspan r_semantic_id x), h) = fields-lowered o es h
 
 with-class : (b : Bool) (k : ClassAt) (ks : List ClassAt) → IsPlainAt k → ArePlainAt ks → ArePlainAt (cond b (k ∷ []) [] ++ ks)
@@ -114,7 +114,7 @@ quiet-end = record { twice = λ o ws rs moved. refl; writes = λ names ds. refl;
 fields-quiet : (es : Parts) → AreFields es → AreQuiet es
 fields-quiet end h = quiet-end
 fields-quiet (more p es) (a_field m span semantic_id key v (a_key i ispan i_semantic_id s) no_value, h) = let q : AreQuiet es = fields-quiet es h in record { twice = q.twice; writes = q.writes; unwritable = q.unwritable; heritages = q.heritages }
-fields-quiet (more p es) (a_field m span semantic_id key v (a_key i ispan i_semantic_id s) (a_literal l lspan l_semantic_id w), h) = let q : AreQuiet es = fields-quiet es h in record { twice = q.twice; writes = q.writes; unwritable = q.unwritable; heritages = q.heritages }
+fields-quiet (more p es) (a_field m span semantic_id key v (a_key i ispan i_semantic_id s) (a_literal l lspan l_semantic_id w fine), h) = let q : AreQuiet es = fields-quiet es h in record { twice = q.twice; writes = q.writes; unwritable = q.unwritable; heritages = q.heritages }
 fields-quiet (more p es) (a_field m span semantic_id key v (a_key i ispan i_semantic_id s) (a_reference r rspan r_semantic_id x), h) = let q : AreQuiet es = fields-quiet es h in record { twice = q.twice; writes = q.writes; unwritable = q.unwritable; heritages = q.heritages }
 
 writes-append : (names : List ℕ) (rs qs : List Reference) → writes_any names rs ≡ false → writes_any names qs ≡ false → writes_any names (rs ++ qs) ≡ false
@@ -162,7 +162,7 @@ chains-append (Node kind m span semantic_id ps ∷ ts) us h i = chains-append ts
 fields-no_chain : (es : Parts) → AreFields es → private_chains (preorder_of es) ≡ false
 fields-no_chain end h = refl
 fields-no_chain (more p es) (a_field m span semantic_id key v (a_key i ispan i_semantic_id s) no_value, h) = fields-no_chain es h
-fields-no_chain (more p es) (a_field m span semantic_id key v (a_key i ispan i_semantic_id s) (a_literal l lspan l_semantic_id w), h) = fields-no_chain es h
+fields-no_chain (more p es) (a_field m span semantic_id key v (a_key i ispan i_semantic_id s) (a_literal l lspan l_semantic_id w fine), h) = fields-no_chain es h
 fields-no_chain (more p es) (a_field m span semantic_id key v (a_key i ispan i_semantic_id s) (a_reference r rspan r_semantic_id x), h) = fields-no_chain es h
 
 classes-no_chain : (ps : Parts) → AreClasses ps → private_chains (preorder_of ps) ≡ false

@@ -51,7 +51,7 @@ module _ (first : ℕ) (ps : List Tree) where
   fields-texts end h old n l = refl
   fields-texts (more p es) (a_field m span semantic_id k v (a_key km kspan k_semantic_id s) no_value, h) old n l =
       rw (helper-characters (n + 3), member-characters (n + 4), le-leb first (n + 6) (omega (arith, l)), le-leb first (n + 7 + 1) (omega (arith, l))) (fields-texts es h (λ t i. old t (later (later i))) (n + 9) (omega (arith, l)))
-  fields-texts (more p es) (a_field m span semantic_id k v (a_key km kspan k_semantic_id s) (a_literal vm vspan v_semantic_id x), h) old n l =
+  fields-texts (more p es) (a_field m span semantic_id k v (a_key km kspan k_semantic_id s) (a_literal vm vspan v_semantic_id x fine), h) old n l =
       let value : Tree = Node Kind.Literal vm vspan v_semantic_id (more (literal x) end) in
       let stands = old value (later (later here)) in
       rw (helper-characters (n + 3), member-characters (n + 4), le-leb first (n + 6) (omega (arith, l)), stands.0, stands-equal value ps stands.1) (fields-texts es h (λ t i. old t (later (later (later i)))) (n + 7) (omega (arith, l)))

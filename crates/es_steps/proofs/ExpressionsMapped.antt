@@ -1,5 +1,5 @@
 -- The codes of expressions follow a change of numbers.
-use Rattle.std.specs.Prelude.{◌≡◌, ℕ, [], ◌∷◌, ◌++◌, Bool, true, false, cond, ◌&&◌, codes, bytes_eq, Option, Some, None}
+use Rattle.std.specs.Prelude.{not, ◌≡◌, ℕ, [], ◌∷◌, ◌++◌, Bool, true, false, cond, ◌&&◌, codes, bytes_eq, Option, Some, None}
 use Rattle.std.proofs.Common.{refl, ap, ap₂, ◌∙◌}
 use Rattle.es_base.specs.Numbered.{is_new}
 use Rattle.es_base.specs.declared.kind.Kind.{Kind}
@@ -9,17 +9,18 @@ use Rattle.es_base.specs.declared.ledger.GeneratedKind.{GeneratedKind}
 use Rattle.es_steps.specs.Code.{Code, Codes, Target, Callee, no_rule, value, spelled, private_name, name, super, member, private_member, super_member, private_in, compound, logical, logical_assign, call, tag, template_string, template, operation, piece, chain, tested, private_value, on_chain, behind_test, done, and, from_call, from_member, bound, with_receiver}
 use Rattle.es_steps.specs.Context.{Context, NameKind, Changing, Generated, StaticMethod, name_kind, new_here}
 use Rattle.es_steps.specs.Events.{Operand, Spelled, Flag, OfKind, Delete}
-use Rattle.es_steps.specs.Expressions.{operation_of, the_code, value_code, literal_code, is_arguments, static_method, arguments_of, name_or_arguments, name_code, private_name_code, cooked_of, template_string_code, template_strings, template_code, spelling_of, meta_code, key_code, super_member_at, checked_object, member_on, member_code, is_made_private, names_class, private_on, private_field_of, private_field_code, private_in_of, private_in_code, target_of, is_logical, without_sign, assignment_code, update_code, void_code, deleted, delete_code, is_free_name, is_any_name, unary_operation, unary_code, binary_code, quiet_logical, logical_code, chain_code, spliced, deleted_as, ended_alone, chain_or, conditional_code, callee_of, checked_callee, call_code, new_code, tag_of, tag_code, is_prototype, key_details, property_code}
+use Rattle.es_steps.specs.Expressions.{operation_of, the_code, value_code, literal_code, is_arguments, static_method, arguments_of, name_or_arguments, name_code, private_name_code, cooked_of, template_string_code, template_strings, template_code, spelling_of, meta_code, key_code, super_member_at, checked_object, member_on, member_code, is_made_private, names_class, private_on, private_field_of, private_field_code, static_test, test_in, private_in_of, private_in_code, target_of, is_logical, without_sign, assignment_code, update_code, void_code, deleted, delete_code, is_free_name, is_any_name, unary_operation, unary_code, binary_code, quiet_logical, logical_code, chain_code, spliced, deleted_as, ended_alone, chain_or, conditional_code, callee_of, checked_callee, call_code, new_code, tag_of, tag_code, is_prototype, key_details, property_code}
 use Rattle.es_steps.specs.GeneratedForms.{generated_member, generated_call, generated_assignment, is_undefined_test, tested_object, class_named, is_method_kind}
 use Rattle.es_steps.specs.Members.{Member, Members, code, string, literal, at, codes_of, word_of, flag_of, details}
-use Rattle.es_steps.specs.PrivateNames.{PrivateMember, PrivateReference, member_at}
+use Rattle.es_steps.specs.Options.{lowers_fields}
+use Rattle.es_steps.specs.PrivateNames.{PrivateMember, PrivateReference, test_of, member_at}
 use Rattle.es_steps.specs.Values.{String, StringOf, BooleanOf, Value, ConstantOf, Undefined, ResultOf, ThisOf, ClassOf, ArgumentsOf, Free, Home}
 use Rattle.es_steps.proofs.ContextMapped.{name_kind-mapped, new_here-mapped, is_generated_private-mapped}
 use Rattle.es_steps.proofs.FormsMapped.{code-cond, cond-code, here, class_named-mapped, tested_object-mapped, again_of-mapped, helper_member-mapped, generated_member-mapped, generated_call-mapped, generated_binary-mapped, is_undefined_test-mapped, generated_assignment-mapped}
-use Rattle.es_steps.proofs.Mapped.{Renames, mapped_option, mapped_name_kind, mapped_private, mapped_private_reference, mapped_value, mapped_home, mapped_context, mapped_code, mapped_codes, mapped_callee, mapped_target, mapped_member, mapped_members}
+use Rattle.es_steps.proofs.Mapped.{Renames, mapped_option, mapped_name_kind, mapped_private, mapped_private_reference, mapped_test, mapped_value, mapped_home, mapped_context, mapped_code, mapped_codes, mapped_callee, mapped_target, mapped_member, mapped_members}
 use Rattle.es_steps.proofs.MembersMapped.{at-mapped, operands-mapped, details-mapped, word_at-mapped, flag_at-mapped, codes_at-mapped}
 use Rattle.es_steps.proofs.PartsMapped.{cond-mapped}
-use Rattle.es_steps.proofs.PrivatesMapped.{member_at-mapped, private_reference-mapped, test_of-mapped}
+use Rattle.es_steps.proofs.PrivatesMapped.{member_at-mapped, private_reference-mapped, field_test-mapped, test_of-mapped}
 
 module _ (f : ℕ → ℕ) where
   pub operation_of-mapped : (kind : Kind) (m : ℕ) (ps : Members) → operation_of kind (f m) (mapped_members f ps) ≡ mapped_code f (operation_of kind m ps)
@@ -85,12 +86,9 @@ module _ (f : ℕ → ℕ) where
   checked_object-mapped true o = refl
   checked_object-mapped false o = refl
 
-  private_in_of-mapped : (m : ℕ) (k o : Code) → private_in_of (f m) (mapped_code f k) (mapped_code f o) ≡ mapped_code f (private_in_of m k o)
-  private_in_of-mapped m (private_name d s (Some x)) o = ap (λ t. private_in (f m) t (mapped_code f o)) (test_of-mapped f x)
-  private_in_of-mapped m k o = refl
-
-  pub private_in_code-mapped : (m : ℕ) (ps : Members) → private_in_code (f m) (mapped_members f ps) ≡ mapped_code f (private_in_code m ps)
-  private_in_code-mapped m ps = rw (the_code_at-mapped 1 ps, the_code_at-mapped 2 ps) (private_in_of-mapped m (the_code (at 1 ps)) (the_code (at 2 ps)))
+  static_test-mapped : (x : PrivateReference) (d : Option ℕ) → static_test (mapped_private_reference f x) (mapped_option f d) ≡ mapped_test f (static_test x d)
+  static_test-mapped x (Some d) = refl
+  static_test-mapped x None = field_test-mapped f x x.writes
 
   -- ---- what is written
 
@@ -262,6 +260,18 @@ module _ {first : ℕ} {f : ℕ → ℕ} (r : Renames first f) (c : Context) (e 
 
   pub private_field_code-mapped : (m : ℕ) (ps : Members) → private_field_code there (f m) (mapped_members f ps) ≡ mapped_code f (private_field_code c m ps)
   private_field_code-mapped m ps = rw (flag_at-mapped f 3 ps, the_code_at-mapped f 0 ps, the_code_at-mapped f 1 ps) (private_field_of-mapped m (flag_of (at 3 ps)) (the_code (at 0 ps)) (the_code (at 1 ps)))
+
+  test_in-mapped : (x : PrivateReference) → test_in there (mapped_private_reference f x) ≡ mapped_test f (test_in c x)
+  test_in-mapped x = cond-mapped (mapped_test f) (x.is_static && not (lowers_fields c.options)) (static_test x x.reads) (test_of x) (static_test-mapped f x x.reads) (test_of-mapped f x)
+
+  private_in_of-mapped : (m : ℕ) (k o : Code) → private_in_of there (f m) (mapped_code f k) (mapped_code f o) ≡ mapped_code f (private_in_of c m k o)
+  private_in_of-mapped m (private_name d s (Some x)) o =
+      rw (is_generated_private-mapped r s x.class c.ledger, test_in-mapped x)
+      (cond-code f (is_made_private c s x) no_rule (private_in m (test_in c x) o))
+  private_in_of-mapped m k o = refl
+
+  pub private_in_code-mapped : (m : ℕ) (ps : Members) → private_in_code there (f m) (mapped_members f ps) ≡ mapped_code f (private_in_code c m ps)
+  private_in_code-mapped m ps = rw (the_code_at-mapped f 1 ps, the_code_at-mapped f 2 ps) (private_in_of-mapped m (the_code (at 1 ps)) (the_code (at 2 ps)))
 
   -- ---- assignments and operators
 

@@ -40,7 +40,7 @@ module _ (f : ℕ → ℕ) where
   pub reference_of-mapped : (x : PrivateMember) → reference_of (mapped_private f x) ≡ mapped_private_reference f (reference_of x)
   reference_of-mapped x = rw (one_side-mapped (is_read x.kind) x.number, one_side-mapped (is_written x.kind) x.number) refl
 
-  field_test-mapped : (x : PrivateReference) (d : Option ℕ) → field_test (mapped_private_reference f x) (mapped_option f d) ≡ mapped_test f (field_test x d)
+  pub field_test-mapped : (x : PrivateReference) (d : Option ℕ) → field_test (mapped_private_reference f x) (mapped_option f d) ≡ mapped_test f (field_test x d)
   field_test-mapped x None = refl
   field_test-mapped x (Some d) = refl
 

@@ -86,7 +86,7 @@ module _ {first : ℕ} {f : ℕ → ℕ} (r : Renames first f) (c : Context) (e 
   code_of-mapped Kind.MetaProperty m ps = meta_code-mapped r c e m ps
   code_of-mapped Kind.MemberExpression m ps = member_code-mapped r c e m ps
   code_of-mapped Kind.PrivateField m ps = private_field_code-mapped r c e m ps
-  code_of-mapped Kind.PrivateIn m ps = private_in_code-mapped f m ps
+  code_of-mapped Kind.PrivateIn m ps = private_in_code-mapped r c e m ps
   code_of-mapped Kind.AssignmentExpression m ps = assignment_code-mapped r c e m ps
   code_of-mapped Kind.UpdateExpression m ps = update_code-mapped f m ps
   code_of-mapped Kind.UnaryExpression m ps = unary_code-mapped f m ps

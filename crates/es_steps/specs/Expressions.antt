@@ -9,8 +9,9 @@ use Rattle.es_steps.specs.Context.{Context, NameKind, Changing, Generated, Stati
 use Rattle.es_steps.specs.Events.{Detail, Operand, Spelled, Flag, Key, Prototype, OfKind, Delete}
 use Rattle.es_steps.specs.GeneratedForms.{helper_member, generated_member, generated_call, generated_binary, generated_assignment, is_undefined_test, again_of, tested_object, class_named, is_method_kind}
 use Rattle.es_steps.specs.Members.{Member, Members, code, string, literal, at, operands, details, codes_of, word_of, flag_of}
-use Rattle.es_steps.specs.PrivateNames.{PrivateMember, PrivateReference, private_reference, test_of, member_at}
-use Rattle.es_steps.specs.Values.{String, StringOf, NumberOf, BigIntOf, BooleanOf, Null, Value, ConstantOf, Undefined, ResultOf, ThisOf, ClassOf, ArgumentsOf, Bound, Free, Home}
+use Rattle.es_steps.specs.Options.{lowers_fields}
+use Rattle.es_steps.specs.PrivateNames.{PrivateMember, PrivateReference, private_reference, test_of, field_test, member_at}
+use Rattle.es_steps.specs.Values.{String, StringOf, NumberOf, BigIntOf, BooleanOf, Null, Value, ConstantOf, Undefined, ResultOf, ThisOf, ClassOf, ArgumentsOf, Bound, Free, Home, PrivateTest, HasField}
 
 -- the rule of all kinds that have none of their own: the operands in order, then the operation
 abbrev pub operation_of : Kind → ℕ → Members → Code
@@ -132,12 +133,21 @@ private_field_of c m optional o k = no_rule
 abbrev pub private_field_code : Context → ℕ → Members → Code
 private_field_code c m ps = private_field_of c m (flag_of (at 3 ps)) (the_code (at 0 ps)) (the_code (at 1 ps))
 
-abbrev pub private_in_of : ℕ → Code → Code → Code
-private_in_of m (private_name d s (Some r)) o = private_in m (test_of r) o
-private_in_of m k o = no_rule
+-- a static member is asked for by its class where it is lowered, else by itself
+abbrev pub static_test : PrivateReference → Option ℕ → PrivateTest
+static_test r (Some d) = HasField d
+static_test r None = field_test r r.writes
 
-abbrev pub private_in_code : ℕ → Members → Code
-private_in_code m ps = private_in_of m (the_code (at 1 ps)) (the_code (at 2 ps))
+abbrev pub test_in : Context → PrivateReference → PrivateTest
+test_in c r = cond (r.is_static && not (lowers_fields c.options)) (static_test r r.reads) (test_of r)
+
+-- no lowering asks for a generated element
+abbrev pub private_in_of : Context → ℕ → Code → Code → Code
+private_in_of c m (private_name d s (Some r)) o = cond (is_made_private c s r) no_rule (private_in m (test_in c r) o)
+private_in_of c m k o = no_rule
+
+abbrev pub private_in_code : Context → ℕ → Members → Code
+private_in_code c m ps = private_in_of c m (the_code (at 1 ps)) (the_code (at 2 ps))
 
 -- ---- what is written
 
