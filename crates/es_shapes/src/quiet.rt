@@ -176,7 +176,10 @@ fn is_regular_expression(node: &Node) -> bool
     requires { kind_of node.now ≡ Kind.Literal }
     ensures { result ≡ spec.is_regular_expression (at 0 (parts_in node.now)) }
 {
-    matches!(LiteralRef::from_node(node).value, LiteralValue::RegExp { .. })
+    matches!(
+        LiteralRef::from_node(node).value,
+        LiteralValue::RegExp { .. }
+    )
 }
 
 /// Whether the node is a literal but a regular expression, or `delete this`.

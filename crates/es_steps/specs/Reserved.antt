@@ -11,7 +11,7 @@ use Rattle.es_steps.specs.Values.{String}
 pub record Words : Type 0 where
   pub in_strict : Bool
   pub in_module : Bool
-  -- in a static block, or in an arrow there
+  -- in a static block, or in the parameters of an arrow there
   pub in_block : Bool
   -- in the value of a field, too, where no `arguments` is
   pub in_element : Bool
@@ -44,7 +44,7 @@ declaration_words w ps (suc i) = function_words w ps
 -- the parameters of an arrow stand around its body
 abbrev pub arrow_words : Words → Parts → ℕ → Words
 arrow_words w ps zero = record w { in_async = w.in_async || is_true (at 2 ps) }
-arrow_words w ps (suc i) = record w { in_async = is_true (at 2 ps); in_generator = false }
+arrow_words w ps (suc i) = record w { in_block = false; in_async = is_true (at 2 ps); in_generator = false }
 
 abbrev pub field_words : Words → ℕ → Words
 field_words w zero = w

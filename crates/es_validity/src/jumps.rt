@@ -85,7 +85,10 @@ pub fn is_stray(jumps: &Jumps, node: &Node) -> bool
         },
         Kind::ReturnStatement => !jumps.returns,
         Kind::LabeledStatement => {
-            has_label(&jumps.labels, name_of(LabeledStatementRef::from_node(node).label))
+            has_label(
+                &jumps.labels,
+                name_of(LabeledStatementRef::from_node(node).label),
+            )
         }
         _ => false,
     }
