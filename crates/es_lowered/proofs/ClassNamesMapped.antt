@@ -7,9 +7,10 @@ use Rattle.es_base.specs.Tree.{Tree, Part, Parts, Node, end, more, child}
 use Rattle.es_base.specs.declared.kind.Kind.{Kind}
 use Rattle.es_base.specs.declared.ledger.GeneratedKind.{GeneratedKind}
 use Rattle.es_base.specs.declared.ledger.LedgerEntry.{LedgerEntry}
-use Rattle.es_lowered.specs.ClassNames.{numbers_of, numbers_of_key, element_numbers, body_numbers, numbers_inside, class_numbers, is_written_at, naming, without, numbers_of_class, head_numbers, common, free_naming, naming_in_source, MovedFunction, function_numbers, moved_function, moved_at, moved_functions, any_among, outside_class, names_holding, is_reference_to, reading, reaching, without_functions, is_behind, is_class_mark, stand_behind, is_asked, is_none, class_runs, any_name, asked_names, functions_outside, asked_references, stand_in_time, class_timely, all_classes_timely, classes_timely}
+use Rattle.es_lowered.specs.ClassNames.{numbers_of, numbers_of_key, element_numbers, body_numbers, numbers_inside, class_numbers, is_written_at, naming, without, numbers_of_class, head_numbers, common, free_naming, naming_in_source, MovedFunction, function_numbers, names_function, moved_function, moved_at, moved_functions, any_among, outside_class, names_holding, is_reference_to, reading, reaching, without_functions, is_behind, is_class_mark, stand_behind, is_asked, is_none, class_runs, any_name, behind_class, numbered, placed, behind, is_steady, steady, asked_names, functions_outside, asked_references, stand_in_time, class_timely, all_classes_timely, classes_timely}
 use Rattle.es_steps.specs.Context.{generated_as, is_generated}
 use Rattle.es_lowered.specs.Definitions.{spelling, class_identifiers, names_class}
+use Rattle.es_lowered.specs.FunctionsAround.{PlacedReference, all_stand_where}
 use Rattle.es_lowered.specs.HelperCalls.{body_runs}
 use Rattle.es_steps.specs.NameScopes.{is_any_function}
 use Rattle.es_steps.specs.Parts.{at, items, string_of}
@@ -17,10 +18,11 @@ use Rattle.es_steps.specs.PrivateNames.{is_class, is_element}
 use Rattle.es_steps.specs.References.{Reference, resolve, has_number}
 use Rattle.es_lowered.specs.Timely.{Mark, marks, nowhere}
 use Rattle.es_steps.specs.Values.{String}
-use Rattle.es_steps.proofs.ContextMapped.{is_generated-mapped}
+use Rattle.es_steps.proofs.ContextMapped.{generated_as-mapped, is_generated-mapped}
 use Rattle.es_lowered.proofs.DefinitionsMapped.{spelling-mapped, class_identifiers-mapped, names_class-mapped}
+use Rattle.es_lowered.proofs.FunctionsAroundMapped.{mapped_placed, placed_references-mapped, all_stand_where-mapped}
 use Rattle.es_lowered.proofs.HelperCallsMapped.{body_runs-mapped}
-use Rattle.es_steps.proofs.Mapped.{Renames, mapped, mapped_part, mapped_parts, mapped_reference, mapped_ledger}
+use Rattle.es_steps.proofs.Mapped.{Renames, mapped_option, mapped_generated, mapped, mapped_part, mapped_parts, mapped_reference, mapped_ledger}
 use Rattle.es_steps.proofs.PartsMapped.{cond-mapped, append-mapped, at-mapped, items_at-mapped, string_at-mapped, number_of-mapped, preorder-mapped, preorder_of-mapped, preorder_of_part-mapped}
 use Rattle.es_steps.proofs.ReferencesMapped.{resolve-mapped, has_number-mapped}
 use Rattle.es_lowered.proofs.TimelyMapped.{mapped_mark, marks-mapped, all_pairs_stand-mapped}
@@ -72,11 +74,18 @@ module _ (f : ℕ → ℕ) where
   abbrev made : String → List ℕ → MovedFunction
   made s ns = record { name = s; numbers = ns }
 
+  names_function-mapped : (g : Option GeneratedKind) → names_function (mapped_option (mapped_generated f) g) ≡ names_function g
+  names_function-mapped None = refl
+  names_function-mapped (Some (GeneratedKind.Method d)) = refl
+  names_function-mapped (Some (GeneratedKind.SuperFn n)) = refl
+  names_function-mapped (Some GeneratedKind.Closure) = refl
+  names_function-mapped (Some g) = refl
+
   moved_function-mapped : (ledger : List LedgerEntry) (i : ℕ) (ps : Parts) (p : Part) → moved_function (mapped_ledger f ledger) (spelling (at i (mapped_parts f ps))) (mapped_part f p) ≡ map mapped_function (moved_function ledger (spelling (at i ps)) p)
   moved_function-mapped ledger i ps p =
-      ap₂ (λ b (m : MovedFunction). cond b (m ∷ []) []) (is_generated_at-mapped ledger i ps)
+      ap₂ (λ b (m : MovedFunction). cond b (m ∷ []) []) (ap names_function (rw (ap spelling (at-mapped f i ps) ∙ spelling-mapped f (at i ps)) (generated_as-mapped f (spelling (at i ps)) ledger)) ∙ names_function-mapped (generated_as (spelling (at i ps)) ledger))
       (ap₂ made (ap spelling (at-mapped f i ps) ∙ spelling-mapped f (at i ps)) (function_numbers-mapped p))
-      ∙ cond-mapped (map mapped_function) (is_generated (spelling (at i ps)) ledger) (record { name = spelling (at i ps); numbers = function_numbers p } ∷ []) [] refl refl
+      ∙ cond-mapped (map mapped_function) (names_function (generated_as (spelling (at i ps)) ledger)) (record { name = spelling (at i ps); numbers = function_numbers p } ∷ []) [] refl refl
 
   moved_at-mapped : (ledger : List LedgerEntry) (t : Tree) → moved_at (mapped_ledger f ledger) (mapped f t) ≡ map mapped_function (moved_at ledger t)
   moved_at-mapped ledger (Node Kind.FunctionDeclaration m span semantic_id ps) = moved_function-mapped ledger 0 ps (child (Node Kind.FunctionDeclaration m span semantic_id ps))
@@ -191,14 +200,45 @@ module _ {first : ℕ} {f : ℕ → ℕ} (r : Renames first f) where
   is_asked-mapped : (asked : List ℕ) (s : String) (ns : List ℕ) → is_asked (map f asked) s (map f ns) ≡ is_asked asked s ns
   is_asked-mapped asked s ns = any_among-mapped asked ns
 
+  behind_class-mapped : (front ms : List Mark) → behind_class (map (mapped_mark f) front) (map (mapped_mark f) ms) ≡ map f (behind_class front ms)
+  behind_class-mapped front [] = refl
+  behind_class-mapped front (m ∷ ms) =
+      rw (is_behind-mapped m front)
+      (cond-mapped (map f) (is_class_mark m.form) (behind_class (m ∷ front) ms) (cond (is_behind m front) m.node [] ++ behind_class front ms) (behind_class-mapped (m ∷ front) ms)
+      (append-mapped f _ _ (cond-mapped (map f) (is_behind m front) m.node [] refl refl) (behind_class-mapped front ms)))
+
+  numbered-mapped : (m : ℕ) (rs : List PlacedReference) → numbered (f m) (map (mapped_placed f) rs) ≡ map (mapped_placed f) (numbered m rs)
+  numbered-mapped m [] = refl
+  numbered-mapped m (x ∷ rs) = append-mapped (mapped_placed f) _ _ (rw (r.apart m x.number) (cond-mapped (map (mapped_placed f)) (nat_eq m x.number) (x ∷ []) [] refl refl)) (numbered-mapped m rs)
+
+  module _ (n : ℕ) (p q : Tree) (names : List ℕ) where
+    placed-mapped : (t : Tree) → placed first (f n) (mapped f p) (mapped f q) (map f names) (mapped f t) ≡ map (mapped_placed f) (placed first n p q names t)
+    placed-mapped t = placed_references-mapped r (λ m s. has_number m (map f names)) (λ m s. has_number m names) (λ m s. has_number-mapped r m names) false [] t
+
+    behind-mapped : (t : Tree) → behind first (f n) (mapped f p) (mapped f q) (map f names) (mapped f t) ≡ map f (behind first n p q names t)
+    behind-mapped t =
+        ap (behind_class []) (marks-mapped r [] [] (is_asked (map f (n ∷ names))) (is_asked (n ∷ names)) (is_asked-mapped (n ∷ names)) [] nowhere None t)
+        ∙ behind_class-mapped [] (marks first [] [] (is_asked (n ∷ names)) [] nowhere None t)
+
+    is_steady-mapped : (m : ℕ) → is_steady first (f n) (mapped f p) (mapped f q) (map f names) (f m) ≡ is_steady first n p q names m
+    is_steady-mapped m =
+        rw (placed-mapped q, placed-mapped p, numbered-mapped m (placed first n p q names q), all_stand_where-mapped r (numbered m (placed first n p q names q)) (placed first n p q names p), behind-mapped p, behind-mapped q, has_number-mapped r m (behind first n p q names p), has_number-mapped r m (behind first n p q names q)) refl
+
+    steady-mapped : (ms : List ℕ) → steady first (f n) (mapped f p) (mapped f q) (map f names) (map f ms) ≡ map f (steady first n p q names ms)
+    steady-mapped [] = refl
+    steady-mapped (m ∷ ms) = append-mapped f _ _ (rw (is_steady-mapped m) (cond-mapped (map f) (is_steady first n p q names m) (m ∷ []) [] refl refl)) (steady-mapped ms)
+
   asked_names-mapped : (ledger : List LedgerEntry) (p q : Tree) (n : ℕ) → asked_names first (mapped_ledger f ledger) (mapped f p) (mapped f q) (f n) ≡ map f (asked_names first ledger p q n)
   asked_names-mapped ledger p q n =
+      let names : List ℕ = naming_in_source first n p in
+      let free : List ℕ = free_naming (class_runs n (preorder q)) n (preorder p) (preorder q) names in
       ap₂ without
-      (ap₂ (λ qs ns. free_naming (class_runs (f n) qs) (f n) (preorder (mapped f p)) qs ns) (preorder-mapped f q) (naming_in-mapped n [] p)
-      ∙ (ap₂ (λ b ps. free_naming b (f n) ps (map (mapped f) (preorder q)) (map f (naming_in_source first n p))) (class_runs-mapped n (preorder q)) (preorder-mapped f p)
-      ∙ free_naming-mapped (class_runs n (preorder q)) n (preorder p) (preorder q) (naming_in_source first n p)))
+      (ap₂ (λ qs ns. steady first (f n) (mapped f p) (mapped f q) ns (free_naming (class_runs (f n) qs) (f n) (preorder (mapped f p)) qs ns)) (preorder-mapped f q) (naming_in-mapped n [] p)
+      ∙ (ap₂ (λ b ps. steady first (f n) (mapped f p) (mapped f q) (map f names) (free_naming b (f n) ps (map (mapped f) (preorder q)) (map f names))) (class_runs-mapped n (preorder q)) (preorder-mapped f p)
+      ∙ (ap (steady first (f n) (mapped f p) (mapped f q) (map f names)) (free_naming-mapped (class_runs n (preorder q)) n (preorder p) (preorder q) names)
+      ∙ steady-mapped n p q names free)))
       (naming_in-mapped n ledger q)
-      ∙ without-mapped (free_naming (class_runs n (preorder q)) n (preorder p) (preorder q) (naming_in_source first n p)) (naming n ledger (resolve q) (class_identifiers first n (preorder q)) (preorder q))
+      ∙ without-mapped (steady first n p q names free) (naming n ledger (resolve q) (class_identifiers first n (preorder q)) (preorder q))
 
   functions_outside-mapped : (ledger : List LedgerEntry) (q : Tree) (n : ℕ) → functions_outside (mapped_ledger f ledger) (mapped f q) (f n) ≡ map (mapped_function f) (functions_outside ledger q n)
   functions_outside-mapped ledger q n =

@@ -9,7 +9,7 @@ use Rattle.es_base.specs.declared.ledger.GeneratedKind.{GeneratedKind}
 use Rattle.es_base.specs.declared.ledger.LedgerEntry.{LedgerEntry}
 use Rattle.es_base.specs.declared.literal.LiteralValue.TheVariants as literal_value
 use Rattle.es_steps.specs.Context.{generated_as, is_function}
-use Rattle.es_lowered.specs.Definitions.{DefinedKey, BrandKey, PrivateKey, PublicKey, FieldDefinition, definition, spelling, helper_definition, property_value, writable_part, field_part, loose_by, object_definition, call_definition, static_by, static_definition, set_definition, is_assignment, is_super_of, given_to, given_part, definition_at, is_given_super, definitions_in, definitions_at, definitions_of, function_definitions, super_definitions, constructor_definitions, all_definitions, is_new_this, on_this, instance_definitions, identifier_in, is_class_number, declares_class, class_identifiers, is_class_temporary, is_bound_among, names_class, is_member_of, is_static_member, key_is_static, is_static_of, statics_of, static_definitions, is_member_name, is_temporary, is_member_key, referent_at, is_property_name, same_referent, is_name_part, Names, is_computed_key, is_key_of, key_fits, is_void_zero, nodes_in, number_stands, is_followed, value_fits, all_fit, is_brand_of, is_brand_key, branded_fit, is_instance_method, any_of, chosen, defined_fields, names_of, class_fits, classes_fit, definitions_stand, key_temporary, key_temporaries, class_temporaries, with_class, all_temporaries, element_numbers, body_numbers, elements_kept}
+use Rattle.es_lowered.specs.Definitions.{DefinedKey, BrandKey, PrivateKey, PublicKey, FieldDefinition, definition, spelling, helper_definition, property_value, writable_part, field_part, loose_by, object_definition, call_definition, static_by, static_definition, set_definition, is_assignment, is_super_of, given_to, given_part, definition_at, is_given_super, definitions_in, definitions_at, definitions_of, function_definitions, super_definitions, constructor_definitions, all_definitions, is_new_this, on_this, instance_definitions, identifier_in, is_class_number, declares_class, class_identifiers, is_class_temporary, is_bound_among, names_class, is_member_of, is_static_member, key_is_static, is_static_of, statics_of, static_definitions, is_member_name, is_temporary, is_member_key, referent_at, is_property_name, same_referent, is_name_part, Names, is_computed_key, is_key_of, key_fits, is_void_zero, nodes_in, number_stands, is_followed, value_fits, all_fit, is_brand_of, is_brand_key, branded_fit, is_instance_method, any_of, chosen, defined_fields, names_of, class_fits, classes_fit, definitions_stand, key_temporary, key_temporaries, class_temporaries, with_class, all_temporaries, element_numbers, body_numbers, elements_kept, is_super_name, any_reads, any_definition, is_construction, are_constructions, is_plain_super, super_stands, supers_stand}
 use Rattle.es_steps.specs.KeptNodes.{is_within}
 use Rattle.es_steps.specs.LoweredClasses.{Element, elements_of, is_left_out, is_lowered_element, constructor_in, referent_of}
 use Rattle.es_steps.specs.Options.{lowers_fields, sets_fields}
@@ -388,8 +388,49 @@ module _ {first : ℕ} {f : ℕ → ℕ} (r : Renames first f) where
       (ap (class_fits first o (mapped_ledger f ledger) (mapped_privates f members) (mapped f p) (mapped f q) (f n)) (elements_of-mapped f ps) ∙ class_fits-mapped o ledger members p q n (elements_of ps))
       (classes_fit-mapped o ledger members p q ts)
 
+  -- ---- what stands for `super(..)`
+
+  is_super_name-mapped : (g : Option GeneratedKind) → is_super_name (mapped_option (mapped_generated f) g) ≡ is_super_name g
+  is_super_name-mapped None = refl
+  is_super_name-mapped (Some (GeneratedKind.SuperFn n)) = refl
+  is_super_name-mapped (Some g) = refl
+
+  any_reads-mapped : (s : String) (rs : List Reference) → any_reads s (map (mapped_reference f) rs) ≡ any_reads s rs
+  any_reads-mapped s [] = refl
+  any_reads-mapped s (x ∷ rs) = ap (λ b. (bytes_eq s x.spelling && not x.writes) || b) (any_reads-mapped s rs)
+
+  any_definition-mapped : (ds : List FieldDefinition) → any_definition (map (mapped_field f) ds) ≡ any_definition ds
+  any_definition-mapped [] = refl
+  any_definition-mapped (d ∷ ds) = refl
+
+  module _ (o : Options) (ledger : List LedgerEntry) where
+    is_construction-mapped : (p : Part) → is_construction first o (mapped_ledger f ledger) (mapped_part f p) ≡ is_construction first o ledger p
+    is_construction-mapped (child (Node Kind.ThisExpression m span semantic_id ps)) = refl
+    is_construction-mapped (child (Node Kind.CallExpression m span semantic_id (more (child (Node Kind.Super k kspan k_semantic_id ks)) rest))) = refl
+    is_construction-mapped (child (Node kind m span semantic_id ps)) = ap any_definition (definition_at-mapped o ledger kind m ps) ∙ any_definition-mapped (definition_at first o ledger kind m ps)
+    is_construction-mapped p = refl
+
+    are_constructions-mapped : (ps : Parts) → are_constructions first o (mapped_ledger f ledger) (mapped_parts f ps) ≡ are_constructions first o ledger ps
+    are_constructions-mapped end = refl
+    are_constructions-mapped (more p ps) = ap₂ (λ a b. a && b) (is_construction-mapped p) (are_constructions-mapped ps)
+
+    is_plain_super-mapped : (p : Part) → is_plain_super first o (mapped_ledger f ledger) (mapped_part f p) ≡ is_plain_super first o ledger p
+    is_plain_super-mapped (child (Node Kind.ArrowFunctionExpression m span semantic_id (more args (more (child (Node Kind.SequenceExpression k kspan k_semantic_id (more (list es) end))) rest)))) = are_constructions-mapped es
+    is_plain_super-mapped p = refl
+
+    super_stands-mapped : (rs : List Reference) (kind : Kind) (ps : Parts) → super_stands first o (mapped_ledger f ledger) (map (mapped_reference f) rs) kind (mapped_parts f ps) ≡ super_stands first o ledger rs kind ps
+    super_stands-mapped rs kind ps =
+        rw (given_to-mapped f kind ps, given_part-mapped f kind ps, spelling-mapped f (given_to kind ps), generated_as-mapped f (spelling (given_to kind ps)) ledger, is_super_name-mapped (generated_as (spelling (given_to kind ps)) ledger), any_reads-mapped (spelling (given_to kind ps)) rs, is_plain_super-mapped (given_part kind ps)) refl
+
+    supers_stand-mapped : (rs : List Reference) (ts : List Tree) → supers_stand first o (mapped_ledger f ledger) (map (mapped_reference f) rs) (map (mapped f) ts) ≡ supers_stand first o ledger rs ts
+    supers_stand-mapped rs [] = refl
+    supers_stand-mapped rs (Node kind m span semantic_id ps ∷ ts) = ap₂ (λ a b. a && b) (super_stands-mapped rs kind ps) (supers_stand-mapped rs ts)
+
   pub definitions_stand-mapped : (o : Options) (ledger : List LedgerEntry) (members : List PrivateMember) (p q : Tree) → definitions_stand first o (mapped_ledger f ledger) (mapped_privates f members) (mapped f p) (mapped f q) ≡ definitions_stand first o ledger members p q
-  definitions_stand-mapped o ledger members p q = ap (λ b. not (lowers_fields o) || b) (ap (classes_fit first o (mapped_ledger f ledger) (mapped_privates f members) (mapped f p) (mapped f q)) (preorder-mapped f p) ∙ classes_fit-mapped o ledger members p q (preorder p))
+  definitions_stand-mapped o ledger members p q =
+      ap₂ (λ a b. not (lowers_fields o) || (a && b))
+      (ap (classes_fit first o (mapped_ledger f ledger) (mapped_privates f members) (mapped f p) (mapped f q)) (preorder-mapped f p) ∙ classes_fit-mapped o ledger members p q (preorder p))
+      (ap₂ (supers_stand first o (mapped_ledger f ledger)) (resolve-mapped f q) (preorder-mapped f q) ∙ supers_stand-mapped o ledger (resolve q) (preorder q))
 
   -- ---- temporaries of keys
 

@@ -9,7 +9,7 @@ use Rattle.es_base.specs.declared.ledger.LedgerEntry.{LedgerEntry}
 use Rattle.es_steps.specs.Context.{is_generated}
 use Rattle.es_lowered.specs.Definitions.{spelling, field_part, names_class, class_identifiers, all_different, is_among_first}
 use Rattle.es_steps.specs.KeptNodes.{statement_list, is_underscored}
-use Rattle.es_lowered.specs.Lowered.{declaring_number, declaring_numbers, is_bound_to, all_mean, is_one_new, private_key, private_keys, keys_of_body, keys_of_class, keys_in, is_one, declared_by_kind, same_space, is_named_again, same_subject, has_another_name, is_temp, is_at_most_one, names_declared, has_new_declarator, is_new_const, has_branded, belongs, is_accounted, all_accounted, declarations_accounted, spelled_as, is_new_of, is_key_call, is_function_part, class_number_in, assignment_number, paired, pairs_behind, all_behind, has_pair, is_class_or_name, is_class_value, is_initial, is_class_kind, is_method_kind, initialization_at, initializations, comes_before, is_declared_function, all_before, needs_none, is_one_initialization, initialization_stands, initializations_stand, any_before, keys_before, keys_stand}
+use Rattle.es_lowered.specs.Lowered.{declaring_number, declaring_numbers, is_bound_to, all_mean, is_one_new, private_key, private_keys, keys_of_body, keys_of_class, keys_in, is_one, declared_by_kind, same_space, is_named_again, same_subject, has_another_name, is_temp, is_at_most_one, names_declared, has_new_declarator, is_new_const, has_branded, belongs, is_accounted, all_accounted, declarations_accounted, spelled_as, is_new_of, is_key_call, is_function_part, class_number_in, assignment_number, paired, pairs_behind, all_behind, has_pair, is_class_itself, is_class_value, is_initial, is_class_kind, is_method_kind, initialization_at, initializations, comes_before, is_declared_function, all_before, needs_none, is_one_initialization, initialization_stands, initializations_stand, any_before, keys_before, keys_stand}
 use Rattle.es_steps.specs.LoweredClasses.{none_lowered, nothing_left}
 use Rattle.es_steps.specs.Options.{lowers_fields}
 use Rattle.es_lowered.specs.OwnNames.{own_name_numbers}
@@ -17,7 +17,7 @@ use Rattle.es_steps.specs.Parts.{at, items, string_of, is_present}
 use Rattle.es_steps.specs.GeneratedForms.{if_member, is_instance_field, is_static_field, is_function_member}
 use Rattle.es_steps.specs.PrivateNames.{PrivateMember, member_at, is_a_field}
 use Rattle.es_steps.specs.References.{Reference, resolve}
-use Rattle.es_steps.specs.Scopes.{is_binding_identifier, class_in}
+use Rattle.es_steps.specs.Scopes.{is_binding_identifier}
 use Rattle.es_lowered.specs.Temporaries.{class_before}
 use Rattle.es_lowered.proofs.TemporariesMapped.{class_before-mapped}
 use Rattle.es_steps.specs.Values.{String, Referent, Bound, Free}
@@ -230,15 +230,15 @@ module _ {first : ℕ} {f : ℕ → ℕ} (r : Renames first f) where
   has_pair-mapped m n [] = refl
   has_pair-mapped m n (p ∷ ps) = rw (r.apart m p.0, r.apart n p.1, has_pair-mapped m n ps) refl
 
-  is_class_or_name-mapped : (n : ℕ) (k : Option ℕ) (is_name : Bool) → is_class_or_name (f n) (mapped_option f k) is_name ≡ is_class_or_name n k is_name
-  is_class_or_name-mapped n None is_name = refl
-  is_class_or_name-mapped n (Some k) is_name = r.apart n k
+  is_class_itself-mapped : (n : ℕ) (p : Part) → is_class_itself (f n) (mapped_part f p) ≡ is_class_itself n p
+  is_class_itself-mapped n (child (Node Kind.ClassExpression m span semantic_id ps)) = r.apart n m
+  is_class_itself-mapped n p = refl
 
   module _ (ledger : List LedgerEntry) (q : Tree) where
     is_class_value-mapped : (m n : ℕ) (p : Part) → is_class_value first (mapped_ledger f ledger) (mapped f q) (f m) (f n) (mapped_part f p) ≡ is_class_value first ledger q m n p
     is_class_value-mapped m n p =
-        rw (class_in-mapped f p, preorder-mapped f q, resolve-mapped f q, class_identifiers-mapped r n (preorder q), names_class-mapped r n ledger (resolve q) (class_identifiers first n (preorder q)) p, all_behind-mapped f (preorder q), has_pair-mapped m n (all_behind (preorder q)))
-        (is_class_or_name-mapped n (class_in p) (names_class n ledger (resolve q) (class_identifiers first n (preorder q)) p && has_pair m n (all_behind (preorder q))))
+        rw (is_class_itself-mapped n p, preorder-mapped f q, resolve-mapped f q, class_identifiers-mapped r n (preorder q), names_class-mapped r n ledger (resolve q) (class_identifiers first n (preorder q)) p, all_behind-mapped f (preorder q), has_pair-mapped m n (all_behind (preorder q)))
+        refl
 
     is_initial-mapped : (m : ℕ) (g : GeneratedKind) (p : Part) → is_initial first (mapped_ledger f ledger) (mapped f q) (f m) (mapped_generated f g) (mapped_part f p) ≡ is_initial first ledger q m g p
     is_initial-mapped m (GeneratedKind.WeakMap d) p = is_new_of-mapped f (codes "WeakMap") p

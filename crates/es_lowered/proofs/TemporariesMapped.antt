@@ -1,8 +1,8 @@
 -- That a temporary holds one value does not depend on numbers.
-use Rattle.std.specs.Prelude.{◌≡◌, ℕ, suc, List, [], ◌∷◌, map, Bool, false, not, ◌&&◌, ◌||◌, nat_eq, bytes_eq, Option, Some, None}
+use Rattle.std.specs.Prelude.{◌≡◌, ℕ, suc, List, [], ◌∷◌, map, Bool, true, false, cond, not, ◌&&◌, ◌||◌, nat_eq, bytes_eq, Option, Some, None}
 use Rattle.std.proofs.Common.{refl, ap, ap₂, ◌∙◌}
 use Rattle.es_base.specs.Numbered.{is_new}
-use Rattle.es_base.specs.Preorder.{number_of}
+use Rattle.es_base.specs.Preorder.{number_of, preorder_of, preorder}
 use Rattle.es_base.specs.Table.{Field, members_of}
 use Rattle.es_base.specs.Tree.{Tree, Part, Parts, Node, end, more, child, list}
 use Rattle.es_base.specs.declared.kind.Kind.{Kind}
@@ -11,13 +11,15 @@ use Rattle.es_base.specs.declared.ledger.LedgerEntry.{LedgerEntry}
 use Rattle.es_steps.specs.Parts.{at}
 use Rattle.es_steps.specs.References.{is_target}
 use Rattle.es_steps.specs.KeptNodes.{pair_stands}
-use Rattle.es_steps.specs.PrivateNames.{PrivateMember, member_at}
+use Rattle.es_steps.specs.Printable.{name_of_part}
+use Rattle.es_steps.specs.PrivateNames.{PrivateMember, member_at, is_class}
 use Rattle.es_steps.specs.Repeated.{around_program, all_places}
 use Rattle.es_steps.specs.Scopes.{binds, is_body_part}
-use Rattle.es_lowered.specs.Temporaries.{Touch, Spot, touch_of, is_bare, declaration_in, is_block, is_of_class, home_in, spot_in, touches, touches_in, touches_at, touches_of, all_touches, chosen, all_touched, is_none, declarations_of, gifts_of, reads_of, is_steady, is_at_most_one, is_at_call, is_near, class_of_member, class_before, stands_with, constructs_with, is_given_with, is_steady_name, all_steady, temporaries_steady}
+use Rattle.es_lowered.specs.Temporaries.{Touch, Spot, touch_of, is_bare, declaration_in, is_block, is_of_class, home_in, spot_in, touches, touches_in, touches_at, touches_of, all_touches, chosen, all_touched, is_none, declarations_of, gifts_of, reads_of, is_steady, is_at_most_one, is_at_call, is_near, class_of_member, class_before, stands_with, constructs_with, is_given_with, is_steady_name, all_steady, temporaries_steady, nodes_of_class, holds_class, reads_private, is_around, has_name_around, is_apart, all_apart}
 use Rattle.es_steps.specs.Values.{String}
 use Rattle.es_steps.proofs.Mapped.{Renames, mapped, mapped_part, mapped_parts, mapped_option, mapped_generated, mapped_ledger, mapped_private, mapped_privates, mapped_pair}
-use Rattle.es_steps.proofs.PartsMapped.{cond-mapped, append-mapped, at-mapped, string_at-mapped, is_present_at-mapped, number_of-mapped}
+use Rattle.es_steps.proofs.PartsMapped.{cond-mapped, append-mapped, preorder-mapped, preorder_of-mapped, at-mapped, string_at-mapped, is_present_at-mapped, number_of-mapped}
+use Rattle.es_steps.proofs.PrintableMapped.{name_of_part-mapped}
 use Rattle.es_steps.proofs.PrivatesMapped.{member_at-mapped}
 use Rattle.es_steps.proofs.RepeatedMapped.{mapped_surroundings, surroundings_in-mapped, around_program-mapped, all_places-mapped}
 
@@ -172,7 +174,8 @@ module _ {first : ℕ} {f : ℕ → ℕ} (r : Renames first f) where
   is_steady_name-mapped : (places : List (ℕ × ℕ)) (members : List PrivateMember) (g : GeneratedKind) (s : String) (ts : List Touch) → is_steady_name (map (mapped_pair f) places) (mapped_privates f members) (mapped_generated f g) s (map (mapped_touch f) ts) ≡ is_steady_name places members g s ts
   is_steady_name-mapped places members GeneratedKind.Temp s ts = ap₂ is_steady (gifts_of-mapped s ts) (reads_of-mapped s ts) ∙ is_steady-mapped (gifts_of s ts) (reads_of s ts)
   is_steady_name-mapped places members GeneratedKind.Param s ts = ap₂ is_at_call (gifts_of-mapped s ts) (reads_of-mapped s ts) ∙ is_at_call-mapped (gifts_of s ts) (reads_of s ts)
-  is_steady_name-mapped places members GeneratedKind.Closure s ts = ap₂ is_given_with (gifts_of-mapped s ts) (reads_of-mapped s ts) ∙ is_given_with-mapped (gifts_of s ts) (reads_of s ts)
+  is_steady_name-mapped places members GeneratedKind.Closure s ts =
+      rw (gifts_of-mapped s ts, reads_of-mapped s ts) (ap₂ (λ a b. a && not b) (is_given_with-mapped (gifts_of s ts) (reads_of s ts)) (is_none-mapped f (reads_of s ts)))
   is_steady_name-mapped places members (GeneratedKind.SuperFn n) s ts =
       ap (all_touched (constructs_with (map (mapped_pair f) places) (f n.0))) (gifts_of-mapped s ts)
       ∙ all_touched-mapped f _ (constructs_with places n.0) (constructs_with-mapped places n.0) (gifts_of s ts)
@@ -185,7 +188,43 @@ module _ {first : ℕ} {f : ℕ → ℕ} (r : Renames first f) where
       (ap₂ (λ a b. a && b) (is_steady_name-mapped places members e.kind e.name ts) (ap₂ is_near (declarations_of-mapped e.name ts) (gifts_of-mapped e.name ts) ∙ is_near-mapped (declarations_of e.name ts) (gifts_of e.name ts)))
       (all_steady-mapped places members es ts)
 
+  -- ---- private elements
+
+  nodes_of_class-mapped : (n : ℕ) (ts : List Tree) → nodes_of_class (f n) (map (mapped f) ts) ≡ map (mapped f) (nodes_of_class n ts)
+  nodes_of_class-mapped n [] = refl
+  nodes_of_class-mapped n (Node kind m span semantic_id ps ∷ ts) =
+      append-mapped (mapped f) _ _ (rw (r.apart n m) (cond-mapped (map (mapped f)) (is_class kind && nat_eq n m) (preorder_of ps) [] (preorder_of-mapped f ps) refl)) (nodes_of_class-mapped n ts)
+
+  holds_class-mapped : (n : ℕ) (ts : List Tree) → holds_class (f n) (map (mapped f) ts) ≡ holds_class n ts
+  holds_class-mapped n [] = refl
+  holds_class-mapped n (Node kind m span semantic_id ps ∷ ts) = ap₂ (λ a b. (is_class kind && a) || b) (r.apart n m) (holds_class-mapped n ts)
+
+  reads_private-mapped : (s : String) (ts : List Tree) → reads_private s (map (mapped f) ts) ≡ reads_private s ts
+  reads_private-mapped s [] = refl
+  reads_private-mapped s (Node Kind.PrivateField m span semantic_id ps ∷ ts) = ap₂ (λ a b. bytes_eq s a || b) (ap name_of_part (at-mapped f 1 ps) ∙ name_of_part-mapped f (at 1 ps)) (reads_private-mapped s ts)
+  reads_private-mapped s (t ∷ ts) = reads_private-mapped s ts
+
+  module _ (qs : List Tree) where
+    is_around-mapped : (n : ℕ) (g : GeneratedKind) → is_around (map (mapped f) qs) (f n) (mapped_generated f g) ≡ is_around qs n g
+    is_around-mapped n (GeneratedKind.Private k) = ap (holds_class (f n)) (nodes_of_class-mapped k.0 qs) ∙ holds_class-mapped n (nodes_of_class k.0 qs)
+    is_around-mapped n g = refl
+
+    has_name_around-mapped : (n : ℕ) (s : String) (es : List LedgerEntry) → has_name_around (map (mapped f) qs) (f n) s (mapped_ledger f es) ≡ has_name_around qs n s es
+    has_name_around-mapped n s [] = refl
+    has_name_around-mapped n s (e ∷ es) = ap₂ (λ a b. (bytes_eq s e.name && a) || b) (is_around-mapped n e.kind) (has_name_around-mapped n s es)
+
+    is_apart-mapped : (ledger : List LedgerEntry) (s : String) (g : GeneratedKind) → is_apart (map (mapped f) qs) (mapped_ledger f ledger) s (mapped_generated f g) ≡ is_apart qs ledger s g
+    is_apart-mapped ledger s (GeneratedKind.Private n) =
+        ap₂ (λ a b. not (a && b)) (has_name_around-mapped n.0 s ledger) (ap (reads_private s) (nodes_of_class-mapped n.0 qs) ∙ reads_private-mapped s (nodes_of_class n.0 qs))
+    is_apart-mapped ledger s g = refl
+
+    all_apart-mapped : (ledger es : List LedgerEntry) → all_apart (map (mapped f) qs) (mapped_ledger f ledger) (mapped_ledger f es) ≡ all_apart qs ledger es
+    all_apart-mapped ledger [] = refl
+    all_apart-mapped ledger (e ∷ es) = ap₂ (λ a b. a && b) (is_apart-mapped ledger e.name e.kind) (all_apart-mapped ledger es)
+
   pub temporaries_steady-mapped : (ledger : List LedgerEntry) (members : List PrivateMember) (q : Tree) → temporaries_steady first (mapped_ledger f ledger) (mapped_privates f members) (mapped f q) ≡ temporaries_steady first ledger members q
   temporaries_steady-mapped ledger members q =
-      ap₂ (λ ps ts. all_steady ps (mapped_privates f members) (mapped_ledger f ledger) ts) (all_places-mapped r ledger [] q) (all_touches-mapped ledger q)
-      ∙ all_steady-mapped (all_places first ledger [] q) members ledger (all_touches first ledger q)
+      ap₂ (λ a b. a && b)
+      (ap₂ (λ ps ts. all_steady ps (mapped_privates f members) (mapped_ledger f ledger) ts) (all_places-mapped r ledger [] q) (all_touches-mapped ledger q)
+      ∙ all_steady-mapped (all_places first ledger [] q) members ledger (all_touches first ledger q))
+      (ap (λ ts. all_apart ts (mapped_ledger f ledger) (mapped_ledger f ledger)) (preorder-mapped f q) ∙ all_apart-mapped (preorder q) ledger ledger)

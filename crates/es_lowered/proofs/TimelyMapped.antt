@@ -16,7 +16,7 @@ use Rattle.es_steps.proofs.KeptNodesMapped.{statement_list-mapped}
 use Rattle.es_steps.proofs.ReferencesMapped.{has_number-mapped}
 use Rattle.es_steps.specs.Parts.{at, items, string_of}
 use Rattle.es_steps.specs.PrivateNames.{PrivateMember, member_at, is_class, is_element}
-use Rattle.es_lowered.specs.Timely.{are_bare, runs_nothing, let_number, leading_in, whole_list, leading_lets, let_form, nowhere, is_named, is_same, MarkForm, declares, initializes, hoists, uses, needs, Around, Mark, is_held, is_held_arrow, is_instance_value, runs_later, around_in, mark, declared_mark, initialized_mark, marks_before, marks_behind, is_given, is_of_class, is_needed_by, needed_names, uses_of, is_called_arrow, marks, marks_in, marks_at, marks_of, key_marks, value_marks, is_hoisted, is_declared, is_around, is_called_early, is_later, gives_in_time, any_gives, is_declaration, is_dead, is_skipped_by, is_skipped, is_followed, is_use, comes_first, use_form, use_around, is_running, is_early_by, is_early, asks, in_time, names_timely}
+use Rattle.es_lowered.specs.Timely.{are_bare, runs_nothing, let_number, leading_in, whole_list, leading_lets, let_form, nowhere, is_named, is_same, MarkForm, declares, initializes, hoists, uses, needs, Around, Mark, is_held, is_held_arrow, is_instance_value, runs_later, around_in, mark, declared_mark, initialized_mark, marks_before, marks_behind, is_given, is_of_class, is_needed_by, needed_names, uses_of, is_called_arrow, marks, marks_in, marks_at, marks_of, key_marks, value_marks, is_hoisted, is_declared, is_around, is_called_early, is_later, gives_in_time, any_gives, is_declaration, is_dead, is_skipped_by, is_skipped, is_followed, is_use, comes_first, use_form, is_called_first, use_around, is_running, is_early_by, is_early, asks, in_time, names_timely}
 use Rattle.es_steps.specs.Values.{String}
 use Rattle.es_steps.proofs.ContextMapped.{generated_as-mapped, is_generated-mapped}
 use Rattle.es_lowered.proofs.DefinitionsMapped.{spelling-mapped}
@@ -93,8 +93,14 @@ module _ (f : ℕ → ℕ) where
   use_form-mapped : (g : Option GeneratedKind) → use_form (mapped_option (mapped_generated f) g) ≡ use_form g
   use_form-mapped g = rw (comes_first-mapped g) refl
 
+  is_called_first-mapped : (g : Option GeneratedKind) → is_called_first (mapped_option (mapped_generated f) g) ≡ is_called_first g
+  is_called_first-mapped None = refl
+  is_called_first-mapped (Some (GeneratedKind.SuperFn n)) = refl
+  is_called_first-mapped (Some GeneratedKind.Closure) = refl
+  is_called_first-mapped (Some g) = refl
+
   use_around-mapped : (g : Option GeneratedKind) (x : Around) → use_around (mapped_option (mapped_generated f) g) (mapped_around x) ≡ mapped_around (use_around g x)
-  use_around-mapped g x = rw (comes_first-mapped g) (cond-mapped mapped_around (comes_first g) (record x { later = x.called }) x refl refl)
+  use_around-mapped g x = rw (is_called_first-mapped g) (cond-mapped mapped_around (is_called_first g) (record x { later = x.called }) x refl refl)
 
   is_followed-mapped : (g : Option GeneratedKind) → is_followed (mapped_option (mapped_generated f) g) ≡ is_followed g
   is_followed-mapped None = refl

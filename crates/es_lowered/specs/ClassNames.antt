@@ -1,13 +1,15 @@
 -- What a class is named by is read behind it, or in its elements: a name that the lowering gave it, one of its own that it had
 -- around and that is read outside of it now, and the function of a generated name that reads such a name. (Our own.)
-use Rattle.std.specs.Prelude.{ℕ, List, [], ◌∷◌, ◌++◌, map, Bool, true, false, cond, not, ◌&&◌, ◌||◌, nat_eq, Option, None}
+use Rattle.std.specs.Prelude.{ℕ, List, [], ◌∷◌, ◌++◌, map, Bool, true, false, cond, not, ◌&&◌, ◌||◌, nat_eq, Option, Some, None}
 use Rattle.es_base.specs.Conforms.{is_among}
 use Rattle.es_base.specs.Preorder.{number_of, preorder, preorder_of, preorder_of_part}
 use Rattle.es_base.specs.Tree.{Tree, Part, Parts, Node, end, more, child}
 use Rattle.es_base.specs.declared.kind.Kind.{Kind}
+use Rattle.es_base.specs.declared.ledger.GeneratedKind.{GeneratedKind}
 use Rattle.es_base.specs.declared.ledger.LedgerEntry.{LedgerEntry}
-use Rattle.es_steps.specs.Context.{is_generated}
+use Rattle.es_steps.specs.Context.{generated_as}
 use Rattle.es_lowered.specs.Definitions.{spelling, class_identifiers, names_class}
+use Rattle.es_lowered.specs.FunctionsAround.{PlacedReference, placed_references, all_stand_where}
 use Rattle.es_lowered.specs.HelperCalls.{body_runs}
 use Rattle.es_steps.specs.KeptNodes.{all_pairs_stand}
 use Rattle.es_steps.specs.NameScopes.{is_any_function}
@@ -88,8 +90,15 @@ abbrev pub function_numbers : Part → List ℕ
 function_numbers (child (Node kind m span semantic_id ps)) = cond (is_any_function kind) (numbers_of (preorder (Node kind m span semantic_id ps))) []
 function_numbers p = []
 
+-- a name by which a function is called, and which is no value
+abbrev pub names_function : Option GeneratedKind → Bool
+names_function (Some (GeneratedKind.Method d)) = true
+names_function (Some (GeneratedKind.SuperFn n)) = true
+names_function (Some GeneratedKind.Closure) = true
+names_function g = false
+
 abbrev pub moved_function : List LedgerEntry → String → Part → List MovedFunction
-moved_function ledger s p = cond (is_generated s ledger) (record { name = s; numbers = function_numbers p } ∷ []) []
+moved_function ledger s p = cond (names_function (generated_as s ledger)) (record { name = s; numbers = function_numbers p } ∷ []) []
 
 abbrev pub moved_at : List LedgerEntry → Tree → List MovedFunction
 moved_at ledger (Node Kind.FunctionDeclaration m span semantic_id ps) = moved_function ledger (spelling (at 0 ps)) (child (Node Kind.FunctionDeclaration m span semantic_id ps))
@@ -163,10 +172,36 @@ abbrev pub any_name : List String → Bool
 any_name [] = false
 any_name (s ∷ ss) = true
 
+-- ---- what may stand where it stands has to stand where it stood: in the functions of the source, and behind the class
+
+abbrev pub behind_class : List Mark → List Mark → List ℕ
+behind_class front [] = []
+behind_class front (m ∷ ms) = cond (is_class_mark m.form) (behind_class (m ∷ front) ms) (cond (is_behind m front) m.node [] ++ behind_class front ms)
+
+abbrev pub numbered : ℕ → List PlacedReference → List PlacedReference
+numbered m [] = []
+numbered m (r ∷ rs) = cond (nat_eq m r.number) (r ∷ []) [] ++ numbered m rs
+
+-- names are the references to names of class n in the source p
+module _ (first n : ℕ) (p q : Tree) (names : List ℕ) where
+  abbrev pub placed : Tree → List PlacedReference
+  placed t = placed_references first (λ m s. has_number m names) false [] t
+
+  abbrev pub behind : Tree → List ℕ
+  behind t = behind_class [] (marks first [] [] (is_asked (n ∷ names)) [] nowhere None t)
+
+  abbrev pub is_steady : ℕ → Bool
+  is_steady m = all_stand_where first (numbered m (placed q)) (placed p) && (not (has_number m (behind p)) || has_number m (behind q))
+
+  abbrev pub steady : List ℕ → List ℕ
+  steady [] = []
+  steady (m ∷ ms) = cond (is_steady m) (m ∷ []) [] ++ steady ms
+
 -- the references to names of the class that are asked for
 abbrev pub asked_names : ℕ → List LedgerEntry → Tree → Tree → ℕ → List ℕ
 asked_names first ledger p q n =
-    without (free_naming (class_runs n (preorder q)) n (preorder p) (preorder q) (naming_in_source first n p)) (naming n ledger (resolve q) (class_identifiers first n (preorder q)) (preorder q))
+    let names : List ℕ = naming_in_source first n p in
+    without (steady first n p q names (free_naming (class_runs n (preorder q)) n (preorder p) (preorder q) names)) (naming n ledger (resolve q) (class_identifiers first n (preorder q)) (preorder q))
 
 abbrev pub functions_outside : List LedgerEntry → Tree → ℕ → List MovedFunction
 functions_outside ledger q n = outside_class (numbers_inside n (preorder q)) (moved_functions ledger (preorder q))

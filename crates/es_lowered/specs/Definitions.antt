@@ -357,9 +357,45 @@ abbrev pub classes_fit : ℕ → Options → List LedgerEntry → List PrivateMe
 classes_fit first o ledger members p q [] = true
 classes_fit first o ledger members p q (Node kind n span semantic_id ps ∷ ts) = (not (is_class kind) || class_fits first o ledger members p q n (elements_of ps)) && classes_fit first o ledger members p q ts
 
+-- what stands for `super(..)` and is not called, as in a constructor without one, is `(..._args) => (super(..._args), .., this)` with
+-- definitions alone: nothing else says what stands in it
+abbrev pub is_super_name : Option GeneratedKind → Bool
+is_super_name (Some (GeneratedKind.SuperFn n)) = true
+is_super_name g = false
+
+abbrev pub any_reads : String → List Reference → Bool
+any_reads s [] = false
+any_reads s (r ∷ rs) = (bytes_eq s r.spelling && not r.writes) || any_reads s rs
+
+abbrev pub any_definition : List FieldDefinition → Bool
+any_definition [] = false
+any_definition (d ∷ ds) = true
+
+module _ (first : ℕ) (o : Options) (ledger : List LedgerEntry) where
+  abbrev pub is_construction : Part → Bool
+  is_construction (child (Node Kind.ThisExpression m span semantic_id ps)) = true
+  is_construction (child (Node Kind.CallExpression m span semantic_id (more (child (Node Kind.Super k kspan k_semantic_id ks)) rest))) = true
+  is_construction (child (Node kind m span semantic_id ps)) = any_definition (definition_at first o ledger kind m ps)
+  is_construction p = false
+
+  abbrev pub are_constructions : Parts → Bool
+  are_constructions end = true
+  are_constructions (more p ps) = is_construction p && are_constructions ps
+
+  abbrev pub is_plain_super : Part → Bool
+  is_plain_super (child (Node Kind.ArrowFunctionExpression m span semantic_id (more args (more (child (Node Kind.SequenceExpression k kspan k_semantic_id (more (list es) end))) rest)))) = are_constructions es
+  is_plain_super p = false
+
+  abbrev pub super_stands : List Reference → Kind → Parts → Bool
+  super_stands rs kind ps = not (is_super_name (generated_as (spelling (given_to kind ps)) ledger)) || (any_reads (spelling (given_to kind ps)) rs || is_plain_super (given_part kind ps))
+
+  abbrev pub supers_stand : List Reference → List Tree → Bool
+  supers_stand rs [] = true
+  supers_stand rs (Node kind m span semantic_id ps ∷ ts) = super_stands rs kind ps && supers_stand rs ts
+
 -- with class properties on
 abbrev pub definitions_stand : ℕ → Options → List LedgerEntry → List PrivateMember → Tree → Tree → Bool
-definitions_stand first o ledger members p q = not (lowers_fields o) || classes_fit first o ledger members p q (preorder p)
+definitions_stand first o ledger members p q = not (lowers_fields o) || (classes_fit first o ledger members p q (preorder p) && supers_stand first o ledger (resolve q) (preorder q))
 
 -- ---- the keys that are temporaries: no two fields have one, and each is given before its class
 

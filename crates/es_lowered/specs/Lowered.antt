@@ -21,7 +21,7 @@ use Rattle.es_steps.specs.Parts.{at, items, string_of, is_present}
 use Rattle.es_steps.specs.Printable.{stays_printable}
 use Rattle.es_steps.specs.PrivateNames.{PrivateMember, private_members, member_at, is_a_field}
 use Rattle.es_steps.specs.References.{Reference, resolve, has_number}
-use Rattle.es_steps.specs.Scopes.{is_binding_identifier, class_in}
+use Rattle.es_steps.specs.Scopes.{is_binding_identifier}
 use Rattle.es_steps.specs.Strict.{none_becomes_strict}
 use Rattle.es_lowered.specs.Temporaries.{class_before, temporaries_steady}
 use Rattle.es_lowered.specs.Texts.{texts_stay}
@@ -184,9 +184,9 @@ has_pair m n [] = false
 has_pair m n (p ∷ ps) = (nat_eq m p.0 && nat_eq n p.1) || has_pair m n ps
 
 -- a class temporary is given the class itself, or, as the first thing behind it, a name of it
-abbrev pub is_class_or_name : ℕ → Option ℕ → Bool → Bool
-is_class_or_name n None is_name = is_name
-is_class_or_name n (Some k) is_name = nat_eq n k
+abbrev pub is_class_itself : ℕ → Part → Bool
+is_class_itself n (child (Node Kind.ClassExpression m span semantic_id ps)) = nat_eq n m
+is_class_itself n p = false
 
 abbrev pub is_class_kind : ℕ → GeneratedKind → Bool
 is_class_kind n (GeneratedKind.ClassTemp k) = nat_eq n k.0
@@ -198,7 +198,7 @@ is_method_kind g = false
 
 module _ (first : ℕ) (ledger : List LedgerEntry) (q : Tree) where
   abbrev pub is_class_value : ℕ → ℕ → Part → Bool
-  is_class_value m n p = is_class_or_name n (class_in p) (names_class n ledger (resolve q) (class_identifiers first n (preorder q)) p && has_pair m n (all_behind (preorder q)))
+  is_class_value m n p = is_class_itself n p || (names_class n ledger (resolve q) (class_identifiers first n (preorder q)) p && has_pair m n (all_behind (preorder q)))
 
   -- whether a value is of the form that a name of this kind is given
   abbrev pub is_initial : ℕ → GeneratedKind → Part → Bool

@@ -2,7 +2,7 @@
 -- construction comes between, where a temporary stands outside of it, is a premise: docs/MEANING.md.)
 use Rattle.std.specs.Prelude.{ℕ, suc, List, [], ◌∷◌, ◌++◌, Bool, true, false, cond, not, ◌&&◌, ◌||◌, nat_eq, bytes_eq, Option, Some, None}
 use Rattle.es_base.specs.Numbered.{is_new}
-use Rattle.es_base.specs.Preorder.{number_of}
+use Rattle.es_base.specs.Preorder.{number_of, preorder, preorder_of}
 use Rattle.es_base.specs.Table.{Field, members_of}
 use Rattle.es_base.specs.Tree.{Tree, Part, Parts, Node, end, more, child, list}
 use Rattle.es_base.specs.declared.kind.Kind.{Kind}
@@ -11,7 +11,8 @@ use Rattle.es_base.specs.declared.ledger.LedgerEntry.{LedgerEntry}
 use Rattle.es_steps.specs.Parts.{at, string_of, is_present}
 use Rattle.es_steps.specs.References.{is_target}
 use Rattle.es_steps.specs.KeptNodes.{pair_stands}
-use Rattle.es_steps.specs.PrivateNames.{PrivateMember, member_at}
+use Rattle.es_steps.specs.Printable.{name_of_part}
+use Rattle.es_steps.specs.PrivateNames.{PrivateMember, member_at, is_class}
 use Rattle.es_steps.specs.Repeated.{Surroundings, surroundings_in, around_program, all_places}
 use Rattle.es_steps.specs.Scopes.{binds, is_body_part}
 use Rattle.es_steps.specs.Values.{String}
@@ -126,8 +127,7 @@ abbrev pub is_at_most_one : List Touch → Bool
 is_at_most_one [] = true
 is_at_most_one (t ∷ ts) = is_none ts
 
--- a parameter that stands for an argument is read where its arrow is called, and once at most: it may stand for a regular
--- expression, which is another one each time
+-- a parameter that stands for an argument is read where its arrow is called, and once at most
 abbrev pub is_at_call : List Touch → List Touch → Bool
 is_at_call [] reads = true
 is_at_call (g ∷ gs) reads = is_none gs && (all_touched (λ t. nat_eq g.place t.place) reads && is_at_most_one reads)
@@ -167,7 +167,8 @@ is_given_with (g ∷ gs) reads = all_touched (λ t. nat_eq g.place t.place) read
 abbrev pub is_steady_name : List (ℕ × ℕ) → List PrivateMember → GeneratedKind → String → List Touch → Bool
 is_steady_name places members GeneratedKind.Temp s ts = is_steady (gifts_of s ts) (reads_of s ts)
 is_steady_name places members GeneratedKind.Param s ts = is_at_call (gifts_of s ts) (reads_of s ts)
-is_steady_name places members GeneratedKind.Closure s ts = is_given_with (gifts_of s ts) (reads_of s ts)
+-- nothing says what stands in a closure that nothing calls
+is_steady_name places members GeneratedKind.Closure s ts = is_given_with (gifts_of s ts) (reads_of s ts) && not (is_none (reads_of s ts))
 is_steady_name places members (GeneratedKind.SuperFn n) s ts = all_touched (constructs_with places n.0) (gifts_of s ts)
 is_steady_name places members kind s ts = all_touched (stands_with places (class_before kind members)) (gifts_of s ts)
 
@@ -175,6 +176,40 @@ abbrev pub all_steady : List (ℕ × ℕ) → List PrivateMember → List Ledger
 all_steady places members [] ts = true
 all_steady places members (e ∷ es) ts = (is_steady_name places members e.kind e.name ts && is_near (declarations_of e.name ts) (gifts_of e.name ts)) && all_steady places members es ts
 
+-- ---- a private element that was generated is not read in its class where a class around has one of its name: it may not be there
+-- yet, and what that of the class around holds is no value of it
+
+abbrev pub nodes_of_class : ℕ → List Tree → List Tree
+nodes_of_class n [] = []
+nodes_of_class n (Node kind m span semantic_id ps ∷ ts) = cond (is_class kind && nat_eq n m) (preorder_of ps) [] ++ nodes_of_class n ts
+
+abbrev pub holds_class : ℕ → List Tree → Bool
+holds_class n [] = false
+holds_class n (Node kind m span semantic_id ps ∷ ts) = (is_class kind && nat_eq n m) || holds_class n ts
+
+abbrev pub reads_private : String → List Tree → Bool
+reads_private s [] = false
+reads_private s (Node Kind.PrivateField m span semantic_id ps ∷ ts) = bytes_eq s (name_of_part (at 1 ps)) || reads_private s ts
+reads_private s (t ∷ ts) = reads_private s ts
+
+-- qs are the nodes of the lowered program
+module _ (qs : List Tree) where
+  abbrev pub is_around : ℕ → GeneratedKind → Bool
+  is_around n (GeneratedKind.Private k) = holds_class n (nodes_of_class k.0 qs)
+  is_around n g = false
+
+  abbrev pub has_name_around : ℕ → String → List LedgerEntry → Bool
+  has_name_around n s [] = false
+  has_name_around n s (e ∷ es) = (bytes_eq s e.name && is_around n e.kind) || has_name_around n s es
+
+  abbrev pub is_apart : List LedgerEntry → String → GeneratedKind → Bool
+  is_apart ledger s (GeneratedKind.Private n) = not (has_name_around n.0 s ledger && reads_private s (nodes_of_class n.0 qs))
+  is_apart ledger s g = true
+
+  abbrev pub all_apart : List LedgerEntry → List LedgerEntry → Bool
+  all_apart ledger [] = true
+  all_apart ledger (e ∷ es) = is_apart ledger e.name e.kind && all_apart ledger es
+
 -- places are those of the classes
 abbrev pub temporaries_steady : ℕ → List LedgerEntry → List PrivateMember → Tree → Bool
-temporaries_steady first ledger members q = all_steady (all_places first ledger [] q) members ledger (all_touches first ledger q)
+temporaries_steady first ledger members q = all_steady (all_places first ledger [] q) members ledger (all_touches first ledger q) && all_apart (preorder q) ledger ledger

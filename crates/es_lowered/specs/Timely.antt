@@ -145,8 +145,14 @@ comes_first g = false
 abbrev pub use_form : Option GeneratedKind → MarkForm
 use_form g = cond (comes_first g) needs uses
 
+-- of these, what is called: also the function of a private method may be called in front of it
+abbrev pub is_called_first : Option GeneratedKind → Bool
+is_called_first (Some (GeneratedKind.SuperFn n)) = true
+is_called_first (Some GeneratedKind.Closure) = true
+is_called_first g = false
+
 abbrev pub use_around : Option GeneratedKind → Around → Around
-use_around g x = cond (comes_first g) (record x { later = x.called }) x
+use_around g x = cond (is_called_first g) (record x { later = x.called }) x
 
 -- the `let` declarations at the head of a list of statements
 abbrev pub are_bare : Parts → Bool
