@@ -14,12 +14,12 @@ use Rattle.es_steps.specs.LoweredClasses.{Element, elements_in, is_private_key, 
 use Rattle.es_steps.specs.declared.options.Options.{Options}
 use Rattle.es_steps.specs.Parts.{at, items}
 use Rattle.es_steps.specs.PrivateNames.{PrivateMember}
-use Rattle.es_steps.specs.References.{Reference}
+use Rattle.es_steps.specs.References.{Reference, resolve}
 use Rattle.class_properties.proofs.Defining.{defining}
 use Rattle.class_properties.proofs.Declared.{two_ends, four_ends}
 use Rattle.class_properties.proofs.Numbered.{key_string, value_from, field_size, definitions_from, lowered_elements, statement_size, lowered_statements, lowered_from}
 use Rattle.class_properties.proofs.Shaped.{no_value, a_literal, a_reference, a_key, a_field, AreFields, a_body, a_name, a_class, AreClasses, IsProgram, a_program}
-use Rattle.es_unchanged.proofs.Standing.{still_new, or_left, stands-equal, here, apart-sym}
+use Rattle.es_unchanged.proofs.Standing.{supers-stand, still_new, or_left, stands-equal, here, apart-sym}
 
 -- ---- the numbers of classes rise
 
@@ -222,6 +222,8 @@ module _ (asked : Options) where
       let low : Parts = lowered_statements first all in
       let q : Tree = lowered_from first t in
       let rising : Rising 1 all = subst (Rising 1) (sym (ap body_items e)) (rising-numbered all 1) in
-      rw (append-nil (preorder_of all))
+      both
+      (rw (append-nil (preorder_of all))
       (classes-fit first members t q all h 1 first rising (omega arith) (λ n l. ap (constructor_definitions first (defining asked) [] n) (append-nil (preorder_of low)))
-      (λ n. rw (append-nil (preorder_of low)) (classes-no_static first n members _ _ all h first (omega arith))))
+      (λ n. rw (append-nil (preorder_of low)) (classes-no_static first n members _ _ all h first (omega arith)))))
+      (supers-stand first (defining asked) (resolve q) (preorder q))

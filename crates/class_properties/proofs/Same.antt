@@ -9,14 +9,14 @@ use Rattle.es_base.specs.Tree as tree
 use Rattle.es_base.specs.Tree.{Tree, Part, Parts, Node, trees}
 use Rattle.es_base.specs.declared.kind.Kind.{Kind}
 use Rattle.es_base.specs.declared.table.Place.{Place}
-use Rattle.es_steps.proofs.FirstMeaning.{joined-done, not_generated-found, plain-name}
+use Rattle.es_steps.proofs.FirstMeaning.{joined-done, not_generated-found, plain-name, plain-literal}
 use Rattle.es_steps.proofs.PlainClasses.{IsNotGenerated, fixed, changing, means_class, IsPlain, a_value}
 use Rattle.es_steps.specs.Code.{Code, Codes, value, spelled, field, define, steps, new_function, constructor, done, and}
 use Rattle.es_steps.specs.Context.{Context, NameKind, found_kind, name_kind, inside}
 use Rattle.es_steps.specs.Evaluation.{settle_run, ev}
 use Rattle.es_steps.specs.Entries.{Entry, Listed, plain_form, listed, after_run, entries}
 use Rattle.es_steps.specs.Events.{Events}
-use Rattle.es_steps.specs.Expressions.{constant_of, name_or_arguments, name_code}
+use Rattle.es_steps.specs.Expressions.{name_or_arguments, name_code}
 use Rattle.es_steps.specs.FirstForm.{is_first_form}
 use Rattle.es_steps.specs.Generated.{constructor_at, define_at}
 use Rattle.es_steps.specs.Modules.{Exported}

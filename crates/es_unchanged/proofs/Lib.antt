@@ -1,5 +1,6 @@
 pub mod ClassNames
 pub mod Names
+pub mod Placed
 pub mod References
 pub mod Standing
 pub mod Unchanged

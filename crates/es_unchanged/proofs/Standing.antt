@@ -9,10 +9,10 @@ use Rattle.es_base.specs.declared.literal.LiteralValue.TheVariants as literal_va
 use Rattle.es_left.proofs.Booleans.{both}
 use Rattle.es_steps.proofs.FirstMeaning.{no_false}
 use Rattle.es_steps.proofs.Reflexive.{number-same, string-same}
-use Rattle.es_lowered.specs.Definitions.{DefinedKey, BrandKey, PrivateKey, PublicKey, FieldDefinition, key_temporary, key_temporaries, all_temporaries}
+use Rattle.es_lowered.specs.Definitions.{DefinedKey, BrandKey, PrivateKey, PublicKey, FieldDefinition, key_temporary, key_temporaries, all_temporaries, supers_stand}
 use Rattle.es_steps.specs.KeptNodes.{NodeSort, a_class, a_function, a_call, a_construction, another, sort_of, is_kept_sort, same_sort, stands_as, all_stand, stands_equal, all_equal, list_of, is_within, all_within, Homed, is_underscored, home_fits, name_fits, stands_at_home, stands_nowhere, all_at_home}
 use Rattle.es_steps.specs.PrivateNames.{PrivateMember, is_class}
-use Rattle.es_steps.specs.References.{has_number}
+use Rattle.es_steps.specs.References.{Reference, has_number}
 use Rattle.es_steps.specs.SameTrees.{same_tree, same_part, same_parts, same_literal, kind_number}
 use Rattle.es_steps.specs.SameValues.{same_boolean, same_nullable_string}
 use Rattle.es_steps.specs.Values.{String}
@@ -249,3 +249,8 @@ temporaries-none first o members q (Node kind n span semantic_id ps ∷ ts) = rw
     either : (b : Bool) → all_temporaries first o [] members q ts ≡ [] → (cond b [] [] ++ all_temporaries first o [] members q ts) ≡ []
     either true h = h
     either false h = h
+
+-- without generated names nothing stands for `super(..)`
+pub supers-stand : (first : ℕ) (o : Options) (rs : List Reference) (ts : List Tree) → supers_stand first o [] rs ts ≡ true
+supers-stand first o rs [] = refl
+supers-stand first o rs (Node kind m span semantic_id ps ∷ ts) = supers-stand first o rs ts
