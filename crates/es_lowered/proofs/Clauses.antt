@@ -10,6 +10,7 @@ use Rattle.es_base.specs.Tree.{Tree, Part, Parts, Node, end, more, child, list}
 use Rattle.es_base.specs.declared.ledger.LedgerEntry.{LedgerEntry}
 use Rattle.es_lowered.specs.Definitions.{definitions_stand, all_temporaries, elements_kept}
 use Rattle.es_lowered.specs.HelperCalls.{computed_keys, helper_calls_fit}
+use Rattle.es_lowered.specs.Carriers.{numbers_carried}
 use Rattle.es_steps.specs.KeptNodes.{nodes_kept, classes_kept, statements_kept, lists_kept, homes_kept}
 use Rattle.es_lowered.specs.Law.{ClausesLaw}
 use Rattle.es_lowered.specs.Lowered.{names_declared, declarations_accounted, initializations_stand, keys_stand}
@@ -26,6 +27,7 @@ use Rattle.es_lowered.specs.Texts.{texts_stay}
 use Rattle.es_lowered.specs.Timely.{names_timely}
 use Rattle.es_steps.proofs.StrictMapped.{none_becomes_strict-mapped}
 use Rattle.es_lowered.proofs.TemporariesMapped.{temporaries_steady-mapped}
+use Rattle.es_lowered.proofs.CarriersMapped.{numbers_carried-mapped}
 use Rattle.es_lowered.proofs.TextsMapped.{texts_stay-mapped}
 use Rattle.es_lowered.proofs.TimelyMapped.{names_timely-mapped}
 use Rattle.es_steps.specs.declared.options.Options.{Options}
@@ -139,6 +141,7 @@ clauses_law first o ledger p q once old generated met = record {
     timely = kept first ledger p q once old generated (λ l p q. names_timely first l (private_members p) q) (timely-unchanging first o) met.timely;
     temporaries = kept first ledger p q once old generated (λ l p q. temporaries_steady first l (private_members p) q) (temporaries-unchanging first o) met.temporaries;
     keys = kept first ledger p q once old generated (λ l p q. keys_clause first o l (private_members p) q (preorder q)) (keys-unchanging first o) met.keys;
+    carriers = kept first ledger p q once old generated (λ l p q. numbers_carried first p q) (λ f r l p q. numbers_carried-mapped r p q) met.carriers;
     nodes = kept first ledger p q once old generated (λ l p q. nodes_kept p q) (λ f r l p q. nodes_kept-mapped r p q) met.nodes;
     classes = kept first ledger p q once old generated (λ l p q. classes_kept first p q) (λ f r l p q. classes_kept-mapped r p q) met.classes;
     statements = kept first ledger p q once old generated (λ l p q. statements_kept o p q) (λ f r l p q. statements_kept-mapped r o p q) met.statements;

@@ -10,7 +10,7 @@ use Rattle.es_base.specs.declared.ledger.LedgerEntry.{LedgerEntry}
 use Rattle.es_base.specs.declared.literal.LiteralValue.TheVariants as literal_value
 use Rattle.es_steps.specs.Context.{generated_as}
 use Rattle.es_lowered.specs.Definitions.{spelling}
-use Rattle.es_lowered.specs.HelperCalls.{last_part, generated_spelling, or_none, last_spelling, is_function_value, element_spelling, is_new_private, all_spelled, private_spelling, private_keys, new_private_names, key_spelling, kept_keys, converted_key, all_by, kept_keys_converted, is_helper_callee, part_number, computed_key, computed_keys, StaticKey, is_name, is_key_conversion, computed_static_key, static_key, method_key, field_key, method_keys, field_keys, body_keys, Naming, is_name_literal, tests_of, tests_at, naming_in, naming_of_element, is_class_body, is_without_name, runs_with_class, any_runs, body_runs, is_any_helper, holds_key, is_generated_name, ends_with_name, stands_for_key, form_for_key, part_for_key, last_for_key, any_for_key, call_fits, calls_fit, calls_in, calls_at, calls_of, calls_of_body, helper_calls_fit}
+use Rattle.es_lowered.specs.HelperCalls.{last_part, generated_spelling, or_none, last_spelling, is_function_value, element_spelling, is_new_private, all_spelled, private_spelling, private_keys, new_private_names, key_spelling, kept_keys, converted_key, all_by, kept_keys_converted, is_helper_callee, part_number, computed_key, computed_keys, StaticKey, is_name, is_key_conversion, computed_static_key, static_key, method_key, field_key, method_keys, field_keys, body_keys, Naming, is_name_literal, tests_of, tests_at, naming_in, naming_of_element, is_class_body, is_without_name, runs_with_class, any_runs, body_runs, is_any_helper, is_key_part, gives_key, is_generated_name, ends_with_key, stands_for_key, form_for_key, part_for_key, last_for_key, any_for_key, call_fits, calls_fit, calls_in, calls_at, calls_of, calls_of_body, helper_calls_fit}
 use Rattle.es_steps.specs.Parts.{at, items, string_of, is_true}
 use Rattle.es_steps.specs.References.{has_number}
 use Rattle.es_steps.specs.Values.{String}
@@ -127,14 +127,25 @@ module _ (f : ℕ → ℕ) where
 
 -- ---- calls
 
+  last_part-mapped : (ps : Parts) → last_part (mapped_parts f ps) ≡ mapped_part f (last_part ps)
+  last_part-mapped end = refl
+  last_part-mapped (more p end) = refl
+  last_part-mapped (more p (more q rest)) = last_part-mapped (more q rest)
+
 module _ {first : ℕ} {f : ℕ → ℕ} (r : Renames first f) where
   pub is_helper_callee-mapped : (h : String) (p : Part) → is_helper_callee first h (mapped_part f p) ≡ is_helper_callee first h p
   is_helper_callee-mapped h (child (Node Kind.MemberExpression m span semantic_id (more (child (Node Kind.IdentifierReference b bspan b_semantic_id (more (string s) end))) (more (child (Node Kind.IdentifierName k kspan k_semantic_id (more (string t) end))) rest)))) = rw (r.new b) refl
   is_helper_callee-mapped h p = refl
 
-  holds_key-mapped : (ledger there : List LedgerEntry) (keys : List ℕ) (ts : List Tree) → holds_key first there (map f keys) (map (mapped f) ts) ≡ holds_key first ledger keys ts
-  holds_key-mapped ledger there keys [] = refl
-  holds_key-mapped ledger there keys (t ∷ ts) = ap₂ (λ a b. a || b) (ap (λ n. has_number n (map f keys)) (number_of-mapped f t) ∙ has_number-mapped r (number_of t) keys) (holds_key-mapped ledger there keys ts)
+  is_key_part-mapped : (ledger there : List LedgerEntry) (keys : List ℕ) (p : Part) → is_key_part first there (map f keys) (mapped_part f p) ≡ is_key_part first ledger keys p
+  is_key_part-mapped ledger there keys (child t) = ap (λ n. has_number n (map f keys)) (number_of-mapped f t) ∙ has_number-mapped r (number_of t) keys
+  is_key_part-mapped ledger there keys p = refl
+
+  gives_key-mapped : (ledger there : List LedgerEntry) (keys : List ℕ) (s : String) (ts : List Tree) → gives_key first there (map f keys) s (map (mapped f) ts) ≡ gives_key first ledger keys s ts
+  gives_key-mapped ledger there keys s [] = refl
+  gives_key-mapped ledger there keys s (Node Kind.AssignmentExpression m span semantic_id ps ∷ ts) =
+      rw (at-mapped f 1 ps, spelling-mapped f (at 1 ps), at-mapped f 2 ps, is_key_part-mapped ledger there keys (at 2 ps), gives_key-mapped ledger there keys s ts) refl
+  gives_key-mapped ledger there keys s (t ∷ ts) = gives_key-mapped ledger there keys s ts
 
   module _ (ledger : List LedgerEntry) (keys : List ℕ) where
     abbrev there : List LedgerEntry
@@ -148,20 +159,16 @@ module _ {first : ℕ} {f : ℕ → ℕ} (r : Renames first f) where
     is_generated_name-mapped (child (Node Kind.IdentifierReference m span semantic_id ps)) = rw (string_at-mapped f 0 ps) (is_generated-mapped f (string_of (at 0 ps)) ledger)
     is_generated_name-mapped p = refl
 
-    ends_with_name-mapped : (ps : Parts) → ends_with_name first there (map f keys) (mapped_parts f ps) ≡ ends_with_name first ledger keys ps
-    ends_with_name-mapped end = refl
-    ends_with_name-mapped (more p end) = is_generated_name-mapped p
-    ends_with_name-mapped (more p (more q rest)) = ends_with_name-mapped (more q rest)
-
-    keys_in-mapped : (es : Parts) → holds_key first there (map f keys) (preorder_of (mapped_parts f es)) ≡ holds_key first ledger keys (preorder_of es)
-    keys_in-mapped es = ap (holds_key first there (map f keys)) (preorder_of-mapped f es) ∙ holds_key-mapped ledger there keys (preorder_of es)
+    ends_with_key-mapped : (es : Parts) → ends_with_key first there (map f keys) (mapped_parts f es) ≡ ends_with_key first ledger keys es
+    ends_with_key-mapped es =
+        rw (last_part-mapped f es, is_generated_name-mapped (last_part es), spelling-mapped f (last_part es), preorder_of-mapped f es, gives_key-mapped ledger there keys (spelling (last_part es)) (preorder_of es)) refl
 
     mutual
       stands_for_key-mapped : (t : Tree) → stands_for_key first there (map f keys) (mapped f t) ≡ stands_for_key first ledger keys t
       stands_for_key-mapped (Node kind m span semantic_id ps) = ap₂ (λ a b. a || b) (has_number-mapped r m keys) (ap₂ (λ a b. a && b) (r.new m) (form_for_key-mapped kind ps))
 
       form_for_key-mapped : (kind : Kind) (ps : Parts) → form_for_key first there (map f keys) kind (mapped_parts f ps) ≡ form_for_key first ledger keys kind ps
-      form_for_key-mapped Kind.SequenceExpression (more (list es) end) = ap₂ (λ a b. a || b) (ap₂ (λ a b. a && b) (ends_with_name-mapped es) (keys_in-mapped es)) (last_for_key-mapped es)
+      form_for_key-mapped Kind.SequenceExpression (more (list es) end) = ap₂ (λ a b. a || b) (ends_with_key-mapped es) (last_for_key-mapped es)
       form_for_key-mapped Kind.CallExpression (more g (more (list es) rest)) = ap₂ (λ a b. a && b) (is_any_helper-mapped g) (any_for_key-mapped es)
       form_for_key-mapped Kind.AssignmentExpression (more operator (more to (more right end))) = part_for_key-mapped right
       form_for_key-mapped kind ps = refl
@@ -220,13 +227,8 @@ module _ {first : ℕ} {f : ℕ → ℕ} (r : Renames first f) where
         rw (string_at-mapped f 0 ps) (ap (λ b. cond b (string_of (at 0 ps) ∷ []) []) (is_generated-mapped f (string_of (at 0 ps)) ledger))
     generated_spelling-mapped p = refl
 
-    last_part-mapped : (ps : Parts) → last_part (mapped_parts f ps) ≡ mapped_part f (last_part ps)
-    last_part-mapped end = refl
-    last_part-mapped (more p end) = refl
-    last_part-mapped (more p (more q rest)) = last_part-mapped (more q rest)
-
     last_spelling-mapped : (p : Part) → last_spelling first there (map f keys) (mapped_part f p) ≡ last_spelling first ledger keys p
-    last_spelling-mapped (child (Node Kind.SequenceExpression m span semantic_id (more (list es) end))) = ap (generated_spelling first there (map f keys)) (last_part-mapped es) ∙ generated_spelling-mapped (last_part es)
+    last_spelling-mapped (child (Node Kind.SequenceExpression m span semantic_id (more (list es) end))) = ap (generated_spelling first there (map f keys)) (last_part-mapped f es) ∙ generated_spelling-mapped (last_part es)
     last_spelling-mapped p = generated_spelling-mapped p
 
     or_none-mapped : (ss : List String) → or_none first there (map f keys) ss ≡ or_none first ledger keys ss

@@ -8,4 +8,5 @@ pub mod ClassNamesMapped
 pub mod KeptReferencesMapped
 pub mod OwnNamesMapped
 pub mod LoweredMapped
+pub mod CarriersMapped
 pub mod Clauses

@@ -164,18 +164,22 @@ module _ (first : ℕ) (ledger : List LedgerEntry) (keys : List ℕ) where
   is_any_helper (child (Node Kind.MemberExpression m span semantic_id (more (child (Node Kind.IdentifierReference b bspan b_semantic_id (more (string s) end))) rest))) = is_new first b && bytes_eq s (codes "babelHelpers")
   is_any_helper p = false
 
-  abbrev pub holds_key : List Tree → Bool
-  holds_key [] = false
-  holds_key (t ∷ ts) = has_number (number_of t) keys || holds_key ts
+  abbrev pub is_key_part : Part → Bool
+  is_key_part (child t) = has_number (number_of t) keys
+  is_key_part p = false
+
+  -- whether a key is given to this name
+  abbrev pub gives_key : String → List Tree → Bool
+  gives_key s [] = false
+  gives_key s (Node Kind.AssignmentExpression m span semantic_id ps ∷ ts) = (bytes_eq s (spelling (at 1 ps)) && is_key_part (at 2 ps)) || gives_key s ts
+  gives_key s (t ∷ ts) = gives_key s ts
 
   abbrev pub is_generated_name : Part → Bool
   is_generated_name (child (Node Kind.IdentifierReference m span semantic_id ps)) = is_generated (string_of (at 0 ps)) ledger
   is_generated_name p = false
 
-  abbrev pub ends_with_name : Parts → Bool
-  ends_with_name end = false
-  ends_with_name (more p end) = is_generated_name p
-  ends_with_name (more p (more q rest)) = ends_with_name (more q rest)
+  abbrev pub ends_with_key : Parts → Bool
+  ends_with_key es = is_generated_name (last_part es) && gives_key (spelling (last_part es)) (preorder_of es)
 
   -- a computed key of the source, or the new form that it was lowered to: its value is that of the form, or a generated name
   -- at the end keeps it
@@ -184,7 +188,7 @@ module _ (first : ℕ) (ledger : List LedgerEntry) (keys : List ℕ) where
     stands_for_key (Node kind m span semantic_id ps) = has_number m keys || (is_new first m && form_for_key kind ps)
 
     pub form_for_key : Kind → Parts → Bool
-    form_for_key Kind.SequenceExpression (more (list es) end) = (ends_with_name es && holds_key (preorder_of es)) || last_for_key es
+    form_for_key Kind.SequenceExpression (more (list es) end) = ends_with_key es || last_for_key es
     form_for_key Kind.CallExpression (more f (more (list es) rest)) = is_any_helper f && any_for_key es
     form_for_key Kind.AssignmentExpression (more operator (more to (more right end))) = part_for_key right
     form_for_key kind ps = false

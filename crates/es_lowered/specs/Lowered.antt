@@ -9,6 +9,7 @@ use Rattle.es_base.specs.declared.kind.Kind.{Kind}
 use Rattle.es_base.specs.declared.ledger.GeneratedKind.{GeneratedKind}
 use Rattle.es_base.specs.declared.ledger.LedgerEntry.{LedgerEntry}
 use Rattle.es_steps.specs.Context.{is_generated}
+use Rattle.es_lowered.specs.Carriers.{numbers_carried}
 use Rattle.es_lowered.specs.Definitions.{spelling, field_part, names_class, class_identifiers, definitions_stand, all_temporaries, all_different, elements_kept}
 use Rattle.es_steps.specs.GeneratedForms.{if_member, is_instance_field, is_static_field, is_function_member}
 use Rattle.es_lowered.specs.HelperCalls.{is_helper_callee, computed_keys, helper_calls_fit}
@@ -308,6 +309,7 @@ pub record MeetsClauses (first : ℕ) (o : Options) (ledger : List LedgerEntry) 
   pub timely : names_timely first ledger (private_members p) q ≡ true
   pub temporaries : temporaries_steady first ledger (private_members p) q ≡ true
   pub keys : keys_stand first o ledger (private_members p) q (all_temporaries first o ledger (private_members p) q (preorder q)) ≡ true
+  pub carriers : numbers_carried first p q ≡ true
   pub nodes : nodes_kept p q ≡ true
   pub classes : classes_kept first p q ≡ true
   pub statements : statements_kept o p q ≡ true

@@ -7,6 +7,7 @@ use Rattle.es_base.specs.Numbered.{IsNumbered, EachOnce, AreConsecutive, numbers
 use Rattle.es_base.specs.Preorder.{preorder, nodes}
 use Rattle.es_base.specs.Tree.{Tree}
 use Rattle.es_base.specs.declared.ledger.LedgerEntry.{LedgerEntry}
+use Rattle.es_lowered.specs.Carriers.{numbers_carried}
 use Rattle.es_lowered.specs.Definitions.{definitions_stand, all_temporaries, elements_kept}
 use Rattle.es_lowered.specs.HelperCalls.{computed_keys, helper_calls_fit}
 use Rattle.es_steps.specs.KeptNodes.{nodes_kept, classes_kept, statements_kept, lists_kept, homes_kept}
@@ -49,6 +50,7 @@ clauses o ledger p q =
     ∷ names_timely (nodes p) ledger (private_members p) q
     ∷ temporaries_steady (nodes p) ledger (private_members p) q
     ∷ keys_stand (nodes p) o ledger (private_members p) q (all_temporaries (nodes p) o ledger (private_members p) q (preorder q))
+    ∷ numbers_carried (nodes p) p q
     ∷ nodes_kept p q
     ∷ classes_kept (nodes p) p q
     ∷ statements_kept o p q
@@ -61,7 +63,7 @@ clauses o ledger p q =
     ∷ []
 
 abbrev all_met : List Bool
-all_met = true ∷ true ∷ true ∷ true ∷ true ∷ true ∷ true ∷ true ∷ true ∷ true ∷ true ∷ true ∷ true ∷ true ∷ true ∷ true ∷ true ∷ true ∷ true ∷ true ∷ true ∷ []
+all_met = true ∷ true ∷ true ∷ true ∷ true ∷ true ∷ true ∷ true ∷ true ∷ true ∷ true ∷ true ∷ true ∷ true ∷ true ∷ true ∷ true ∷ true ∷ true ∷ true ∷ true ∷ true ∷ []
 
 -- ---- numbers
 
@@ -124,6 +126,7 @@ lowered {p = p} {q = q} e0 =
     let e18 = rest_of _ _ _ _ e17 in
     let e19 = rest_of _ _ _ _ e18 in
     let e20 = rest_of _ _ _ _ e19 in
+    let e21 = rest_of _ _ _ _ e20 in
     record {
       numbered = numbered (nodes p) q (first_of _ _ _ _ e0);
       clauses = record {
@@ -138,14 +141,15 @@ lowered {p = p} {q = q} e0 =
         timely = first_of _ _ _ _ e9;
         temporaries = first_of _ _ _ _ e10;
         keys = first_of _ _ _ _ e11;
-        nodes = first_of _ _ _ _ e12;
-        classes = first_of _ _ _ _ e13;
-        statements = first_of _ _ _ _ e14;
-        lists = first_of _ _ _ _ e15;
-        homes = first_of _ _ _ _ e16;
-        definitions = first_of _ _ _ _ e17;
-        elements = first_of _ _ _ _ e18;
-        calls = first_of _ _ _ _ e19;
-        printable = first_of _ _ _ _ e20;
+        carriers = first_of _ _ _ _ e12;
+        nodes = first_of _ _ _ _ e13;
+        classes = first_of _ _ _ _ e14;
+        statements = first_of _ _ _ _ e15;
+        lists = first_of _ _ _ _ e16;
+        homes = first_of _ _ _ _ e17;
+        definitions = first_of _ _ _ _ e18;
+        elements = first_of _ _ _ _ e19;
+        calls = first_of _ _ _ _ e20;
+        printable = first_of _ _ _ _ e21;
       };
     }

@@ -1,0 +1,31 @@
+-- Which node of the source a node stands for does not depend on numbers.
+use Rattle.std.specs.Prelude.{◌≡◌, ℕ, List, [], ◌∷◌, map, Bool, cond, not, ◌&&◌, ◌||◌, nat_eq, bytes_eq}
+use Rattle.std.proofs.Common.{refl, ap, ap₂, ◌∙◌}
+use Rattle.es_base.specs.Numbered.{is_new}
+use Rattle.es_base.specs.Preorder.{preorder}
+use Rattle.es_base.specs.Tree.{Tree, Parts, Node}
+use Rattle.es_base.specs.declared.kind.Kind.{Kind}
+use Rattle.es_lowered.specs.Carriers.{is_made, becomes, has_its_name, carries, stands_for, is_carried, all_carried, numbers_carried}
+use Rattle.es_steps.specs.Parts.{at, string_of}
+use Rattle.es_steps.specs.References.{is_reference}
+use Rattle.es_steps.specs.SameTrees.{same_kind}
+use Rattle.es_steps.proofs.Mapped.{Renames, mapped, mapped_parts}
+use Rattle.es_steps.proofs.PartsMapped.{string_at-mapped, preorder-mapped}
+
+module _ {first : ℕ} {f : ℕ → ℕ} (r : Renames first f) where
+  carries-mapped : (kind : Kind) (ps : Parts) (other : Kind) (qs : Parts) → carries kind (mapped_parts f ps) other (mapped_parts f qs) ≡ carries kind ps other qs
+  carries-mapped kind ps other qs = rw (string_at-mapped f 0 ps, string_at-mapped f 0 qs) refl
+
+  stands_for-mapped : (kind : Kind) (n : ℕ) (qs : Parts) (ts : List Tree) → stands_for kind (f n) (mapped_parts f qs) (map (mapped f) ts) ≡ stands_for kind n qs ts
+  stands_for-mapped kind n qs [] = refl
+  stands_for-mapped kind n qs (Node other m span semantic_id ps ∷ ts) = ap₂ (λ a b. a || b) (ap₂ (λ a b. a && b) (r.apart n m) (carries-mapped other ps kind qs)) (stands_for-mapped kind n qs ts)
+
+  is_carried-mapped : (ps : List Tree) (t : Tree) → is_carried first (map (mapped f) ps) (mapped f t) ≡ is_carried first ps t
+  is_carried-mapped ps (Node kind n span semantic_id qs) = ap₂ (λ a b. cond a (is_made kind) b) (r.new n) (stands_for-mapped kind n qs ps)
+
+  all_carried-mapped : (ps ts : List Tree) → all_carried first (map (mapped f) ps) (map (mapped f) ts) ≡ all_carried first ps ts
+  all_carried-mapped ps [] = refl
+  all_carried-mapped ps (t ∷ ts) = ap₂ (λ a b. a && b) (is_carried-mapped ps t) (all_carried-mapped ps ts)
+
+  pub numbers_carried-mapped : (p q : Tree) → numbers_carried first (mapped f p) (mapped f q) ≡ numbers_carried first p q
+  numbers_carried-mapped p q = ap₂ (all_carried first) (preorder-mapped f p) (preorder-mapped f q) ∙ all_carried-mapped (preorder p) (preorder q)

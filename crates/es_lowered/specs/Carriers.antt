@@ -1,0 +1,112 @@
+-- Which node of the source a node of a lowered program stands for: that of its number, whose kind it has, or one that a lowering makes of
+-- that kind. A node that is new is of a kind that a lowering makes. (Our own.)
+use Rattle.std.specs.Prelude.{ℕ, List, [], ◌∷◌, Bool, true, false, cond, not, nat_eq, bytes_eq, ◌&&◌, ◌||◌}
+use Rattle.es_base.specs.Numbered.{is_new}
+use Rattle.es_base.specs.Preorder.{preorder}
+use Rattle.es_base.specs.Tree.{Tree, Parts, Node}
+use Rattle.es_base.specs.declared.kind.Kind.{Kind}
+use Rattle.es_steps.specs.KeptNodes.{is_underscored}
+use Rattle.es_steps.specs.Parts.{at, string_of}
+use Rattle.es_steps.specs.References.{is_reference}
+use Rattle.es_steps.specs.SameTrees.{same_kind}
+use Rattle.es_steps.specs.Values.{String}
+
+-- the kinds of new nodes
+abbrev pub is_made : Kind → Bool
+is_made Kind.ArrayExpression = true
+is_made Kind.ArrowFunctionExpression = true
+is_made Kind.AssignmentExpression = true
+is_made Kind.BinaryExpression = true
+is_made Kind.BindingIdentifier = true
+is_made Kind.BlockStatement = true
+is_made Kind.CallExpression = true
+is_made Kind.ChainExpression = true
+is_made Kind.ConditionalExpression = true
+is_made Kind.ExportDefaultDeclaration = true
+is_made Kind.ExportNamedDeclaration = true
+is_made Kind.ExportSpecifier = true
+is_made Kind.ExpressionStatement = true
+is_made Kind.FunctionDeclaration = true
+is_made Kind.FunctionExpression = true
+is_made Kind.IdentifierName = true
+is_made Kind.IdentifierReference = true
+is_made Kind.Literal = true
+is_made Kind.LogicalExpression = true
+is_made Kind.MemberExpression = true
+is_made Kind.MethodDefinition = true
+is_made Kind.NewExpression = true
+is_made Kind.ObjectExpression = true
+is_made Kind.PrivateField = true
+is_made Kind.PrivateIdentifier = true
+is_made Kind.Property = true
+is_made Kind.PropertyDefinition = true
+is_made Kind.RestElement = true
+is_made Kind.ReturnStatement = true
+is_made Kind.SequenceExpression = true
+is_made Kind.SpreadElement = true
+is_made Kind.Super = true
+is_made Kind.ThisExpression = true
+is_made Kind.UnaryExpression = true
+is_made Kind.UpdateExpression = true
+is_made Kind.VariableDeclaration = true
+is_made Kind.VariableDeclarator = true
+is_made kind = false
+
+-- `_x.has(..)`, `_brand === ..`, `_p._`, `_m`, `(o, B.writeOnlyError(..))`
+abbrev pub is_private_form : Kind → Bool
+is_private_form Kind.CallExpression = true
+is_private_form Kind.MemberExpression = true
+is_private_form Kind.SequenceExpression = true
+is_private_form kind = false
+
+abbrev pub is_test_form : Kind → Bool
+is_test_form Kind.CallExpression = true
+is_test_form Kind.BinaryExpression = true
+is_test_form kind = false
+
+abbrev pub is_write_form : Kind → Bool
+is_write_form Kind.BinaryExpression = true
+is_write_form Kind.CallExpression = true
+is_write_form Kind.LogicalExpression = true
+is_write_form Kind.SequenceExpression = true
+is_write_form kind = false
+
+-- what a lowering makes of a node of this kind, but an identifier
+abbrev pub becomes : Kind → Kind → Bool
+becomes Kind.PrivateField kind = is_private_form kind
+becomes Kind.PrivateIn kind = is_test_form kind
+becomes Kind.AssignmentExpression kind = is_write_form kind
+becomes Kind.MemberExpression Kind.CallExpression = true
+becomes Kind.ChainExpression Kind.ConditionalExpression = true
+becomes Kind.UnaryExpression Kind.ConditionalExpression = true
+becomes Kind.FunctionExpression Kind.FunctionDeclaration = true
+becomes Kind.ClassDeclaration Kind.ClassExpression = true
+becomes kind other = false
+
+-- an identifier has its spelling, or one that begins with `_`; `this` and the function of a private method become one
+abbrev pub named_by : Kind → Bool
+named_by Kind.IdentifierReference = true
+named_by Kind.ThisExpression = true
+named_by Kind.PrivateField = true
+named_by kind = false
+
+abbrev pub has_its_name : Kind → String → String → Bool
+has_its_name kind s t = named_by kind && ((is_reference kind && bytes_eq s t) || is_underscored t)
+
+abbrev pub carries : Kind → Parts → Kind → Parts → Bool
+carries kind ps other qs = cond (is_reference other) (has_its_name kind (string_of (at 0 ps)) (string_of (at 0 qs))) (same_kind kind other || becomes kind other)
+
+abbrev pub stands_for : Kind → ℕ → Parts → List Tree → Bool
+stands_for kind n qs [] = false
+stands_for kind n qs (Node other m span semantic_id ps ∷ ts) = (nat_eq n m && carries other ps kind qs) || stands_for kind n qs ts
+
+-- ps are the nodes of the source
+abbrev pub is_carried : ℕ → List Tree → Tree → Bool
+is_carried first ps (Node kind n span semantic_id qs) = cond (is_new first n) (is_made kind) (stands_for kind n qs ps)
+
+abbrev pub all_carried : ℕ → List Tree → List Tree → Bool
+all_carried first ps [] = true
+all_carried first ps (t ∷ ts) = is_carried first ps t && all_carried first ps ts
+
+abbrev pub numbers_carried : ℕ → Tree → Tree → Bool
+numbers_carried first p q = all_carried first (preorder p) (preorder q)
