@@ -25,7 +25,7 @@ const programs = [
   { name: 'arguments_of_functions', source: 'class A extends arguments {} function f() { return class extends arguments {}; } g(() => class extends arguments {}); class B { m() { return () => class extends arguments {}; } x = () => class extends this {}; }', events: [true, false, true, false, false] },
   { name: 'written_arguments', source: 'function f() { arguments = 1; return class extends arguments {}; }', events: [true] },
   { name: 'declared_arguments', source: 'function f(arguments) { return class extends arguments {}; }', events: [true] },
-  { name: 'constants', source: each(['null', '1', '2n', '"s"', 'true', '/r/', 'this']), events: [false, false, false, false, false, false, false] },
+  { name: 'constants', source: each(['null', '1', '2n', '"s"', 'true', '/r/', 'this']), events: [false, false, false, false, false, true, false] },
   { name: 'targets', source: 'function f() { return class extends new.target {}; }', events: [false] },
   { name: 'templates', source: each(['`a`', '`a${b}`', 't`a`']), events: [false, true, true] },
   { name: 'unary', source: each(['(void 0)', '(void x)', '(void void 0)', '(void `a`)', '(delete this)', '(void delete this)', '(delete delete this)', '(delete x.y)', '(typeof x)', '(-1)', '(!0)']), events: [false, true, true, true, false, false, true, true, true, true, true] },

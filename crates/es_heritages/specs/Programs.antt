@@ -105,7 +105,7 @@ abbrev pub options_constants : Options
 options_constants = options_of false (Some (record { loose = false })) false
 
 abbrev pub heritages_constants : List (ℕ × Bool)
-heritages_constants = (1, false) ∷ (5, false) ∷ (9, false) ∷ (13, false) ∷ (17, false) ∷ (21, false) ∷ (25, false) ∷ []
+heritages_constants = (1, false) ∷ (5, false) ∷ (9, false) ∷ (13, false) ∷ (17, false) ∷ (21, true) ∷ (25, false) ∷ []
 
 -- `function f() { return class extends new.target {}; }`
 abbrev pub source_targets : Tree

@@ -55,7 +55,7 @@ module _ (f : ℕ → ℕ) where
   body_numbers-mapped (child (Node Kind.ClassBody m span semantic_id ps)) = ap element_numbers (items_at-mapped f 0 ps) ∙ element_numbers-mapped (items (at 0 ps))
   body_numbers-mapped p = refl
 
-  class_numbers-mapped : (ts : List Tree) → class_numbers (map (mapped f) ts) ≡ map f (class_numbers ts)
+  pub class_numbers-mapped : (ts : List Tree) → class_numbers (map (mapped f) ts) ≡ map f (class_numbers ts)
   class_numbers-mapped [] = refl
   class_numbers-mapped (Node kind m span semantic_id ps ∷ ts) = append-mapped f _ _ (cond-mapped (map f) (is_class kind) (m ∷ []) [] refl refl) (class_numbers-mapped ts)
 

@@ -19,7 +19,7 @@ use Rattle.es_lowered.specs.OwnNames.{own_names_stay}
 use Rattle.es_lowered.proofs.KeptReferencesMapped.{references_stay-mapped}
 use Rattle.es_steps.specs.LoweredClasses.{nothing_left}
 use Rattle.es_steps.specs.Printable.{stays_printable}
-use Rattle.es_steps.specs.PrivateNames.{PrivateMember, members_of_all, private_members}
+use Rattle.es_steps.specs.PrivateNames.{PrivateMember, private_members}
 use Rattle.es_steps.specs.Standing.{all_numbers, ledger_numbers, all_pass, all_old}
 use Rattle.es_steps.specs.Strict.{none_becomes_strict}
 use Rattle.es_lowered.specs.Temporaries.{temporaries_steady}
@@ -34,13 +34,13 @@ use Rattle.es_steps.specs.declared.options.Options.{Options}
 use Rattle.es_lowered.proofs.DefinitionsMapped.{definitions_stand-mapped, all_temporaries-mapped, elements_kept-mapped}
 use Rattle.es_lowered.proofs.HelperCallsMapped.{all_computed_keys-mapped, helper_calls_fit-mapped}
 use Rattle.es_steps.proofs.KeptNodesMapped.{nodes_kept-mapped, classes_kept-mapped, statements_kept-mapped, lists_kept-mapped, homes_kept-mapped}
-use Rattle.es_lowered.proofs.LoweredMapped.{nothing_left-mapped, names_declared-mapped, declarations_accounted-mapped, initializations_stand-mapped, keys_stand-mapped}
+use Rattle.es_lowered.proofs.LoweredMapped.{private_members-mapped, nothing_left-mapped, names_declared-mapped, declarations_accounted-mapped, initializations_stand-mapped, keys_stand-mapped}
 use Rattle.es_steps.proofs.Mapped.{Renames, mapped, mapped_part, mapped_parts, mapped_ledger, mapped_privates}
 use Rattle.es_lowered.proofs.OwnNamesMapped.{own_names_stay-mapped}
 use Rattle.es_steps.proofs.PartsMapped.{preorder-mapped}
 use Rattle.es_steps.proofs.PrintableMapped.{stays_printable-mapped}
 use Rattle.es_steps.proofs.Renaming.{same, renaming, renaming-renames, renaming-renumbers, EachOnce-filter}
-use Rattle.es_steps.proofs.Renumbering.{same-renames, members_of_all-mapped, anything, anything-passes}
+use Rattle.es_steps.proofs.Renumbering.{same-renames, anything, anything-passes}
 use Rattle.es_steps.proofs.Still.{in_two, ledger-still}
 
 -- ---- a tree whose numbers a change leaves
@@ -88,14 +88,11 @@ module _ (first : ℕ) (ledger : List LedgerEntry) (p q : Tree) (once : EachOnce
       ∙ unchanging f r ledger p q
       ∙ met
 
-private_members-mapped : (f : ℕ → ℕ) (t : Tree) → private_members (mapped f t) ≡ mapped_privates f (private_members t)
-private_members-mapped f t = ap members_of_all (preorder-mapped f t) ∙ members_of_all-mapped f (preorder t)
-
 -- ---- all clauses
 
 module _ (first : ℕ) (o : Options) where
-  initialized-unchanging : Unchanging first (λ l p q. initializations_stand first l (private_members p) q l)
-  initialized-unchanging f r l p q = ap (λ ms. initializations_stand first (mapped_ledger f l) ms (mapped f q) (mapped_ledger f l)) (private_members-mapped f p) ∙ initializations_stand-mapped r l (private_members p) q l
+  initialized-unchanging : Unchanging first (λ l p q. initializations_stand first l p q l)
+  initialized-unchanging f r l p q = initializations_stand-mapped r l p q l
 
   abbrev keys_clause : List LedgerEntry → List PrivateMember → Tree → List Tree → Bool
   keys_clause l ms q qs = keys_stand first o l ms q (all_temporaries first o l ms q qs)
@@ -137,7 +134,7 @@ clauses_law first o ledger p q once old generated met = record {
     references = kept first ledger p q once old generated (references_stay first) (λ f r l p q. references_stay-mapped r l p q) met.references;
     strict = kept first ledger p q once old generated (λ l p q. none_becomes_strict first p q) (λ f r l p q. none_becomes_strict-mapped r p q) met.strict;
     texts = kept first ledger p q once old generated (λ l p q. texts_stay first p q) (λ f r l p q. texts_stay-mapped r p q) met.texts;
-    initialized = kept first ledger p q once old generated (λ l p q. initializations_stand first l (private_members p) q l) (initialized-unchanging first o) met.initialized;
+    initialized = kept first ledger p q once old generated (λ l p q. initializations_stand first l p q l) (initialized-unchanging first o) met.initialized;
     timely = kept first ledger p q once old generated (λ l p q. names_timely first l (private_members p) q) (timely-unchanging first o) met.timely;
     temporaries = kept first ledger p q once old generated (λ l p q. temporaries_steady first l (private_members p) q) (temporaries-unchanging first o) met.temporaries;
     keys = kept first ledger p q once old generated (λ l p q. keys_clause first o l (private_members p) q (preorder q)) (keys-unchanging first o) met.keys;

@@ -10,7 +10,7 @@ use Rattle.es_base.specs.declared.ledger.LedgerEntry.{LedgerEntry}
 use Rattle.es_base.specs.declared.literal.LiteralValue.TheVariants as literal_value
 use Rattle.es_steps.specs.Context.{generated_as}
 use Rattle.es_lowered.specs.Definitions.{spelling}
-use Rattle.es_lowered.specs.HelperCalls.{last_part, generated_spelling, or_none, last_spelling, is_function_value, element_spelling, is_new_private, all_spelled, private_spelling, private_keys, new_private_names, key_spelling, kept_keys, converted_key, all_by, kept_keys_converted, is_helper_callee, part_number, computed_key, computed_keys, StaticKey, is_name, is_key_conversion, computed_static_key, static_key, method_key, field_key, method_keys, field_keys, body_keys, Naming, is_name_literal, tests_of, tests_at, naming_in, naming_of_element, is_class_body, is_without_name, runs_with_class, any_runs, body_runs, is_any_helper, is_key_part, gives_key, is_generated_name, ends_with_key, stands_for_key, form_for_key, part_for_key, last_for_key, any_for_key, call_fits, calls_fit, calls_in, calls_at, calls_of, calls_of_body, helper_calls_fit}
+use Rattle.es_lowered.specs.HelperCalls.{last_part, generated_spelling, or_none, last_spelling, is_function_value, element_spelling, is_new_private, all_spelled, private_spelling, private_keys, new_private_names, key_spelling, kept_keys, converted_key, all_by, kept_keys_converted, is_helper_callee, part_number, computed_key, computed_keys, StaticKey, is_name, is_key_conversion, computed_static_key, static_key, method_key, field_key, method_keys, field_keys, body_keys, Naming, is_name_literal, tests_of, tests_at, naming_in, naming_of_element, is_class_body, is_without_name, runs_with_class, any_runs, body_runs, is_key_part, gives_key, is_generated_name, ends_with_key, stands_for_key, form_for_key, part_for_key, last_for_key, any_for_key, call_fits, calls_fit, calls_in, calls_at, calls_of, calls_of_body, helper_calls_fit}
 use Rattle.es_steps.specs.Parts.{at, items, string_of, is_true}
 use Rattle.es_steps.specs.References.{has_number}
 use Rattle.es_steps.specs.Values.{String}
@@ -151,10 +151,6 @@ module _ {first : ℕ} {f : ℕ → ℕ} (r : Renames first f) where
     abbrev there : List LedgerEntry
     there = mapped_ledger f ledger
 
-    is_any_helper-mapped : (p : Part) → is_any_helper first there (map f keys) (mapped_part f p) ≡ is_any_helper first ledger keys p
-    is_any_helper-mapped (child (Node Kind.MemberExpression m span semantic_id (more (child (Node Kind.IdentifierReference b bspan b_semantic_id (more (string s) end))) rest))) = rw (r.new b) refl
-    is_any_helper-mapped p = refl
-
     is_generated_name-mapped : (p : Part) → is_generated_name first there (map f keys) (mapped_part f p) ≡ is_generated_name first ledger keys p
     is_generated_name-mapped (child (Node Kind.IdentifierReference m span semantic_id ps)) = rw (string_at-mapped f 0 ps) (is_generated-mapped f (string_of (at 0 ps)) ledger)
     is_generated_name-mapped p = refl
@@ -169,7 +165,7 @@ module _ {first : ℕ} {f : ℕ → ℕ} (r : Renames first f) where
 
       form_for_key-mapped : (kind : Kind) (ps : Parts) → form_for_key first there (map f keys) kind (mapped_parts f ps) ≡ form_for_key first ledger keys kind ps
       form_for_key-mapped Kind.SequenceExpression (more (list es) end) = ap₂ (λ a b. a || b) (ends_with_key-mapped es) (last_for_key-mapped es)
-      form_for_key-mapped Kind.CallExpression (more g (more (list es) rest)) = ap₂ (λ a b. a && b) (is_any_helper-mapped g) (any_for_key-mapped es)
+      form_for_key-mapped Kind.CallExpression (more g (more (list es) rest)) = ap₂ (λ a b. a && b) (is_helper_callee-mapped (codes "toPropertyKey") g) (any_for_key-mapped es)
       form_for_key-mapped Kind.AssignmentExpression (more operator (more to (more right end))) = part_for_key-mapped right
       form_for_key-mapped kind ps = refl
 

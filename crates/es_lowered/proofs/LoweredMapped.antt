@@ -9,17 +9,19 @@ use Rattle.es_base.specs.declared.ledger.LedgerEntry.{LedgerEntry}
 use Rattle.es_steps.specs.Context.{is_generated}
 use Rattle.es_lowered.specs.Definitions.{spelling, field_part, names_class, class_identifiers, all_different, is_among_first}
 use Rattle.es_steps.specs.KeptNodes.{statement_list, is_underscored}
-use Rattle.es_lowered.specs.Lowered.{declaring_number, declaring_numbers, is_bound_to, all_mean, is_one_new, private_key, private_keys, keys_of_body, keys_of_class, keys_in, is_one, declared_by_kind, same_space, is_named_again, same_subject, has_another_name, is_temp, is_at_most_one, names_declared, has_new_declarator, is_new_const, has_branded, belongs, is_accounted, all_accounted, declarations_accounted, spelled_as, is_new_of, is_key_call, is_function_part, class_number_in, assignment_number, paired, pairs_behind, all_behind, has_pair, is_class_itself, is_class_value, is_initial, is_class_kind, is_method_kind, initialization_at, initializations, comes_before, is_declared_function, all_before, needs_none, is_one_initialization, initialization_stands, initializations_stand, any_before, keys_before, keys_stand}
+use Rattle.es_lowered.specs.Lowered.{declaring_number, declaring_numbers, is_bound_to, all_mean, is_one_new, private_key, private_keys, keys_of_body, keys_of_class, keys_in, is_one, declared_by_kind, same_space, is_named_again, same_subject, has_another_name, is_temp, is_at_most_one, names_declared, has_new_declarator, is_new_const, has_branded, belongs, is_accounted, all_accounted, declarations_accounted, spelled_as, is_new_of, is_key_call, is_function_part, class_number_in, assignment_number, paired, pairs_behind, all_behind, has_pair, is_class_itself, is_class_value, is_initial, is_class_kind, is_method_kind, initialization_at, initializations, comes_before, is_declared_function, all_before, needs_none, with_inner, is_one_initialization, initialization_stands, initializations_stand, any_before, keys_before, keys_stand}
 use Rattle.es_steps.specs.LoweredClasses.{none_lowered, nothing_left}
 use Rattle.es_steps.specs.Options.{lowers_fields}
 use Rattle.es_lowered.specs.OwnNames.{own_name_numbers}
 use Rattle.es_steps.specs.Parts.{at, items, string_of, is_present}
 use Rattle.es_steps.specs.GeneratedForms.{if_member, is_instance_field, is_static_field, is_function_member}
-use Rattle.es_steps.specs.PrivateNames.{PrivateMember, member_at, is_a_field}
+use Rattle.es_steps.specs.PrivateNames.{PrivateMember, private_members, members_of_all, member_at, is_a_field}
 use Rattle.es_steps.specs.References.{Reference, resolve}
 use Rattle.es_steps.specs.Scopes.{is_binding_identifier}
-use Rattle.es_lowered.specs.Temporaries.{class_before}
-use Rattle.es_lowered.proofs.TemporariesMapped.{class_before-mapped}
+use Rattle.es_lowered.specs.ClassNames.{class_numbers}
+use Rattle.es_lowered.specs.Temporaries.{class_before, nodes_of_class}
+use Rattle.es_lowered.proofs.ClassNamesMapped.{class_numbers-mapped}
+use Rattle.es_lowered.proofs.TemporariesMapped.{class_before-mapped, nodes_of_class-mapped}
 use Rattle.es_steps.specs.Values.{String, Referent, Bound, Free}
 use Rattle.es_steps.specs.declared.options.Options.{Options}
 use Rattle.es_steps.proofs.ContextMapped.{is_generated-mapped}
@@ -31,8 +33,12 @@ use Rattle.es_steps.proofs.Mapped.{Renames, mapped, mapped_part, mapped_parts, m
 use Rattle.es_lowered.proofs.OwnNamesMapped.{own_name_numbers-mapped}
 use Rattle.es_steps.proofs.PartsMapped.{cond-mapped, append-mapped, is_some-mapped, at-mapped, items_at-mapped, string_at-mapped, is_present-mapped, is_present_at-mapped, number_of-mapped, preorder-mapped}
 use Rattle.es_steps.proofs.PrivatesMapped.{member_at-mapped}
+use Rattle.es_steps.proofs.Renumbering.{members_of_all-mapped}
 use Rattle.es_steps.proofs.ReferencesMapped.{resolve-mapped, has_number-mapped}
 use Rattle.es_steps.proofs.ScopesMapped.{class_in-mapped}
+
+pub private_members-mapped : (f : ℕ → ℕ) (t : Tree) → private_members (mapped f t) ≡ mapped_privates f (private_members t)
+private_members-mapped f t = ap members_of_all (preorder-mapped f t) ∙ members_of_all-mapped f (preorder t)
 
 module _ (f : ℕ → ℕ) where
   -- ---- nothing is left
@@ -308,12 +314,18 @@ module _ {first : ℕ} {f : ℕ → ℕ} (r : Renames first f) where
   belongs-mapped members (GeneratedKind.LooseKey d) = member_there-mapped (λ x. is_a_field x.kind) d.0 members (λ x. refl)
   belongs-mapped members g = refl
 
-  is_one_initialization-mapped : (g : GeneratedKind) (members : List PrivateMember) (q : Tree) (is : List (ℕ × Bool)) → is_one_initialization (mapped_generated f g) (mapped_privates f members) (mapped f q) (map (mapped_initialization f) is) ≡ is_one_initialization g members q is
-  is_one_initialization-mapped g members q [] = refl
-  is_one_initialization-mapped g members q (i ∷ []) =
+  with_inner-mapped : (ps : List Tree) (ns : List ℕ) → with_inner (map (mapped f) ps) (map f ns) ≡ map f (with_inner ps ns)
+  with_inner-mapped ps [] = refl
+  with_inner-mapped ps (n ∷ ns) =
+      ap (λ ks. f n ∷ ks) (append-mapped f _ _ (ap class_numbers (nodes_of_class-mapped r n ps) ∙ class_numbers-mapped f (nodes_of_class n ps)) (with_inner-mapped ps ns))
+
+  is_one_initialization-mapped : (g : GeneratedKind) (p q : Tree) (is : List (ℕ × Bool)) → is_one_initialization (mapped_generated f g) (mapped f p) (mapped f q) (map (mapped_initialization f) is) ≡ is_one_initialization g p q is
+  is_one_initialization-mapped g p q [] = refl
+  is_one_initialization-mapped g p q (i ∷ []) =
+      let ns : List ℕ = class_before g (private_members p) in
       ap₂ (λ a b. i.1 && (a || b)) (ap (is_declared_function (f i.0)) (preorder-mapped f q) ∙ is_declared_function-mapped i.0 (preorder q))
-      (ap₂ (all_before (f i.0)) (class_before-mapped r g members) (preorder-mapped f q) ∙ all_before-mapped i.0 (class_before g members) (preorder q))
-  is_one_initialization-mapped g members q (i ∷ j ∷ is) = refl
+      (ap₂ (all_before (f i.0)) (ap₂ with_inner (preorder-mapped f p) (ap (class_before (mapped_generated f g)) (private_members-mapped f p) ∙ class_before-mapped r g (private_members p)) ∙ with_inner-mapped (preorder p) ns) (preorder-mapped f q) ∙ all_before-mapped i.0 (with_inner (preorder p) ns) (preorder q))
+  is_one_initialization-mapped g p q (i ∷ j ∷ is) = refl
 
   is_temp-mapped : (g : GeneratedKind) → is_temp (mapped_generated f g) ≡ is_temp g
   is_temp-mapped GeneratedKind.Temp = refl
@@ -324,19 +336,19 @@ module _ {first : ℕ} {f : ℕ → ℕ} (r : Renames first f) where
   is_at_most_one-mapped (i ∷ []) = refl
   is_at_most_one-mapped (i ∷ j ∷ is) = refl
 
-  initialization_stands-mapped : (g : GeneratedKind) (members : List PrivateMember) (q : Tree) (is : List (ℕ × Bool)) → initialization_stands (mapped_generated f g) (mapped_privates f members) (mapped f q) (map (mapped_initialization f) is) ≡ initialization_stands g members q is
-  initialization_stands-mapped g members q is =
+  initialization_stands-mapped : (g : GeneratedKind) (p q : Tree) (is : List (ℕ × Bool)) → initialization_stands (mapped_generated f g) (mapped f p) (mapped f q) (map (mapped_initialization f) is) ≡ initialization_stands g p q is
+  initialization_stands-mapped g p q is =
       ap₂ (λ a b. a || b)
       (ap₂ (λ a b. a && b) (needs_none-mapped f g) (ap₂ (λ a b. not a || b) (is_temp-mapped g) (is_at_most_one-mapped is)))
-      (ap₂ (λ a b. a && b) (belongs-mapped members g) (is_one_initialization-mapped g members q is))
+      (ap₂ (λ a b. a && b) (ap (λ ms. belongs ms (mapped_generated f g)) (private_members-mapped f p) ∙ belongs-mapped (private_members p) g) (is_one_initialization-mapped g p q is))
 
-  pub initializations_stand-mapped : (ledger : List LedgerEntry) (members : List PrivateMember) (q : Tree) (es : List LedgerEntry) → initializations_stand first (mapped_ledger f ledger) (mapped_privates f members) (mapped f q) (mapped_ledger f es) ≡ initializations_stand first ledger members q es
-  initializations_stand-mapped ledger members q [] = refl
-  initializations_stand-mapped ledger members q (e ∷ es) =
+  pub initializations_stand-mapped : (ledger : List LedgerEntry) (p q : Tree) (es : List LedgerEntry) → initializations_stand first (mapped_ledger f ledger) (mapped f p) (mapped f q) (mapped_ledger f es) ≡ initializations_stand first ledger p q es
+  initializations_stand-mapped ledger p q [] = refl
+  initializations_stand-mapped ledger p q (e ∷ es) =
       let own : List (ℕ × Bool) = initializations first ledger q e.name e.kind (preorder q) in
       ap₂ (λ a b. a && b)
-      (ap (initialization_stands (mapped_generated f e.kind) (mapped_privates f members) (mapped f q)) (initializations_in-mapped ledger q e.name e.kind) ∙ initialization_stands-mapped e.kind members q own)
-      (initializations_stand-mapped ledger members q es)
+      (ap (initialization_stands (mapped_generated f e.kind) (mapped f p) (mapped f q)) (initializations_in-mapped ledger q e.name e.kind) ∙ initialization_stands-mapped e.kind p q own)
+      (initializations_stand-mapped ledger p q es)
 
   any_before-mapped : (is : List (ℕ × Bool)) (n : ℕ) (ts : List Tree) → any_before (map (mapped_initialization f) is) (f n) (map (mapped f) ts) ≡ any_before is n ts
   any_before-mapped [] n ts = refl

@@ -190,7 +190,7 @@ module _ {first : ℕ} {f : ℕ → ℕ} (r : Renames first f) where
 
   -- ---- private elements
 
-  nodes_of_class-mapped : (n : ℕ) (ts : List Tree) → nodes_of_class (f n) (map (mapped f) ts) ≡ map (mapped f) (nodes_of_class n ts)
+  pub nodes_of_class-mapped : (n : ℕ) (ts : List Tree) → nodes_of_class (f n) (map (mapped f) ts) ≡ map (mapped f) (nodes_of_class n ts)
   nodes_of_class-mapped n [] = refl
   nodes_of_class-mapped n (Node kind m span semantic_id ps ∷ ts) =
       append-mapped (mapped f) _ _ (rw (r.apart n m) (cond-mapped (map (mapped f)) (is_class kind && nat_eq n m) (preorder_of ps) [] (preorder_of-mapped f ps) refl)) (nodes_of_class-mapped n ts)

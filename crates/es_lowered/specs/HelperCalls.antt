@@ -160,10 +160,6 @@ is_without_name x (child (Node Kind.ThisExpression m span semantic_id ps)) = non
 is_without_name x p = false
 
 module _ (first : ℕ) (ledger : List LedgerEntry) (keys : List ℕ) where
-  abbrev pub is_any_helper : Part → Bool
-  is_any_helper (child (Node Kind.MemberExpression m span semantic_id (more (child (Node Kind.IdentifierReference b bspan b_semantic_id (more (string s) end))) rest))) = is_new first b && bytes_eq s (codes "babelHelpers")
-  is_any_helper p = false
-
   abbrev pub is_key_part : Part → Bool
   is_key_part (child t) = has_number (number_of t) keys
   is_key_part p = false
@@ -189,7 +185,7 @@ module _ (first : ℕ) (ledger : List LedgerEntry) (keys : List ℕ) where
 
     pub form_for_key : Kind → Parts → Bool
     form_for_key Kind.SequenceExpression (more (list es) end) = ends_with_key es || last_for_key es
-    form_for_key Kind.CallExpression (more f (more (list es) rest)) = is_any_helper f && any_for_key es
+    form_for_key Kind.CallExpression (more f (more (list es) rest)) = is_helper_callee first (codes "toPropertyKey") f && any_for_key es
     form_for_key Kind.AssignmentExpression (more operator (more to (more right end))) = part_for_key right
     form_for_key kind ps = false
 

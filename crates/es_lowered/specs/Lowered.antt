@@ -10,6 +10,7 @@ use Rattle.es_base.specs.declared.ledger.GeneratedKind.{GeneratedKind}
 use Rattle.es_base.specs.declared.ledger.LedgerEntry.{LedgerEntry}
 use Rattle.es_steps.specs.Context.{is_generated}
 use Rattle.es_lowered.specs.Carriers.{numbers_carried}
+use Rattle.es_lowered.specs.ClassNames.{class_numbers}
 use Rattle.es_lowered.specs.Definitions.{spelling, field_part, names_class, class_identifiers, definitions_stand, all_temporaries, all_different, elements_kept}
 use Rattle.es_steps.specs.GeneratedForms.{if_member, is_instance_field, is_static_field, is_function_member}
 use Rattle.es_lowered.specs.HelperCalls.{is_helper_callee, computed_keys, helper_calls_fit}
@@ -24,7 +25,7 @@ use Rattle.es_steps.specs.PrivateNames.{PrivateMember, private_members, member_a
 use Rattle.es_steps.specs.References.{Reference, resolve, has_number}
 use Rattle.es_steps.specs.Scopes.{is_binding_identifier}
 use Rattle.es_steps.specs.Strict.{none_becomes_strict}
-use Rattle.es_lowered.specs.Temporaries.{class_before, temporaries_steady}
+use Rattle.es_lowered.specs.Temporaries.{class_before, nodes_of_class, temporaries_steady}
 use Rattle.es_lowered.specs.Texts.{texts_stay}
 use Rattle.es_lowered.specs.Timely.{names_timely}
 use Rattle.es_steps.specs.Values.{String, Referent, Bound}
@@ -261,9 +262,14 @@ belongs members (GeneratedKind.Method d) = is_some (if_member is_function_member
 belongs members (GeneratedKind.LooseKey d) = is_some (if_member (λ x. is_a_field x.kind) (member_at d.0 members))
 belongs members g = true
 
-abbrev pub is_one_initialization : GeneratedKind → List PrivateMember → Tree → List (ℕ × Bool) → Bool
-is_one_initialization g members q (i ∷ []) = i.1 && (is_declared_function i.0 (preorder q) || all_before i.0 (class_before g members) (preorder q))
-is_one_initialization g members q is = false
+-- classes with those that stand in them, whose methods may use what these need; ps are the nodes of the source
+abbrev pub with_inner : List Tree → List ℕ → List ℕ
+with_inner ps [] = []
+with_inner ps (n ∷ ns) = n ∷ (class_numbers (nodes_of_class n ps) ++ with_inner ps ns)
+
+abbrev pub is_one_initialization : GeneratedKind → Tree → Tree → List (ℕ × Bool) → Bool
+is_one_initialization g p q (i ∷ []) = i.1 && (is_declared_function i.0 (preorder q) || all_before i.0 (with_inner (preorder p) (class_before g (private_members p))) (preorder q))
+is_one_initialization g p q is = false
 
 -- a temporary is given a value by one assignment alone
 abbrev pub is_temp : GeneratedKind → Bool
@@ -275,12 +281,12 @@ is_at_most_one [] = true
 is_at_most_one (i ∷ []) = true
 is_at_most_one is = false
 
-abbrev pub initialization_stands : GeneratedKind → List PrivateMember → Tree → List (ℕ × Bool) → Bool
-initialization_stands g members q is = (needs_none g && (not (is_temp g) || is_at_most_one is)) || (belongs members g && is_one_initialization g members q is)
+abbrev pub initialization_stands : GeneratedKind → Tree → Tree → List (ℕ × Bool) → Bool
+initialization_stands g p q is = (needs_none g && (not (is_temp g) || is_at_most_one is)) || (belongs (private_members p) g && is_one_initialization g p q is)
 
-abbrev pub initializations_stand : ℕ → List LedgerEntry → List PrivateMember → Tree → List LedgerEntry → Bool
-initializations_stand first ledger members q [] = true
-initializations_stand first ledger members q (e ∷ es) = initialization_stands e.kind members q (initializations first ledger q e.name e.kind (preorder q)) && initializations_stand first ledger members q es
+abbrev pub initializations_stand : ℕ → List LedgerEntry → Tree → Tree → List LedgerEntry → Bool
+initializations_stand first ledger p q [] = true
+initializations_stand first ledger p q (e ∷ es) = initialization_stands e.kind p q (initializations first ledger q e.name e.kind (preorder q)) && initializations_stand first ledger p q es
 
 -- the temporaries of keys are given before their class
 abbrev pub any_before : List (ℕ × Bool) → ℕ → List Tree → Bool
@@ -305,7 +311,7 @@ pub record MeetsClauses (first : ℕ) (o : Options) (ledger : List LedgerEntry) 
   pub references : references_stay first ledger p q ≡ true
   pub strict : none_becomes_strict first p q ≡ true
   pub texts : texts_stay first p q ≡ true
-  pub initialized : initializations_stand first ledger (private_members p) q ledger ≡ true
+  pub initialized : initializations_stand first ledger p q ledger ≡ true
   pub timely : names_timely first ledger (private_members p) q ≡ true
   pub temporaries : temporaries_steady first ledger (private_members p) q ≡ true
   pub keys : keys_stand first o ledger (private_members p) q (all_temporaries first o ledger (private_members p) q (preorder q)) ≡ true

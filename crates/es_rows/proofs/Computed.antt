@@ -46,7 +46,7 @@ clauses o ledger p q =
     ∷ references_stay (nodes p) ledger p q
     ∷ none_becomes_strict (nodes p) p q
     ∷ texts_stay (nodes p) p q
-    ∷ initializations_stand (nodes p) ledger (private_members p) q ledger
+    ∷ initializations_stand (nodes p) ledger p q ledger
     ∷ names_timely (nodes p) ledger (private_members p) q
     ∷ temporaries_steady (nodes p) ledger (private_members p) q
     ∷ keys_stand (nodes p) o ledger (private_members p) q (all_temporaries (nodes p) o ledger (private_members p) q (preorder q))

@@ -1,3 +1,4 @@
+pub mod Carried
 pub mod ClassNames
 pub mod Names
 pub mod Placed

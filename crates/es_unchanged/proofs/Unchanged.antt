@@ -28,6 +28,8 @@ use Rattle.es_steps.specs.Scopes.{is_binding_identifier}
 use Rattle.es_lowered.specs.Texts.{has_name, has_characters, has_its_text, all_have_their_texts}
 use Rattle.es_steps.specs.Values.{String}
 use Rattle.es_steps.specs.declared.options.Options.{Options}
+use Rattle.es_lowered.specs.Carriers.{all_carried}
+use Rattle.es_unchanged.proofs.Carried.{carried}
 use Rattle.es_unchanged.proofs.Names.{or-true, number-apart, names-stay, strict-stays, classes-stay}
 use Rattle.es_unchanged.proofs.References.{references-stay}
 use Rattle.es_unchanged.proofs.Standing.{stands-equal, In, here, later, in-left, in-right, Among, among-append, all-equal, all-stand, within-more, within-both, within-same, within-append, all_within-append, apart-sym, home-same, temporaries-none, supers-stand}
@@ -551,6 +553,10 @@ old-texts : (first : ℕ) (ts us : List Tree) → Below first ts → Among ts us
 old-texts first [] us b h = refl
 old-texts first (t ∷ ts) us b h = both (old-text first t us b.0 (h t here)) (old-texts first ts us b.1 (λ u i. h u (later i)))
 
+all-carried : (first : ℕ) (ts us : List Tree) → Below first ts → Among ts us → all_carried first us ts ≡ true
+all-carried first [] us b h = refl
+all-carried first (t ∷ ts) us b h = both (carried first us t (lt-leb first (number_of t) b.0) (h t here)) (all-carried first ts us b.1 (λ u i. h u (later i)))
+
 pub unchanged-owes : (o : Options) (t : Tree) → t ≡ numbered_from 0 t → has_lowered_class o t ≡ false → nothing_left o t ≡ true → IsLowered (nodes t) o [] t t
 unchanged-owes o t e h left =
     let turn : IsInTurn t = in-turn t e in
@@ -569,6 +575,7 @@ unchanged-owes o t e h left =
         temporaries = refl;
         keys = rw (temporaries-none (nodes t) o (private_members t) t (preorder t)) (keys-stand (lowers_fields o));
         classes = classes-stay (nodes t) t turn.once;
+        carriers = all-carried (nodes t) (preorder t) (preorder t) turn.below (λ u i. i);
         nodes = all-stand (preorder t) (preorder t) (λ u i. i);
         statements = all-equal (free_statements o t) (preorder t) (free-among o t);
         lists = lists-within o (preorder t) turn.once t (λ u i. i);

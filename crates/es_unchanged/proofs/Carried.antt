@@ -1,0 +1,27 @@
+-- A node that stands in the source stands for itself.
+use Rattle.std.specs.Prelude.{◌≡◌, ℕ, List, [], ◌∷◌, Bool, true, false, cond, ◌&&◌, ◌||◌, nat_eq, Option}
+use Rattle.std.proofs.Common.{refl}
+use Rattle.es_base.specs.Numbered.{is_new}
+use Rattle.es_base.specs.Preorder.{number_of}
+use Rattle.es_base.specs.Tree.{Tree, Parts, Node}
+use Rattle.es_base.specs.declared.kind.Kind.{Kind}
+use Rattle.es_left.proofs.Booleans.{both}
+use Rattle.es_lowered.specs.Carriers.{carries, stands_for, is_carried, all_carried}
+use Rattle.es_steps.proofs.Reflexive.{number-same, string-same}
+use Rattle.es_steps.specs.Parts.{at, string_of}
+use Rattle.es_steps.specs.SameTrees.{kind_number}
+use Rattle.es_unchanged.proofs.Standing.{In, here, later, or_left, or_right}
+
+carries-itself : (kind : Kind) (ps : Parts) → carries kind ps kind ps ≡ true
+carries-itself Kind.IdentifierReference ps = rw (string-same (string_of (at 0 ps))) refl
+carries-itself kind ps = rw (number-same (kind_number kind)) refl
+
+stands-for : (kind : Kind) (n : ℕ) (span : Option (ℕ × ℕ)) (semantic_id : Option ℕ) (ps : Parts) (us : List Tree) → In (Node kind n span semantic_id ps) us → stands_for kind n ps us ≡ true
+stands-for kind n span semantic_id ps [] i = elim i [ ]
+stands-for kind n span semantic_id ps (u ∷ us) here = or_left (nat_eq n n && carries kind ps kind ps) (stands_for kind n ps us) (both (number-same n) (carries-itself kind ps))
+stands-for kind n span semantic_id ps (Node other m mspan m_semantic_id qs ∷ us) (later i) =
+    or_right (nat_eq n m && carries other qs kind ps) (stands_for kind n ps us) (stands-for kind n span semantic_id ps us i)
+
+-- an old node
+pub carried : (first : ℕ) (us : List Tree) (t : Tree) → is_new first (number_of t) ≡ false → In t us → is_carried first us t ≡ true
+carried first us (Node kind n span semantic_id ps) old i = rw old (stands-for kind n span semantic_id ps us i)
