@@ -125,7 +125,7 @@ module _ (f : ℕ → ℕ) where
   is_without_name-mapped x (child (Node Kind.ThisExpression m span semantic_id ps)) = refl
   is_without_name-mapped x p = refl
 
--- ---- calls
+  -- ---- calls
 
   last_part-mapped : (ps : Parts) → last_part (mapped_parts f ps) ≡ mapped_part f (last_part ps)
   last_part-mapped end = refl

@@ -8,6 +8,7 @@ use crate::names::ProgramNames;
 use crate::private_target::has_unwritable_target;
 use es_base::shape::Shape;
 use es_base::table::Place;
+use es_left::left::nothing_left;
 use es_node::node::Node;
 use es_shapes::kept_block::has_kept_block;
 use es_shapes::late_class::has_late_class;
@@ -17,7 +18,6 @@ use es_shapes::private_chain::has_private_chain;
 use es_shapes::twice_read::has_twice_read_name;
 use es_shapes::written_class::has_written_class;
 use es_steps::options::Options;
-use es_left::left::nothing_left;
 use std::alloc::{AllocError, Global};
 
 /// The shapes of a program under these options: ascending, each once. Fails on allocation failure alone.
