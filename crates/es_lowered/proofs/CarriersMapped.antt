@@ -3,14 +3,15 @@ use Rattle.std.specs.Prelude.{◌≡◌, ℕ, List, [], ◌∷◌, map, Bool, co
 use Rattle.std.proofs.Common.{refl, ap, ap₂, ◌∙◌}
 use Rattle.es_base.specs.Numbered.{is_new}
 use Rattle.es_base.specs.Preorder.{preorder}
-use Rattle.es_base.specs.Tree.{Tree, Parts, Node}
+use Rattle.es_base.specs.Tree.{Tree, Part, Parts, Node, end, more, child, literal}
 use Rattle.es_base.specs.declared.kind.Kind.{Kind}
-use Rattle.es_lowered.specs.Carriers.{is_made, becomes, has_its_name, carries, stands_for, is_carried, all_carried, numbers_carried}
+use Rattle.es_base.specs.declared.literal.LiteralValue.TheVariants as literal_value
+use Rattle.es_lowered.specs.Carriers.{is_made, becomes, has_its_name, carries, stands_for, is_proto, gives_prototype, is_carried, all_carried, numbers_carried}
 use Rattle.es_steps.specs.Parts.{at, string_of}
 use Rattle.es_steps.specs.References.{is_reference}
 use Rattle.es_steps.specs.SameTrees.{same_kind}
-use Rattle.es_steps.proofs.Mapped.{Renames, mapped, mapped_parts}
-use Rattle.es_steps.proofs.PartsMapped.{string_at-mapped, preorder-mapped}
+use Rattle.es_steps.proofs.Mapped.{Renames, mapped, mapped_part, mapped_parts}
+use Rattle.es_steps.proofs.PartsMapped.{at-mapped, string_at-mapped, preorder-mapped}
 
 module _ {first : ℕ} {f : ℕ → ℕ} (r : Renames first f) where
   carries-mapped : (kind : Kind) (ps : Parts) (other : Kind) (qs : Parts) → carries kind (mapped_parts f ps) other (mapped_parts f qs) ≡ carries kind ps other qs
@@ -20,8 +21,17 @@ module _ {first : ℕ} {f : ℕ → ℕ} (r : Renames first f) where
   stands_for-mapped kind n qs [] = refl
   stands_for-mapped kind n qs (Node other m span semantic_id ps ∷ ts) = ap₂ (λ a b. a || b) (ap₂ (λ a b. a && b) (r.apart n m) (carries-mapped other ps kind qs)) (stands_for-mapped kind n qs ts)
 
+  is_proto-mapped : (p : Part) → is_proto (mapped_part f p) ≡ is_proto p
+  is_proto-mapped (child (Node Kind.IdentifierName m span semantic_id ps)) = rw (string_at-mapped f 0 ps) refl
+  is_proto-mapped (child (Node Kind.Literal m span semantic_id (more (literal (literal_value.String s raw)) end))) = refl
+  is_proto-mapped p = refl
+
+  gives_prototype-mapped : (kind : Kind) (ps : Parts) → gives_prototype kind (mapped_parts f ps) ≡ gives_prototype kind ps
+  gives_prototype-mapped Kind.Property ps = ap is_proto (at-mapped f 0 ps) ∙ is_proto-mapped (at 0 ps)
+  gives_prototype-mapped kind ps = refl
+
   is_carried-mapped : (ps : List Tree) (t : Tree) → is_carried first (map (mapped f) ps) (mapped f t) ≡ is_carried first ps t
-  is_carried-mapped ps (Node kind n span semantic_id qs) = ap₂ (λ a b. cond a (is_made kind) b) (r.new n) (stands_for-mapped kind n qs ps)
+  is_carried-mapped ps (Node kind n span semantic_id qs) = rw (r.new n, gives_prototype-mapped kind qs, stands_for-mapped kind n qs ps) refl
 
   all_carried-mapped : (ps ts : List Tree) → all_carried first (map (mapped f) ps) (map (mapped f) ts) ≡ all_carried first ps ts
   all_carried-mapped ps [] = refl

@@ -1,10 +1,11 @@
 -- Which node of the source a node of a lowered program stands for: that of its number, whose kind it has, or one that a lowering makes of
 -- that kind. A node that is new is of a kind that a lowering makes. (Our own.)
-use Rattle.std.specs.Prelude.{ℕ, List, [], ◌∷◌, Bool, true, false, cond, not, nat_eq, bytes_eq, ◌&&◌, ◌||◌}
+use Rattle.std.specs.Prelude.{ℕ, List, [], ◌∷◌, Bool, true, false, cond, not, nat_eq, codes, bytes_eq, ◌&&◌, ◌||◌}
 use Rattle.es_base.specs.Numbered.{is_new}
 use Rattle.es_base.specs.Preorder.{preorder}
-use Rattle.es_base.specs.Tree.{Tree, Parts, Node}
+use Rattle.es_base.specs.Tree.{Tree, Part, Parts, Node, end, more, child, literal}
 use Rattle.es_base.specs.declared.kind.Kind.{Kind}
+use Rattle.es_base.specs.declared.literal.LiteralValue.TheVariants as literal_value
 use Rattle.es_steps.specs.KeptNodes.{is_underscored}
 use Rattle.es_steps.specs.Parts.{at, string_of}
 use Rattle.es_steps.specs.References.{is_reference}
@@ -100,9 +101,19 @@ abbrev pub stands_for : Kind → ℕ → Parts → List Tree → Bool
 stands_for kind n qs [] = false
 stands_for kind n qs (Node other m span semantic_id ps ∷ ts) = (nat_eq n m && carries other ps kind qs) || stands_for kind n qs ts
 
+-- a new object gives no prototype (B.3.1)
+abbrev pub is_proto : Part → Bool
+is_proto (child (Node Kind.IdentifierName m span semantic_id ps)) = bytes_eq (string_of (at 0 ps)) (codes "__proto__")
+is_proto (child (Node Kind.Literal m span semantic_id (more (literal (literal_value.String s raw)) end))) = bytes_eq s (codes "__proto__")
+is_proto p = false
+
+abbrev pub gives_prototype : Kind → Parts → Bool
+gives_prototype Kind.Property ps = is_proto (at 0 ps)
+gives_prototype kind ps = false
+
 -- ps are the nodes of the source
 abbrev pub is_carried : ℕ → List Tree → Tree → Bool
-is_carried first ps (Node kind n span semantic_id qs) = cond (is_new first n) (is_made kind) (stands_for kind n qs ps)
+is_carried first ps (Node kind n span semantic_id qs) = cond (is_new first n) (is_made kind && not (gives_prototype kind qs)) (stands_for kind n qs ps)
 
 abbrev pub all_carried : ℕ → List Tree → List Tree → Bool
 all_carried first ps [] = true
