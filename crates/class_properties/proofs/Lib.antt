@@ -1,4 +1,5 @@
 pub mod Called
+pub mod Carried
 pub mod Children
 pub mod Conforming
 pub mod Constructions
@@ -12,9 +13,9 @@ pub mod Leasts
 pub mod Mapped
 pub mod Numbered
 pub mod OfKinds
-pub mod ReadReferences
 pub mod Owed
 pub mod Printed
+pub mod ReadReferences
 pub mod Remaining
 pub mod Renumbered
 pub mod Same

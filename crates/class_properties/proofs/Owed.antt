@@ -30,6 +30,7 @@ use Rattle.class_properties.proofs.Renumbered.{lowered-numbered}
 use Rattle.class_properties.proofs.Printed.{lowered-stays_printable}
 use Rattle.class_properties.proofs.Remaining.{Remains, remains}
 use Rattle.class_properties.proofs.Strictness.{no-directive, no-lowered_directive, program-strict}
+use Rattle.class_properties.proofs.Carried.{numbers-carried}
 use Rattle.class_properties.proofs.Written.{texts-stay}
 use Rattle.es_unchanged.proofs.Standing.{temporaries-none}
 use Rattle.es_unchanged.proofs.Unchanged.{numbered-once}
@@ -138,6 +139,7 @@ module _ (asked : Options) where
           timely = names-timely first (private_members t) q;
           temporaries = refl;
           keys = rw (temporaries-none first (defining asked) (private_members t) q (preorder q)) refl;
+          carriers = numbers-carried t p e;
           nodes = rest.nodes;
           classes = nothing-enters first t p (subst (λ u. EachOnce (numbers u)) (sym e) (numbered-once t)) first (omega arith);
           statements = rest.statements;

@@ -17,13 +17,13 @@ use Rattle.class_properties.proofs.Numbered.{definitions_from, lowered_elements,
 use Rattle.class_properties.proofs.Numbered as numbered
 use Rattle.class_properties.proofs.Shaped.{no_value, a_literal, a_reference, a_key, a_field, AreFields, a_name, a_body, a_class, AreClasses, IsProgram, a_program}
 
-below-old : (first : ℕ) (t : Tree) (ts : List Tree) → Below first ts → In t ts → is_new first (number_of t) ≡ false
+pub below-old : (first : ℕ) (t : Tree) (ts : List Tree) → Below first ts → In t ts → is_new first (number_of t) ≡ false
 below-old first t [] b h = elim h [ ]
 below-old first t (u ∷ ts) b here = lt-leb first (number_of t) b.0
 below-old first t (u ∷ ts) b (later i) = below-old first t ts b.1 i
 
 -- nodes that are old, among those of the source
-abbrev OldAmong : ℕ → List Tree → List Tree → Type 0
+abbrev pub OldAmong : ℕ → List Tree → List Tree → Type 0
 OldAmong first ts ps = (t : Tree) → In t ts → (is_new first (number_of t) ≡ false) × In t ps
 
 texts-append : (first : ℕ) (ps ts us : List Tree) → all_have_their_texts first ps ts ≡ true → all_have_their_texts first ps us ≡ true → all_have_their_texts first ps (ts ++ us) ≡ true

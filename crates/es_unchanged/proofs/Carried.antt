@@ -9,6 +9,7 @@ use Rattle.es_left.proofs.Booleans.{both}
 use Rattle.es_lowered.specs.Carriers.{carries, stands_for, is_carried, all_carried}
 use Rattle.es_steps.proofs.Reflexive.{number-same, string-same}
 use Rattle.es_steps.specs.Parts.{at, string_of}
+use Rattle.es_steps.specs.References.{is_reference}
 use Rattle.es_steps.specs.SameTrees.{kind_number}
 use Rattle.es_unchanged.proofs.Standing.{In, here, later, or_left, or_right}
 
@@ -25,3 +26,16 @@ stands-for kind n span semantic_id ps (Node other m mspan m_semantic_id qs ∷ u
 -- an old node
 pub carried : (first : ℕ) (us : List Tree) (t : Tree) → is_new first (number_of t) ≡ false → In t us → is_carried first us t ≡ true
 carried first us (Node kind n span semantic_id ps) old i = rw old (stands-for kind n span semantic_id ps us i)
+
+-- and one of its number and kind that is no reference, whatever its parts are
+alike : (kind : Kind) (ps qs : Parts) → is_reference kind ≡ false → carries kind ps kind qs ≡ true
+alike kind ps qs e = rw (e, number-same (kind_number kind)) refl
+
+stands-alike : (kind : Kind) (n : ℕ) (span : Option (ℕ × ℕ)) (semantic_id : Option ℕ) (ps qs : Parts) (us : List Tree) → is_reference kind ≡ false → In (Node kind n span semantic_id ps) us → stands_for kind n qs us ≡ true
+stands-alike kind n span semantic_id ps qs [] e i = elim i [ ]
+stands-alike kind n span semantic_id ps qs (u ∷ us) e here = or_left (nat_eq n n && carries kind ps kind qs) (stands_for kind n qs us) (both (number-same n) (alike kind ps qs e))
+stands-alike kind n span semantic_id ps qs (Node other m mspan m_semantic_id ms ∷ us) e (later i) =
+    or_right (nat_eq n m && carries other ms kind qs) (stands_for kind n qs us) (stands-alike kind n span semantic_id ps qs us e i)
+
+pub carried-alike : (first : ℕ) (us : List Tree) (kind : Kind) (n : ℕ) (span : Option (ℕ × ℕ)) (semantic_id : Option ℕ) (ps qs : Parts) → is_reference kind ≡ false → is_new first n ≡ false → In (Node kind n span semantic_id ps) us → is_carried first us (Node kind n span semantic_id qs) ≡ true
+carried-alike first us kind n span semantic_id ps qs e old i = rw old (stands-alike kind n span semantic_id ps qs us e i)
