@@ -1,17 +1,16 @@
 -- What a program of the first form is lowered to keeps the nodes of the source that it takes, and its new nodes are of kinds that a
 -- lowering makes.
-use Rattle.std.specs.Prelude.{◌≡◌, ℕ, ◌+◌, List, [], ◌∷◌, ◌++◌, Bool, true, false}
+use Rattle.std.specs.Prelude.{◌≡◌, ℕ, ◌+◌, List, [], ◌∷◌, ◌++◌, true}
 use Rattle.std.proofs.Common.{refl, sym, subst, ◌≤◌, arith}
 use Rattle.std.proofs.lemmas.Bool.{and_parts, le-leb}
 use Rattle.std.proofs.lemmas.List.{append-nil}
-use Rattle.es_base.specs.Numbered.{is_new}
-use Rattle.es_base.specs.Preorder.{nodes, numbered_from, number_of, preorder, preorder_of}
+use Rattle.es_base.specs.Preorder.{nodes, numbered_from, preorder, preorder_of}
 use Rattle.es_base.specs.Tree.{Tree, Parts, Node, end, more, child, absent, list, trees, string, literal}
 use Rattle.es_base.specs.declared.kind.Kind.{Kind}
 use Rattle.es_left.proofs.Booleans.{both}
 use Rattle.es_lowered.specs.Carriers.{all_carried, numbers_carried}
 use Rattle.es_unchanged.proofs.Carried.{carried, carried-alike}
-use Rattle.es_unchanged.proofs.Standing.{In, here, later, in-left, in-right}
+use Rattle.es_unchanged.proofs.Standing.{here, later, in-left, in-right}
 use Rattle.es_unchanged.proofs.Unchanged.{Below, numbered-below}
 use Rattle.class_properties.proofs.Numbered as numbered
 use Rattle.class_properties.proofs.Numbered.{definitions_from, lowered_elements, statement_size, lowered_statements, lowered_from}

@@ -4,7 +4,7 @@ use Rattle.std.specs.Prelude.{not, ◌&&◌, is_none, is_some}
 use Rattle.es_base.specs.Preorder.{preorder, preorder_of, preorder_of_part, number_of}
 use Rattle.es_base.specs.Tree.{Tree, Part, Parts, Node, end, more, child, absent, list, string, no_string, boolean, literal}
 use Rattle.es_base.specs.declared.ids.NodeId.{NodeId}
-use Rattle.es_node.specs.View.{kind_of, number_in, parts_in}
+use Rattle.es_node.specs.View.{number_in, parts_in}
 use Rattle.es_steps.specs.LoweredClasses as lowered
 use Rattle.es_steps.specs.LoweredClasses.{is_lowered_kind, none_lowered, nothing_left}
 use Rattle.es_steps.specs.declared.options.Options.{Options}

@@ -1,15 +1,12 @@
 -- Which node of the source a node stands for does not depend on numbers.
-use Rattle.std.specs.Prelude.{◌≡◌, ℕ, List, [], ◌∷◌, map, Bool, cond, not, ◌&&◌, ◌||◌, nat_eq, bytes_eq}
+use Rattle.std.specs.Prelude.{◌≡◌, ℕ, List, [], ◌∷◌, map, ◌&&◌, ◌||◌}
 use Rattle.std.proofs.Common.{refl, ap, ap₂, ◌∙◌}
-use Rattle.es_base.specs.Numbered.{is_new}
 use Rattle.es_base.specs.Preorder.{preorder}
 use Rattle.es_base.specs.Tree.{Tree, Part, Parts, Node, end, more, child, literal}
 use Rattle.es_base.specs.declared.kind.Kind.{Kind}
 use Rattle.es_base.specs.declared.literal.LiteralValue.TheVariants as literal_value
-use Rattle.es_lowered.specs.Carriers.{is_made, becomes, has_its_name, carries, stands_for, is_proto, gives_prototype, is_carried, all_carried, numbers_carried}
-use Rattle.es_steps.specs.Parts.{at, string_of}
-use Rattle.es_steps.specs.References.{is_reference}
-use Rattle.es_steps.specs.SameTrees.{same_kind}
+use Rattle.es_lowered.specs.Carriers.{carries, stands_for, is_proto, gives_prototype, is_carried, all_carried, numbers_carried}
+use Rattle.es_steps.specs.Parts.{at}
 use Rattle.es_steps.proofs.Mapped.{Renames, mapped, mapped_part, mapped_parts}
 use Rattle.es_steps.proofs.PartsMapped.{at-mapped, string_at-mapped, preorder-mapped}
 

@@ -1,7 +1,6 @@
 -- That what a class is named by stands in time does not depend on numbers.
-use Rattle.std.specs.Prelude.{◌≡◌, ℕ, List, [], ◌∷◌, ◌++◌, map, Bool, true, false, cond, not, ◌&&◌, ◌||◌, nat_eq, Option, Some, None, is_some}
+use Rattle.std.specs.Prelude.{◌≡◌, ℕ, List, [], ◌∷◌, ◌++◌, map, Bool, true, false, cond, not, ◌&&◌, ◌||◌, nat_eq, Option, Some, None}
 use Rattle.std.proofs.Common.{refl, ap, ap₂, ◌∙◌}
-use Rattle.es_base.specs.Conforms.{is_among}
 use Rattle.es_base.specs.Preorder.{number_of, preorder, preorder_of, preorder_of_part}
 use Rattle.es_base.specs.Tree.{Tree, Part, Parts, Node, end, more, child}
 use Rattle.es_base.specs.declared.kind.Kind.{Kind}
@@ -10,10 +9,10 @@ use Rattle.es_base.specs.declared.ledger.LedgerEntry.{LedgerEntry}
 use Rattle.es_lowered.specs.ClassNames.{numbers_of, numbers_of_key, element_numbers, body_numbers, numbers_inside, class_numbers, is_written_at, naming, without, numbers_of_class, head_numbers, common, free_naming, naming_in_source, MovedFunction, function_numbers, names_function, moved_function, moved_at, moved_functions, any_among, outside_class, names_holding, is_reference_to, reading, reaching, without_functions, is_behind, is_class_mark, stand_behind, is_asked, is_none, class_runs, any_name, behind_class, numbered, placed, behind, is_steady, steady, asked_names, functions_outside, asked_references, stand_in_time, class_timely, all_classes_timely, classes_timely}
 use Rattle.es_steps.specs.Context.{generated_as, is_generated}
 use Rattle.es_lowered.specs.Definitions.{spelling, class_identifiers, names_class}
-use Rattle.es_lowered.specs.FunctionsAround.{PlacedReference, all_stand_where}
+use Rattle.es_lowered.specs.FunctionsAround.{PlacedReference}
 use Rattle.es_lowered.specs.HelperCalls.{body_runs}
 use Rattle.es_steps.specs.NameScopes.{is_any_function}
-use Rattle.es_steps.specs.Parts.{at, items, string_of}
+use Rattle.es_steps.specs.Parts.{at, items}
 use Rattle.es_steps.specs.PrivateNames.{is_class, is_element}
 use Rattle.es_steps.specs.References.{Reference, resolve, has_number}
 use Rattle.es_lowered.specs.Timely.{Mark, marks, nowhere}

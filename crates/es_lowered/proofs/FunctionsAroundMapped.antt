@@ -1,11 +1,11 @@
 -- Where references stand does not depend on numbers.
-use Rattle.std.specs.Prelude.{◌≡◌, ℕ, suc, List, [], ◌∷◌, map, Bool, false, cond, not, ◌&&◌, ◌||◌, nat_eq}
-use Rattle.std.proofs.Common.{refl, ap, ap₂, ◌∙◌}
+use Rattle.std.specs.Prelude.{◌≡◌, ℕ, suc, List, [], ◌∷◌, map, Bool, false, not, ◌&&◌, ◌||◌}
+use Rattle.std.proofs.Common.{refl, ap₂, ◌∙◌}
 use Rattle.es_base.specs.Numbered.{is_new}
 use Rattle.es_base.specs.Tree.{Tree, Part, Parts, Node, end, more, child, list}
 use Rattle.es_base.specs.declared.kind.Kind.{Kind}
 use Rattle.es_lowered.specs.FunctionsAround.{PlacedReference, functions_in, placed_reference, placed_references, placed_in, placed_at, placed_of, same_place, stands_where, all_stand_where}
-use Rattle.es_steps.specs.KeptNodes.{all_pairs_stand, is_constructor_part}
+use Rattle.es_steps.specs.KeptNodes.{is_constructor_part}
 use Rattle.es_steps.specs.NameScopes.{is_any_function}
 use Rattle.es_steps.specs.Parts.{at, string_of}
 use Rattle.es_steps.specs.Values.{String}

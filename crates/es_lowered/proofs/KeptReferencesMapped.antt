@@ -1,23 +1,19 @@
 -- That names are read and written where they may be does not depend on numbers.
-use Rattle.std.specs.Prelude.{◌≡◌, ℕ, suc, List, [], ◌∷◌, map, Bool, false, cond, not, ◌&&◌, ◌||◌, nat_eq, bytes_eq, codes}
+use Rattle.std.specs.Prelude.{◌≡◌, ℕ, List, [], ◌∷◌, map, false, ◌&&◌, bytes_eq, codes}
 use Rattle.std.proofs.Common.{refl, ap, ap₂, ◌∙◌}
-use Rattle.es_base.specs.Numbered.{is_new}
 use Rattle.es_base.specs.Preorder.{preorder}
-use Rattle.es_base.specs.Tree.{Tree, Part, Parts, Node, end, more, child, list}
+use Rattle.es_base.specs.Tree.{Tree, Parts, Node}
 use Rattle.es_base.specs.declared.kind.Kind.{Kind}
 use Rattle.es_base.specs.declared.ledger.LedgerEntry.{LedgerEntry}
-use Rattle.es_steps.specs.Context.{is_generated}
 use Rattle.es_lowered.specs.HelperCalls.{part_number}
-use Rattle.es_steps.specs.KeptNodes.{pair_stands, all_pairs_stand, is_constructor_part}
 use Rattle.es_lowered.specs.KeptReferences.{plain_target, plain_targets, writing_numbers, write_fits, writes_fit, inner_references, inner_names_stay, references_stay}
-use Rattle.es_steps.specs.NameScopes.{is_any_function}
 use Rattle.es_steps.specs.Parts.{at, string_of}
 use Rattle.es_steps.specs.References.{Reference, resolve, gives_inside}
 use Rattle.es_lowered.proofs.ClassNamesMapped.{classes_timely-mapped}
 use Rattle.es_steps.proofs.ContextMapped.{is_generated-mapped}
 use Rattle.es_lowered.proofs.FunctionsAroundMapped.{mapped_placed, placed_references-mapped, all_stand_where-mapped}
 use Rattle.es_lowered.proofs.HelperCallsMapped.{part_number-mapped}
-use Rattle.es_steps.proofs.Mapped.{Renames, mapped, mapped_part, mapped_parts, mapped_reference, mapped_ledger}
+use Rattle.es_steps.proofs.Mapped.{Renames, mapped, mapped_parts, mapped_reference, mapped_ledger}
 use Rattle.es_steps.proofs.PartsMapped.{cond-mapped, append-mapped, at-mapped, string_at-mapped, preorder-mapped}
 use Rattle.es_steps.proofs.ReferencesMapped.{resolve-mapped, has_number-mapped, gives_inside-mapped}
 

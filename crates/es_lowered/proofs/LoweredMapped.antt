@@ -1,13 +1,12 @@
 -- What a lowered program owes, under a change of numbers of both programs.
-use Rattle.std.specs.Prelude.{false, ◌≡◌, ℕ, List, [], ◌∷◌, map, Bool, not, ◌&&◌, ◌||◌, bytes_eq, nat_eq, codes, Option, Some, None, is_some}
+use Rattle.std.specs.Prelude.{false, ◌≡◌, ℕ, List, [], ◌∷◌, map, Bool, not, ◌&&◌, ◌||◌, bytes_eq, nat_eq, codes, is_some}
 use Rattle.std.proofs.Common.{refl, ap, ap₂, ◌∙◌}
 use Rattle.es_base.specs.Preorder.{preorder, number_of}
 use Rattle.es_base.specs.Tree.{Tree, Part, Parts, Node, end, more, child, list, string}
 use Rattle.es_base.specs.declared.kind.Kind.{Kind}
 use Rattle.es_base.specs.declared.ledger.GeneratedKind.{GeneratedKind}
 use Rattle.es_base.specs.declared.ledger.LedgerEntry.{LedgerEntry}
-use Rattle.es_steps.specs.Context.{is_generated}
-use Rattle.es_lowered.specs.Definitions.{spelling, field_part, names_class, class_identifiers, all_different, is_among_first}
+use Rattle.es_lowered.specs.Definitions.{spelling, field_part, class_identifiers, all_different, is_among_first}
 use Rattle.es_steps.specs.KeptNodes.{statement_list, is_underscored}
 use Rattle.es_lowered.specs.Lowered.{declaring_number, declaring_numbers, is_bound_to, all_mean, is_one_new, private_key, private_keys, keys_of_body, keys_of_class, keys_in, is_one, declared_by_kind, same_space, is_named_again, same_subject, has_another_name, is_temp, is_at_most_one, names_declared, has_new_declarator, is_new_const, has_branded, belongs, is_accounted, all_accounted, declarations_accounted, spelled_as, is_new_of, is_key_call, is_function_part, class_number_in, assignment_number, paired, pairs_behind, all_behind, has_pair, is_class_itself, is_class_value, is_initial, is_class_kind, is_method_kind, initialization_at, initializations, comes_before, is_declared_function, all_before, needs_none, with_inner, is_one_initialization, initialization_stands, initializations_stand, any_before, keys_before, keys_stand}
 use Rattle.es_steps.specs.LoweredClasses.{none_lowered, nothing_left}
@@ -29,13 +28,12 @@ use Rattle.es_lowered.proofs.DefinitionsMapped.{mapped_temporary, spelling-mappe
 use Rattle.es_steps.proofs.FormsMapped.{if_member-mapped}
 use Rattle.es_lowered.proofs.HelperCallsMapped.{is_helper_callee-mapped}
 use Rattle.es_steps.proofs.KeptNodesMapped.{statement_list-mapped, is_function_declaration-mapped}
-use Rattle.es_steps.proofs.Mapped.{Renames, mapped, mapped_part, mapped_parts, mapped_option, mapped_generated, mapped_ledger, mapped_ledger_entry, mapped_privates, mapped_private, mapped_pair, mapped_referent, mapped_reference}
+use Rattle.es_steps.proofs.Mapped.{Renames, mapped, mapped_part, mapped_parts, mapped_generated, mapped_ledger, mapped_ledger_entry, mapped_privates, mapped_private, mapped_pair, mapped_referent, mapped_reference}
 use Rattle.es_lowered.proofs.OwnNamesMapped.{own_name_numbers-mapped}
 use Rattle.es_steps.proofs.PartsMapped.{cond-mapped, append-mapped, is_some-mapped, at-mapped, items_at-mapped, string_at-mapped, is_present-mapped, is_present_at-mapped, number_of-mapped, preorder-mapped}
 use Rattle.es_steps.proofs.PrivatesMapped.{member_at-mapped}
 use Rattle.es_steps.proofs.Renumbering.{members_of_all-mapped}
 use Rattle.es_steps.proofs.ReferencesMapped.{resolve-mapped, has_number-mapped}
-use Rattle.es_steps.proofs.ScopesMapped.{class_in-mapped}
 
 pub private_members-mapped : (f : ℕ → ℕ) (t : Tree) → private_members (mapped f t) ≡ mapped_privates f (private_members t)
 private_members-mapped f t = ap members_of_all (preorder-mapped f t) ∙ members_of_all-mapped f (preorder t)

@@ -1,5 +1,5 @@
 -- That generated names stand in time does not depend on numbers.
-use Rattle.std.specs.Prelude.{◌≡◌, ℕ, suc, List, [], ◌∷◌, ◌++◌, map, Bool, true, false, cond, not, ◌&&◌, ◌||◌, nat_eq, bytes_eq, Option, Some, None, is_some}
+use Rattle.std.specs.Prelude.{◌≡◌, ℕ, suc, List, [], ◌∷◌, ◌++◌, map, Bool, true, false, cond, not, ◌&&◌, ◌||◌, nat_eq, bytes_eq, Option, Some, None}
 use Rattle.std.proofs.Common.{refl, ap, ap₂, ◌∙◌}
 use Rattle.es_base.specs.Tree.{Tree, Part, Parts, Node, end, more, child, list, string}
 use Rattle.es_base.specs.declared.kind.Kind.{Kind}
@@ -16,7 +16,7 @@ use Rattle.es_steps.proofs.KeptNodesMapped.{statement_list-mapped}
 use Rattle.es_steps.proofs.ReferencesMapped.{has_number-mapped}
 use Rattle.es_steps.specs.Parts.{at, items, string_of}
 use Rattle.es_steps.specs.PrivateNames.{PrivateMember, member_at, is_class, is_element}
-use Rattle.es_lowered.specs.Timely.{are_bare, runs_nothing, let_number, leading_in, whole_list, leading_lets, let_form, nowhere, is_named, is_same, MarkForm, declares, initializes, hoists, uses, needs, Around, Mark, is_held, is_held_arrow, is_instance_value, runs_later, around_in, mark, declared_mark, initialized_mark, marks_before, marks_behind, is_given, is_of_class, is_needed_by, needed_names, uses_of, is_called_arrow, marks, marks_in, marks_at, marks_of, key_marks, value_marks, is_hoisted, is_declared, is_around, is_called_early, is_later, gives_in_time, any_gives, is_declaration, is_dead, is_skipped_by, is_skipped, is_followed, is_use, comes_first, use_form, is_called_first, use_around, is_running, is_early_by, is_early, asks, in_time, names_timely}
+use Rattle.es_lowered.specs.Timely.{are_bare, runs_nothing, let_number, leading_in, whole_list, leading_lets, let_form, nowhere, is_named, is_same, MarkForm, initializes, hoists, needs, Around, Mark, is_held, is_held_arrow, is_instance_value, runs_later, around_in, mark, declared_mark, initialized_mark, marks_before, marks_behind, is_given, is_of_class, is_needed_by, needed_names, uses_of, is_called_arrow, marks, marks_in, marks_at, marks_of, key_marks, value_marks, is_hoisted, is_declared, is_around, is_called_early, is_later, gives_in_time, any_gives, is_declaration, is_dead, is_skipped_by, is_skipped, is_followed, is_use, comes_first, use_form, is_called_first, use_around, is_running, is_early_by, is_early, asks, in_time, names_timely}
 use Rattle.es_steps.specs.Values.{String}
 use Rattle.es_steps.proofs.ContextMapped.{generated_as-mapped, is_generated-mapped}
 use Rattle.es_lowered.proofs.DefinitionsMapped.{spelling-mapped}

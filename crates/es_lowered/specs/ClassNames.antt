@@ -16,7 +16,7 @@ use Rattle.es_steps.specs.NameScopes.{is_any_function}
 use Rattle.es_steps.specs.Parts.{at, items, string_of}
 use Rattle.es_steps.specs.PrivateNames.{is_class, is_element}
 use Rattle.es_steps.specs.References.{Reference, resolve, has_number}
-use Rattle.es_lowered.specs.Timely.{MarkForm, initializes, uses, needs, Mark, marks, nowhere}
+use Rattle.es_lowered.specs.Timely.{MarkForm, initializes, Mark, marks, nowhere}
 use Rattle.es_steps.specs.Values.{String}
 
 -- ---- what stands in the elements of a class, but for its keys

@@ -1,7 +1,7 @@
 -- Names are read and written where they may be. (Our own.)
-use Rattle.std.specs.Prelude.{ℕ, suc, List, [], ◌∷◌, ◌++◌, Bool, true, false, cond, not, ◌&&◌, ◌||◌, nat_eq, bytes_eq, codes}
+use Rattle.std.specs.Prelude.{ℕ, List, [], ◌∷◌, ◌++◌, Bool, true, false, cond, not, ◌&&◌, ◌||◌, bytes_eq, codes}
 use Rattle.es_base.specs.Preorder.{preorder}
-use Rattle.es_base.specs.Tree.{Tree, Part, Parts, Node, end, more, child, list}
+use Rattle.es_base.specs.Tree.{Tree, Node}
 use Rattle.es_base.specs.declared.kind.Kind.{Kind}
 use Rattle.es_base.specs.declared.ledger.LedgerEntry.{LedgerEntry}
 use Rattle.es_lowered.specs.ClassNames.{classes_timely}
@@ -10,7 +10,6 @@ use Rattle.es_lowered.specs.HelperCalls.{part_number}
 use Rattle.es_steps.specs.Context.{is_generated}
 use Rattle.es_steps.specs.Parts.{at, string_of}
 use Rattle.es_steps.specs.References.{Reference, resolve, has_number, gives_inside}
-use Rattle.es_steps.specs.Values.{String}
 
 -- ---- a reference writes a generated name, or writes in the source, too; and a generated name is written by `=` or an update: what
 -- a pattern writes comes before the end of the pattern (13.15.5.2)

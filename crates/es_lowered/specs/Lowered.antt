@@ -1,6 +1,6 @@
 -- What a lowered program owes, whatever it means: its numbers, that nothing is left to lower, and what its new names
 -- are. (Our own. p is the source, q what it was lowered to, `first` the number of the first new node.)
-use Rattle.std.specs.Prelude.{◌≡◌, ℕ, List, [], ◌∷◌, ◌++◌, Bool, true, false, cond, not, ◌&&◌, ◌||◌, bytes_eq, nat_eq, codes, Option, Some, None, is_some}
+use Rattle.std.specs.Prelude.{◌≡◌, ℕ, List, [], ◌∷◌, ◌++◌, Bool, true, false, cond, not, ◌&&◌, ◌||◌, bytes_eq, nat_eq, codes, is_some}
 use Rattle.es_base.specs.Carried.{stripped}
 use Rattle.es_base.specs.Numbered.{IsNumbered, is_new}
 use Rattle.es_base.specs.Preorder.{preorder, number_of}
@@ -17,7 +17,7 @@ use Rattle.es_lowered.specs.HelperCalls.{is_helper_callee, computed_keys, helper
 use Rattle.es_lowered.specs.KeptReferences.{references_stay}
 use Rattle.es_steps.specs.KeptNodes.{statement_list, is_function_declaration, is_underscored, nodes_kept, classes_kept, statements_kept, lists_kept, homes_kept}
 use Rattle.es_steps.specs.LoweredClasses.{has_lowered_class, nothing_left}
-use Rattle.es_steps.specs.Options.{lowers_fields, lowers_blocks}
+use Rattle.es_steps.specs.Options.{lowers_fields}
 use Rattle.es_lowered.specs.OwnNames.{own_name_numbers, own_names_stay}
 use Rattle.es_steps.specs.Parts.{at, items, string_of, is_present}
 use Rattle.es_steps.specs.Printable.{stays_printable}

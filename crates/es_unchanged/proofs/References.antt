@@ -1,16 +1,16 @@
 -- In a program that is left as it is names are read and written where they are.
-use Rattle.std.specs.Prelude.{◌≡◌, ℕ, List, [], ◌∷◌, ◌++◌, Bool, true, false, cond, not, ◌&&◌, ◌||◌, nat_eq}
+use Rattle.std.specs.Prelude.{◌≡◌, ℕ, List, [], ◌∷◌, ◌++◌, Bool, true, false, cond, not, ◌||◌, nat_eq}
 use Rattle.std.proofs.Common.{refl}
 use Rattle.es_base.specs.Preorder.{preorder}
 use Rattle.es_base.specs.Tree.{Tree}
 use Rattle.es_left.proofs.Booleans.{both}
 use Rattle.es_steps.proofs.Reflexive.{number-same}
 use Rattle.es_lowered.specs.FunctionsAround.{PlacedReference}
-use Rattle.es_lowered.specs.KeptReferences.{plain_targets, writing_numbers, write_fits, writes_fit, inner_references, references_stay}
+use Rattle.es_lowered.specs.KeptReferences.{plain_targets, writing_numbers, writes_fit, inner_references, references_stay}
 use Rattle.es_steps.specs.References.{Reference, resolve, has_number}
 use Rattle.es_unchanged.proofs.ClassNames.{classes-timely}
 use Rattle.es_unchanged.proofs.Placed.{stand-where}
-use Rattle.es_unchanged.proofs.Standing.{or_left, or_right}
+use Rattle.es_unchanged.proofs.Standing.{or_right}
 
 -- old are numbers of references that write
 writes-own : (targets old : List ℕ) (rs : List Reference) → ((m : ℕ) → has_number m (writing_numbers rs) ≡ true → has_number m old ≡ true) → writes_fit [] targets old rs ≡ true
