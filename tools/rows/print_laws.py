@@ -89,6 +89,7 @@ ACCOUNTED = 'declarations_accounted (nodes source_{n}) generated_{n} source_{n} 
 STRICT = 'none_becomes_strict (nodes source_{n}) source_{n} output_{n}'
 TEXTS = 'texts_stay (nodes source_{n}) source_{n} output_{n}'
 OWN_NAMES = 'own_names_stay generated_{n} source_{n} output_{n}'
+CARRIERS = 'numbers_carried (nodes source_{n}) source_{n} output_{n}'
 REFERENCES = 'references_stay (nodes source_{n}) generated_{n} source_{n} output_{n}'
 NOT_MET = {
     'temporary_given_again': STEADY,
@@ -222,15 +223,45 @@ NOT_MET = {
     'new_target_outside': PRINTABLE,
     'copied_octal_escape': TEXTS,
     'name_that_begins_as_none': TEXTS,
+    'map_behind_a_key_that_asks': INITIALIZED,
+    'class_temporary_behind_a_called_arrow': INITIALIZED,
+    'class_temporary_behind_a_called_method': INITIALIZED,
+    'arrow_that_an_assignment_hands_on': REFERENCES,
+    'arrow_with_the_name_of_a_key': REFERENCES,
+    'closure_with_the_name_of_a_key': REFERENCES,
+    'arrow_with_the_name_of_an_argument': REFERENCES,
+    'argument_in_front_of_its_class': REFERENCES,
+    'class_named_in_front_of_it': REFERENCES,
+    'class_named_in_front_of_another': REFERENCES,
+    'conversion_in_a_key': CALLS,
+    'conversion_in_front_of_a_key': CALLS,
+    'conversion_in_front_of_a_named_class': CALLS,
+    'conversion_of_a_class_that_a_key_names': CALLS,
+    'private_element_of_the_class_around': STEADY,
+    'property_with_the_number_of_a_block': CARRIERS,
+    'conversion_with_the_number_of_a_key': CARRIERS,
+    'constant_with_the_numbers_of_fields': CARRIERS,
+    'declaration_with_the_numbers_of_fields': CARRIERS,
+    'const_without_a_value': PRINTED,
+    'const_beside_await_in_an_arrow': PRINTED,
+    'pattern_without_a_value': PRINTED,
+    'label_twice': PRINTED,
+    'await_in_a_function_that_nothing_calls': STEADY,
+    'super_in_a_function_that_nothing_calls': STEADY,
+    'call_in_a_super_function_that_nothing_calls': DEFINED,
+    'label_behind_an_error': CARRIERS,
+    'prototypes_behind_an_error': CARRIERS,
 }
+# of those that the clause on definitions finds: whose meaning is that of the source
+MEANT = ('call_in_a_super_function_that_nothing_calls',)
 # the shapes of the two programs
 SHAPES = {'block_beside_a_field_outside': ('3 ∷ []', '[]'), 'loose_member_read_once': ('[]', '4 ∷ []'), 'super_key_that_stays': ('[]', '4 ∷ []'), 'suspended_class_written': ('6 ∷ []', '[]'), 'imported_object': ('4 ∷ []', '[]'), 'imported_key': ('4 ∷ []', '[]'), 'imported_key_of_a_method': ('4 ∷ []', '[]'), 'key_that_a_function_in_a_block_gives': ('4 ∷ []', '[]'), 'caught_key': ('4 ∷ []', '[]'), 'key_that_a_branch_gives': ('4 ∷ []', '[]'), 'key_that_a_catch_gives': ('4 ∷ []', '[]'), 'imported_key_behind_a_block': ('4 ∷ []', '[]'), 'changing_key_behind_a_block': ('4 ∷ []', '[]'), 'key_that_is_arguments': ('4 ∷ []', '[]'), 'key_that_is_a_parameter_arguments': ('4 ∷ []', '[]')}
 # outputs that mean what their sources mean
 RIGHT = ('private_name_beside_a_name', 'branch_of_a_key', 'class_in_a_case', 'key_of_a_binding_for_a_name')
 # outputs that owe nothing either
-OWING_NOTHING = ('tested_name_of_a_class', 'block_of_a_binding', 'own_name_that_nothing_means', 'strict_function_of_a_method', 'block_of_an_arrow', 'class_named_await', 'class_that_suspends', 'classes_that_suspend', 'nameless_class_that_suspends', 'string_in_parentheses', 'directive_with_an_escape', 'hexadecimal_bigint', 'let_in_front_of_a_function')
+OWING_NOTHING = ('tested_name_of_a_class', 'block_of_a_binding', 'own_name_that_nothing_means', 'strict_function_of_a_method', 'block_of_an_arrow', 'class_named_await', 'class_that_suspends', 'classes_that_suspend', 'nameless_class_that_suspends', 'string_in_parentheses', 'directive_with_an_escape', 'hexadecimal_bigint', 'let_in_front_of_a_function', 'private_method_that_reads_a_field', 'private_method_that_reads_itself', 'static_private_method_that_reads_a_field', 'map_in_front_of_a_key_that_asks', 'arrow_that_names_await')
 # wrong outputs that have a meaning, and those of programs whose parameters come before their fields
-OTHER = ('branch_of_a_key_of_another', 'elements_dropped', 'static_field_dropped', 'block_dropped', 'block_behind_a_kept_field', 'read_moved', 'import_read_early', 'statements_of_a_case_exchanged', 'statement_of_another_case', 'arrow_moved_into_parameters', 'functions_of_a_block_exchanged', 'default_function_expression', 'let_out_of_a_head', 'class_of_a_head', 'class_of_a_right_side', 'conversions_of_a_template', 'let_beside_a_caught_name', 'arguments_of_a_function_around')
+OTHER = ('branch_of_a_key_of_another', 'elements_dropped', 'static_field_dropped', 'block_dropped', 'block_behind_a_kept_field', 'read_moved', 'import_read_early', 'statements_of_a_case_exchanged', 'statement_of_another_case', 'arrow_moved_into_parameters', 'functions_of_a_block_exchanged', 'default_function_expression', 'let_out_of_a_head', 'class_of_a_head', 'class_of_a_right_side', 'conversions_of_a_template', 'let_beside_a_caught_name', 'arguments_of_a_function_around', 'question_for_another_field', 'regular_expression_of_another_argument', 'regular_expressions_exchanged')
 AFTER = ('field_behind_parameters_dropped', 'field_behind_parameters_doubled', 'fields_behind_parameters_exchanged', 'another_literal_behind_parameters')
 pairs, wrong, kept, not_met, shaped, right, owing_nothing, other, after = [], [], [], [], [], [], [], [], []
 folder = f'{CRATE}/specs/witnesses'
@@ -249,7 +280,7 @@ for f in sorted(os.listdir(folder)):
         uses.append(f'ghost use Rattle.es_rows.specs.witnesses.{f[:-5]}.{{source_{n}, output_{n}, generated_{n}, options_{n}}};')
         if n in NOT_MET:
             not_met.append((n, NOT_MET[n].format(n=n) + ' ≡ false'))
-            if NOT_MET[n] == DEFINED:
+            if NOT_MET[n] == DEFINED and n not in MEANT:
                 wrong.append((n, f'Refused options_{n} generated_{n} source_{n} output_{n}'))
         elif n in RIGHT:
             right.append((n, f'Means options_{n} generated_{n} source_{n} output_{n}'))
@@ -282,6 +313,7 @@ text = '''// Worked rows and witnesses: functions that do nothing. Printed by to
 
 ghost use Rattle.std.specs.Prelude.{◌≡◌, [], ◌∷◌, false};
 ghost use Rattle.es_rows.specs.Owed.{Kept, KeptAfter, Owed, TellsApart, Refused, MeansOther, RefusedAfter, Means, HaveShapes};
+ghost use Rattle.es_lowered.specs.Carriers.{numbers_carried};
 ghost use Rattle.es_lowered.specs.Definitions.{definitions_stand};
 ghost use Rattle.es_base.specs.Conforms.{conforms};
 ghost use Rattle.es_base.specs.Preorder.{nodes, preorder};

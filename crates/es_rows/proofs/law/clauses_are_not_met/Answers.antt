@@ -4,6 +4,9 @@ use Rattle.es_rows.proofs.law.clauses_are_not_met.Goals as goal
 pub returns-clause-another_literal_of_a_written_class : goal.returns-clause-another_literal_of_a_written_class
 returns-clause-another_literal_of_a_written_class c = refl
 
+pub returns-clause-argument_in_front_of_its_class : goal.returns-clause-argument_in_front_of_its_class
+returns-clause-argument_in_front_of_its_class c = refl
+
 pub returns-clause-arguments_in_a_static_block : goal.returns-clause-arguments_in_a_static_block
 returns-clause-arguments_in_a_static_block c = refl
 
@@ -12,6 +15,18 @@ returns-clause-arguments_of_a_static_field c = refl
 
 pub returns-clause-arrow_out_of_a_block : goal.returns-clause-arrow_out_of_a_block
 returns-clause-arrow_out_of_a_block c = refl
+
+pub returns-clause-arrow_that_an_assignment_hands_on : goal.returns-clause-arrow_that_an_assignment_hands_on
+returns-clause-arrow_that_an_assignment_hands_on c = refl
+
+pub returns-clause-arrow_with_the_name_of_a_key : goal.returns-clause-arrow_with_the_name_of_a_key
+returns-clause-arrow_with_the_name_of_a_key c = refl
+
+pub returns-clause-arrow_with_the_name_of_an_argument : goal.returns-clause-arrow_with_the_name_of_an_argument
+returns-clause-arrow_with_the_name_of_an_argument c = refl
+
+pub returns-clause-await_in_a_function_that_nothing_calls : goal.returns-clause-await_in_a_function_that_nothing_calls
+returns-clause-await_in_a_function_that_nothing_calls c = refl
 
 pub returns-clause-await_in_a_static_block : goal.returns-clause-await_in_a_static_block
 returns-clause-await_in_a_static_block c = refl
@@ -40,6 +55,9 @@ returns-clause-break_in_an_arrow c = refl
 pub returns-clause-break_in_an_arrow_beside_await : goal.returns-clause-break_in_an_arrow_beside_await
 returns-clause-break_in_an_arrow_beside_await c = refl
 
+pub returns-clause-call_in_a_super_function_that_nothing_calls : goal.returns-clause-call_in_a_super_function_that_nothing_calls
+returns-clause-call_in_a_super_function_that_nothing_calls c = refl
+
 pub returns-clause-character_of_no_name : goal.returns-clause-character_of_no_name
 returns-clause-character_of_no_name c = refl
 
@@ -67,6 +85,12 @@ returns-clause-class_named_behind_its_block c = refl
 pub returns-clause-class_named_eval : goal.returns-clause-class_named_eval
 returns-clause-class_named_eval c = refl
 
+pub returns-clause-class_named_in_front_of_another : goal.returns-clause-class_named_in_front_of_another
+returns-clause-class_named_in_front_of_another c = refl
+
+pub returns-clause-class_named_in_front_of_it : goal.returns-clause-class_named_in_front_of_it
+returns-clause-class_named_in_front_of_it c = refl
+
 pub returns-clause-class_named_let : goal.returns-clause-class_named_let
 returns-clause-class_named_let c = refl
 
@@ -78,6 +102,12 @@ returns-clause-class_read_while_its_block_runs c = refl
 
 pub returns-clause-class_temporary_before_its_class : goal.returns-clause-class_temporary_before_its_class
 returns-clause-class_temporary_before_its_class c = refl
+
+pub returns-clause-class_temporary_behind_a_called_arrow : goal.returns-clause-class_temporary_behind_a_called_arrow
+returns-clause-class_temporary_behind_a_called_arrow c = refl
+
+pub returns-clause-class_temporary_behind_a_called_method : goal.returns-clause-class_temporary_behind_a_called_method
+returns-clause-class_temporary_behind_a_called_method c = refl
 
 pub returns-clause-class_temporary_in_its_class : goal.returns-clause-class_temporary_in_its_class
 returns-clause-class_temporary_in_its_class c = refl
@@ -100,11 +130,38 @@ returns-clause-closure_given_behind_its_call c = refl
 pub returns-clause-closure_given_in_each_round : goal.returns-clause-closure_given_in_each_round
 returns-clause-closure_given_in_each_round c = refl
 
+pub returns-clause-closure_with_the_name_of_a_key : goal.returns-clause-closure_with_the_name_of_a_key
+returns-clause-closure_with_the_name_of_a_key c = refl
+
+pub returns-clause-const_beside_await_in_an_arrow : goal.returns-clause-const_beside_await_in_an_arrow
+returns-clause-const_beside_await_in_an_arrow c = refl
+
+pub returns-clause-const_without_a_value : goal.returns-clause-const_without_a_value
+returns-clause-const_without_a_value c = refl
+
 pub returns-clause-constant_temporary : goal.returns-clause-constant_temporary
 returns-clause-constant_temporary c = refl
 
+pub returns-clause-constant_with_the_numbers_of_fields : goal.returns-clause-constant_with_the_numbers_of_fields
+returns-clause-constant_with_the_numbers_of_fields c = refl
+
+pub returns-clause-conversion_in_a_key : goal.returns-clause-conversion_in_a_key
+returns-clause-conversion_in_a_key c = refl
+
+pub returns-clause-conversion_in_front_of_a_key : goal.returns-clause-conversion_in_front_of_a_key
+returns-clause-conversion_in_front_of_a_key c = refl
+
+pub returns-clause-conversion_in_front_of_a_named_class : goal.returns-clause-conversion_in_front_of_a_named_class
+returns-clause-conversion_in_front_of_a_named_class c = refl
+
+pub returns-clause-conversion_of_a_class_that_a_key_names : goal.returns-clause-conversion_of_a_class_that_a_key_names
+returns-clause-conversion_of_a_class_that_a_key_names c = refl
+
 pub returns-clause-conversion_of_no_key : goal.returns-clause-conversion_of_no_key
 returns-clause-conversion_of_no_key c = refl
+
+pub returns-clause-conversion_with_the_number_of_a_key : goal.returns-clause-conversion_with_the_number_of_a_key
+returns-clause-conversion_with_the_number_of_a_key c = refl
 
 pub returns-clause-copied_octal_escape : goal.returns-clause-copied_octal_escape
 returns-clause-copied_octal_escape c = refl
@@ -120,6 +177,9 @@ returns-clause-dead_temporary c = refl
 
 pub returns-clause-declaration_of_nothing : goal.returns-clause-declaration_of_nothing
 returns-clause-declaration_of_nothing c = refl
+
+pub returns-clause-declaration_with_the_numbers_of_fields : goal.returns-clause-declaration_with_the_numbers_of_fields
+returns-clause-declaration_with_the_numbers_of_fields c = refl
 
 pub returns-clause-declaration_without_its_name : goal.returns-clause-declaration_without_its_name
 returns-clause-declaration_without_its_name c = refl
@@ -172,6 +232,12 @@ returns-clause-key_of_another_member c = refl
 pub returns-clause-key_outside_of_a_called_function : goal.returns-clause-key_outside_of_a_called_function
 returns-clause-key_outside_of_a_called_function c = refl
 
+pub returns-clause-label_behind_an_error : goal.returns-clause-label_behind_an_error
+returns-clause-label_behind_an_error c = refl
+
+pub returns-clause-label_twice : goal.returns-clause-label_twice
+returns-clause-label_twice c = refl
+
 pub returns-clause-let_behind_a_call : goal.returns-clause-let_behind_a_call
 returns-clause-let_behind_a_call c = refl
 
@@ -201,6 +267,9 @@ returns-clause-let_read_in_its_value c = refl
 
 pub returns-clause-map_behind_a_key : goal.returns-clause-map_behind_a_key
 returns-clause-map_behind_a_key c = refl
+
+pub returns-clause-map_behind_a_key_that_asks : goal.returns-clause-map_behind_a_key_that_asks
+returns-clause-map_behind_a_key_that_asks c = refl
 
 pub returns-clause-map_made_in_a_block : goal.returns-clause-map_made_in_a_block
 returns-clause-map_made_in_a_block c = refl
@@ -295,6 +364,12 @@ returns-clause-parameter_renamed c = refl
 pub returns-clause-pattern_of_no_regular_expression : goal.returns-clause-pattern_of_no_regular_expression
 returns-clause-pattern_of_no_regular_expression c = refl
 
+pub returns-clause-pattern_without_a_value : goal.returns-clause-pattern_without_a_value
+returns-clause-pattern_without_a_value c = refl
+
+pub returns-clause-private_element_of_the_class_around : goal.returns-clause-private_element_of_the_class_around
+returns-clause-private_element_of_the_class_around c = refl
+
 pub returns-clause-private_method_in_front_of_its_class : goal.returns-clause-private_method_in_front_of_its_class
 returns-clause-private_method_in_front_of_its_class c = refl
 
@@ -309,6 +384,12 @@ returns-clause-private_name_of_another_member c = refl
 
 pub returns-clause-private_name_twice : goal.returns-clause-private_name_twice
 returns-clause-private_name_twice c = refl
+
+pub returns-clause-property_with_the_number_of_a_block : goal.returns-clause-property_with_the_number_of_a_block
+returns-clause-property_with_the_number_of_a_block c = refl
+
+pub returns-clause-prototypes_behind_an_error : goal.returns-clause-prototypes_behind_an_error
+returns-clause-prototypes_behind_an_error c = refl
 
 pub returns-clause-raw_of_a_string : goal.returns-clause-raw_of_a_string
 returns-clause-raw_of_a_string c = refl
@@ -339,6 +420,9 @@ returns-clause-super_function_behind_its_calls c = refl
 
 pub returns-clause-super_function_outside_of_a_function : goal.returns-clause-super_function_outside_of_a_function
 returns-clause-super_function_outside_of_a_function c = refl
+
+pub returns-clause-super_in_a_function_that_nothing_calls : goal.returns-clause-super_in_a_function_that_nothing_calls
+returns-clause-super_in_a_function_that_nothing_calls c = refl
 
 pub returns-clause-temporary_given_again : goal.returns-clause-temporary_given_again
 returns-clause-temporary_given_again c = refl

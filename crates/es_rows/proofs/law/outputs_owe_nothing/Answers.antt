@@ -2,6 +2,9 @@ use Rattle.std.specs.Prelude.{refl}
 use Rattle.es_rows.proofs.Computed.{lowered}
 use Rattle.es_rows.proofs.law.outputs_owe_nothing.Goals as goal
 
+pub returns-clause-arrow_that_names_await : goal.returns-clause-arrow_that_names_await
+returns-clause-arrow_that_names_await c = (refl, refl, lowered refl, refl)
+
 pub returns-clause-block_of_a_binding : goal.returns-clause-block_of_a_binding
 returns-clause-block_of_a_binding c = (refl, refl, lowered refl, refl)
 
@@ -26,11 +29,23 @@ returns-clause-hexadecimal_bigint c = (refl, refl, lowered refl, refl)
 pub returns-clause-let_in_front_of_a_function : goal.returns-clause-let_in_front_of_a_function
 returns-clause-let_in_front_of_a_function c = (refl, refl, lowered refl, refl)
 
+pub returns-clause-map_in_front_of_a_key_that_asks : goal.returns-clause-map_in_front_of_a_key_that_asks
+returns-clause-map_in_front_of_a_key_that_asks c = (refl, refl, lowered refl, refl)
+
 pub returns-clause-nameless_class_that_suspends : goal.returns-clause-nameless_class_that_suspends
 returns-clause-nameless_class_that_suspends c = (refl, refl, lowered refl, refl)
 
 pub returns-clause-own_name_that_nothing_means : goal.returns-clause-own_name_that_nothing_means
 returns-clause-own_name_that_nothing_means c = (refl, refl, lowered refl, refl)
+
+pub returns-clause-private_method_that_reads_a_field : goal.returns-clause-private_method_that_reads_a_field
+returns-clause-private_method_that_reads_a_field c = (refl, refl, lowered refl, refl)
+
+pub returns-clause-private_method_that_reads_itself : goal.returns-clause-private_method_that_reads_itself
+returns-clause-private_method_that_reads_itself c = (refl, refl, lowered refl, refl)
+
+pub returns-clause-static_private_method_that_reads_a_field : goal.returns-clause-static_private_method_that_reads_a_field
+returns-clause-static_private_method_that_reads_a_field c = (refl, refl, lowered refl, refl)
 
 pub returns-clause-strict_function_of_a_method : goal.returns-clause-strict_function_of_a_method
 returns-clause-strict_function_of_a_method c = (refl, refl, lowered refl, refl)

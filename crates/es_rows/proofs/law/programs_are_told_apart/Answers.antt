@@ -103,6 +103,9 @@ returns-clause-read_behind_a_function_in_a_block c = (refl, refl, refl)
 pub returns-clause-read_in_front_of_a_block : goal.returns-clause-read_in_front_of_a_block
 returns-clause-read_in_front_of_a_block c = (refl, refl, refl)
 
+pub returns-clause-regular_expressions_of_one_text : goal.returns-clause-regular_expressions_of_one_text
+returns-clause-regular_expressions_of_one_text c = (refl, refl, refl)
+
 pub returns-clause-rest_dropped : goal.returns-clause-rest_dropped
 returns-clause-rest_dropped c = (refl, refl, refl)
 

@@ -154,6 +154,9 @@ returns-clause-parent_never_constructed c = refl
 pub returns-clause-picked_by_an_async_arrow : goal.returns-clause-picked_by_an_async_arrow
 returns-clause-picked_by_an_async_arrow c = refl
 
+pub returns-clause-private_element_in_front_of_its_value : goal.returns-clause-private_element_in_front_of_its_value
+returns-clause-private_element_in_front_of_its_value c = refl
+
 pub returns-clause-private_field_dropped : goal.returns-clause-private_field_dropped
 returns-clause-private_field_dropped c = refl
 
@@ -165,6 +168,9 @@ returns-clause-private_name_of_another_class c = refl
 
 pub returns-clause-private_name_of_the_outer_class : goal.returns-clause-private_name_of_the_outer_class
 returns-clause-private_name_of_the_outer_class c = refl
+
+pub returns-clause-question_for_a_generated_element : goal.returns-clause-question_for_a_generated_element
+returns-clause-question_for_a_generated_element c = refl
 
 pub returns-clause-receiver_of_a_conditional : goal.returns-clause-receiver_of_a_conditional
 returns-clause-receiver_of_a_conditional c = refl
@@ -199,6 +205,9 @@ returns-clause-static_field_before_its_class c = refl
 pub returns-clause-static_key_read_late : goal.returns-clause-static_key_read_late
 returns-clause-static_key_read_late c = refl
 
+pub returns-clause-super_function_called_with_another : goal.returns-clause-super_function_called_with_another
+returns-clause-super_function_called_with_another c = refl
+
 pub returns-clause-super_gives_zero : goal.returns-clause-super_gives_zero
 returns-clause-super_gives_zero c = refl
 
@@ -213,6 +222,9 @@ returns-clause-temporary_given_late c = refl
 
 pub returns-clause-temporary_never_given : goal.returns-clause-temporary_never_given
 returns-clause-temporary_never_given c = refl
+
+pub returns-clause-temporary_of_the_round_before : goal.returns-clause-temporary_of_the_round_before
+returns-clause-temporary_of_the_round_before c = refl
 
 pub returns-clause-test_of_another_object : goal.returns-clause-test_of_another_object
 returns-clause-test_of_another_object c = refl

@@ -43,8 +43,17 @@ returns-clause-let_beside_a_caught_name c = (refl, refl)
 pub returns-clause-let_out_of_a_head : goal.returns-clause-let_out_of_a_head
 returns-clause-let_out_of_a_head c = (refl, refl)
 
+pub returns-clause-question_for_another_field : goal.returns-clause-question_for_another_field
+returns-clause-question_for_another_field c = (refl, refl)
+
 pub returns-clause-read_moved : goal.returns-clause-read_moved
 returns-clause-read_moved c = (refl, refl)
+
+pub returns-clause-regular_expression_of_another_argument : goal.returns-clause-regular_expression_of_another_argument
+returns-clause-regular_expression_of_another_argument c = (refl, refl)
+
+pub returns-clause-regular_expressions_exchanged : goal.returns-clause-regular_expressions_exchanged
+returns-clause-regular_expressions_exchanged c = (refl, refl)
 
 pub returns-clause-statement_of_another_case : goal.returns-clause-statement_of_another_case
 returns-clause-statement_of_another_case c = (refl, refl)

@@ -1,0 +1,24 @@
+-- Printed by tools/rows/witnesses.js.
+use Rattle.std.specs.Prelude.{ℕ, List, [], ◌∷◌, false, codes, Some, None}
+use Rattle.es_base.specs.Tree.{Tree, end, more, child, absent, list, string, no_string, boolean, literal, trees}
+use Rattle.es_base.specs.declared.kind.Kind.{Kind}
+use Rattle.es_base.specs.declared.ledger.GeneratedKind.{GeneratedKind}
+use Rattle.es_base.specs.declared.ledger.LedgerEntry.{LedgerEntry}
+use Rattle.es_base.specs.declared.literal.LiteralValue.TheVariants as literal_value
+use Rattle.es_steps.specs.Generated.{node}
+use Rattle.es_steps.specs.Options.{options_of}
+use Rattle.es_steps.specs.declared.options.Options.{Options}
+
+-- `class A { x = 1; y = 2; static { () => await; } }`
+abbrev pub source_const_beside_await_in_an_arrow : Tree
+source_const_beside_await_in_an_arrow = node Kind.Program 0 (more (string (codes "script")) (more (list (trees (node Kind.ClassDeclaration 1 (more (child (node Kind.BindingIdentifier 2 (more (string (codes "A")) end))) (more absent (more (child (node Kind.ClassBody 3 (more (list (trees (node Kind.PropertyDefinition 4 (more (child (node Kind.IdentifierName 5 (more (string (codes "x")) end))) (more (child (node Kind.Literal 6 (more (literal (literal_value.Number (codes "1"))) end))) (more (boolean false) (more (boolean false) end)))) ∷ node Kind.PropertyDefinition 7 (more (child (node Kind.IdentifierName 8 (more (string (codes "y")) end))) (more (child (node Kind.Literal 9 (more (literal (literal_value.Number (codes "2"))) end))) (more (boolean false) (more (boolean false) end)))) ∷ node Kind.StaticBlock 10 (more (list (trees (node Kind.ExpressionStatement 11 (more (child (node Kind.ArrowFunctionExpression 12 (more (list end) (more (child (node Kind.IdentifierReference 13 (more (string (codes "await")) end))) (more (boolean false) end))))) (more no_string end)) ∷ []))) end) ∷ []))) end))) end))) ∷ []))) end))
+
+-- a `const` without a value, beside `await` as a name in the body of an arrow in a static block, where `var _t; class A { constructor() { B.defineProperty(this, "x", 1); B.defineProperty(this, "y", 2); } static { () => await; } }` is right
+abbrev pub output_const_beside_await_in_an_arrow : Tree
+output_const_beside_await_in_an_arrow = node Kind.Program 0 (more (string (codes "script")) (more (list (trees (node Kind.VariableDeclaration 4 (more (string (codes "const")) (more (list (trees (node Kind.VariableDeclarator 7 (more (child (node Kind.BindingIdentifier 14 (more (string (codes "_t")) end))) (more absent end)) ∷ []))) end)) ∷ node Kind.ClassDeclaration 1 (more (child (node Kind.BindingIdentifier 2 (more (string (codes "A")) end))) (more absent (more (child (node Kind.ClassBody 3 (more (list (trees (node Kind.MethodDefinition 15 (more (child (node Kind.IdentifierName 16 (more (string (codes "constructor")) end))) (more (child (node Kind.FunctionExpression 17 (more absent (more (list end) (more (child (node Kind.BlockStatement 18 (more (list (trees (node Kind.ExpressionStatement 19 (more (child (node Kind.CallExpression 20 (more (child (node Kind.MemberExpression 21 (more (child (node Kind.IdentifierReference 22 (more (string (codes "babelHelpers")) end))) (more (child (node Kind.IdentifierName 23 (more (string (codes "defineProperty")) end))) (more (boolean false) (more (boolean false) end)))))) (more (list (trees (node Kind.ThisExpression 24 end ∷ node Kind.Literal 25 (more (literal (literal_value.String (codes "x") None)) end) ∷ node Kind.Literal 6 (more (literal (literal_value.Number (codes "1"))) end) ∷ []))) (more (boolean false) end))))) (more no_string end)) ∷ node Kind.ExpressionStatement 26 (more (child (node Kind.CallExpression 27 (more (child (node Kind.MemberExpression 28 (more (child (node Kind.IdentifierReference 29 (more (string (codes "babelHelpers")) end))) (more (child (node Kind.IdentifierName 30 (more (string (codes "defineProperty")) end))) (more (boolean false) (more (boolean false) end)))))) (more (list (trees (node Kind.ThisExpression 31 end ∷ node Kind.Literal 32 (more (literal (literal_value.String (codes "y") None)) end) ∷ node Kind.Literal 9 (more (literal (literal_value.Number (codes "2"))) end) ∷ []))) (more (boolean false) end))))) (more no_string end)) ∷ []))) end))) (more (boolean false) (more (boolean false) end))))))) (more (string (codes "constructor")) (more (boolean false) (more (boolean false) end))))) ∷ node Kind.StaticBlock 10 (more (list (trees (node Kind.ExpressionStatement 11 (more (child (node Kind.ArrowFunctionExpression 12 (more (list end) (more (child (node Kind.IdentifierReference 13 (more (string (codes "await")) end))) (more (boolean false) end))))) (more no_string end)) ∷ []))) end) ∷ []))) end))) end))) ∷ []))) end))
+
+abbrev pub generated_const_beside_await_in_an_arrow : List LedgerEntry
+generated_const_beside_await_in_an_arrow = record { name = codes "_t"; kind = GeneratedKind.Temp } ∷ []
+
+abbrev pub options_const_beside_await_in_an_arrow : Options
+options_const_beside_await_in_an_arrow = options_of false (Some (record { loose = false })) false
