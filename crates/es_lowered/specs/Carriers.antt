@@ -8,6 +8,7 @@ use Rattle.es_base.specs.declared.kind.Kind.{Kind}
 use Rattle.es_base.specs.declared.literal.LiteralValue.TheVariants as literal_value
 use Rattle.es_steps.specs.KeptNodes.{is_underscored}
 use Rattle.es_steps.specs.Parts.{at, string_of}
+use Rattle.es_steps.specs.Printable.{name_of_part}
 use Rattle.es_steps.specs.References.{is_reference}
 use Rattle.es_steps.specs.SameTrees.{same_kind}
 use Rattle.es_steps.specs.Values.{String}
@@ -94,8 +95,27 @@ named_by kind = false
 abbrev pub has_its_name : Kind → String → String → Bool
 has_its_name kind s t = named_by kind && ((is_reference kind && bytes_eq s t) || is_underscored t)
 
+-- forms that no value tells from others: a call of the name `eval` (13.3.6.1), `delete` of a private member (13.5.1.1)
+abbrev pub is_named : String → Part → Bool
+is_named s (child (Node Kind.IdentifierReference m span semantic_id ps)) = bytes_eq s (string_of (at 0 ps))
+is_named s p = false
+
+abbrev pub is_loose_base : Part → Bool
+is_loose_base (child (Node Kind.CallExpression m span semantic_id (more (child (Node Kind.MemberExpression k kspan k_semantic_id ps)) rest))) = is_named (codes "babelHelpers") (at 0 ps) && bytes_eq (name_of_part (at 1 ps)) (codes "classPrivateFieldLooseBase")
+is_loose_base p = false
+
+abbrev pub is_private_member : Part → Bool
+is_private_member (child (Node Kind.PrivateField m span semantic_id ps)) = true
+is_private_member (child (Node Kind.MemberExpression m span semantic_id ps)) = is_loose_base (at 0 ps)
+is_private_member p = false
+
+abbrev pub has_odd_form : Kind → Parts → Bool
+has_odd_form Kind.CallExpression ps = is_named (codes "eval") (at 0 ps)
+has_odd_form Kind.UnaryExpression ps = bytes_eq (string_of (at 0 ps)) (codes "delete") && is_private_member (at 1 ps)
+has_odd_form kind ps = false
+
 abbrev pub carries : Kind → Parts → Kind → Parts → Bool
-carries kind ps other qs = cond (is_reference other) (has_its_name kind (string_of (at 0 ps)) (string_of (at 0 qs))) (same_kind kind other || becomes kind other)
+carries kind ps other qs = cond (is_reference other) (has_its_name kind (string_of (at 0 ps)) (string_of (at 0 qs))) ((same_kind kind other || becomes kind other) && (not (has_odd_form other qs) || has_odd_form kind ps))
 
 abbrev pub stands_for : Kind → ℕ → Parts → List Tree → Bool
 stands_for kind n qs [] = false
@@ -113,7 +133,7 @@ gives_prototype kind ps = false
 
 -- ps are the nodes of the source
 abbrev pub is_carried : ℕ → List Tree → Tree → Bool
-is_carried first ps (Node kind n span semantic_id qs) = cond (is_new first n) (is_made kind && not (gives_prototype kind qs)) (stands_for kind n qs ps)
+is_carried first ps (Node kind n span semantic_id qs) = cond (is_new first n) (is_made kind && not (gives_prototype kind qs || has_odd_form kind qs)) (stands_for kind n qs ps)
 
 abbrev pub all_carried : ℕ → List Tree → List Tree → Bool
 all_carried first ps [] = true

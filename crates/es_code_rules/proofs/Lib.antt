@@ -1,0 +1,4 @@
+pub mod CallForms
+pub mod Depths
+pub mod Forms
+pub mod Runs

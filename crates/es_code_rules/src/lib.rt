@@ -1,0 +1,10 @@
+//! Rules of forms of code, each whatever evaluates the codes in it. Not all forms yet.
+#![tactic(auto)]
+
+pub mod accesses;
+pub mod callees;
+pub mod calls;
+pub mod definition;
+pub mod lists;
+pub mod parts;
+pub mod within;

@@ -1,0 +1,4 @@
+pub mod AssignmentForms
+pub mod Members
+pub mod TargetDepths
+pub mod TargetForms
