@@ -5,7 +5,7 @@ use Rattle.es_base.specs.Preorder.{preorder}
 use Rattle.es_base.specs.Tree.{Tree, Part, Parts, Node, end, more, child, literal}
 use Rattle.es_base.specs.declared.kind.Kind.{Kind}
 use Rattle.es_base.specs.declared.literal.LiteralValue.TheVariants as literal_value
-use Rattle.es_lowered.specs.Carriers.{is_named, is_loose_base, is_private_member, has_odd_form, carries, stands_for, is_proto, gives_prototype, is_carried, all_carried, numbers_carried}
+use Rattle.es_lowered.specs.Carriers.{is_loose_base, form_of_callee, form_of_deleted, odd_form, carries, stands_for, is_proto, gives_prototype, is_carried, all_carried, numbers_carried}
 use Rattle.es_steps.specs.Parts.{at}
 use Rattle.es_steps.specs.Values.{String}
 use Rattle.es_steps.proofs.Mapped.{Renames, mapped, mapped_part, mapped_parts}
@@ -13,27 +13,30 @@ use Rattle.es_steps.proofs.PrintableMapped.{name_of_part-mapped}
 use Rattle.es_steps.proofs.PartsMapped.{at-mapped, string_at-mapped, preorder-mapped}
 
 module _ {first : ℕ} {f : ℕ → ℕ} (r : Renames first f) where
-  is_named-mapped : (s : String) (p : Part) → is_named s (mapped_part f p) ≡ is_named s p
-  is_named-mapped s (child (Node Kind.IdentifierReference m span semantic_id ps)) = rw (string_at-mapped f 0 ps) refl
-  is_named-mapped s p = refl
-
   is_loose_base-mapped : (p : Part) → is_loose_base (mapped_part f p) ≡ is_loose_base p
   is_loose_base-mapped (child (Node Kind.CallExpression m span semantic_id (more (child (Node Kind.MemberExpression k kspan k_semantic_id ps)) rest))) =
-      rw (at-mapped f 0 ps, is_named-mapped (codes "babelHelpers") (at 0 ps), at-mapped f 1 ps, name_of_part-mapped f (at 1 ps)) refl
+      rw (at-mapped f 0 ps, name_of_part-mapped f (at 0 ps), at-mapped f 1 ps, name_of_part-mapped f (at 1 ps)) refl
   is_loose_base-mapped p = refl
 
-  is_private_member-mapped : (p : Part) → is_private_member (mapped_part f p) ≡ is_private_member p
-  is_private_member-mapped (child (Node Kind.PrivateField m span semantic_id ps)) = refl
-  is_private_member-mapped (child (Node Kind.MemberExpression m span semantic_id ps)) = ap is_loose_base (at-mapped f 0 ps) ∙ is_loose_base-mapped (at 0 ps)
-  is_private_member-mapped p = refl
+  form_of_callee-mapped : (p : Part) → form_of_callee (mapped_part f p) ≡ form_of_callee p
+  form_of_callee-mapped (child (Node Kind.IdentifierReference m span semantic_id ps)) = rw (string_at-mapped f 0 ps) refl
+  form_of_callee-mapped (child (Node Kind.PrivateField m span semantic_id ps)) = refl
+  form_of_callee-mapped p = refl
 
-  has_odd_form-mapped : (kind : Kind) (ps : Parts) → has_odd_form kind (mapped_parts f ps) ≡ has_odd_form kind ps
-  has_odd_form-mapped Kind.CallExpression ps = ap (is_named (codes "eval")) (at-mapped f 0 ps) ∙ is_named-mapped (codes "eval") (at 0 ps)
-  has_odd_form-mapped Kind.UnaryExpression ps = rw (string_at-mapped f 0 ps, at-mapped f 1 ps, is_private_member-mapped (at 1 ps)) refl
-  has_odd_form-mapped kind ps = refl
+  form_of_deleted-mapped : (p : Part) → form_of_deleted (mapped_part f p) ≡ form_of_deleted p
+  form_of_deleted-mapped (child (Node Kind.IdentifierReference m span semantic_id ps)) = refl
+  form_of_deleted-mapped (child (Node Kind.PrivateField m span semantic_id ps)) = refl
+  form_of_deleted-mapped (child (Node Kind.MemberExpression m span semantic_id ps)) = rw (at-mapped f 0 ps, is_loose_base-mapped (at 0 ps)) refl
+  form_of_deleted-mapped p = refl
+
+  odd_form-mapped : (kind : Kind) (ps : Parts) → odd_form kind (mapped_parts f ps) ≡ odd_form kind ps
+  odd_form-mapped Kind.CallExpression ps = ap form_of_callee (at-mapped f 0 ps) ∙ form_of_callee-mapped (at 0 ps)
+  odd_form-mapped Kind.TaggedTemplateExpression ps = ap form_of_callee (at-mapped f 0 ps) ∙ form_of_callee-mapped (at 0 ps)
+  odd_form-mapped Kind.UnaryExpression ps = rw (string_at-mapped f 0 ps, at-mapped f 1 ps, form_of_deleted-mapped (at 1 ps)) refl
+  odd_form-mapped kind ps = refl
 
   carries-mapped : (kind : Kind) (ps : Parts) (other : Kind) (qs : Parts) → carries kind (mapped_parts f ps) other (mapped_parts f qs) ≡ carries kind ps other qs
-  carries-mapped kind ps other qs = rw (string_at-mapped f 0 ps, string_at-mapped f 0 qs, has_odd_form-mapped kind ps, has_odd_form-mapped other qs) refl
+  carries-mapped kind ps other qs = rw (string_at-mapped f 0 ps, string_at-mapped f 0 qs, odd_form-mapped kind ps, odd_form-mapped other qs) refl
 
   stands_for-mapped : (kind : Kind) (n : ℕ) (qs : Parts) (ts : List Tree) → stands_for kind (f n) (mapped_parts f qs) (map (mapped f) ts) ≡ stands_for kind n qs ts
   stands_for-mapped kind n qs [] = refl
@@ -49,7 +52,7 @@ module _ {first : ℕ} {f : ℕ → ℕ} (r : Renames first f) where
   gives_prototype-mapped kind ps = refl
 
   is_carried-mapped : (ps : List Tree) (t : Tree) → is_carried first (map (mapped f) ps) (mapped f t) ≡ is_carried first ps t
-  is_carried-mapped ps (Node kind n span semantic_id qs) = rw (r.new n, gives_prototype-mapped kind qs, has_odd_form-mapped kind qs, stands_for-mapped kind n qs ps) refl
+  is_carried-mapped ps (Node kind n span semantic_id qs) = rw (r.new n, gives_prototype-mapped kind qs, odd_form-mapped kind qs, stands_for-mapped kind n qs ps) refl
 
   all_carried-mapped : (ps ts : List Tree) → all_carried first (map (mapped f) ps) (map (mapped f) ts) ≡ all_carried first ps ts
   all_carried-mapped ps [] = refl

@@ -95,27 +95,47 @@ named_by kind = false
 abbrev pub has_its_name : Kind → String → String → Bool
 has_its_name kind s t = named_by kind && ((is_reference kind && bytes_eq s t) || is_underscored t)
 
--- forms that no value tells from others: a call of the name `eval` (13.3.6.1), `delete` of a private member (13.5.1.1)
-abbrev pub is_named : String → Part → Bool
-is_named s (child (Node Kind.IdentifierReference m span semantic_id ps)) = bytes_eq s (string_of (at 0 ps))
-is_named s p = false
+-- forms that no value tells from others: a call of the name `eval` (13.3.6.1); a call and a tag of a private member, which is handed
+-- its object (13.3.6.2); `delete` of a private member, and of a name (13.5.1.1)
+pub data OddForm : Type 0 where
+  calls_eval : OddForm
+  calls_private : OddForm
+  deletes_private : OddForm
+  deletes_name : OddForm
+  no_odd_form : OddForm
 
 abbrev pub is_loose_base : Part → Bool
-is_loose_base (child (Node Kind.CallExpression m span semantic_id (more (child (Node Kind.MemberExpression k kspan k_semantic_id ps)) rest))) = is_named (codes "babelHelpers") (at 0 ps) && bytes_eq (name_of_part (at 1 ps)) (codes "classPrivateFieldLooseBase")
+is_loose_base (child (Node Kind.CallExpression m span semantic_id (more (child (Node Kind.MemberExpression k kspan k_semantic_id ps)) rest))) = bytes_eq (name_of_part (at 0 ps)) (codes "babelHelpers") && bytes_eq (name_of_part (at 1 ps)) (codes "classPrivateFieldLooseBase")
 is_loose_base p = false
 
-abbrev pub is_private_member : Part → Bool
-is_private_member (child (Node Kind.PrivateField m span semantic_id ps)) = true
-is_private_member (child (Node Kind.MemberExpression m span semantic_id ps)) = is_loose_base (at 0 ps)
-is_private_member p = false
+abbrev pub form_of_callee : Part → OddForm
+form_of_callee (child (Node Kind.IdentifierReference m span semantic_id ps)) = cond (bytes_eq (codes "eval") (string_of (at 0 ps))) calls_eval no_odd_form
+form_of_callee (child (Node Kind.PrivateField m span semantic_id ps)) = calls_private
+form_of_callee p = no_odd_form
 
-abbrev pub has_odd_form : Kind → Parts → Bool
-has_odd_form Kind.CallExpression ps = is_named (codes "eval") (at 0 ps)
-has_odd_form Kind.UnaryExpression ps = bytes_eq (string_of (at 0 ps)) (codes "delete") && is_private_member (at 1 ps)
-has_odd_form kind ps = false
+abbrev pub form_of_deleted : Part → OddForm
+form_of_deleted (child (Node Kind.IdentifierReference m span semantic_id ps)) = deletes_name
+form_of_deleted (child (Node Kind.PrivateField m span semantic_id ps)) = deletes_private
+form_of_deleted (child (Node Kind.MemberExpression m span semantic_id ps)) = cond (is_loose_base (at 0 ps)) deletes_private no_odd_form
+form_of_deleted p = no_odd_form
+
+abbrev pub odd_form : Kind → Parts → OddForm
+odd_form Kind.CallExpression ps = form_of_callee (at 0 ps)
+odd_form Kind.TaggedTemplateExpression ps = form_of_callee (at 0 ps)
+odd_form Kind.UnaryExpression ps = cond (bytes_eq (string_of (at 0 ps)) (codes "delete")) (form_of_deleted (at 1 ps)) no_odd_form
+odd_form kind ps = no_odd_form
+
+-- the second is none, or the first
+abbrev pub keeps_form : OddForm → OddForm → Bool
+keeps_form form no_odd_form = true
+keeps_form calls_eval calls_eval = true
+keeps_form calls_private calls_private = true
+keeps_form deletes_private deletes_private = true
+keeps_form deletes_name deletes_name = true
+keeps_form form other = false
 
 abbrev pub carries : Kind → Parts → Kind → Parts → Bool
-carries kind ps other qs = cond (is_reference other) (has_its_name kind (string_of (at 0 ps)) (string_of (at 0 qs))) ((same_kind kind other || becomes kind other) && (not (has_odd_form other qs) || has_odd_form kind ps))
+carries kind ps other qs = cond (is_reference other) (has_its_name kind (string_of (at 0 ps)) (string_of (at 0 qs))) ((same_kind kind other || becomes kind other) && keeps_form (odd_form kind ps) (odd_form other qs))
 
 abbrev pub stands_for : Kind → ℕ → Parts → List Tree → Bool
 stands_for kind n qs [] = false
@@ -133,7 +153,7 @@ gives_prototype kind ps = false
 
 -- ps are the nodes of the source
 abbrev pub is_carried : ℕ → List Tree → Tree → Bool
-is_carried first ps (Node kind n span semantic_id qs) = cond (is_new first n) (is_made kind && not (gives_prototype kind qs || has_odd_form kind qs)) (stands_for kind n qs ps)
+is_carried first ps (Node kind n span semantic_id qs) = cond (is_new first n) ((is_made kind && not (gives_prototype kind qs)) && keeps_form no_odd_form (odd_form kind qs)) (stands_for kind n qs ps)
 
 abbrev pub all_carried : ℕ → List Tree → List Tree → Bool
 all_carried first ps [] = true

@@ -6,20 +6,23 @@ use Rattle.es_base.specs.Preorder.{number_of}
 use Rattle.es_base.specs.Tree.{Tree, Parts, Node}
 use Rattle.es_base.specs.declared.kind.Kind.{Kind}
 use Rattle.es_left.proofs.Booleans.{both}
-use Rattle.es_lowered.specs.Carriers.{has_odd_form, carries, stands_for, is_carried}
+use Rattle.es_lowered.specs.Carriers.{OddForm, calls_eval, calls_private, deletes_private, deletes_name, no_odd_form, odd_form, keeps_form, carries, stands_for, is_carried}
 use Rattle.es_steps.proofs.Reflexive.{number-same, string-same}
 use Rattle.es_steps.specs.Parts.{at, string_of}
 use Rattle.es_steps.specs.References.{is_reference}
 use Rattle.es_steps.specs.SameTrees.{kind_number}
 use Rattle.es_unchanged.proofs.Standing.{In, here, later, or_left, or_right}
 
-stays : (b : Bool) → not b || b ≡ true
-stays true = refl
-stays false = refl
+stays : (form : OddForm) → keeps_form form form ≡ true
+stays calls_eval = refl
+stays calls_private = refl
+stays deletes_private = refl
+stays deletes_name = refl
+stays no_odd_form = refl
 
 carries-itself : (kind : Kind) (ps : Parts) → carries kind ps kind ps ≡ true
 carries-itself Kind.IdentifierReference ps = rw (string-same (string_of (at 0 ps))) refl
-carries-itself kind ps = rw (number-same (kind_number kind)) (stays (has_odd_form kind ps))
+carries-itself kind ps = rw (number-same (kind_number kind)) (stays (odd_form kind ps))
 
 stands-for : (kind : Kind) (n : ℕ) (span : Option (ℕ × ℕ)) (semantic_id : Option ℕ) (ps : Parts) (us : List Tree) → In (Node kind n span semantic_id ps) us → stands_for kind n ps us ≡ true
 stands-for kind n span semantic_id ps [] i = elim i [ ]
@@ -32,14 +35,14 @@ pub carried : (first : ℕ) (us : List Tree) (t : Tree) → is_new first (number
 carried first us (Node kind n span semantic_id ps) old i = rw old (stands-for kind n span semantic_id ps us i)
 
 -- and one of its number and kind that is no reference, whatever its parts are
-alike : (kind : Kind) (ps qs : Parts) → is_reference kind ≡ false → has_odd_form kind qs ≡ false → carries kind ps kind qs ≡ true
+alike : (kind : Kind) (ps qs : Parts) → is_reference kind ≡ false → odd_form kind qs ≡ no_odd_form → carries kind ps kind qs ≡ true
 alike kind ps qs e even = rw (e, number-same (kind_number kind), even) refl
 
-stands-alike : (kind : Kind) (n : ℕ) (span : Option (ℕ × ℕ)) (semantic_id : Option ℕ) (ps qs : Parts) (us : List Tree) → is_reference kind ≡ false → has_odd_form kind qs ≡ false → In (Node kind n span semantic_id ps) us → stands_for kind n qs us ≡ true
+stands-alike : (kind : Kind) (n : ℕ) (span : Option (ℕ × ℕ)) (semantic_id : Option ℕ) (ps qs : Parts) (us : List Tree) → is_reference kind ≡ false → odd_form kind qs ≡ no_odd_form → In (Node kind n span semantic_id ps) us → stands_for kind n qs us ≡ true
 stands-alike kind n span semantic_id ps qs [] e even i = elim i [ ]
 stands-alike kind n span semantic_id ps qs (u ∷ us) e even here = or_left (nat_eq n n && carries kind ps kind qs) (stands_for kind n qs us) (both (number-same n) (alike kind ps qs e even))
 stands-alike kind n span semantic_id ps qs (Node other m mspan m_semantic_id ms ∷ us) e even (later i) =
     or_right (nat_eq n m && carries other ms kind qs) (stands_for kind n qs us) (stands-alike kind n span semantic_id ps qs us e even i)
 
-pub carried-alike : (first : ℕ) (us : List Tree) (kind : Kind) (n : ℕ) (span : Option (ℕ × ℕ)) (semantic_id : Option ℕ) (ps qs : Parts) → is_reference kind ≡ false → has_odd_form kind qs ≡ false → is_new first n ≡ false → In (Node kind n span semantic_id ps) us → is_carried first us (Node kind n span semantic_id qs) ≡ true
+pub carried-alike : (first : ℕ) (us : List Tree) (kind : Kind) (n : ℕ) (span : Option (ℕ × ℕ)) (semantic_id : Option ℕ) (ps qs : Parts) → is_reference kind ≡ false → odd_form kind qs ≡ no_odd_form → is_new first n ≡ false → In (Node kind n span semantic_id ps) us → is_carried first us (Node kind n span semantic_id qs) ≡ true
 carried-alike first us kind n span semantic_id ps qs e even old i = rw old (stands-alike kind n span semantic_id ps qs us e even i)
