@@ -251,6 +251,11 @@ NOT_MET = {
     'call_in_a_super_function_that_nothing_calls': DEFINED,
     'label_behind_an_error': CARRIERS,
     'prototypes_behind_an_error': CARRIERS,
+    'call_of_eval_by_its_name': CARRIERS,
+    'delete_of_a_private_property': CARRIERS,
+    'call_of_a_private_element': CARRIERS,
+    'tag_of_a_private_element': CARRIERS,
+    'delete_of_a_name_behind_a_throw': CARRIERS,
 }
 # of those that the clause on definitions finds: whose meaning is that of the source
 MEANT = ('call_in_a_super_function_that_nothing_calls',)

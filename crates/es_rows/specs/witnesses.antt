@@ -43,6 +43,8 @@ pub mod BrandOutsideOfACalledFunction
 pub mod BreakInAnArrow
 pub mod BreakInAnArrowBesideAwait
 pub mod CallInASuperFunctionThatNothingCalls
+pub mod CallOfAPrivateElement
+pub mod CallOfEvalByItsName
 pub mod CaughtKey
 pub mod CaughtNamesExchanged
 pub mod ChangingKeyBehindABlock
@@ -109,6 +111,8 @@ pub mod DefaultFunction
 pub mod DefaultFunctionExpression
 pub mod DefinitionsNested
 pub mod DeleteOfAName
+pub mod DeleteOfANameBehindAThrow
+pub mod DeleteOfAPrivateProperty
 pub mod DeletedKey
 pub mod DirectiveBehindAName
 pub mod DirectiveWithAnEscape
@@ -311,6 +315,7 @@ pub mod SuperInAFunctionThatNothingCalls
 pub mod SuperKeyThatStays
 pub mod SuspendedClassWritten
 pub mod SuspendingConstructor
+pub mod TagOfAPrivateElement
 pub mod TailOfATemplate
 pub mod TemplateKey
 pub mod TemporaryGivenAgain

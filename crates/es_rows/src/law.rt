@@ -147,6 +147,8 @@ ghost use Rattle.es_rows.specs.witnesses.BrandOutsideOfACalledFunction.{source_b
 ghost use Rattle.es_rows.specs.witnesses.BreakInAnArrow.{source_break_in_an_arrow, output_break_in_an_arrow, generated_break_in_an_arrow, options_break_in_an_arrow};
 ghost use Rattle.es_rows.specs.witnesses.BreakInAnArrowBesideAwait.{source_break_in_an_arrow_beside_await, output_break_in_an_arrow_beside_await, generated_break_in_an_arrow_beside_await, options_break_in_an_arrow_beside_await};
 ghost use Rattle.es_rows.specs.witnesses.CallInASuperFunctionThatNothingCalls.{source_call_in_a_super_function_that_nothing_calls, output_call_in_a_super_function_that_nothing_calls, generated_call_in_a_super_function_that_nothing_calls, options_call_in_a_super_function_that_nothing_calls};
+ghost use Rattle.es_rows.specs.witnesses.CallOfAPrivateElement.{source_call_of_a_private_element, output_call_of_a_private_element, generated_call_of_a_private_element, options_call_of_a_private_element};
+ghost use Rattle.es_rows.specs.witnesses.CallOfEvalByItsName.{source_call_of_eval_by_its_name, output_call_of_eval_by_its_name, generated_call_of_eval_by_its_name, options_call_of_eval_by_its_name};
 ghost use Rattle.es_rows.specs.witnesses.CaughtKey.{first_caught_key, second_caught_key, options_caught_key};
 ghost use Rattle.es_rows.specs.witnesses.CaughtNamesExchanged.{first_caught_names_exchanged, second_caught_names_exchanged, options_caught_names_exchanged};
 ghost use Rattle.es_rows.specs.witnesses.ChangingKeyBehindABlock.{first_changing_key_behind_a_block, second_changing_key_behind_a_block, options_changing_key_behind_a_block};
@@ -212,6 +214,8 @@ ghost use Rattle.es_rows.specs.witnesses.DefaultFunction.{first_default_function
 ghost use Rattle.es_rows.specs.witnesses.DefaultFunctionExpression.{source_default_function_expression, output_default_function_expression, generated_default_function_expression, options_default_function_expression};
 ghost use Rattle.es_rows.specs.witnesses.DefinitionsNested.{source_definitions_nested, output_definitions_nested, generated_definitions_nested, options_definitions_nested};
 ghost use Rattle.es_rows.specs.witnesses.DeleteOfAName.{first_delete_of_a_name, second_delete_of_a_name, options_delete_of_a_name};
+ghost use Rattle.es_rows.specs.witnesses.DeleteOfANameBehindAThrow.{source_delete_of_a_name_behind_a_throw, output_delete_of_a_name_behind_a_throw, generated_delete_of_a_name_behind_a_throw, options_delete_of_a_name_behind_a_throw};
+ghost use Rattle.es_rows.specs.witnesses.DeleteOfAPrivateProperty.{source_delete_of_a_private_property, output_delete_of_a_private_property, generated_delete_of_a_private_property, options_delete_of_a_private_property};
 ghost use Rattle.es_rows.specs.witnesses.DeletedKey.{source_deleted_key, output_deleted_key, generated_deleted_key, options_deleted_key};
 ghost use Rattle.es_rows.specs.witnesses.DirectiveBehindAName.{source_directive_behind_a_name, output_directive_behind_a_name, generated_directive_behind_a_name, options_directive_behind_a_name};
 ghost use Rattle.es_rows.specs.witnesses.DirectiveWithAnEscape.{source_directive_with_an_escape, output_directive_with_an_escape, generated_directive_with_an_escape, options_directive_with_an_escape};
@@ -412,6 +416,7 @@ ghost use Rattle.es_rows.specs.witnesses.SuperInAFunctionThatNothingCalls.{sourc
 ghost use Rattle.es_rows.specs.witnesses.SuperKeyThatStays.{first_super_key_that_stays, second_super_key_that_stays, options_super_key_that_stays};
 ghost use Rattle.es_rows.specs.witnesses.SuspendedClassWritten.{first_suspended_class_written, second_suspended_class_written, options_suspended_class_written};
 ghost use Rattle.es_rows.specs.witnesses.SuspendingConstructor.{source_suspending_constructor, output_suspending_constructor, generated_suspending_constructor, options_suspending_constructor};
+ghost use Rattle.es_rows.specs.witnesses.TagOfAPrivateElement.{source_tag_of_a_private_element, output_tag_of_a_private_element, generated_tag_of_a_private_element, options_tag_of_a_private_element};
 ghost use Rattle.es_rows.specs.witnesses.TailOfATemplate.{first_tail_of_a_template, second_tail_of_a_template, options_tail_of_a_template};
 ghost use Rattle.es_rows.specs.witnesses.TemplateKey.{first_template_key, second_template_key, options_template_key};
 ghost use Rattle.es_rows.specs.witnesses.TemporaryGivenAgain.{source_temporary_given_again, output_temporary_given_again, generated_temporary_given_again, options_temporary_given_again};
@@ -743,6 +748,8 @@ pub fn clauses_are_not_met()
     ensures break_in_an_arrow { is_printable output_break_in_an_arrow ≡ false }
     ensures break_in_an_arrow_beside_await { stays_printable source_break_in_an_arrow_beside_await output_break_in_an_arrow_beside_await ≡ false }
     ensures call_in_a_super_function_that_nothing_calls { definitions_stand (nodes source_call_in_a_super_function_that_nothing_calls) options_call_in_a_super_function_that_nothing_calls generated_call_in_a_super_function_that_nothing_calls (private_members source_call_in_a_super_function_that_nothing_calls) source_call_in_a_super_function_that_nothing_calls output_call_in_a_super_function_that_nothing_calls ≡ false }
+    ensures call_of_a_private_element { numbers_carried (nodes source_call_of_a_private_element) source_call_of_a_private_element output_call_of_a_private_element ≡ false }
+    ensures call_of_eval_by_its_name { numbers_carried (nodes source_call_of_eval_by_its_name) source_call_of_eval_by_its_name output_call_of_eval_by_its_name ≡ false }
     ensures character_of_no_name { texts_stay (nodes source_character_of_no_name) source_character_of_no_name output_character_of_no_name ≡ false }
     ensures class_asked_for_in_its_key { references_stay (nodes source_class_asked_for_in_its_key) generated_class_asked_for_in_its_key source_class_asked_for_in_its_key output_class_asked_for_in_its_key ≡ false }
     ensures class_behind_its_use { lists_kept options_class_behind_its_use source_class_behind_its_use output_class_behind_its_use ≡ false }
@@ -788,6 +795,8 @@ pub fn clauses_are_not_met()
     ensures declaration_without_its_name_in_a_method { own_names_stay generated_declaration_without_its_name_in_a_method source_declaration_without_its_name_in_a_method output_declaration_without_its_name_in_a_method ≡ false }
     ensures declaration_without_its_names { stays_printable source_declaration_without_its_names output_declaration_without_its_names ≡ false }
     ensures declarator_in_a_const { declarations_accounted (nodes source_declarator_in_a_const) generated_declarator_in_a_const source_declarator_in_a_const output_declarator_in_a_const ≡ false }
+    ensures delete_of_a_name_behind_a_throw { numbers_carried (nodes source_delete_of_a_name_behind_a_throw) source_delete_of_a_name_behind_a_throw output_delete_of_a_name_behind_a_throw ≡ false }
+    ensures delete_of_a_private_property { numbers_carried (nodes source_delete_of_a_private_property) source_delete_of_a_private_property output_delete_of_a_private_property ≡ false }
     ensures directive_behind_a_name { is_printable output_directive_behind_a_name ≡ false }
     ensures elements_of_a_written_class_dropped { definitions_stand (nodes source_elements_of_a_written_class_dropped) options_elements_of_a_written_class_dropped generated_elements_of_a_written_class_dropped (private_members source_elements_of_a_written_class_dropped) source_elements_of_a_written_class_dropped output_elements_of_a_written_class_dropped ≡ false }
     ensures field_of_a_written_class_doubled { definitions_stand (nodes source_field_of_a_written_class_doubled) options_field_of_a_written_class_doubled generated_field_of_a_written_class_doubled (private_members source_field_of_a_written_class_doubled) source_field_of_a_written_class_doubled output_field_of_a_written_class_doubled ≡ false }
@@ -865,6 +874,7 @@ pub fn clauses_are_not_met()
     ensures super_function_behind_its_calls { names_timely (nodes source_super_function_behind_its_calls) generated_super_function_behind_its_calls (private_members source_super_function_behind_its_calls) output_super_function_behind_its_calls ≡ false }
     ensures super_function_outside_of_a_function { references_stay (nodes source_super_function_outside_of_a_function) generated_super_function_outside_of_a_function source_super_function_outside_of_a_function output_super_function_outside_of_a_function ≡ false }
     ensures super_in_a_function_that_nothing_calls { temporaries_steady (nodes source_super_in_a_function_that_nothing_calls) generated_super_in_a_function_that_nothing_calls (private_members source_super_in_a_function_that_nothing_calls) output_super_in_a_function_that_nothing_calls ≡ false }
+    ensures tag_of_a_private_element { numbers_carried (nodes source_tag_of_a_private_element) source_tag_of_a_private_element output_tag_of_a_private_element ≡ false }
     ensures temporary_given_again { temporaries_steady (nodes source_temporary_given_again) generated_temporary_given_again (private_members source_temporary_given_again) output_temporary_given_again ≡ false }
     ensures temporary_given_again_in_a_branch { initializations_stand (nodes source_temporary_given_again_in_a_branch) generated_temporary_given_again_in_a_branch source_temporary_given_again_in_a_branch output_temporary_given_again_in_a_branch generated_temporary_given_again_in_a_branch ≡ false }
     ensures temporary_given_again_in_a_loop { temporaries_steady (nodes source_temporary_given_again_in_a_loop) generated_temporary_given_again_in_a_loop (private_members source_temporary_given_again_in_a_loop) output_temporary_given_again_in_a_loop ≡ false }

@@ -58,6 +58,12 @@ returns-clause-break_in_an_arrow_beside_await c = refl
 pub returns-clause-call_in_a_super_function_that_nothing_calls : goal.returns-clause-call_in_a_super_function_that_nothing_calls
 returns-clause-call_in_a_super_function_that_nothing_calls c = refl
 
+pub returns-clause-call_of_a_private_element : goal.returns-clause-call_of_a_private_element
+returns-clause-call_of_a_private_element c = refl
+
+pub returns-clause-call_of_eval_by_its_name : goal.returns-clause-call_of_eval_by_its_name
+returns-clause-call_of_eval_by_its_name c = refl
+
 pub returns-clause-character_of_no_name : goal.returns-clause-character_of_no_name
 returns-clause-character_of_no_name c = refl
 
@@ -192,6 +198,12 @@ returns-clause-declaration_without_its_names c = refl
 
 pub returns-clause-declarator_in_a_const : goal.returns-clause-declarator_in_a_const
 returns-clause-declarator_in_a_const c = refl
+
+pub returns-clause-delete_of_a_name_behind_a_throw : goal.returns-clause-delete_of_a_name_behind_a_throw
+returns-clause-delete_of_a_name_behind_a_throw c = refl
+
+pub returns-clause-delete_of_a_private_property : goal.returns-clause-delete_of_a_private_property
+returns-clause-delete_of_a_private_property c = refl
 
 pub returns-clause-directive_behind_a_name : goal.returns-clause-directive_behind_a_name
 returns-clause-directive_behind_a_name c = refl
@@ -423,6 +435,9 @@ returns-clause-super_function_outside_of_a_function c = refl
 
 pub returns-clause-super_in_a_function_that_nothing_calls : goal.returns-clause-super_in_a_function_that_nothing_calls
 returns-clause-super_in_a_function_that_nothing_calls c = refl
+
+pub returns-clause-tag_of_a_private_element : goal.returns-clause-tag_of_a_private_element
+returns-clause-tag_of_a_private_element c = refl
 
 pub returns-clause-temporary_given_again : goal.returns-clause-temporary_given_again
 returns-clause-temporary_given_again c = refl
