@@ -279,8 +279,11 @@ pub mod ReadMoved
 pub mod ReceiverOfAConditional
 pub mod ReceiverOfAPrivateCall
 pub mod ReceiverOfASuperCall
+pub mod RegularExpressionAsAKey
+pub mod RegularExpressionAsAStaticKey
 pub mod RegularExpressionInATemporary
 pub mod RegularExpressionOfAnotherArgument
+pub mod RegularExpressionOfEachInstance
 pub mod RegularExpressionReadTwice
 pub mod RegularExpressionsExchanged
 pub mod RegularExpressionsOfOneText

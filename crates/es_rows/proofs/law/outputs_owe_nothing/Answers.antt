@@ -44,6 +44,12 @@ returns-clause-private_method_that_reads_a_field c = (refl, refl, lowered refl, 
 pub returns-clause-private_method_that_reads_itself : goal.returns-clause-private_method_that_reads_itself
 returns-clause-private_method_that_reads_itself c = (refl, refl, lowered refl, refl)
 
+pub returns-clause-regular_expression_as_a_key : goal.returns-clause-regular_expression_as_a_key
+returns-clause-regular_expression_as_a_key c = (refl, refl, lowered refl, refl)
+
+pub returns-clause-regular_expression_as_a_static_key : goal.returns-clause-regular_expression_as_a_static_key
+returns-clause-regular_expression_as_a_static_key c = (refl, refl, lowered refl, refl)
+
 pub returns-clause-static_private_method_that_reads_a_field : goal.returns-clause-static_private_method_that_reads_a_field
 returns-clause-static_private_method_that_reads_a_field c = (refl, refl, lowered refl, refl)
 

@@ -184,6 +184,9 @@ returns-clause-receiver_of_a_super_call c = refl
 pub returns-clause-regular_expression_in_a_temporary : goal.returns-clause-regular_expression_in_a_temporary
 returns-clause-regular_expression_in_a_temporary c = refl
 
+pub returns-clause-regular_expression_of_each_instance : goal.returns-clause-regular_expression_of_each_instance
+returns-clause-regular_expression_of_each_instance c = refl
+
 pub returns-clause-result_of_the_setter : goal.returns-clause-result_of_the_setter
 returns-clause-result_of_the_setter c = refl
 
