@@ -5,7 +5,7 @@ use Rattle.es_base.specs.Preorder.{preorder}
 use Rattle.es_base.specs.Tree.{Tree, Part, Parts, Node, end, more, child, literal}
 use Rattle.es_base.specs.declared.kind.Kind.{Kind}
 use Rattle.es_base.specs.declared.literal.LiteralValue.TheVariants as literal_value
-use Rattle.es_lowered.specs.Carriers.{is_loose_base, form_of_callee, form_of_deleted, odd_form, carries, stands_for, is_proto, gives_prototype, is_carried, all_carried, numbers_carried}
+use Rattle.es_lowered.specs.Carriers.{is_loose_base, form_of_callee, form_of_deleted, odd_form, carries, stands_for_node, is_proto, gives_prototype, is_carried, all_carried, numbers_carried}
 use Rattle.es_steps.specs.Parts.{at}
 use Rattle.es_steps.specs.Values.{String}
 use Rattle.es_steps.proofs.Mapped.{Renames, mapped, mapped_part, mapped_parts}
@@ -38,9 +38,9 @@ module _ {first : ℕ} {f : ℕ → ℕ} (r : Renames first f) where
   carries-mapped : (kind : Kind) (ps : Parts) (other : Kind) (qs : Parts) → carries kind (mapped_parts f ps) other (mapped_parts f qs) ≡ carries kind ps other qs
   carries-mapped kind ps other qs = rw (string_at-mapped f 0 ps, string_at-mapped f 0 qs, odd_form-mapped kind ps, odd_form-mapped other qs) refl
 
-  stands_for-mapped : (kind : Kind) (n : ℕ) (qs : Parts) (ts : List Tree) → stands_for kind (f n) (mapped_parts f qs) (map (mapped f) ts) ≡ stands_for kind n qs ts
-  stands_for-mapped kind n qs [] = refl
-  stands_for-mapped kind n qs (Node other m span semantic_id ps ∷ ts) = ap₂ (λ a b. a || b) (ap₂ (λ a b. a && b) (r.apart n m) (carries-mapped other ps kind qs)) (stands_for-mapped kind n qs ts)
+  stands_for_node-mapped : (kind : Kind) (n : ℕ) (qs : Parts) (ts : List Tree) → stands_for_node kind (f n) (mapped_parts f qs) (map (mapped f) ts) ≡ stands_for_node kind n qs ts
+  stands_for_node-mapped kind n qs [] = refl
+  stands_for_node-mapped kind n qs (Node other m span semantic_id ps ∷ ts) = ap₂ (λ a b. a || b) (ap₂ (λ a b. a && b) (r.apart n m) (carries-mapped other ps kind qs)) (stands_for_node-mapped kind n qs ts)
 
   is_proto-mapped : (p : Part) → is_proto (mapped_part f p) ≡ is_proto p
   is_proto-mapped (child (Node Kind.IdentifierName m span semantic_id ps)) = rw (string_at-mapped f 0 ps) refl
@@ -52,7 +52,7 @@ module _ {first : ℕ} {f : ℕ → ℕ} (r : Renames first f) where
   gives_prototype-mapped kind ps = refl
 
   is_carried-mapped : (ps : List Tree) (t : Tree) → is_carried first (map (mapped f) ps) (mapped f t) ≡ is_carried first ps t
-  is_carried-mapped ps (Node kind n span semantic_id qs) = rw (r.new n, gives_prototype-mapped kind qs, odd_form-mapped kind qs, stands_for-mapped kind n qs ps) refl
+  is_carried-mapped ps (Node kind n span semantic_id qs) = rw (r.new n, gives_prototype-mapped kind qs, odd_form-mapped kind qs, stands_for_node-mapped kind n qs ps) refl
 
   all_carried-mapped : (ps ts : List Tree) → all_carried first (map (mapped f) ps) (map (mapped f) ts) ≡ all_carried first ps ts
   all_carried-mapped ps [] = refl

@@ -6,7 +6,7 @@ use Rattle.es_base.specs.Tree.{Tree, Part, Parts, Node, end, more, child}
 use Rattle.es_base.specs.declared.kind.Kind.{Kind}
 use Rattle.es_base.specs.declared.ledger.GeneratedKind.{GeneratedKind}
 use Rattle.es_base.specs.declared.ledger.LedgerEntry.{LedgerEntry}
-use Rattle.es_lowered.specs.ClassNames.{numbers_of, numbers_of_key, element_numbers, body_numbers, numbers_inside, class_numbers, is_written_at, naming, without, numbers_of_class, head_numbers, common, free_naming, naming_in_source, MovedFunction, function_numbers, names_function, moved_function, moved_at, moved_functions, any_among, outside_class, names_holding, is_reference_to, reading, reaching, without_functions, is_behind, is_class_mark, stand_behind, is_asked, is_none, class_runs, any_name, behind_class, numbered, placed, behind, is_steady, steady, asked_names, functions_outside, asked_references, stand_in_time, class_timely, all_classes_timely, classes_timely}
+use Rattle.es_lowered.specs.ClassNames.{numbers_of, numbers_of_key, element_numbers, body_numbers, numbers_inside, class_numbers, is_written_at, naming, without, numbers_of_class, head_numbers, common, free_naming, naming_in_source, MovedFunction, function_numbers, names_function, moved_function, moved_at, moved_functions, any_among, outside_class, names_holding, is_reference_to, reading, reaching, without_functions, is_behind, is_class_mark, stand_behind, is_asked, is_none, class_runs, any_name, behind_class, numbered, placed, behind, is_kept_place, kept_places, asked_names, functions_outside, asked_references, stand_in_time, class_timely, all_classes_timely, classes_timely}
 use Rattle.es_steps.specs.Context.{generated_as, is_generated}
 use Rattle.es_lowered.specs.Definitions.{spelling, class_identifiers, names_class}
 use Rattle.es_lowered.specs.FunctionsAround.{PlacedReference}
@@ -219,25 +219,25 @@ module _ {first : ℕ} {f : ℕ → ℕ} (r : Renames first f) where
         ap (behind_class []) (marks-mapped r [] [] (is_asked (map f (n ∷ names))) (is_asked (n ∷ names)) (is_asked-mapped (n ∷ names)) [] nowhere None t)
         ∙ behind_class-mapped [] (marks first [] [] (is_asked (n ∷ names)) [] nowhere None t)
 
-    is_steady-mapped : (m : ℕ) → is_steady first (f n) (mapped f p) (mapped f q) (map f names) (f m) ≡ is_steady first n p q names m
-    is_steady-mapped m =
+    is_kept_place-mapped : (m : ℕ) → is_kept_place first (f n) (mapped f p) (mapped f q) (map f names) (f m) ≡ is_kept_place first n p q names m
+    is_kept_place-mapped m =
         rw (placed-mapped q, placed-mapped p, numbered-mapped m (placed first n p q names q), all_stand_where-mapped r (numbered m (placed first n p q names q)) (placed first n p q names p), behind-mapped p, behind-mapped q, has_number-mapped r m (behind first n p q names p), has_number-mapped r m (behind first n p q names q)) refl
 
-    steady-mapped : (ms : List ℕ) → steady first (f n) (mapped f p) (mapped f q) (map f names) (map f ms) ≡ map f (steady first n p q names ms)
-    steady-mapped [] = refl
-    steady-mapped (m ∷ ms) = append-mapped f _ _ (rw (is_steady-mapped m) (cond-mapped (map f) (is_steady first n p q names m) (m ∷ []) [] refl refl)) (steady-mapped ms)
+    kept_places-mapped : (ms : List ℕ) → kept_places first (f n) (mapped f p) (mapped f q) (map f names) (map f ms) ≡ map f (kept_places first n p q names ms)
+    kept_places-mapped [] = refl
+    kept_places-mapped (m ∷ ms) = append-mapped f _ _ (rw (is_kept_place-mapped m) (cond-mapped (map f) (is_kept_place first n p q names m) (m ∷ []) [] refl refl)) (kept_places-mapped ms)
 
   asked_names-mapped : (ledger : List LedgerEntry) (p q : Tree) (n : ℕ) → asked_names first (mapped_ledger f ledger) (mapped f p) (mapped f q) (f n) ≡ map f (asked_names first ledger p q n)
   asked_names-mapped ledger p q n =
       let names : List ℕ = naming_in_source first n p in
       let free : List ℕ = free_naming (class_runs n (preorder q)) n (preorder p) (preorder q) names in
       ap₂ without
-      (ap₂ (λ qs ns. steady first (f n) (mapped f p) (mapped f q) ns (free_naming (class_runs (f n) qs) (f n) (preorder (mapped f p)) qs ns)) (preorder-mapped f q) (naming_in-mapped n [] p)
-      ∙ (ap₂ (λ b ps. steady first (f n) (mapped f p) (mapped f q) (map f names) (free_naming b (f n) ps (map (mapped f) (preorder q)) (map f names))) (class_runs-mapped n (preorder q)) (preorder-mapped f p)
-      ∙ (ap (steady first (f n) (mapped f p) (mapped f q) (map f names)) (free_naming-mapped (class_runs n (preorder q)) n (preorder p) (preorder q) names)
-      ∙ steady-mapped n p q names free)))
+      (ap₂ (λ qs ns. kept_places first (f n) (mapped f p) (mapped f q) ns (free_naming (class_runs (f n) qs) (f n) (preorder (mapped f p)) qs ns)) (preorder-mapped f q) (naming_in-mapped n [] p)
+      ∙ (ap₂ (λ b ps. kept_places first (f n) (mapped f p) (mapped f q) (map f names) (free_naming b (f n) ps (map (mapped f) (preorder q)) (map f names))) (class_runs-mapped n (preorder q)) (preorder-mapped f p)
+      ∙ (ap (kept_places first (f n) (mapped f p) (mapped f q) (map f names)) (free_naming-mapped (class_runs n (preorder q)) n (preorder p) (preorder q) names)
+      ∙ kept_places-mapped n p q names free)))
       (naming_in-mapped n ledger q)
-      ∙ without-mapped (steady first n p q names free) (naming n ledger (resolve q) (class_identifiers first n (preorder q)) (preorder q))
+      ∙ without-mapped (kept_places first n p q names free) (naming n ledger (resolve q) (class_identifiers first n (preorder q)) (preorder q))
 
   functions_outside-mapped : (ledger : List LedgerEntry) (q : Tree) (n : ℕ) → functions_outside (mapped_ledger f ledger) (mapped f q) (f n) ≡ map (mapped_function f) (functions_outside ledger q n)
   functions_outside-mapped ledger q n =

@@ -137,9 +137,9 @@ keeps_form form other = false
 abbrev pub carries : Kind → Parts → Kind → Parts → Bool
 carries kind ps other qs = cond (is_reference other) (has_its_name kind (string_of (at 0 ps)) (string_of (at 0 qs))) ((same_kind kind other || becomes kind other) && keeps_form (odd_form kind ps) (odd_form other qs))
 
-abbrev pub stands_for : Kind → ℕ → Parts → List Tree → Bool
-stands_for kind n qs [] = false
-stands_for kind n qs (Node other m span semantic_id ps ∷ ts) = (nat_eq n m && carries other ps kind qs) || stands_for kind n qs ts
+abbrev pub stands_for_node : Kind → ℕ → Parts → List Tree → Bool
+stands_for_node kind n qs [] = false
+stands_for_node kind n qs (Node other m span semantic_id ps ∷ ts) = (nat_eq n m && carries other ps kind qs) || stands_for_node kind n qs ts
 
 -- a new object gives no prototype (B.3.1)
 abbrev pub is_proto : Part → Bool
@@ -153,7 +153,7 @@ gives_prototype kind ps = false
 
 -- ps are the nodes of the source
 abbrev pub is_carried : ℕ → List Tree → Tree → Bool
-is_carried first ps (Node kind n span semantic_id qs) = cond (is_new first n) ((is_made kind && not (gives_prototype kind qs)) && keeps_form no_odd_form (odd_form kind qs)) (stands_for kind n qs ps)
+is_carried first ps (Node kind n span semantic_id qs) = cond (is_new first n) ((is_made kind && not (gives_prototype kind qs)) && keeps_form no_odd_form (odd_form kind qs)) (stands_for_node kind n qs ps)
 
 abbrev pub all_carried : ℕ → List Tree → List Tree → Bool
 all_carried first ps [] = true

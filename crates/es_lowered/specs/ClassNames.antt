@@ -190,18 +190,18 @@ module _ (first n : ℕ) (p q : Tree) (names : List ℕ) where
   abbrev pub behind : Tree → List ℕ
   behind t = behind_class [] (marks first [] [] (is_asked (n ∷ names)) [] nowhere None t)
 
-  abbrev pub is_steady : ℕ → Bool
-  is_steady m = all_stand_where first (numbered m (placed q)) (placed p) && (not (has_number m (behind p)) || has_number m (behind q))
+  abbrev pub is_kept_place : ℕ → Bool
+  is_kept_place m = all_stand_where first (numbered m (placed q)) (placed p) && (not (has_number m (behind p)) || has_number m (behind q))
 
-  abbrev pub steady : List ℕ → List ℕ
-  steady [] = []
-  steady (m ∷ ms) = cond (is_steady m) (m ∷ []) [] ++ steady ms
+  abbrev pub kept_places : List ℕ → List ℕ
+  kept_places [] = []
+  kept_places (m ∷ ms) = cond (is_kept_place m) (m ∷ []) [] ++ kept_places ms
 
 -- the references to names of the class that are asked for
 abbrev pub asked_names : ℕ → List LedgerEntry → Tree → Tree → ℕ → List ℕ
 asked_names first ledger p q n =
     let names : List ℕ = naming_in_source first n p in
-    without (steady first n p q names (free_naming (class_runs n (preorder q)) n (preorder p) (preorder q) names)) (naming n ledger (resolve q) (class_identifiers first n (preorder q)) (preorder q))
+    without (kept_places first n p q names (free_naming (class_runs n (preorder q)) n (preorder p) (preorder q) names)) (naming n ledger (resolve q) (class_identifiers first n (preorder q)) (preorder q))
 
 abbrev pub functions_outside : List LedgerEntry → Tree → ℕ → List MovedFunction
 functions_outside ledger q n = outside_class (numbers_inside n (preorder q)) (moved_functions ledger (preorder q))

@@ -6,7 +6,7 @@ use Rattle.es_base.specs.Preorder.{number_of}
 use Rattle.es_base.specs.Tree.{Tree, Parts, Node}
 use Rattle.es_base.specs.declared.kind.Kind.{Kind}
 use Rattle.es_left.proofs.Booleans.{both}
-use Rattle.es_lowered.specs.Carriers.{OddForm, calls_eval, calls_private, deletes_private, deletes_name, no_odd_form, odd_form, keeps_form, carries, stands_for, is_carried}
+use Rattle.es_lowered.specs.Carriers.{OddForm, calls_eval, calls_private, deletes_private, deletes_name, no_odd_form, odd_form, keeps_form, carries, stands_for_node, is_carried}
 use Rattle.es_steps.proofs.Reflexive.{number-same, string-same}
 use Rattle.es_steps.specs.Parts.{at, string_of}
 use Rattle.es_steps.specs.References.{is_reference}
@@ -24,11 +24,11 @@ carries-itself : (kind : Kind) (ps : Parts) → carries kind ps kind ps ≡ true
 carries-itself Kind.IdentifierReference ps = rw (string-same (string_of (at 0 ps))) refl
 carries-itself kind ps = rw (number-same (kind_number kind)) (stays (odd_form kind ps))
 
-stands-for : (kind : Kind) (n : ℕ) (span : Option (ℕ × ℕ)) (semantic_id : Option ℕ) (ps : Parts) (us : List Tree) → In (Node kind n span semantic_id ps) us → stands_for kind n ps us ≡ true
+stands-for : (kind : Kind) (n : ℕ) (span : Option (ℕ × ℕ)) (semantic_id : Option ℕ) (ps : Parts) (us : List Tree) → In (Node kind n span semantic_id ps) us → stands_for_node kind n ps us ≡ true
 stands-for kind n span semantic_id ps [] i = elim i [ ]
-stands-for kind n span semantic_id ps (u ∷ us) here = or_left (nat_eq n n && carries kind ps kind ps) (stands_for kind n ps us) (both (number-same n) (carries-itself kind ps))
+stands-for kind n span semantic_id ps (u ∷ us) here = or_left (nat_eq n n && carries kind ps kind ps) (stands_for_node kind n ps us) (both (number-same n) (carries-itself kind ps))
 stands-for kind n span semantic_id ps (Node other m mspan m_semantic_id qs ∷ us) (later i) =
-    or_right (nat_eq n m && carries other qs kind ps) (stands_for kind n ps us) (stands-for kind n span semantic_id ps us i)
+    or_right (nat_eq n m && carries other qs kind ps) (stands_for_node kind n ps us) (stands-for kind n span semantic_id ps us i)
 
 -- an old node
 pub carried : (first : ℕ) (us : List Tree) (t : Tree) → is_new first (number_of t) ≡ false → In t us → is_carried first us t ≡ true
@@ -38,11 +38,11 @@ carried first us (Node kind n span semantic_id ps) old i = rw old (stands-for ki
 alike : (kind : Kind) (ps qs : Parts) → is_reference kind ≡ false → odd_form kind qs ≡ no_odd_form → carries kind ps kind qs ≡ true
 alike kind ps qs e even = rw (e, number-same (kind_number kind), even) refl
 
-stands-alike : (kind : Kind) (n : ℕ) (span : Option (ℕ × ℕ)) (semantic_id : Option ℕ) (ps qs : Parts) (us : List Tree) → is_reference kind ≡ false → odd_form kind qs ≡ no_odd_form → In (Node kind n span semantic_id ps) us → stands_for kind n qs us ≡ true
+stands-alike : (kind : Kind) (n : ℕ) (span : Option (ℕ × ℕ)) (semantic_id : Option ℕ) (ps qs : Parts) (us : List Tree) → is_reference kind ≡ false → odd_form kind qs ≡ no_odd_form → In (Node kind n span semantic_id ps) us → stands_for_node kind n qs us ≡ true
 stands-alike kind n span semantic_id ps qs [] e even i = elim i [ ]
-stands-alike kind n span semantic_id ps qs (u ∷ us) e even here = or_left (nat_eq n n && carries kind ps kind qs) (stands_for kind n qs us) (both (number-same n) (alike kind ps qs e even))
+stands-alike kind n span semantic_id ps qs (u ∷ us) e even here = or_left (nat_eq n n && carries kind ps kind qs) (stands_for_node kind n qs us) (both (number-same n) (alike kind ps qs e even))
 stands-alike kind n span semantic_id ps qs (Node other m mspan m_semantic_id ms ∷ us) e even (later i) =
-    or_right (nat_eq n m && carries other ms kind qs) (stands_for kind n qs us) (stands-alike kind n span semantic_id ps qs us e even i)
+    or_right (nat_eq n m && carries other ms kind qs) (stands_for_node kind n qs us) (stands-alike kind n span semantic_id ps qs us e even i)
 
 pub carried-alike : (first : ℕ) (us : List Tree) (kind : Kind) (n : ℕ) (span : Option (ℕ × ℕ)) (semantic_id : Option ℕ) (ps qs : Parts) → is_reference kind ≡ false → odd_form kind qs ≡ no_odd_form → is_new first n ≡ false → In (Node kind n span semantic_id ps) us → is_carried first us (Node kind n span semantic_id qs) ≡ true
 carried-alike first us kind n span semantic_id ps qs e even old i = rw old (stands-alike kind n span semantic_id ps qs us e even i)

@@ -6,7 +6,7 @@ use Rattle.es_base.specs.Preorder.{preorder}
 use Rattle.es_base.specs.Tree.{Tree, Node}
 use Rattle.es_base.specs.declared.kind.Kind.{Kind}
 use Rattle.es_left.proofs.Booleans.{both}
-use Rattle.es_lowered.specs.ClassNames.{numbers_inside, class_numbers, without, numbers_of_class, head_numbers, common, free_naming, naming_in_source, moved_at, moved_functions, class_runs, placed, behind, steady, class_timely, all_classes_timely, classes_timely}
+use Rattle.es_lowered.specs.ClassNames.{numbers_inside, class_numbers, without, numbers_of_class, head_numbers, common, free_naming, naming_in_source, moved_at, moved_functions, class_runs, placed, behind, kept_places, class_timely, all_classes_timely, classes_timely}
 use Rattle.es_steps.proofs.FirstMeaning.{no_false}
 use Rattle.es_steps.proofs.Reflexive.{number-same}
 use Rattle.es_steps.specs.References.{has_number}
@@ -114,17 +114,17 @@ stays-or : (b : Bool) → not b || b ≡ true
 stays-or true = refl
 stays-or false = refl
 
-steady-all : (first n : ℕ) (t : Tree) (names ms : List ℕ) → steady first n t t names ms ≡ ms
-steady-all first n t names [] = refl
-steady-all first n t names (m ∷ ms) =
-    rw (numbered-stand first m (placed first n t t names t), stays-or (has_number m (behind first n t t names t)), steady-all first n t names ms) refl
+kept_places-all : (first n : ℕ) (t : Tree) (names ms : List ℕ) → kept_places first n t t names ms ≡ ms
+kept_places-all first n t names [] = refl
+kept_places-all first n t names (m ∷ ms) =
+    rw (numbered-stand first m (placed first n t t names t), stays-or (has_number m (behind first n t t names t)), kept_places-all first n t names ms) refl
 
 class-timely : (first : ℕ) (t : Tree) (n : ℕ) → class_timely first [] t t n ≡ true
 class-timely first t n =
     let ts : List Tree = preorder t in
     let runs : Bool = class_runs n ts in
     let names : List ℕ = naming_in_source first n t in
-    rw (unmoved ts, steady-all first n t names (free_naming runs n ts ts names), without-none (free_naming runs n ts ts names) (numbers_inside n ts) names (free-or-inside runs n ts names)) (unread runs)
+    rw (unmoved ts, kept_places-all first n t names (free_naming runs n ts ts names), without-none (free_naming runs n ts ts names) (numbers_inside n ts) names (free-or-inside runs n ts names)) (unread runs)
   where
     unread : (runs : Bool) → not (runs && false) && true ≡ true
     unread true = refl
