@@ -26,6 +26,7 @@ module _ {first : ℕ} {f : ℕ → ℕ} (r : Renames first f) where
   form_of_deleted-mapped : (p : Part) → form_of_deleted (mapped_part f p) ≡ form_of_deleted p
   form_of_deleted-mapped (child (Node Kind.IdentifierReference m span semantic_id ps)) = refl
   form_of_deleted-mapped (child (Node Kind.PrivateField m span semantic_id ps)) = refl
+  form_of_deleted-mapped (child (Node Kind.ChainExpression m span semantic_id (more (child (Node Kind.PrivateField k kspan k_semantic_id ks)) end))) = refl
   form_of_deleted-mapped (child (Node Kind.MemberExpression m span semantic_id ps)) = rw (at-mapped f 0 ps, is_loose_base-mapped (at 0 ps)) refl
   form_of_deleted-mapped p = refl
 

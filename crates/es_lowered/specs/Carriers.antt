@@ -116,6 +116,7 @@ form_of_callee p = no_odd_form
 abbrev pub form_of_deleted : Part → OddForm
 form_of_deleted (child (Node Kind.IdentifierReference m span semantic_id ps)) = deletes_name
 form_of_deleted (child (Node Kind.PrivateField m span semantic_id ps)) = deletes_private
+form_of_deleted (child (Node Kind.ChainExpression m span semantic_id (more (child (Node Kind.PrivateField k kspan k_semantic_id ks)) end))) = deletes_private
 form_of_deleted (child (Node Kind.MemberExpression m span semantic_id ps)) = cond (is_loose_base (at 0 ps)) deletes_private no_odd_form
 form_of_deleted p = no_odd_form
 
