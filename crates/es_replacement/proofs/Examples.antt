@@ -46,10 +46,12 @@ private_law = record {
     plain_before = λ h n. refl;
     plain_after = λ h n. refl;
   };
-  around = refl;
   admitted = refl;
-  before = (refl, (refl, (refl, (refl, (refl, (refl, (refl, tt)))))));
-  after = (refl, (refl, (refl, (refl, (refl, (refl, (refl, tt)))))));
+  started = refl;
+  seen = (refl, (refl, (refl, (refl, (refl, (refl, (refl, tt)))))));
+  stands = (refl, (refl, (refl, (refl, (refl, (refl, refl))))));
+  before = refl;
+  after = refl;
   apart = refl;
   declared = record { source_type = refl; functions = refl; bindings = refl; globals = refl; shared = refl; places = refl; links = refl; exports = λ env. refl };
 }

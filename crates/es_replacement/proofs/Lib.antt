@@ -1,4 +1,5 @@
 mod Admitted
+mod Apart
 mod ChainsFilled
 mod Closed
 mod Declared

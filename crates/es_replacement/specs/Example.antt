@@ -9,7 +9,7 @@ use Rattle.es_steps.specs.PrivateNames.{a_field}
 use Rattle.es_steps.specs.Meaning.{Terms, means, has_meaning}
 use Rattle.es_steps.specs.Values.{String}
 use Rattle.es_steps.specs.declared.options.Options.{Options}
-use Rattle.es_replacement.specs.Law.{StandsFor}
+use Rattle.es_replacement.specs.Law.{StandsFor, StandsApart}
 use Rattle.es_replacement.specs.TreeHoles.{the_child, an_item, TreeHole, top, within, put}
 
 abbrev pub temporary : List String
@@ -85,7 +85,7 @@ abbrev pub private_terms : Terms
 private_terms = record { first_new = 14; options = options_of false (Some (record { loose = false })) false; ledger = record { name = codes "_x"; kind = GeneratedKind.WeakMap (record { 0 = 5 }) } ∷ []; members = record { number = 5; spelling = codes "x"; class = 1; is_static = false; kind = a_field } ∷ []; late = [] }
 
 abbrev pub PrivateLaw : Type 0
-PrivateLaw = StandsFor [] true private_terms in_class field_read field_given
+PrivateLaw = StandsApart [] true private_terms in_class field_read field_given
 
 abbrev pub PrivateHasMeaning : Type 0
 PrivateHasMeaning = has_meaning (means private_terms (put in_class field_read)) ≡ true

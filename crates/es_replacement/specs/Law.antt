@@ -67,3 +67,18 @@ pub record StandsFor (names : List String) (plain_ones : Bool) (o : Terms) (hole
 -- the law of replacement: the program with u means what that with t means
 abbrev pub ReplacementLaw : Type 0
 ReplacementLaw = (names : List String) (plain_ones : Bool) (o : Terms) (hole : TreeHole) (t u : Tree) → StandsFor names plain_ones o hole t u → means o (put hole t) ≡ means o (put hole u)
+
+-- The same where no rule asks for the form of t and u, and the same is known at each place around.
+pub record StandsApart (names : List String) (plain_ones : Bool) (o : Terms) (hole : TreeHole) (t u : Tree) : Type 0 where
+  pub may : AllMayReplace names plain_ones (λ n. read (context_at (start o (put hole t)) hole t) t) (λ n. read (context_at (start o (put hole u)) hole u) u)
+  pub admitted : admits names plain_ones (code_around (start o (put hole t)) hole t) ≡ true
+  pub apart : is_string_among default_key names ≡ false
+  pub declared : DeclaresAlike o (private_functions (read (start o (put hole t)) (put hole t))) (put hole t) (put hole u)
+  pub started : start o (put hole t) ≡ start o (put hole u)
+  pub seen : SeenAlike (start o (put hole t)) hole t u
+  pub stands : IsApart (start o (put hole t)) hole t
+  pub before : is_unasked o.first_new (read (context_at (start o (put hole t)) hole t) t) ≡ true
+  pub after : is_unasked o.first_new (read (context_at (start o (put hole u)) hole u) u) ≡ true
+
+abbrev pub ApartLaw : Type 0
+ApartLaw = (names : List String) (plain_ones : Bool) (o : Terms) (hole : TreeHole) (t u : Tree) → StandsApart names plain_ones o hole t u → StandsFor names plain_ones o hole t u

@@ -1,7 +1,7 @@
 // The law of replacement: functions that do nothing.
 
 ghost use Rattle.es_replacement.specs.Example.{LogicalLaw, LogicalHasMeaning, PrivateLaw, PrivateHasMeaning};
-ghost use Rattle.es_replacement.specs.Law.{HoleLaw, StandingLaw, DeclarationLaw, MeaningLaw, ReadingLaw, AroundLaw, UnaskedLaw, ReplacementLaw};
+ghost use Rattle.es_replacement.specs.Law.{HoleLaw, StandingLaw, DeclarationLaw, MeaningLaw, ReadingLaw, AroundLaw, UnaskedLaw, ReplacementLaw, ApartLaw};
 
 /// What may stand in the place of expressions may do so in the holes of every code.
 pub fn what_may_replace_may_in_every_hole()
@@ -40,6 +40,11 @@ pub fn rules_do_not_ask_for_what_stands_apart()
 /// The law of replacement: what stands for an expression, in a hole of a program, keeps the program's meaning.
 pub fn what_stands_for_an_expression_keeps_meaning()
     ensures { ReplacementLaw }
+{}
+
+/// An expression that no rule asks for the form of stands for another such, where the same is known around.
+pub fn what_stands_apart_stands_for_an_expression()
+    ensures { ApartLaw }
 {}
 
 /// An example: `(_t = a()).b || (_t.b = c)` stands for `a().b ||= c` in a script that declares the temporary `_t`, and that
