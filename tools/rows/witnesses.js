@@ -201,6 +201,9 @@ function uncalled(t, body) {
   s.declarations[0].init.body.body = body.map(b => fresh(t, b));
   t.body.unshift(s);
 }
+// a field in what stands for `super(..)` and is not called; its definition
+const uncalledField = { options: ['--class-properties'], source: 'class A extends P { x = {}; constructor() { return {}; } }', output: 'class A extends P { constructor() { var _super = (..._args) => (super(..._args), B.defineProperty(this, "x", {}), this); return {}; } }' };
+const definedIn = t => found(t, n => n.type === 'CallExpression' && n.arguments.length === 3);
 const behindCode = code => ({ options: ['--class-properties'], source: `${code} class A { x = 1; }`, output: `${code} class A { constructor() { B.defineProperty(this, "x", 1); } }` });
 
 const witnesses = [
@@ -742,6 +745,14 @@ const witnesses = [
   right('regular_expression_as_a_key', 'a regular expression as the key of a field, made once', { options: ['--class-properties'], source: 'class A { [/a/] = 1; }', output: 'var _k; _k = B.toPropertyKey(/a/); class A { constructor() { B.defineProperty(this, _k, 1); } }' }, q => {}),
   right('regular_expression_as_a_static_key', 'a regular expression as the key of a static field', { options: ['--class-properties'], source: 'class A { static [/a/] = 1; }', output: 'var _k; _k = /a/; class A {} B.defineProperty(A, _k, 1);' }, q => {}),
   wrong('regular_expression_of_each_instance', 'a regular expression as the key of a field, made for each instance', { options: ['--class-properties'], source: 'class A { [/a/] = 1; }', output: 'class A { constructor() { B.defineProperty(this, /a/, 1); } }' }, q => {}),
+  clause('super_call_in_a_super_function_that_nothing_calls', 'a function that calls `super`, in what stands for `super(..)` and is not called', uncalledField, q => { const value = fresh(q, expression('(function () { f(); })')); definedIn(q).arguments[2] = value; value.body.body[0].expression = superCall(q, []); }),
+  clause('setter_in_a_super_function_that_nothing_calls', 'a setter without a parameter, in what stands for `super(..)` and is not called', uncalledField, q => { const value = expression('({ set y(a) {} })'); value.properties[0].value.params = []; definedIn(q).arguments[2] = fresh(q, value); }),
+  clause('getter_behind_an_error', 'a getter with a parameter behind an access that throws', { options: ['--class-properties'], source: 'class A { #m() {} w(v) { this.#m = v; (function (a) {}); } }', output: 'var _A_brand = new WeakSet(); class A { constructor() { B.classPrivateMethodInitSpec(this, _A_brand); } w(v) { this, v, B.readOnlyError("#m"); (function (a) {}); } } function _m() {}' },
+    q => { const s = methodOf(q, 'w')[1], object = fresh(q, expression('({ y: 1 })')); Object.assign(object.properties[0], { kind: 'get', value: s.expression }); s.expression = object; }),
+  clause('super_function_that_nothing_calls_outside', 'what stands for `super(..)` and is not called, outside of its constructor', { options: ['--class-properties'], source: 'class A extends P { x = 1; constructor() { return {}; } }',
+    output: 'var _super = (..._args) => (g(..._args), B.defineProperty(this, "x", 1), this); class A extends P { constructor() { return {}; } }', numbers: { 1: 999, 2: 999, 3: 999, 4: 999, 5: 999, 6: 999, 7: 999, 8: 999, 9: 999, 10: 999, 11: 999, 12: 999, 13: 999, 14: 999, 15: 999, 16: 999, 17: 999, 18: 7, 19: 999, 20: 1, 21: 2, 22: 3, 23: 4, 24: 8, 25: 9, 26: 10, 27: 11, 28: 12, 29: 13 } }, q => { found(q, n => n.type === 'SequenceExpression').expressions[0].callee = fresh(q, superCall(q, []).callee); }, [{ name: '_super', kind: 'SuperFn', number: 1 }, { name: '_args', kind: 'Args' }]),
+  clause('super_function_of_a_static_block', 'what stands for `super(..)` and is not called, beside a static block', { options: ['--static-block'], source: 'class A { static { f(1); } }',
+    output: 'var _s = () => { 1; }; class A { static #_ = f(1); }', numbers: { 1: 999, 2: 999, 3: 999, 4: 999, 5: 999, 6: 999, 7: 999, 8: 1, 9: 2, 10: 3, 11: 999, 12: 999, 13: 6, 14: 7, 15: 8 } }, q => {}, [{ name: '_s', kind: 'SuperFn', number: 1 }, { name: '_', kind: 'Private', number: 1 }]),
   // forms that no value tells from others
   clause('call_of_eval_by_its_name', 'a call of `eval` by its name, which sees the names around it', { options: ['--class-properties'], source: 'class A { x = 1; m() { const y = 5; return (0, eval)("typeof y"); } } f(new A().m());',
     output: 'class A { constructor() { B.defineProperty(this, "x", 1); } m() { const y = 5; return eval("typeof y"); } } f(new A().m());', numbers: { 4: 999, 5: 999, 6: 999, 7: 999, 8: 999, 9: 999, 10: 999, 11: 999, 12: 999, 13: 999, 14: 999, 15: 6, 16: 7, 17: 8, 18: 9, 19: 10, 20: 11, 21: 12, 22: 13, 23: 14, 24: 15, 25: 16, 26: 19, 27: 20, 28: 21, 29: 22, 30: 23, 31: 24, 32: 25, 33: 26, 34: 27, 35: 28 } }, q => {}, []),

@@ -5,6 +5,7 @@ pub mod TextsMapped
 pub mod TimelyMapped
 pub mod FunctionsAroundMapped
 pub mod ClassNamesMapped
+pub mod SupersMapped
 pub mod KeptReferencesMapped
 pub mod OwnNamesMapped
 pub mod LoweredMapped

@@ -144,6 +144,7 @@ pub mod FunctionOfAParameter
 pub mod FunctionOutOfItsBlock
 pub mod FunctionsOfABlockExchanged
 pub mod GeneratorConstructor
+pub mod GetterBehindAnError
 pub mod GetterMadeAMethod
 pub mod GetterOrMethod
 pub mod GlobalRenamed
@@ -292,6 +293,7 @@ pub mod ResultOfTheSetter
 pub mod ReturnInAnArrow
 pub mod ScriptInAnArrow
 pub mod SecondStringThatAPrinterMakesADirective
+pub mod SetterInASuperFunctionThatNothingCalls
 pub mod SharedParameters
 pub mod SpreadForAParameter
 pub mod StatementOfAnIf
@@ -309,10 +311,13 @@ pub mod StrictFunctionOfAMethod
 pub mod StrictRest
 pub mod StringInParentheses
 pub mod StringThatAPrinterMakesADirective
+pub mod SuperCallInASuperFunctionThatNothingCalls
 pub mod SuperFunctionBehindACall
 pub mod SuperFunctionBehindItsCalls
 pub mod SuperFunctionCalledWithAnother
+pub mod SuperFunctionOfAStaticBlock
 pub mod SuperFunctionOutsideOfAFunction
+pub mod SuperFunctionThatNothingCallsOutside
 pub mod SuperGivesZero
 pub mod SuperInAFunctionThatNothingCalls
 pub mod SuperKeyThatStays

@@ -13,7 +13,7 @@ use Rattle.es_base.specs.declared.kind.Kind.{Kind}
 use Rattle.es_left.proofs.Booleans.{both, none_of}
 use Rattle.es_steps.proofs.Reflexive.{number-same}
 use Rattle.es_steps.specs.Context.{is_constructor}
-use Rattle.es_lowered.specs.Definitions.{FieldDefinition, chosen, element_numbers, body_numbers, elements_kept, call_definition, definition_at, definitions_in, definitions_at, definitions_of, function_definitions, super_definitions, constructor_definitions, all_definitions, instance_definitions, static_definitions, is_instance_method, any_of, defined_fields, class_fits, classes_fit, definitions_stand, supers_stand}
+use Rattle.es_lowered.specs.Definitions.{FieldDefinition, chosen, element_numbers, body_numbers, elements_kept, call_definition, definition_at, definitions_in, definitions_at, definitions_of, function_definitions, super_definitions, constructor_definitions, all_definitions, instance_definitions, static_definitions, is_instance_method, any_of, defined_fields, class_fits, classes_fit, definitions_stand}
 use Rattle.es_lowered.specs.HelperCalls.{is_new_private, kept_keys, all_by, new_private_names, private_keys, kept_keys_converted, is_helper_callee, computed_keys, StaticKey, Naming, naming_in, naming_of_element, is_class_body, field_key, method_keys, field_keys, call_fits, calls_fit, calls_in, calls_at, calls_of, calls_of_body}
 use Rattle.es_steps.specs.KeptNodes.{stands_equal, statement_list, declared_classes, carried_classes, item_number, item_numbers, free_number, free_numbers, is_static_block, free_lists, free_lists_at, free_lists_in, list_of, is_within, all_within, is_free_statement, stays_in_list, free_statements, free_at, free_in, all_homes, lowered_blocks}
 use Rattle.es_lowered.specs.Lowered.{IsLowered, has_new_declarator, is_new_const, is_accounted, all_accounted}
@@ -514,7 +514,7 @@ in-turn t e =
     record { once = subst (λ u. EachOnce (numbers u)) (sym e) (numbered-once t); below = subst (λ u. Below (nodes t) (preorder u)) (sym e) (numbered-below (nodes t) 0 t (omega arith)) }
 
 definitions-stand : (o : Options) (p : Tree) → Below (nodes p) (preorder p) → has_lowered_class o p ≡ false → definitions_stand (nodes p) o [] (private_members p) p p ≡ true
-definitions-stand o p below h = either (lowers_fields o) refl
+definitions-stand o p below h = both (either (lowers_fields o) refl) (supers-stand (nodes p) o (resolve p) (preorder p))
   where
     instances : (n : ℕ) → instance_definitions (nodes p) o [] p n ≡ []
     instances n = rw (supers-none (nodes p) o n (preorder p), constructors-none (nodes p) o n p below) refl
@@ -522,9 +522,9 @@ definitions-stand o p below h = either (lowers_fields o) refl
     statics : (n : ℕ) → static_definitions (nodes p) o [] (private_members p) p n ≡ []
     statics n = rw (all_definitions-none (nodes p) o p below) refl
 
-    either : (b : Bool) → lowers_fields o ≡ b → (not b || (classes_fit (nodes p) o [] (private_members p) p p (preorder p) && supers_stand (nodes p) o [] (resolve p) (preorder p))) ≡ true
+    either : (b : Bool) → lowers_fields o ≡ b → (not b || classes_fit (nodes p) o [] (private_members p) p p (preorder p)) ≡ true
     either false f = refl
-    either true f = both (classes-fit o p p (preorder p) f instances statics h) (supers-stand (nodes p) o (resolve p) (preorder p))
+    either true f = classes-fit o p p (preorder p) f instances statics h
 
 keys-stand : (b : Bool) → (not b || true) ≡ true
 keys-stand true = refl

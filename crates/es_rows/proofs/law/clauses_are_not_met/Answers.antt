@@ -229,6 +229,9 @@ returns-clause-function_in_a_class c = refl
 pub returns-clause-function_out_of_its_block : goal.returns-clause-function_out_of_its_block
 returns-clause-function_out_of_its_block c = refl
 
+pub returns-clause-getter_behind_an_error : goal.returns-clause-getter_behind_an_error
+returns-clause-getter_behind_an_error c = refl
+
 pub returns-clause-hidden_body : goal.returns-clause-hidden_body
 returns-clause-hidden_body c = refl
 
@@ -415,6 +418,9 @@ returns-clause-regular_expression_read_twice c = refl
 pub returns-clause-second_string_that_a_printer_makes_a_directive : goal.returns-clause-second_string_that_a_printer_makes_a_directive
 returns-clause-second_string_that_a_printer_makes_a_directive c = refl
 
+pub returns-clause-setter_in_a_super_function_that_nothing_calls : goal.returns-clause-setter_in_a_super_function_that_nothing_calls
+returns-clause-setter_in_a_super_function_that_nothing_calls c = refl
+
 pub returns-clause-strict_arrow : goal.returns-clause-strict_arrow
 returns-clause-strict_arrow c = refl
 
@@ -424,14 +430,23 @@ returns-clause-strict_rest c = refl
 pub returns-clause-string_that_a_printer_makes_a_directive : goal.returns-clause-string_that_a_printer_makes_a_directive
 returns-clause-string_that_a_printer_makes_a_directive c = refl
 
+pub returns-clause-super_call_in_a_super_function_that_nothing_calls : goal.returns-clause-super_call_in_a_super_function_that_nothing_calls
+returns-clause-super_call_in_a_super_function_that_nothing_calls c = refl
+
 pub returns-clause-super_function_behind_a_call : goal.returns-clause-super_function_behind_a_call
 returns-clause-super_function_behind_a_call c = refl
 
 pub returns-clause-super_function_behind_its_calls : goal.returns-clause-super_function_behind_its_calls
 returns-clause-super_function_behind_its_calls c = refl
 
+pub returns-clause-super_function_of_a_static_block : goal.returns-clause-super_function_of_a_static_block
+returns-clause-super_function_of_a_static_block c = refl
+
 pub returns-clause-super_function_outside_of_a_function : goal.returns-clause-super_function_outside_of_a_function
 returns-clause-super_function_outside_of_a_function c = refl
+
+pub returns-clause-super_function_that_nothing_calls_outside : goal.returns-clause-super_function_that_nothing_calls_outside
+returns-clause-super_function_that_nothing_calls_outside c = refl
 
 pub returns-clause-super_in_a_function_that_nothing_calls : goal.returns-clause-super_in_a_function_that_nothing_calls
 returns-clause-super_in_a_function_that_nothing_calls c = refl
