@@ -7,6 +7,7 @@ use Rattle.es_base.specs.Tree.{Tree, Part, Parts, Node, end, more, child, litera
 use Rattle.es_base.specs.declared.kind.Kind.{Kind}
 use Rattle.es_base.specs.declared.literal.LiteralValue.TheVariants as literal_value
 use Rattle.es_lowered.specs.Carriers.{is_loose_base, form_of_callee, form_of_deleted, parameters_of, is_one_parameter, form_of_getter, form_of_accessor, odd_form, carries, stands_for_node, is_proto, gives_prototype, is_carried, all_carried, numbers_carried}
+use Rattle.es_lowered.proofs.BoundMapped.{bound_stay-mapped}
 use Rattle.es_steps.specs.Parts.{at, string_of}
 use Rattle.es_steps.specs.Values.{String}
 use Rattle.es_steps.proofs.Mapped.{Renames, mapped, mapped_part, mapped_parts}
@@ -87,4 +88,5 @@ module _ {first : ℕ} {f : ℕ → ℕ} (r : Renames first f) where
   all_carried-mapped ps (t ∷ ts) = ap₂ (λ a b. a && b) (is_carried-mapped ps t) (all_carried-mapped ps ts)
 
   pub numbers_carried-mapped : (p q : Tree) → numbers_carried first (mapped f p) (mapped f q) ≡ numbers_carried first p q
-  numbers_carried-mapped p q = ap₂ (all_carried first) (preorder-mapped f p) (preorder-mapped f q) ∙ all_carried-mapped (preorder p) (preorder q)
+  numbers_carried-mapped p q =
+      ap₂ (λ a b. a && b) (ap₂ (all_carried first) (preorder-mapped f p) (preorder-mapped f q) ∙ all_carried-mapped (preorder p) (preorder q)) (bound_stay-mapped r p q)

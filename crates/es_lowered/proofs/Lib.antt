@@ -9,5 +9,6 @@ pub mod SupersMapped
 pub mod KeptReferencesMapped
 pub mod OwnNamesMapped
 pub mod LoweredMapped
+pub mod BoundMapped
 pub mod CarriersMapped
 pub mod Clauses

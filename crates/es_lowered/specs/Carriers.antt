@@ -7,6 +7,7 @@ use Rattle.es_base.specs.Preorder.{preorder}
 use Rattle.es_base.specs.Tree.{Tree, Part, Parts, Node, end, more, child, literal}
 use Rattle.es_base.specs.declared.kind.Kind.{Kind}
 use Rattle.es_base.specs.declared.literal.LiteralValue.TheVariants as literal_value
+use Rattle.es_lowered.specs.Bound.{bound_stay}
 use Rattle.es_steps.specs.KeptNodes.{is_underscored}
 use Rattle.es_steps.specs.Parts.{at, items, string_of}
 use Rattle.es_steps.specs.Printable.{name_of_part}
@@ -182,4 +183,4 @@ all_carried first ps [] = true
 all_carried first ps (t ∷ ts) = is_carried first ps t && all_carried first ps ts
 
 abbrev pub numbers_carried : ℕ → Tree → Tree → Bool
-numbers_carried first p q = all_carried first (preorder p) (preorder q)
+numbers_carried first p q = all_carried first (preorder p) (preorder q) && bound_stay first p q
