@@ -7,7 +7,6 @@ ghost use Rattle.es_base.specs.declared.literal.LiteralValue.TheVariants as lite
 ghost use Rattle.es_binding_faults.specs.Seen.{seen};
 ghost use Rattle.es_node.specs.View.{parts_of};
 ghost use Rattle.es_steps.specs.References.{has_number};
-ghost use Rattle.es_steps.specs.SameTrees.{same_parts};
 ghost use Rattle.es_lowered.specs.Texts.{is_literal_among, is_not_copied, is_plain, is_string_among};
 ghost use Rattle.es_owed_texts.specs.Written.{is_copy_of};
 
@@ -15,7 +14,7 @@ use es_base::kind::Kind;
 use es_base::literal::LiteralValue;
 use es_lexical::text::{is_digit, split_first};
 use es_node::node::{Node, Part};
-use es_owed::same::{same_kind, same_part};
+use es_owed::same::{same_kind, same_members};
 
 /// Whether a lowering makes such a literal: a number of one digit, a string without a source text, a boolean, `null`.
 pub fn is_plain(value: &LiteralValue) -> bool
@@ -114,19 +113,4 @@ fn is_copy_of(kind: Kind, parts: &[Part], node: &Node) -> bool
     ensures { result ≡ is_copy_of kind (parts_of parts.now) node.now }
 {
     same_kind(kind, node.kind()) && same_members(parts, node.parts())
-}
-
-#[tactic(auto, using(es_owed::proofs::Sameness::same_members_differ))]
-fn same_members(parts: &[Part], others: &[Part]) -> bool
-    ensures { result ≡ same_parts (parts_of parts.now) (parts_of others.now) }
-{
-    if parts.len() != others.len() {
-        return false;
-    }
-    for (i, part) in parts.iter().enumerate() {
-        if !same_part(part, &others[i]) {
-            return false;
-        }
-    }
-    true
 }

@@ -14,6 +14,7 @@ ghost use Rattle.es_owed_texts.specs.Written.{is_same, node_of, stands_in};
 use crate::by_number::ByNumber;
 use crate::characters::Characters;
 use es_node::node::Node;
+use es_owed::free::stands_equal;
 use es_owed::same::same_node;
 use std::alloc::{AllocError, Global};
 
@@ -57,7 +58,7 @@ impl<'a> Written<'a> {
     pub fn stands_equal(&self, node: &Node) -> bool
         ensures { result ≡ stands_equal node.now (seen self.now.nodes.now) }
     {
-        stands_at_number(node, &self.by_number) || is_equal_among(node, self.others.as_slice())
+        stands_at_number(node, &self.by_number) || stands_equal(node, self.others.as_slice())
     }
 }
 
@@ -85,16 +86,4 @@ fn stands_at_number(node: &Node, nodes: &ByNumber) -> bool
         Some(other) => same_node(node, other),
         None => false,
     }
-}
-
-/// Whether the node is equal to one of these.
-fn is_equal_among(node: &Node, nodes: &[&Node]) -> bool
-    ensures { result ≡ stands_equal node.now (seen nodes.now) }
-{
-    for other in nodes {
-        if same_node(node, other) {
-            return true;
-        }
-    }
-    false
 }
