@@ -102,7 +102,7 @@ fn free_stand_of_hole(options: &Options, lowered: &[&Node], node: &Option<Node>)
 }
 
 /// Whether the node is equal to one of these.
-fn stands_equal(node: &Node, nodes: &[&Node]) -> bool
+pub fn stands_equal(node: &Node, nodes: &[&Node]) -> bool
     ensures { result ≡ stands_equal node.now (seen nodes.now) }
 {
     for other in nodes {

@@ -26,9 +26,10 @@ pub fn same_node(node: &Node, other: &Node) -> bool
         && same_members(node.parts(), other.parts())
 }
 
+/// Whether two lists of members are one.
 #[cycle(same)]
 #[tactic(auto, using(crate::proofs::Sameness::same_members_differ))]
-fn same_members(parts: &[Part], others: &[Part]) -> bool
+pub fn same_members(parts: &[Part], others: &[Part]) -> bool
     ensures { result ≡ same_parts (parts_of parts.now) (parts_of others.now) }
 {
     if parts.len() != others.len() {

@@ -1,0 +1,10 @@
+use Rattle.std.proofs.Common.{◌≡◌, length, false}
+use Rattle.std.specs.Str.{chars, IsUtf8}
+use Rattle.es_steps.specs.Printable.{is_raw}
+use Rattle.es_lexical.proofs.literals.is_raw.Given as goal
+
+abbrev pub invariant-loop-first : goal.invariant-loop-first
+invariant-loop-first l = IsUtf8 l.rest × (is_raw l.escaped l.dollar (chars l.rest) ≡ is_raw false false (chars l.text))
+
+abbrev pub decreases-loop-first : goal.decreases-loop-first
+decreases-loop-first l = length l.rest

@@ -1,0 +1,9 @@
+//! What the texts of a lowered program owe: that each literal, string of a template, directive and private name is written
+//! as it was.
+#![tactic(auto)]
+
+pub mod by_number;
+pub mod characters;
+pub mod literals;
+pub mod texts;
+pub mod written;
