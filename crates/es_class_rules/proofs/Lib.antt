@@ -1,0 +1,4 @@
+pub mod ElementForms
+pub mod ElementRuns
+pub mod Forgetting
+pub mod NoElements
