@@ -4,3 +4,5 @@
 pub mod classes;
 pub mod elements;
 pub mod forget;
+pub mod opened;
+pub mod supers;
