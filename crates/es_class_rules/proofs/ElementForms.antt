@@ -2,8 +2,7 @@
 use Rattle.std.proofs.Common.{◌≡◌, refl, ap, ℕ, List, Bool, true, false, Option, Some}
 use Rattle.es_steps.specs.Code as of
 use Rattle.es_steps.specs.Code.{Codes}
-use Rattle.es_steps.specs.Evaluation.{private_key}
-use Rattle.es_steps.specs.Values.{String, Value, Undefined}
+use Rattle.es_steps.specs.Values.{Value, Undefined}
 use Rattle.es_codes.specs.CodeView.{code_of, codes_of, field_form_of}
 use Rattle.es_codes.specs.declared.code.Code.{Code}
 use Rattle.es_codes.specs.declared.code.Code.TheVariants as codes

@@ -1,29 +1,27 @@
 -- Behind a class, what its private elements hold is forgotten.
-use Rattle.std.proofs.Common.{◌≡◌, refl, sym, ap, ap₂, ◌∙◌, ℕ, zero, suc, ◌+◌, ◌-◌, ◌<◌, ◌≤◌, List, [], ◌∷◌, ◌++◌, length, take, drop, get_or, Bool, true, false, cond, ◌&&◌, nat_eq, arith}
+use Rattle.std.proofs.Common.{◌≡◌, refl, sym, ap, ap₂, ◌∙◌, ℕ, zero, suc, ◌+◌, ◌-◌, ◌<◌, ◌≤◌, List, [], ◌∷◌, ◌++◌, length, take, drop, append_assoc, get_or, Bool, true, false, cond, ◌&&◌, nat_eq, arith}
 use Rattle.std.proofs.lemmas.List.{take-append-drop, drop_more, take_more, length-drop}
-use Rattle.std.proofs.lemmas.Bool.{eq-eqb, eqb-true}
+use Rattle.std.proofs.lemmas.Bool.Decides.{Decides-eqb, same_from_decides}
 use Rattle.std.specs.List.{remove}
 use Rattle.std.specs.Str.{chars}
 use Rattle.es_base.specs.Conforms.{begins_with}
 use Rattle.es_steps.specs.Evaluation.{Environment, added, is_private_key, without_private}
 use Rattle.es_evaluator.specs.declared.state.Named.{Named}
 use Rattle.es_evaluator.specs.Running.{onto_names, names_of}
+use Rattle.es_evaluator.proofs.Given.{length_names_of}
 use Rattle.es_class_rules.specs.Public.{unless_private, public}
-
-is_same : (a b : Bool) → (a ≡ true → b ≡ true) → (b ≡ true → a ≡ true) → a ≡ b
-is_same true true f g = refl
-is_same true false f g = sym (f refl)
-is_same false true f g = g refl
-is_same false false f g = refl
 
 and_true : (b : Bool) → b && true ≡ b
 and_true true = refl
 and_true false = refl
 
+same_number : (a b : ℕ) → nat_eq a b ≡ nat_eq b a
+same_number a b = same_from_decides _ _ (Decides-eqb a b) (λ t. sym ((Decides-eqb b a).0 t), λ e. (Decides-eqb b a).1 (sym e))
+
 pub begins_private : (x : List ℕ) → begins_with (chars (35 ∷ [])) x ≡ is_private_key x
 unfolding chars
 begins_private [] = refl
-begins_private (c ∷ cs) = and_true (nat_eq 35 c) ∙ is_same (nat_eq 35 c) (nat_eq c 35) (λ e. eq-eqb c 35 (sym (eqb-true 35 c e))) (λ e. eq-eqb 35 c (sym (eqb-true c 35 e)))
+begins_private (c ∷ cs) = and_true (nat_eq 35 c) ∙ same_number 35 c
 
 added_is : (xs ys : Environment) → added xs ys ≡ length xs - length ys
 added_is [] [] = omega arith
@@ -34,10 +32,6 @@ added_is (x ∷ xs) (y ∷ ys) = added_is xs ys ∙ omega arith
 onto_names-append : (env : Environment) (xs ys : List Named) → onto_names env (xs ++ ys) ≡ onto_names (onto_names env xs) ys
 onto_names-append env [] ys = refl
 onto_names-append env (x ∷ xs) ys = onto_names-append ((x.name, x.value) ∷ env) xs ys
-
-length-onto : (env : Environment) (ns : List Named) → length (onto_names env ns) ≡ length ns + length env
-length-onto env [] = omega arith
-length-onto env (n ∷ ns) = let e : length (onto_names ((n.name, n.value) ∷ env) ns) ≡ length ns + length ((n.name, n.value) ∷ env) = length-onto ((n.name, n.value) ∷ env) ns in omega (arith, e)
 
 kept_then : (b : Bool) (n : Named) (env : Environment) (ns : List Named) → onto_names (cond b env ((n.name, n.value) ∷ env)) ns ≡ onto_names env (unless_private b n ns)
 kept_then true n env ns = refl
@@ -55,7 +49,7 @@ pub forgotten : (k : ℕ) (ns : List Named) (env : Environment) → length env �
 unfolding names_of
 forgotten k ns env h =
     let whole : onto_names [] ns ≡ onto_names (onto_names [] (take k ns)) (drop k ns) = sym (ap (onto_names []) (take-append-drop k ns)) ∙ onto_names-append [] (take k ns) (drop k ns) in
-    let n : length (onto_names [] ns) ≡ length ns + 0 = length-onto [] ns in
+    let n : length (onto_names [] ns) ≡ length ns = length_names_of ns in
     let d : length (drop k ns) ≡ length ns - k = length-drop k ns in
     let a : added (onto_names [] ns) env ≡ length (onto_names [] ns) - length env = added_is (onto_names [] ns) env in
     let count : length (drop k ns) + 0 ≡ added (onto_names [] ns) env = omega (arith, n, d, a, h) in
@@ -64,10 +58,6 @@ forgotten k ns env h =
     ∙ ap₂ (λ (j : ℕ) (e : Environment). without_private j e) count (sym whole)
 
 -- ---- going over the names
-
-front : (xs : List Named) (n : Named) (bs : List Named) → xs ++ n ∷ bs ≡ (xs ++ n ∷ []) ++ bs
-front [] n bs = refl
-front (x ∷ xs) n bs = ap (λ (l : List Named). x ∷ l) (front xs n bs)
 
 take-remove : (xs : List Named) (i : ℕ) → i < length xs → take i (remove xs i) ≡ take i xs
 take-remove [] i h = absurd (omega arith)
@@ -83,7 +73,7 @@ pub one_stays : (xs : List Named) (i : ℕ) (d : Named) → i < length xs → is
 one_stays xs i d h k =
     ap (λ (l : List Named). take i xs ++ public l) (drop_more xs i d h)
     ∙ ap (λ (b : Bool). take i xs ++ unless_private b (get_or xs i d) (public (drop (i + 1) xs))) k
-    ∙ front (take i xs) (get_or xs i d) (public (drop (i + 1) xs))
+    ∙ sym (append_assoc (take i xs) (get_or xs i d ∷ []) (public (drop (i + 1) xs)))
     ∙ ap (λ (l : List Named). l ++ public (drop (i + 1) xs)) (sym (take_more xs i d h))
 
 pub one_goes : (xs : List Named) (i : ℕ) (d : Named) → i < length xs → is_private_key (get_or xs i d).name ≡ true → take i xs ++ public (drop i xs) ≡ take i (remove xs i) ++ public (drop i (remove xs i))

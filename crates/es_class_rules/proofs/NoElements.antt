@@ -4,7 +4,6 @@ use Rattle.es_steps.specs.Code as of
 use Rattle.es_steps.specs.Evaluation.{has_instance_methods}
 use Rattle.es_steps.specs.Values.{Value, Undefined}
 use Rattle.es_codes.specs.CodeView.{code_of, target_of, callee_of, code_step}
-use Rattle.es_codes.specs.declared.event.Operation.{Operation}
 use Rattle.es_codes.specs.declared.code.FieldForm.{FieldForm}
 use Rattle.es_codes.specs.declared.code.Code.{Code}
 use Rattle.es_codes.specs.declared.code.Target.{Target}

@@ -1,6 +1,6 @@
 -- Definitions that are opened, and what they evaluate.
 use Rattle.std.proofs.Common.{◌≡◌, refl, sym, ap, ap₂, ◌∙◌, ℕ, zero, suc, ◌+◌, ◌-◌, ◌<◌, ◌≤◌, ◌||◌, ◌&&◌, not, List, [], ◌∷◌, ◌++◌, length, drop, get_or, Bool, true, false, cond, Option, Some, None, arith}
-use Rattle.std.proofs.lemmas.List.{drop_more, drop_all}
+use Rattle.std.proofs.lemmas.List.{append_assoc, append-nil, drop_more, drop_all}
 use Rattle.es_steps.specs.Code.{Codes, Opened, and, done}
 use Rattle.es_steps.specs.Code as of_code
 use Rattle.es_steps.specs.Evaluation.{has_instance_methods}
@@ -68,24 +68,16 @@ no_flags : (o : Opened) (ds : List Definition) → flags o ds [] ≡ []
 no_flags o [] = refl
 no_flags o (d ∷ ds) = refl
 
-front : (xs : List Bool) (n : Bool) (bs : List Bool) → xs ++ n ∷ bs ≡ (xs ++ n ∷ []) ++ bs
-front [] n bs = refl
-front (x ∷ xs) n bs = ap (λ (l : List Bool). x ∷ l) (front xs n bs)
-
-whole : (xs : List Bool) → xs ++ [] ≡ xs
-whole [] = refl
-whole (x ∷ xs) = ap (λ (l : List Bool). x ∷ l) (whole xs)
-
 pub flags_more : (o : Opened) (ds : List Definition) (fs : List Bool) (so : List Bool) (i : ℕ) (d : Definition) (b : Bool) → i < length ds → i < length fs → so ++ flags o (drop i ds) (drop i fs) ≡ (so ++ (get_or fs i b || of.defines o (definition_of (get_or ds i d))) ∷ []) ++ flags o (drop (i + 1) ds) (drop (i + 1) fs)
 flags_more o ds fs so i d b h k =
     ap₂ (λ (l : List Definition) (m : List Bool). so ++ flags o l m) (drop_more ds i d h) (drop_more fs i b k)
-    ∙ front so (get_or fs i b || of.defines o (definition_of (get_or ds i d))) (flags o (drop (i + 1) ds) (drop (i + 1) fs))
+    ∙ sym (append_assoc so ((get_or fs i b || of.defines o (definition_of (get_or ds i d))) ∷ []) (flags o (drop (i + 1) ds) (drop (i + 1) fs)))
 
 pub flags_end : (o : Opened) (ds : List Definition) (fs : List Bool) (so : List Bool) (i : ℕ) → length ds ≤ i → so ++ flags o (drop i ds) (drop i fs) ≡ so
-flags_end o ds fs so i h = ap (λ (l : List Definition). so ++ flags o l (drop i fs)) (drop_all i ds h) ∙ whole so
+flags_end o ds fs so i h = ap (λ (l : List Definition). so ++ flags o l (drop i fs)) (drop_all i ds h) ∙ append-nil so
 
 pub flags_stop : (o : Opened) (ds : List Definition) (fs : List Bool) (so : List Bool) (i : ℕ) → length fs ≤ i → so ++ flags o (drop i ds) (drop i fs) ≡ so
-flags_stop o ds fs so i h = ap (λ (l : List Bool). so ++ flags o (drop i ds) l) (drop_all i fs h) ∙ ap (λ (l : List Bool). so ++ l) (no_flags o (drop i ds)) ∙ whole so
+flags_stop o ds fs so i h = ap (λ (l : List Bool). so ++ flags o (drop i ds) l) (drop_all i fs h) ∙ ap (λ (l : List Bool). so ++ l) (no_flags o (drop i ds)) ∙ append-nil so
 
 left_of_one : (o : Opened) (f b : Bool) (d : of.Definition) (ls ms : List of.Definition) → b ≡ of.defines o d → ls ≡ of.without_definition o ms → unless_shut (f || b) d ls ≡ of.without_definition o (unless_shut f d ms)
 left_of_one o true b d ls ms e h = h

@@ -1,4 +1,5 @@
-//! Rules of classes, each whatever evaluates the codes in it.
+//! Rules of classes, of `super(..)`, and of what stands elsewhere than where it is evaluated, each whatever evaluates
+//! the codes in it.
 #![tactic(auto)]
 
 pub mod classes;
