@@ -251,6 +251,18 @@ NOT_MET = {
     'call_in_a_super_function_that_nothing_calls': DEFINED,
     'label_behind_an_error': CARRIERS,
     'prototypes_behind_an_error': CARRIERS,
+    'super_call_in_a_super_function_that_nothing_calls': REFERENCES,
+    'setter_in_a_super_function_that_nothing_calls': CARRIERS,
+    'getter_behind_an_error': CARRIERS,
+    'super_function_that_nothing_calls_outside': REFERENCES,
+    'super_function_of_a_static_block': DEFINED,
+    'prototypes_exchanged_behind_an_error': CARRIERS,
+    'defaults_exchanged_behind_an_error': CARRIERS,
+    'handler_exchanged_behind_an_error': CARRIERS,
+    'heads_exchanged_behind_an_error': CARRIERS,
+    'rests_exchanged_behind_an_error': CARRIERS,
+    'yield_in_another_function': CARRIERS,
+    'conversion_of_a_name_with_the_number_of_a_key': CALLS,
     'call_of_eval_by_its_name': CARRIERS,
     'delete_of_a_private_property': CARRIERS,
     'call_of_a_private_element': CARRIERS,
@@ -258,7 +270,7 @@ NOT_MET = {
     'delete_of_a_name_behind_a_throw': CARRIERS,
 }
 # of those that the clause on definitions finds: whose meaning is that of the source
-MEANT = ('call_in_a_super_function_that_nothing_calls',)
+MEANT = ('call_in_a_super_function_that_nothing_calls', 'super_function_of_a_static_block')
 # the shapes of the two programs
 SHAPES = {'block_beside_a_field_outside': ('3 ∷ []', '[]'), 'loose_member_read_once': ('[]', '4 ∷ []'), 'super_key_that_stays': ('[]', '4 ∷ []'), 'suspended_class_written': ('6 ∷ []', '[]'), 'imported_object': ('4 ∷ []', '[]'), 'imported_key': ('4 ∷ []', '[]'), 'imported_key_of_a_method': ('4 ∷ []', '[]'), 'key_that_a_function_in_a_block_gives': ('4 ∷ []', '[]'), 'caught_key': ('4 ∷ []', '[]'), 'key_that_a_branch_gives': ('4 ∷ []', '[]'), 'key_that_a_catch_gives': ('4 ∷ []', '[]'), 'imported_key_behind_a_block': ('4 ∷ []', '[]'), 'changing_key_behind_a_block': ('4 ∷ []', '[]'), 'key_that_is_arguments': ('4 ∷ []', '[]'), 'key_that_is_a_parameter_arguments': ('4 ∷ []', '[]')}
 # outputs that mean what their sources mean

@@ -8,6 +8,7 @@ use Rattle.es_base.specs.Preorder.{nodes, numbered_from, preorder, preorder_of}
 use Rattle.es_base.specs.Tree.{Tree, Parts, Node, end, more, child, absent, list, trees, string, literal}
 use Rattle.es_base.specs.declared.kind.Kind.{Kind}
 use Rattle.es_left.proofs.Booleans.{both}
+use Rattle.es_lowered.specs.Bound.{BoundPlace, bound_of, all_bound}
 use Rattle.es_lowered.specs.Carriers.{all_carried, numbers_carried}
 use Rattle.es_unchanged.proofs.Carried.{carried, carried-alike}
 use Rattle.es_unchanged.proofs.Standing.{here, later, in-left, in-right}
@@ -72,7 +73,27 @@ module _ (first : ℕ) (ps : List Tree) where
       both (carried-alike first ps Kind.Program m span semantic_id _ (more (string s) (more (list (lowered_statements k all)) end)) refl refl program.0 program.1)
       (carried-append first ps (preorder_of (lowered_statements k all)) [] (classes-carried all h (λ u i. old u (later (in-left u (preorder_of all) [] i))) k l) refl)
 
+-- ---- no node is bound to the one around it
+
+abbrev part_of : Kind → ℕ → ℕ → BoundPlace
+part_of kind n h = record { kind = kind; number = n; of_function = h }
+
+fields-unbound : (first n h : ℕ) (es : Parts) → AreFields es → (k : ℕ) → bound_of first (part_of Kind.BlockStatement n h) (trees (definitions_from k es)) ≡ []
+fields-unbound first n h end f k = refl
+fields-unbound first n h (more p es) (a_field m span semantic_id key v (a_key i ispan i_semantic_id s) no_value, f) k = fields-unbound first n h es f (k + 9)
+fields-unbound first n h (more p es) (a_field m span semantic_id key v (a_key i ispan i_semantic_id s) (a_literal l lspan l_semantic_id w fine), f) k = fields-unbound first n h es f (k + 7)
+fields-unbound first n h (more p es) (a_field m span semantic_id key v (a_key i ispan i_semantic_id s) (a_reference r rspan r_semantic_id y), f) k = fields-unbound first n h es f (k + 7)
+
+classes-unbound : (first n h : ℕ) (ps : Parts) → AreClasses ps → (k : ℕ) → bound_of first (part_of Kind.Program n h) (lowered_statements k ps) ≡ []
+classes-unbound first n h end c k = refl
+classes-unbound first n h (more p ps) (a_class m span semantic_id id body (a_name i ispan i_semantic_id s free) (a_body b bspan b_semantic_id end he), c) k = classes-unbound first n h ps c _
+classes-unbound first n h (more p ps) (a_class m span semantic_id id body (a_name i ispan i_semantic_id s free) (a_body b bspan b_semantic_id (more e es) he), c) k =
+    rw (fields-unbound first _ _ (more e es) he (k + 4)) (classes-unbound first n h ps c _)
+
+program-unbound : (first k : ℕ) (t : Tree) → IsProgram t → all_bound first (lowered_from k t) ≡ []
+program-unbound first k t (a_program m span semantic_id s all h) = rw (classes-unbound first _ _ all h k) refl
+
 pub numbers-carried : (t : Tree) → IsProgram t → t ≡ numbered_from 0 t → numbers_carried (nodes t) t (numbered.lowered t) ≡ true
 numbers-carried t p e =
     let below : Below (nodes t) (preorder t) = subst (λ u. Below (nodes t) (preorder u)) (sym e) (numbered-below (nodes t) 0 t (omega arith)) in
-    program-carried (nodes t) (preorder t) (nodes t) t p (λ u i. (below-old (nodes t) u (preorder t) below i, i)) (omega arith)
+    rw (program-unbound (nodes t) (nodes t) t p, program-carried (nodes t) (preorder t) (nodes t) t p (λ u i. (below-old (nodes t) u (preorder t) below i, i)) (omega arith)) refl

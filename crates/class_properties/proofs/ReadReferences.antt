@@ -1,20 +1,22 @@
--- What a program of the first form is lowered to reads no name of a class and writes no name, and no function stands in a block.
-use Rattle.std.specs.Prelude.{◌≡◌, ℕ, suc, List, [], ◌∷◌, ◌++◌, Bool, true, false, cond}
+-- What a program of the first form is lowered to reads no name of a class and writes no name, no function stands in a block, and no `super` is
+-- made.
+use Rattle.std.specs.Prelude.{◌≡◌, ℕ, suc, ◌+◌, List, [], ◌∷◌, ◌++◌, Bool, true, false, cond, not, ◌||◌}
 use Rattle.std.proofs.Common.{refl}
 use Rattle.es_base.specs.Preorder.{preorder}
-use Rattle.es_base.specs.Tree.{Tree, Part, Parts, Node, end, more, child, absent, list, string, no_string, boolean, literal}
+use Rattle.es_base.specs.Tree.{Tree, Part, Parts, Node, end, more, child, absent, list, trees, string, no_string, boolean, literal}
 use Rattle.es_base.specs.declared.kind.Kind.{Kind}
 use Rattle.es_steps.specs.FirstForm.{is_first_form}
 use Rattle.es_steps.specs.KeptNodes.{is_constructor_part}
 use Rattle.es_lowered.specs.FunctionsAround.{functions_in, placed_reference, placed_references, placed_in, placed_at, placed_of}
 use Rattle.es_lowered.specs.KeptReferences.{plain_targets, writing_numbers, writes_fit, references_stay}
+use Rattle.es_lowered.specs.Supers.{SuperPlace, no_place, has_stray_super, stray_super_of}
 use Rattle.es_steps.specs.Parts.{at, string_of}
 use Rattle.es_steps.specs.References.{Reference, resolve, gives_inside}
 use Rattle.es_steps.specs.Values.{String}
 use Rattle.class_properties.proofs.Declared.{writing-none, inside-none}
 use Rattle.class_properties.proofs.FreeNames.{classes-timely}
-use Rattle.class_properties.proofs.Numbered.{lowered_from}
-use Rattle.class_properties.proofs.Shaped.{IsProgram}
+use Rattle.class_properties.proofs.Numbered.{definitions_from, lowered_statements, lowered_from}
+use Rattle.class_properties.proofs.Shaped.{no_value, a_literal, a_reference, a_key, a_field, AreFields, a_body, a_name, a_class, AreClasses, IsProgram, a_program}
 
 unwriting : (targets old : List ℕ) (rs : List Reference) → writing_numbers rs ≡ [] → writes_fit [] targets old rs ≡ true
 unwriting targets old [] e = refl
@@ -50,6 +52,27 @@ module _ (first : ℕ) (asked : ℕ → String → Bool) (none : (m : ℕ) (s : 
     list-none around end = refl
     list-none around (more q qs) = rw (part-none false around q, list-none around qs) refl
 
+-- ---- no `super` is made
+
+definitions-without : (x : SuperPlace) (es : Parts) → AreFields es → (k : ℕ) → stray_super_of x (trees (definitions_from k es)) ≡ false
+definitions-without x end h k = refl
+definitions-without x (more p es) (a_field m span semantic_id key v (a_key i ispan i_semantic_id s) no_value, h) k = definitions-without x es h (k + 9)
+definitions-without x (more p es) (a_field m span semantic_id key v (a_key i ispan i_semantic_id s) (a_literal l lspan l_semantic_id w fine), h) k = definitions-without x es h (k + 7)
+definitions-without x (more p es) (a_field m span semantic_id key v (a_key i ispan i_semantic_id s) (a_reference r rspan r_semantic_id y), h) k = definitions-without x es h (k + 7)
+
+classes-without : (x : SuperPlace) (ps : Parts) → AreClasses ps → (k : ℕ) → stray_super_of x (lowered_statements k ps) ≡ false
+classes-without x end h k = refl
+classes-without x (more p ps) (a_class n span semantic_id id body (a_name i ispan i_semantic_id s free) (a_body b bspan b_semantic_id end he), h) k = classes-without x ps h _
+classes-without x (more p ps) (a_class n span semantic_id id body (a_name i ispan i_semantic_id s free) (a_body b bspan b_semantic_id (more e es) he), h) k =
+    rw (definitions-without _ (more e es) he (k + 4)) (classes-without x ps h _)
+
+program-without : (k : ℕ) (t : Tree) → IsProgram t → has_stray_super no_place (lowered_from k t) ≡ false
+program-without k t (a_program m span semantic_id s all h) = rw (classes-without _ all h k) refl
+
+stay-without : (b c : Bool) → c ≡ false → (b || not c) ≡ true
+stay-without true c e = refl
+stay-without false c e = rw e refl
+
 pub references-stay : (first k : ℕ) (t : Tree) → IsProgram t → is_first_form t [] ≡ true → references_stay first [] t (lowered_from k t) ≡ true
 references-stay first k t p f =
-    rw (classes-timely first k t p f, tree-none first (λ m s. gives_inside s (preorder t)) (λ m s. inside-none t p s) false [] (lowered_from k t), unwriting (plain_targets (preorder (lowered_from k t))) (writing_numbers (resolve t)) (resolve (lowered_from k t)) (writing-none k t p)) refl
+    rw (classes-timely first k t p f, stay-without (has_stray_super no_place t) (has_stray_super no_place (lowered_from k t)) (program-without k t p), tree-none first (λ m s. gives_inside s (preorder t)) (λ m s. inside-none t p s) false [] (lowered_from k t), unwriting (plain_targets (preorder (lowered_from k t))) (writing_numbers (resolve t)) (resolve (lowered_from k t)) (writing-none k t p)) refl

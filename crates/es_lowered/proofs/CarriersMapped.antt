@@ -1,16 +1,18 @@
 -- Which node of the source a node stands for does not depend on numbers.
-use Rattle.std.specs.Prelude.{◌≡◌, ℕ, List, [], ◌∷◌, map, codes, ◌&&◌, ◌||◌}
+use Rattle.std.specs.Prelude.{◌≡◌, ℕ, List, [], ◌∷◌, map, not, ◌&&◌, ◌||◌}
 use Rattle.std.proofs.Common.{refl, ap, ap₂, ◌∙◌}
+use Rattle.es_base.specs.Conforms.{is_rest}
 use Rattle.es_base.specs.Preorder.{preorder}
 use Rattle.es_base.specs.Tree.{Tree, Part, Parts, Node, end, more, child, literal}
 use Rattle.es_base.specs.declared.kind.Kind.{Kind}
 use Rattle.es_base.specs.declared.literal.LiteralValue.TheVariants as literal_value
-use Rattle.es_lowered.specs.Carriers.{is_loose_base, form_of_callee, form_of_deleted, odd_form, carries, stands_for_node, is_proto, gives_prototype, is_carried, all_carried, numbers_carried}
-use Rattle.es_steps.specs.Parts.{at}
+use Rattle.es_lowered.specs.Carriers.{is_loose_base, form_of_callee, form_of_deleted, parameters_of, is_one_parameter, form_of_getter, form_of_accessor, odd_form, carries, stands_for_node, is_proto, gives_prototype, is_carried, all_carried, numbers_carried}
+use Rattle.es_lowered.proofs.BoundMapped.{bound_stay-mapped}
+use Rattle.es_steps.specs.Parts.{at, string_of}
 use Rattle.es_steps.specs.Values.{String}
 use Rattle.es_steps.proofs.Mapped.{Renames, mapped, mapped_part, mapped_parts}
 use Rattle.es_steps.proofs.PrintableMapped.{name_of_part-mapped}
-use Rattle.es_steps.proofs.PartsMapped.{at-mapped, string_at-mapped, preorder-mapped}
+use Rattle.es_steps.proofs.PartsMapped.{at-mapped, items_at-mapped, string_at-mapped, preorder-mapped}
 
 module _ {first : ℕ} {f : ℕ → ℕ} (r : Renames first f) where
   is_loose_base-mapped : (p : Part) → is_loose_base (mapped_part f p) ≡ is_loose_base p
@@ -30,10 +32,36 @@ module _ {first : ℕ} {f : ℕ → ℕ} (r : Renames first f) where
   form_of_deleted-mapped (child (Node Kind.MemberExpression m span semantic_id ps)) = rw (at-mapped f 0 ps, is_loose_base-mapped (at 0 ps)) refl
   form_of_deleted-mapped p = refl
 
+  parameters_of-mapped : (p : Part) → parameters_of (mapped_part f p) ≡ mapped_parts f (parameters_of p)
+  parameters_of-mapped (child (Node Kind.FunctionExpression m span semantic_id ps)) = items_at-mapped f 1 ps
+  parameters_of-mapped p = refl
+
+  is_rest-mapped : (p : Part) → is_rest (mapped_part f p) ≡ is_rest p
+  is_rest-mapped (child (Node Kind.RestElement m span semantic_id ps)) = refl
+  is_rest-mapped (child (Node Kind.AssignmentTargetRest m span semantic_id ps)) = refl
+  is_rest-mapped p = refl
+
+  is_one_parameter-mapped : (ps : Parts) → is_one_parameter (mapped_parts f ps) ≡ is_one_parameter ps
+  is_one_parameter-mapped end = refl
+  is_one_parameter-mapped (more p end) = ap not (is_rest-mapped p)
+  is_one_parameter-mapped (more p (more q qs)) = refl
+
+  form_of_getter-mapped : (ps : Parts) → form_of_getter (mapped_parts f ps) ≡ form_of_getter ps
+  form_of_getter-mapped end = refl
+  form_of_getter-mapped (more p ps) = refl
+
+  form_of_accessor-mapped : (kind : String) (p : Part) → form_of_accessor kind (parameters_of (mapped_part f p)) ≡ form_of_accessor kind (parameters_of p)
+  form_of_accessor-mapped kind p = rw (parameters_of-mapped p, form_of_getter-mapped (parameters_of p), is_one_parameter-mapped (parameters_of p)) refl
+
+  accessor-mapped : (ps : Parts) → form_of_accessor (string_of (at 2 (mapped_parts f ps))) (parameters_of (at 1 (mapped_parts f ps))) ≡ form_of_accessor (string_of (at 2 ps)) (parameters_of (at 1 ps))
+  accessor-mapped ps = rw (string_at-mapped f 2 ps, at-mapped f 1 ps) (form_of_accessor-mapped (string_of (at 2 ps)) (at 1 ps))
+
   odd_form-mapped : (kind : Kind) (ps : Parts) → odd_form kind (mapped_parts f ps) ≡ odd_form kind ps
   odd_form-mapped Kind.CallExpression ps = ap form_of_callee (at-mapped f 0 ps) ∙ form_of_callee-mapped (at 0 ps)
   odd_form-mapped Kind.TaggedTemplateExpression ps = ap form_of_callee (at-mapped f 0 ps) ∙ form_of_callee-mapped (at 0 ps)
   odd_form-mapped Kind.UnaryExpression ps = rw (string_at-mapped f 0 ps, at-mapped f 1 ps, form_of_deleted-mapped (at 1 ps)) refl
+  odd_form-mapped Kind.Property ps = accessor-mapped ps
+  odd_form-mapped Kind.MethodDefinition ps = accessor-mapped ps
   odd_form-mapped kind ps = refl
 
   carries-mapped : (kind : Kind) (ps : Parts) (other : Kind) (qs : Parts) → carries kind (mapped_parts f ps) other (mapped_parts f qs) ≡ carries kind ps other qs
@@ -60,4 +88,5 @@ module _ {first : ℕ} {f : ℕ → ℕ} (r : Renames first f) where
   all_carried-mapped ps (t ∷ ts) = ap₂ (λ a b. a && b) (is_carried-mapped ps t) (all_carried-mapped ps ts)
 
   pub numbers_carried-mapped : (p q : Tree) → numbers_carried first (mapped f p) (mapped f q) ≡ numbers_carried first p q
-  numbers_carried-mapped p q = ap₂ (all_carried first) (preorder-mapped f p) (preorder-mapped f q) ∙ all_carried-mapped (preorder p) (preorder q)
+  numbers_carried-mapped p q =
+      ap₂ (λ a b. a && b) (ap₂ (all_carried first) (preorder-mapped f p) (preorder-mapped f q) ∙ all_carried-mapped (preorder p) (preorder q)) (bound_stay-mapped r p q)

@@ -437,7 +437,7 @@ module _ {first : ℕ} {f : ℕ → ℕ} (r : Renames first f) where
 
   pub definitions_stand-mapped : (o : Options) (ledger : List LedgerEntry) (members : List PrivateMember) (p q : Tree) → definitions_stand first o (mapped_ledger f ledger) (mapped_privates f members) (mapped f p) (mapped f q) ≡ definitions_stand first o ledger members p q
   definitions_stand-mapped o ledger members p q =
-      ap₂ (λ a b. not (lowers_fields o) || (a && b))
+      ap₂ (λ a b. (not (lowers_fields o) || a) && b)
       (ap (classes_fit first o (mapped_ledger f ledger) (mapped_privates f members) (mapped f p) (mapped f q)) (preorder-mapped f p) ∙ classes_fit-mapped o ledger members p q (preorder p))
       (ap₂ (supers_stand first o (mapped_ledger f ledger)) (resolve-mapped f q) (preorder-mapped f q) ∙ supers_stand-mapped o ledger (resolve q) (preorder q))
 

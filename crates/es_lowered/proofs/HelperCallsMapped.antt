@@ -1,20 +1,22 @@
 -- What calls of helpers have to be, under a change of numbers.
-use Rattle.std.specs.Prelude.{◌≡◌, ℕ, suc, List, [], ◌∷◌, ◌++◌, map, Bool, true, false, cond, not, ◌&&◌, ◌||◌, bytes_eq, codes}
+use Rattle.std.specs.Prelude.{◌≡◌, ℕ, suc, List, [], ◌∷◌, ◌++◌, map, Bool, true, false, cond, not, ◌&&◌, ◌||◌, bytes_eq, codes, Option, Some, None}
 use Rattle.std.proofs.Common.{refl, ap, ap₂, ◌∙◌}
 use Rattle.es_base.specs.Conforms.{is_among}
-use Rattle.es_base.specs.Preorder.{preorder, preorder_of, number_of}
+use Rattle.es_base.specs.Preorder.{preorder, preorder_of}
 use Rattle.es_base.specs.Tree.{Tree, Part, Parts, Node, end, more, child, list, string, literal}
 use Rattle.es_base.specs.declared.kind.Kind.{Kind}
+use Rattle.es_base.specs.declared.ledger.GeneratedKind.{GeneratedKind}
 use Rattle.es_base.specs.declared.ledger.LedgerEntry.{LedgerEntry}
 use Rattle.es_base.specs.declared.literal.LiteralValue.TheVariants as literal_value
+use Rattle.es_steps.specs.Context.{generated_as}
 use Rattle.es_lowered.specs.Definitions.{spelling}
-use Rattle.es_lowered.specs.HelperCalls.{last_part, generated_spelling, or_none, last_spelling, is_function_value, element_spelling, is_new_private, all_spelled, private_spelling, private_keys, new_private_names, key_spelling, kept_keys, converted_key, all_by, kept_keys_converted, is_helper_callee, part_number, computed_key, computed_keys, StaticKey, is_name, is_key_conversion, computed_static_key, static_key, method_key, field_key, method_keys, field_keys, body_keys, Naming, is_name_literal, tests_of, tests_at, naming_in, naming_of_element, is_class_body, is_without_name, runs_with_class, any_runs, body_runs, is_key_part, gives_key, is_generated_name, ends_with_key, stands_for_key, form_for_key, part_for_key, last_for_key, any_for_key, call_fits, calls_fit, calls_in, calls_at, calls_of, calls_of_body, helper_calls_fit}
+use Rattle.es_lowered.specs.HelperCalls.{last_part, generated_spelling, or_none, last_spelling, is_function_value, element_spelling, is_new_private, all_spelled, private_spelling, private_keys, new_private_names, key_spelling, kept_keys, converted_key, all_by, kept_keys_converted, is_helper_callee, part_number, computed_key, computed_keys, StaticKey, is_name, is_key_conversion, computed_static_key, static_key, method_key, field_key, method_keys, field_keys, body_keys, Naming, is_name_literal, tests_of, tests_at, naming_in, naming_of_element, is_class_body, is_without_name, runs_with_class, any_runs, body_runs, is_this_expression, is_renamed, is_key, is_key_part, gives_key, is_generated_name, ends_with_key, stands_for_key, form_for_key, part_for_key, last_for_key, any_for_key, call_fits, calls_fit, calls_in, calls_at, calls_of, calls_of_body, helper_calls_fit}
 use Rattle.es_steps.specs.Parts.{at, items, string_of, is_true}
-use Rattle.es_steps.specs.References.{has_number}
+use Rattle.es_steps.specs.References.{is_reference}
 use Rattle.es_steps.specs.Values.{String}
-use Rattle.es_steps.proofs.ContextMapped.{is_generated-mapped}
+use Rattle.es_steps.proofs.ContextMapped.{generated_as-mapped, is_generated-mapped}
 use Rattle.es_lowered.proofs.DefinitionsMapped.{spelling-mapped}
-use Rattle.es_steps.proofs.Mapped.{Renames, mapped, mapped_part, mapped_parts, mapped_ledger}
+use Rattle.es_steps.proofs.Mapped.{Renames, mapped, mapped_part, mapped_parts, mapped_option, mapped_generated, mapped_ledger}
 use Rattle.es_steps.proofs.PartsMapped.{cond-mapped, append-mapped, at-mapped, items_at-mapped, string_at-mapped, is_true_at-mapped, is_present_at-mapped, number_of-mapped, preorder-mapped, preorder_of-mapped}
 use Rattle.es_steps.proofs.PrintableMapped.{name_of_part-mapped, is_spelled-mapped}
 use Rattle.es_steps.proofs.ReferencesMapped.{has_number-mapped}
@@ -135,19 +137,30 @@ module _ {first : ℕ} {f : ℕ → ℕ} (r : Renames first f) where
   is_helper_callee-mapped h (child (Node Kind.MemberExpression m span semantic_id (more (child (Node Kind.IdentifierReference b bspan b_semantic_id (more (string s) end))) (more (child (Node Kind.IdentifierName k kspan k_semantic_id (more (string t) end))) rest)))) = rw (r.new b) refl
   is_helper_callee-mapped h p = refl
 
-  is_key_part-mapped : (ledger there : List LedgerEntry) (keys : List ℕ) (p : Part) → is_key_part first there (map f keys) (mapped_part f p) ≡ is_key_part first ledger keys p
-  is_key_part-mapped ledger there keys (child t) = ap (λ n. has_number n (map f keys)) (number_of-mapped f t) ∙ has_number-mapped r (number_of t) keys
-  is_key_part-mapped ledger there keys p = refl
-
-  gives_key-mapped : (ledger there : List LedgerEntry) (keys : List ℕ) (s : String) (ts : List Tree) → gives_key first there (map f keys) s (map (mapped f) ts) ≡ gives_key first ledger keys s ts
-  gives_key-mapped ledger there keys s [] = refl
-  gives_key-mapped ledger there keys s (Node Kind.AssignmentExpression m span semantic_id ps ∷ ts) =
-      rw (at-mapped f 1 ps, spelling-mapped f (at 1 ps), at-mapped f 2 ps, is_key_part-mapped ledger there keys (at 2 ps), gives_key-mapped ledger there keys s ts) refl
-  gives_key-mapped ledger there keys s (t ∷ ts) = gives_key-mapped ledger there keys s ts
-
   module _ (ledger : List LedgerEntry) (keys : List ℕ) where
     abbrev there : List LedgerEntry
     there = mapped_ledger f ledger
+
+    is_renamed-mapped : (g : Option GeneratedKind) → is_renamed (mapped_option (mapped_generated f) g) ≡ is_renamed g
+    is_renamed-mapped None = refl
+    is_renamed-mapped (Some (GeneratedKind.ClassTemp n)) = refl
+    is_renamed-mapped (Some kind) = refl
+
+    is_key-mapped : (kind : Kind) (m : ℕ) (ps : Parts) → is_key first there (map f keys) kind (f m) (mapped_parts f ps) ≡ is_key first ledger keys kind m ps
+    is_key-mapped kind m ps =
+        ap₂ (λ a b. a && not (is_this_expression kind || (is_reference kind && b))) (has_number-mapped r m keys)
+        (ap (λ s. is_renamed (generated_as s there)) (string_at-mapped f 0 ps)
+        ∙ ap (is_renamed) (generated_as-mapped f (string_of (at 0 ps)) ledger) ∙ is_renamed-mapped (generated_as (string_of (at 0 ps)) ledger))
+
+    is_key_part-mapped : (p : Part) → is_key_part first there (map f keys) (mapped_part f p) ≡ is_key_part first ledger keys p
+    is_key_part-mapped (child (Node kind m span semantic_id ps)) = is_key-mapped kind m ps
+    is_key_part-mapped p = refl
+
+    gives_key-mapped : (s : String) (ts : List Tree) → gives_key first there (map f keys) s (map (mapped f) ts) ≡ gives_key first ledger keys s ts
+    gives_key-mapped s [] = refl
+    gives_key-mapped s (Node Kind.AssignmentExpression m span semantic_id ps ∷ ts) =
+        rw (at-mapped f 1 ps, spelling-mapped f (at 1 ps), at-mapped f 2 ps, is_key_part-mapped (at 2 ps), gives_key-mapped s ts) refl
+    gives_key-mapped s (t ∷ ts) = gives_key-mapped s ts
 
     is_generated_name-mapped : (p : Part) → is_generated_name first there (map f keys) (mapped_part f p) ≡ is_generated_name first ledger keys p
     is_generated_name-mapped (child (Node Kind.IdentifierReference m span semantic_id ps)) = rw (string_at-mapped f 0 ps) (is_generated-mapped f (string_of (at 0 ps)) ledger)
@@ -155,11 +168,11 @@ module _ {first : ℕ} {f : ℕ → ℕ} (r : Renames first f) where
 
     ends_with_key-mapped : (es : Parts) → ends_with_key first there (map f keys) (mapped_parts f es) ≡ ends_with_key first ledger keys es
     ends_with_key-mapped es =
-        rw (last_part-mapped f es, is_generated_name-mapped (last_part es), spelling-mapped f (last_part es), preorder_of-mapped f es, gives_key-mapped ledger there keys (spelling (last_part es)) (preorder_of es)) refl
+        rw (last_part-mapped f es, is_generated_name-mapped (last_part es), spelling-mapped f (last_part es), preorder_of-mapped f es, gives_key-mapped (spelling (last_part es)) (preorder_of es)) refl
 
     mutual
       stands_for_key-mapped : (t : Tree) → stands_for_key first there (map f keys) (mapped f t) ≡ stands_for_key first ledger keys t
-      stands_for_key-mapped (Node kind m span semantic_id ps) = ap₂ (λ a b. a || b) (has_number-mapped r m keys) (ap₂ (λ a b. a && b) (r.new m) (form_for_key-mapped kind ps))
+      stands_for_key-mapped (Node kind m span semantic_id ps) = ap₂ (λ a b. a || b) (is_key-mapped kind m ps) (ap₂ (λ a b. a && b) (r.new m) (form_for_key-mapped kind ps))
 
       form_for_key-mapped : (kind : Kind) (ps : Parts) → form_for_key first there (map f keys) kind (mapped_parts f ps) ≡ form_for_key first ledger keys kind ps
       form_for_key-mapped Kind.SequenceExpression (more (list es) end) = ap₂ (λ a b. a || b) (ends_with_key-mapped es) (last_for_key-mapped es)

@@ -5,8 +5,10 @@ pub mod TextsMapped
 pub mod TimelyMapped
 pub mod FunctionsAroundMapped
 pub mod ClassNamesMapped
+pub mod SupersMapped
 pub mod KeptReferencesMapped
 pub mod OwnNamesMapped
 pub mod LoweredMapped
+pub mod BoundMapped
 pub mod CarriersMapped
 pub mod Clauses

@@ -1,13 +1,15 @@
 -- Which node of the source a node of a lowered program stands for: that of its number, whose kind it has, or one that a lowering makes of
 -- that kind. A node that is new is of a kind that a lowering makes. (Our own.)
 use Rattle.std.specs.Prelude.{ℕ, List, [], ◌∷◌, Bool, true, false, cond, not, nat_eq, codes, bytes_eq, ◌&&◌, ◌||◌}
+use Rattle.es_base.specs.Conforms.{is_rest}
 use Rattle.es_base.specs.Numbered.{is_new}
 use Rattle.es_base.specs.Preorder.{preorder}
 use Rattle.es_base.specs.Tree.{Tree, Part, Parts, Node, end, more, child, literal}
 use Rattle.es_base.specs.declared.kind.Kind.{Kind}
 use Rattle.es_base.specs.declared.literal.LiteralValue.TheVariants as literal_value
+use Rattle.es_lowered.specs.Bound.{bound_stay}
 use Rattle.es_steps.specs.KeptNodes.{is_underscored}
-use Rattle.es_steps.specs.Parts.{at, string_of}
+use Rattle.es_steps.specs.Parts.{at, items, string_of}
 use Rattle.es_steps.specs.Printable.{name_of_part}
 use Rattle.es_steps.specs.References.{is_reference}
 use Rattle.es_steps.specs.SameTrees.{same_kind}
@@ -96,12 +98,14 @@ abbrev pub has_its_name : Kind → String → String → Bool
 has_its_name kind s t = named_by kind && ((is_reference kind && bytes_eq s t) || is_underscored t)
 
 -- forms that no value tells from others: a call of the name `eval` (13.3.6.1); a call and a tag of a private member, which is handed
--- its object (13.3.6.2); `delete` of a private member, and of a name (13.5.1.1)
+-- its object (13.3.6.2); `delete` of a private member, and of a name (13.5.1.1); a getter with parameters, and a setter without its
+-- one (15.4)
 pub data OddForm : Type 0 where
   calls_eval : OddForm
   calls_private : OddForm
   deletes_private : OddForm
   deletes_name : OddForm
+  takes_odd_parameters : OddForm
   no_odd_form : OddForm
 
 abbrev pub is_loose_base : Part → Bool
@@ -120,10 +124,27 @@ form_of_deleted (child (Node Kind.ChainExpression m span semantic_id (more (chil
 form_of_deleted (child (Node Kind.MemberExpression m span semantic_id ps)) = cond (is_loose_base (at 0 ps)) deletes_private no_odd_form
 form_of_deleted p = no_odd_form
 
+abbrev pub parameters_of : Part → Parts
+parameters_of (child (Node Kind.FunctionExpression m span semantic_id ps)) = items (at 1 ps)
+parameters_of p = end
+
+abbrev pub is_one_parameter : Parts → Bool
+is_one_parameter (more p end) = not (is_rest p)
+is_one_parameter ps = false
+
+abbrev pub form_of_getter : Parts → OddForm
+form_of_getter end = no_odd_form
+form_of_getter ps = takes_odd_parameters
+
+abbrev pub form_of_accessor : String → Parts → OddForm
+form_of_accessor kind ps = cond (bytes_eq kind (codes "get")) (form_of_getter ps) (cond (bytes_eq kind (codes "set") && not (is_one_parameter ps)) takes_odd_parameters no_odd_form)
+
 abbrev pub odd_form : Kind → Parts → OddForm
 odd_form Kind.CallExpression ps = form_of_callee (at 0 ps)
 odd_form Kind.TaggedTemplateExpression ps = form_of_callee (at 0 ps)
 odd_form Kind.UnaryExpression ps = cond (bytes_eq (string_of (at 0 ps)) (codes "delete")) (form_of_deleted (at 1 ps)) no_odd_form
+odd_form Kind.Property ps = form_of_accessor (string_of (at 2 ps)) (parameters_of (at 1 ps))
+odd_form Kind.MethodDefinition ps = form_of_accessor (string_of (at 2 ps)) (parameters_of (at 1 ps))
 odd_form kind ps = no_odd_form
 
 -- the second is none, or the first
@@ -133,6 +154,7 @@ keeps_form calls_eval calls_eval = true
 keeps_form calls_private calls_private = true
 keeps_form deletes_private deletes_private = true
 keeps_form deletes_name deletes_name = true
+keeps_form takes_odd_parameters takes_odd_parameters = true
 keeps_form form other = false
 
 abbrev pub carries : Kind → Parts → Kind → Parts → Bool
@@ -161,4 +183,4 @@ all_carried first ps [] = true
 all_carried first ps (t ∷ ts) = is_carried first ps t && all_carried first ps ts
 
 abbrev pub numbers_carried : ℕ → Tree → Tree → Bool
-numbers_carried first p q = all_carried first (preorder p) (preorder q)
+numbers_carried first p q = all_carried first (preorder p) (preorder q) && bound_stay first p q

@@ -399,9 +399,9 @@ module _ (first : ℕ) (o : Options) (ledger : List LedgerEntry) where
   supers_stand rs [] = true
   supers_stand rs (Node kind m span semantic_id ps ∷ ts) = super_stands rs kind ps && supers_stand rs ts
 
--- with class properties on
+-- fields are defined with class properties on
 abbrev pub definitions_stand : ℕ → Options → List LedgerEntry → List PrivateMember → Tree → Tree → Bool
-definitions_stand first o ledger members p q = not (lowers_fields o) || (classes_fit first o ledger members p q (preorder p) && supers_stand first o ledger (resolve q) (preorder q))
+definitions_stand first o ledger members p q = (not (lowers_fields o) || classes_fit first o ledger members p q (preorder p)) && supers_stand first o ledger (resolve q) (preorder q)
 
 -- ---- the keys that are temporaries: no two fields have one, and each is given before its class
 

@@ -1,18 +1,19 @@
 -- Calls of helpers that convert or name: what they are called with. (Our own.)
-use Rattle.std.specs.Prelude.{ℕ, suc, List, [], ◌∷◌, ◌++◌, Bool, true, false, cond, not, ◌&&◌, ◌||◌, nat_eq, bytes_eq, codes}
+use Rattle.std.specs.Prelude.{ℕ, suc, List, [], ◌∷◌, ◌++◌, Bool, true, false, cond, not, ◌&&◌, ◌||◌, nat_eq, bytes_eq, codes, Option, Some, None}
 use Rattle.es_base.specs.Conforms.{is_among}
 use Rattle.es_base.specs.Numbered.{is_new}
 use Rattle.es_base.specs.Preorder.{preorder, preorder_of, number_of}
 use Rattle.es_base.specs.Tree.{Tree, Part, Parts, Node, end, more, child, absent, list, string, literal}
 use Rattle.es_base.specs.declared.kind.Kind.{Kind}
+use Rattle.es_base.specs.declared.ledger.GeneratedKind.{GeneratedKind}
 use Rattle.es_base.specs.declared.ledger.LedgerEntry.{LedgerEntry}
 use Rattle.es_base.specs.declared.literal.LiteralValue.TheVariants as literal_value
-use Rattle.es_steps.specs.Context.{is_generated, is_function}
+use Rattle.es_steps.specs.Context.{generated_as, is_generated, is_function}
 use Rattle.es_lowered.specs.Definitions.{spelling}
 use Rattle.es_steps.specs.NameScopes.{is_any_function}
 use Rattle.es_steps.specs.Parts.{at, items, string_of, is_true, is_present}
 use Rattle.es_steps.specs.Printable.{name_of_part, is_spelled}
-use Rattle.es_steps.specs.References.{has_number}
+use Rattle.es_steps.specs.References.{is_reference, has_number}
 use Rattle.es_steps.specs.Repeated.{is_arrow}
 use Rattle.es_steps.specs.Values.{String}
 
@@ -159,9 +160,23 @@ is_without_name x (child (Node Kind.ClassExpression m span semantic_id ps)) = no
 is_without_name x (child (Node Kind.ThisExpression m span semantic_id ps)) = none_is_name x.keys x.tested
 is_without_name x p = false
 
+abbrev pub is_this_expression : Kind → Bool
+is_this_expression Kind.ThisExpression = true
+is_this_expression kind = false
+
+-- a generated name, but that of a class
+abbrev pub is_renamed : Option GeneratedKind → Bool
+is_renamed None = false
+is_renamed (Some (GeneratedKind.ClassTemp n)) = false
+is_renamed (Some kind) = true
+
 module _ (first : ℕ) (ledger : List LedgerEntry) (keys : List ℕ) where
+  -- a computed key of the source: a name by its name, or by one of a class; `this` may be another value
+  abbrev pub is_key : Kind → ℕ → Parts → Bool
+  is_key kind m ps = has_number m keys && not (is_this_expression kind || (is_reference kind && is_renamed (generated_as (string_of (at 0 ps)) ledger)))
+
   abbrev pub is_key_part : Part → Bool
-  is_key_part (child t) = has_number (number_of t) keys
+  is_key_part (child (Node kind m span semantic_id ps)) = is_key kind m ps
   is_key_part p = false
 
   -- whether a key is given to this name
@@ -181,7 +196,7 @@ module _ (first : ℕ) (ledger : List LedgerEntry) (keys : List ℕ) where
   -- at the end keeps it
   abbrev mutual
     pub stands_for_key : Tree → Bool
-    stands_for_key (Node kind m span semantic_id ps) = has_number m keys || (is_new first m && form_for_key kind ps)
+    stands_for_key (Node kind m span semantic_id ps) = is_key kind m ps || (is_new first m && form_for_key kind ps)
 
     pub form_for_key : Kind → Parts → Bool
     form_for_key Kind.SequenceExpression (more (list es) end) = ends_with_key es || last_for_key es

@@ -92,6 +92,7 @@ pub mod ConversionInAKey
 pub mod ConversionInFrontOfAKey
 pub mod ConversionInFrontOfANamedClass
 pub mod ConversionOfAClassThatAKeyNames
+pub mod ConversionOfANameWithTheNumberOfAKey
 pub mod ConversionOfNoKey
 pub mod ConversionWithTheNumberOfAKey
 pub mod ConversionsOfATemplate
@@ -109,6 +110,7 @@ pub mod DeclaratorOutOfItsBlock
 pub mod DefaultExports
 pub mod DefaultFunction
 pub mod DefaultFunctionExpression
+pub mod DefaultsExchangedBehindAnError
 pub mod DefinitionsNested
 pub mod DeleteOfAName
 pub mod DeleteOfANameBehindAThrow
@@ -144,9 +146,12 @@ pub mod FunctionOfAParameter
 pub mod FunctionOutOfItsBlock
 pub mod FunctionsOfABlockExchanged
 pub mod GeneratorConstructor
+pub mod GetterBehindAnError
 pub mod GetterMadeAMethod
 pub mod GetterOrMethod
 pub mod GlobalRenamed
+pub mod HandlerExchangedBehindAnError
+pub mod HeadsExchangedBehindAnError
 pub mod HeritageReadLate
 pub mod HexadecimalBigint
 pub mod HiddenBody
@@ -269,6 +274,7 @@ pub mod PrivateNameOfTheOuterClass
 pub mod PrivateNameTwice
 pub mod PropertyWithTheNumberOfABlock
 pub mod PrototypesBehindAnError
+pub mod PrototypesExchangedBehindAnError
 pub mod QuestionForAGeneratedElement
 pub mod QuestionForAnotherField
 pub mod RawOfAString
@@ -288,10 +294,12 @@ pub mod RegularExpressionReadTwice
 pub mod RegularExpressionsExchanged
 pub mod RegularExpressionsOfOneText
 pub mod RestDropped
+pub mod RestsExchangedBehindAnError
 pub mod ResultOfTheSetter
 pub mod ReturnInAnArrow
 pub mod ScriptInAnArrow
 pub mod SecondStringThatAPrinterMakesADirective
+pub mod SetterInASuperFunctionThatNothingCalls
 pub mod SharedParameters
 pub mod SpreadForAParameter
 pub mod StatementOfAnIf
@@ -309,10 +317,13 @@ pub mod StrictFunctionOfAMethod
 pub mod StrictRest
 pub mod StringInParentheses
 pub mod StringThatAPrinterMakesADirective
+pub mod SuperCallInASuperFunctionThatNothingCalls
 pub mod SuperFunctionBehindACall
 pub mod SuperFunctionBehindItsCalls
 pub mod SuperFunctionCalledWithAnother
+pub mod SuperFunctionOfAStaticBlock
 pub mod SuperFunctionOutsideOfAFunction
+pub mod SuperFunctionThatNothingCallsOutside
 pub mod SuperGivesZero
 pub mod SuperInAFunctionThatNothingCalls
 pub mod SuperKeyThatStays
@@ -353,3 +364,4 @@ pub mod VoidOfATemplate
 pub mod WeakMapInAnotherFunction
 pub mod WriteBehindAPattern
 pub mod YieldInAGenerator
+pub mod YieldInAnotherFunction

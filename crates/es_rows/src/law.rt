@@ -195,6 +195,7 @@ ghost use Rattle.es_rows.specs.witnesses.ConversionInAKey.{source_conversion_in_
 ghost use Rattle.es_rows.specs.witnesses.ConversionInFrontOfAKey.{source_conversion_in_front_of_a_key, output_conversion_in_front_of_a_key, generated_conversion_in_front_of_a_key, options_conversion_in_front_of_a_key};
 ghost use Rattle.es_rows.specs.witnesses.ConversionInFrontOfANamedClass.{source_conversion_in_front_of_a_named_class, output_conversion_in_front_of_a_named_class, generated_conversion_in_front_of_a_named_class, options_conversion_in_front_of_a_named_class};
 ghost use Rattle.es_rows.specs.witnesses.ConversionOfAClassThatAKeyNames.{source_conversion_of_a_class_that_a_key_names, output_conversion_of_a_class_that_a_key_names, generated_conversion_of_a_class_that_a_key_names, options_conversion_of_a_class_that_a_key_names};
+ghost use Rattle.es_rows.specs.witnesses.ConversionOfANameWithTheNumberOfAKey.{source_conversion_of_a_name_with_the_number_of_a_key, output_conversion_of_a_name_with_the_number_of_a_key, generated_conversion_of_a_name_with_the_number_of_a_key, options_conversion_of_a_name_with_the_number_of_a_key};
 ghost use Rattle.es_rows.specs.witnesses.ConversionOfNoKey.{source_conversion_of_no_key, output_conversion_of_no_key, generated_conversion_of_no_key, options_conversion_of_no_key};
 ghost use Rattle.es_rows.specs.witnesses.ConversionWithTheNumberOfAKey.{source_conversion_with_the_number_of_a_key, output_conversion_with_the_number_of_a_key, generated_conversion_with_the_number_of_a_key, options_conversion_with_the_number_of_a_key};
 ghost use Rattle.es_rows.specs.witnesses.ConversionsOfATemplate.{source_conversions_of_a_template, output_conversions_of_a_template, generated_conversions_of_a_template, options_conversions_of_a_template};
@@ -212,6 +213,7 @@ ghost use Rattle.es_rows.specs.witnesses.DeclaratorOutOfItsBlock.{source_declara
 ghost use Rattle.es_rows.specs.witnesses.DefaultExports.{first_default_exports, second_default_exports, options_default_exports};
 ghost use Rattle.es_rows.specs.witnesses.DefaultFunction.{first_default_function, second_default_function, options_default_function};
 ghost use Rattle.es_rows.specs.witnesses.DefaultFunctionExpression.{source_default_function_expression, output_default_function_expression, generated_default_function_expression, options_default_function_expression};
+ghost use Rattle.es_rows.specs.witnesses.DefaultsExchangedBehindAnError.{source_defaults_exchanged_behind_an_error, output_defaults_exchanged_behind_an_error, generated_defaults_exchanged_behind_an_error, options_defaults_exchanged_behind_an_error};
 ghost use Rattle.es_rows.specs.witnesses.DefinitionsNested.{source_definitions_nested, output_definitions_nested, generated_definitions_nested, options_definitions_nested};
 ghost use Rattle.es_rows.specs.witnesses.DeleteOfAName.{first_delete_of_a_name, second_delete_of_a_name, options_delete_of_a_name};
 ghost use Rattle.es_rows.specs.witnesses.DeleteOfANameBehindAThrow.{source_delete_of_a_name_behind_a_throw, output_delete_of_a_name_behind_a_throw, generated_delete_of_a_name_behind_a_throw, options_delete_of_a_name_behind_a_throw};
@@ -246,9 +248,12 @@ ghost use Rattle.es_rows.specs.witnesses.FunctionOfAParameter.{first_function_of
 ghost use Rattle.es_rows.specs.witnesses.FunctionOutOfItsBlock.{source_function_out_of_its_block, output_function_out_of_its_block, generated_function_out_of_its_block, options_function_out_of_its_block};
 ghost use Rattle.es_rows.specs.witnesses.FunctionsOfABlockExchanged.{source_functions_of_a_block_exchanged, output_functions_of_a_block_exchanged, generated_functions_of_a_block_exchanged, options_functions_of_a_block_exchanged};
 ghost use Rattle.es_rows.specs.witnesses.GeneratorConstructor.{source_generator_constructor, output_generator_constructor, generated_generator_constructor, options_generator_constructor};
+ghost use Rattle.es_rows.specs.witnesses.GetterBehindAnError.{source_getter_behind_an_error, output_getter_behind_an_error, generated_getter_behind_an_error, options_getter_behind_an_error};
 ghost use Rattle.es_rows.specs.witnesses.GetterMadeAMethod.{source_getter_made_a_method, output_getter_made_a_method, generated_getter_made_a_method, options_getter_made_a_method};
 ghost use Rattle.es_rows.specs.witnesses.GetterOrMethod.{first_getter_or_method, second_getter_or_method, options_getter_or_method};
 ghost use Rattle.es_rows.specs.witnesses.GlobalRenamed.{first_global_renamed, second_global_renamed, options_global_renamed};
+ghost use Rattle.es_rows.specs.witnesses.HandlerExchangedBehindAnError.{source_handler_exchanged_behind_an_error, output_handler_exchanged_behind_an_error, generated_handler_exchanged_behind_an_error, options_handler_exchanged_behind_an_error};
+ghost use Rattle.es_rows.specs.witnesses.HeadsExchangedBehindAnError.{source_heads_exchanged_behind_an_error, output_heads_exchanged_behind_an_error, generated_heads_exchanged_behind_an_error, options_heads_exchanged_behind_an_error};
 ghost use Rattle.es_rows.specs.witnesses.HeritageReadLate.{source_heritage_read_late, output_heritage_read_late, generated_heritage_read_late, options_heritage_read_late};
 ghost use Rattle.es_rows.specs.witnesses.HexadecimalBigint.{source_hexadecimal_bigint, output_hexadecimal_bigint, generated_hexadecimal_bigint, options_hexadecimal_bigint};
 ghost use Rattle.es_rows.specs.witnesses.HiddenBody.{source_hidden_body, output_hidden_body, generated_hidden_body, options_hidden_body};
@@ -370,6 +375,7 @@ ghost use Rattle.es_rows.specs.witnesses.PrivateNameOfTheOuterClass.{source_priv
 ghost use Rattle.es_rows.specs.witnesses.PrivateNameTwice.{source_private_name_twice, output_private_name_twice, generated_private_name_twice, options_private_name_twice};
 ghost use Rattle.es_rows.specs.witnesses.PropertyWithTheNumberOfABlock.{source_property_with_the_number_of_a_block, output_property_with_the_number_of_a_block, generated_property_with_the_number_of_a_block, options_property_with_the_number_of_a_block};
 ghost use Rattle.es_rows.specs.witnesses.PrototypesBehindAnError.{source_prototypes_behind_an_error, output_prototypes_behind_an_error, generated_prototypes_behind_an_error, options_prototypes_behind_an_error};
+ghost use Rattle.es_rows.specs.witnesses.PrototypesExchangedBehindAnError.{source_prototypes_exchanged_behind_an_error, output_prototypes_exchanged_behind_an_error, generated_prototypes_exchanged_behind_an_error, options_prototypes_exchanged_behind_an_error};
 ghost use Rattle.es_rows.specs.witnesses.QuestionForAGeneratedElement.{source_question_for_a_generated_element, output_question_for_a_generated_element, generated_question_for_a_generated_element, options_question_for_a_generated_element};
 ghost use Rattle.es_rows.specs.witnesses.QuestionForAnotherField.{source_question_for_another_field, output_question_for_another_field, generated_question_for_another_field, options_question_for_another_field};
 ghost use Rattle.es_rows.specs.witnesses.RawOfAString.{source_raw_of_a_string, output_raw_of_a_string, generated_raw_of_a_string, options_raw_of_a_string};
@@ -389,10 +395,12 @@ ghost use Rattle.es_rows.specs.witnesses.RegularExpressionReadTwice.{source_regu
 ghost use Rattle.es_rows.specs.witnesses.RegularExpressionsExchanged.{source_regular_expressions_exchanged, output_regular_expressions_exchanged, generated_regular_expressions_exchanged, options_regular_expressions_exchanged};
 ghost use Rattle.es_rows.specs.witnesses.RegularExpressionsOfOneText.{first_regular_expressions_of_one_text, second_regular_expressions_of_one_text, options_regular_expressions_of_one_text};
 ghost use Rattle.es_rows.specs.witnesses.RestDropped.{first_rest_dropped, second_rest_dropped, options_rest_dropped};
+ghost use Rattle.es_rows.specs.witnesses.RestsExchangedBehindAnError.{source_rests_exchanged_behind_an_error, output_rests_exchanged_behind_an_error, generated_rests_exchanged_behind_an_error, options_rests_exchanged_behind_an_error};
 ghost use Rattle.es_rows.specs.witnesses.ResultOfTheSetter.{source_result_of_the_setter, output_result_of_the_setter, generated_result_of_the_setter, options_result_of_the_setter};
 ghost use Rattle.es_rows.specs.witnesses.ReturnInAnArrow.{source_return_in_an_arrow, output_return_in_an_arrow, generated_return_in_an_arrow, options_return_in_an_arrow};
 ghost use Rattle.es_rows.specs.witnesses.ScriptInAnArrow.{source_script_in_an_arrow, output_script_in_an_arrow, generated_script_in_an_arrow, options_script_in_an_arrow};
 ghost use Rattle.es_rows.specs.witnesses.SecondStringThatAPrinterMakesADirective.{source_second_string_that_a_printer_makes_a_directive, output_second_string_that_a_printer_makes_a_directive, generated_second_string_that_a_printer_makes_a_directive, options_second_string_that_a_printer_makes_a_directive};
+ghost use Rattle.es_rows.specs.witnesses.SetterInASuperFunctionThatNothingCalls.{source_setter_in_a_super_function_that_nothing_calls, output_setter_in_a_super_function_that_nothing_calls, generated_setter_in_a_super_function_that_nothing_calls, options_setter_in_a_super_function_that_nothing_calls};
 ghost use Rattle.es_rows.specs.witnesses.SharedParameters.{first_shared_parameters, second_shared_parameters, options_shared_parameters};
 ghost use Rattle.es_rows.specs.witnesses.SpreadForAParameter.{source_spread_for_a_parameter, output_spread_for_a_parameter, generated_spread_for_a_parameter, options_spread_for_a_parameter};
 ghost use Rattle.es_rows.specs.witnesses.StatementOfAnIf.{first_statement_of_an_if, second_statement_of_an_if, options_statement_of_an_if};
@@ -410,10 +418,13 @@ ghost use Rattle.es_rows.specs.witnesses.StrictFunctionOfAMethod.{source_strict_
 ghost use Rattle.es_rows.specs.witnesses.StrictRest.{source_strict_rest, output_strict_rest, generated_strict_rest, options_strict_rest};
 ghost use Rattle.es_rows.specs.witnesses.StringInParentheses.{source_string_in_parentheses, output_string_in_parentheses, generated_string_in_parentheses, options_string_in_parentheses};
 ghost use Rattle.es_rows.specs.witnesses.StringThatAPrinterMakesADirective.{source_string_that_a_printer_makes_a_directive, output_string_that_a_printer_makes_a_directive, generated_string_that_a_printer_makes_a_directive, options_string_that_a_printer_makes_a_directive};
+ghost use Rattle.es_rows.specs.witnesses.SuperCallInASuperFunctionThatNothingCalls.{source_super_call_in_a_super_function_that_nothing_calls, output_super_call_in_a_super_function_that_nothing_calls, generated_super_call_in_a_super_function_that_nothing_calls, options_super_call_in_a_super_function_that_nothing_calls};
 ghost use Rattle.es_rows.specs.witnesses.SuperFunctionBehindACall.{source_super_function_behind_a_call, output_super_function_behind_a_call, generated_super_function_behind_a_call, options_super_function_behind_a_call};
 ghost use Rattle.es_rows.specs.witnesses.SuperFunctionBehindItsCalls.{source_super_function_behind_its_calls, output_super_function_behind_its_calls, generated_super_function_behind_its_calls, options_super_function_behind_its_calls};
 ghost use Rattle.es_rows.specs.witnesses.SuperFunctionCalledWithAnother.{source_super_function_called_with_another, output_super_function_called_with_another, generated_super_function_called_with_another, options_super_function_called_with_another};
+ghost use Rattle.es_rows.specs.witnesses.SuperFunctionOfAStaticBlock.{source_super_function_of_a_static_block, output_super_function_of_a_static_block, generated_super_function_of_a_static_block, options_super_function_of_a_static_block};
 ghost use Rattle.es_rows.specs.witnesses.SuperFunctionOutsideOfAFunction.{source_super_function_outside_of_a_function, output_super_function_outside_of_a_function, generated_super_function_outside_of_a_function, options_super_function_outside_of_a_function};
+ghost use Rattle.es_rows.specs.witnesses.SuperFunctionThatNothingCallsOutside.{source_super_function_that_nothing_calls_outside, output_super_function_that_nothing_calls_outside, generated_super_function_that_nothing_calls_outside, options_super_function_that_nothing_calls_outside};
 ghost use Rattle.es_rows.specs.witnesses.SuperGivesZero.{source_super_gives_zero, output_super_gives_zero, generated_super_gives_zero, options_super_gives_zero};
 ghost use Rattle.es_rows.specs.witnesses.SuperInAFunctionThatNothingCalls.{source_super_in_a_function_that_nothing_calls, output_super_in_a_function_that_nothing_calls, generated_super_in_a_function_that_nothing_calls, options_super_in_a_function_that_nothing_calls};
 ghost use Rattle.es_rows.specs.witnesses.SuperKeyThatStays.{first_super_key_that_stays, second_super_key_that_stays, options_super_key_that_stays};
@@ -454,6 +465,7 @@ ghost use Rattle.es_rows.specs.witnesses.VoidOfATemplate.{first_void_of_a_templa
 ghost use Rattle.es_rows.specs.witnesses.WeakMapInAnotherFunction.{source_weak_map_in_another_function, output_weak_map_in_another_function, generated_weak_map_in_another_function, options_weak_map_in_another_function};
 ghost use Rattle.es_rows.specs.witnesses.WriteBehindAPattern.{source_write_behind_a_pattern, output_write_behind_a_pattern, generated_write_behind_a_pattern, options_write_behind_a_pattern};
 ghost use Rattle.es_rows.specs.witnesses.YieldInAGenerator.{source_yield_in_a_generator, output_yield_in_a_generator, generated_yield_in_a_generator, options_yield_in_a_generator};
+ghost use Rattle.es_rows.specs.witnesses.YieldInAnotherFunction.{source_yield_in_another_function, output_yield_in_another_function, generated_yield_in_another_function, options_yield_in_another_function};
 
 /// Instance fields and their keys, defined and set, and what is kept as a property.
 pub fn instance_fields_keep_their_meaning()
@@ -787,6 +799,7 @@ pub fn clauses_are_not_met()
     ensures conversion_in_front_of_a_key { helper_calls_fit (nodes source_conversion_in_front_of_a_key) generated_conversion_in_front_of_a_key (computed_keys (preorder source_conversion_in_front_of_a_key)) output_conversion_in_front_of_a_key ≡ false }
     ensures conversion_in_front_of_a_named_class { helper_calls_fit (nodes source_conversion_in_front_of_a_named_class) generated_conversion_in_front_of_a_named_class (computed_keys (preorder source_conversion_in_front_of_a_named_class)) output_conversion_in_front_of_a_named_class ≡ false }
     ensures conversion_of_a_class_that_a_key_names { helper_calls_fit (nodes source_conversion_of_a_class_that_a_key_names) generated_conversion_of_a_class_that_a_key_names (computed_keys (preorder source_conversion_of_a_class_that_a_key_names)) output_conversion_of_a_class_that_a_key_names ≡ false }
+    ensures conversion_of_a_name_with_the_number_of_a_key { helper_calls_fit (nodes source_conversion_of_a_name_with_the_number_of_a_key) generated_conversion_of_a_name_with_the_number_of_a_key (computed_keys (preorder source_conversion_of_a_name_with_the_number_of_a_key)) output_conversion_of_a_name_with_the_number_of_a_key ≡ false }
     ensures conversion_of_no_key { helper_calls_fit (nodes source_conversion_of_no_key) generated_conversion_of_no_key (computed_keys (preorder source_conversion_of_no_key)) output_conversion_of_no_key ≡ false }
     ensures conversion_with_the_number_of_a_key { numbers_carried (nodes source_conversion_with_the_number_of_a_key) source_conversion_with_the_number_of_a_key output_conversion_with_the_number_of_a_key ≡ false }
     ensures copied_octal_escape { texts_stay (nodes source_copied_octal_escape) source_copied_octal_escape output_copied_octal_escape ≡ false }
@@ -799,6 +812,7 @@ pub fn clauses_are_not_met()
     ensures declaration_without_its_name_in_a_method { own_names_stay generated_declaration_without_its_name_in_a_method source_declaration_without_its_name_in_a_method output_declaration_without_its_name_in_a_method ≡ false }
     ensures declaration_without_its_names { stays_printable source_declaration_without_its_names output_declaration_without_its_names ≡ false }
     ensures declarator_in_a_const { declarations_accounted (nodes source_declarator_in_a_const) generated_declarator_in_a_const source_declarator_in_a_const output_declarator_in_a_const ≡ false }
+    ensures defaults_exchanged_behind_an_error { numbers_carried (nodes source_defaults_exchanged_behind_an_error) source_defaults_exchanged_behind_an_error output_defaults_exchanged_behind_an_error ≡ false }
     ensures delete_of_a_name_behind_a_throw { numbers_carried (nodes source_delete_of_a_name_behind_a_throw) source_delete_of_a_name_behind_a_throw output_delete_of_a_name_behind_a_throw ≡ false }
     ensures delete_of_a_private_property { numbers_carried (nodes source_delete_of_a_private_property) source_delete_of_a_private_property output_delete_of_a_private_property ≡ false }
     ensures directive_behind_a_name { is_printable output_directive_behind_a_name ≡ false }
@@ -809,6 +823,9 @@ pub fn clauses_are_not_met()
     ensures flags_of_no_regular_expression { texts_stay (nodes source_flags_of_no_regular_expression) source_flags_of_no_regular_expression output_flags_of_no_regular_expression ≡ false }
     ensures function_in_a_class { none_becomes_strict (nodes source_function_in_a_class) source_function_in_a_class output_function_in_a_class ≡ false }
     ensures function_out_of_its_block { lists_kept options_function_out_of_its_block source_function_out_of_its_block output_function_out_of_its_block ≡ false }
+    ensures getter_behind_an_error { numbers_carried (nodes source_getter_behind_an_error) source_getter_behind_an_error output_getter_behind_an_error ≡ false }
+    ensures handler_exchanged_behind_an_error { numbers_carried (nodes source_handler_exchanged_behind_an_error) source_handler_exchanged_behind_an_error output_handler_exchanged_behind_an_error ≡ false }
+    ensures heads_exchanged_behind_an_error { numbers_carried (nodes source_heads_exchanged_behind_an_error) source_heads_exchanged_behind_an_error output_heads_exchanged_behind_an_error ≡ false }
     ensures hidden_body { conforms Place.Program output_hidden_body ≡ false }
     ensures key_given_again { initializations_stand (nodes source_key_given_again) generated_key_given_again source_key_given_again output_key_given_again generated_key_given_again ≡ false }
     ensures key_kept_by_a_call { helper_calls_fit (nodes source_key_kept_by_a_call) generated_key_kept_by_a_call (computed_keys (preorder source_key_kept_by_a_call)) output_key_kept_by_a_call ≡ false }
@@ -867,16 +884,22 @@ pub fn clauses_are_not_met()
     ensures private_name_twice { names_declared (nodes source_private_name_twice) generated_private_name_twice output_private_name_twice ≡ false }
     ensures property_with_the_number_of_a_block { numbers_carried (nodes source_property_with_the_number_of_a_block) source_property_with_the_number_of_a_block output_property_with_the_number_of_a_block ≡ false }
     ensures prototypes_behind_an_error { numbers_carried (nodes source_prototypes_behind_an_error) source_prototypes_behind_an_error output_prototypes_behind_an_error ≡ false }
+    ensures prototypes_exchanged_behind_an_error { numbers_carried (nodes source_prototypes_exchanged_behind_an_error) source_prototypes_exchanged_behind_an_error output_prototypes_exchanged_behind_an_error ≡ false }
     ensures raw_of_a_string { texts_stay (nodes source_raw_of_a_string) source_raw_of_a_string output_raw_of_a_string ≡ false }
     ensures raw_of_a_template { texts_stay (nodes source_raw_of_a_template) source_raw_of_a_template output_raw_of_a_template ≡ false }
     ensures regular_expression_read_twice { temporaries_steady (nodes source_regular_expression_read_twice) generated_regular_expression_read_twice (private_members source_regular_expression_read_twice) output_regular_expression_read_twice ≡ false }
+    ensures rests_exchanged_behind_an_error { numbers_carried (nodes source_rests_exchanged_behind_an_error) source_rests_exchanged_behind_an_error output_rests_exchanged_behind_an_error ≡ false }
     ensures second_string_that_a_printer_makes_a_directive { stays_printable source_second_string_that_a_printer_makes_a_directive output_second_string_that_a_printer_makes_a_directive ≡ false }
+    ensures setter_in_a_super_function_that_nothing_calls { numbers_carried (nodes source_setter_in_a_super_function_that_nothing_calls) source_setter_in_a_super_function_that_nothing_calls output_setter_in_a_super_function_that_nothing_calls ≡ false }
     ensures strict_arrow { none_becomes_strict (nodes source_strict_arrow) source_strict_arrow output_strict_arrow ≡ false }
     ensures strict_rest { is_printable output_strict_rest ≡ false }
     ensures string_that_a_printer_makes_a_directive { stays_printable source_string_that_a_printer_makes_a_directive output_string_that_a_printer_makes_a_directive ≡ false }
+    ensures super_call_in_a_super_function_that_nothing_calls { references_stay (nodes source_super_call_in_a_super_function_that_nothing_calls) generated_super_call_in_a_super_function_that_nothing_calls source_super_call_in_a_super_function_that_nothing_calls output_super_call_in_a_super_function_that_nothing_calls ≡ false }
     ensures super_function_behind_a_call { names_timely (nodes source_super_function_behind_a_call) generated_super_function_behind_a_call (private_members source_super_function_behind_a_call) output_super_function_behind_a_call ≡ false }
     ensures super_function_behind_its_calls { names_timely (nodes source_super_function_behind_its_calls) generated_super_function_behind_its_calls (private_members source_super_function_behind_its_calls) output_super_function_behind_its_calls ≡ false }
+    ensures super_function_of_a_static_block { definitions_stand (nodes source_super_function_of_a_static_block) options_super_function_of_a_static_block generated_super_function_of_a_static_block (private_members source_super_function_of_a_static_block) source_super_function_of_a_static_block output_super_function_of_a_static_block ≡ false }
     ensures super_function_outside_of_a_function { references_stay (nodes source_super_function_outside_of_a_function) generated_super_function_outside_of_a_function source_super_function_outside_of_a_function output_super_function_outside_of_a_function ≡ false }
+    ensures super_function_that_nothing_calls_outside { references_stay (nodes source_super_function_that_nothing_calls_outside) generated_super_function_that_nothing_calls_outside source_super_function_that_nothing_calls_outside output_super_function_that_nothing_calls_outside ≡ false }
     ensures super_in_a_function_that_nothing_calls { temporaries_steady (nodes source_super_in_a_function_that_nothing_calls) generated_super_in_a_function_that_nothing_calls (private_members source_super_in_a_function_that_nothing_calls) output_super_in_a_function_that_nothing_calls ≡ false }
     ensures tag_of_a_private_element { numbers_carried (nodes source_tag_of_a_private_element) source_tag_of_a_private_element output_tag_of_a_private_element ≡ false }
     ensures temporary_given_again { temporaries_steady (nodes source_temporary_given_again) generated_temporary_given_again (private_members source_temporary_given_again) output_temporary_given_again ≡ false }
@@ -897,6 +920,7 @@ pub fn clauses_are_not_met()
     ensures weak_map_in_another_function { names_timely (nodes source_weak_map_in_another_function) generated_weak_map_in_another_function (private_members source_weak_map_in_another_function) output_weak_map_in_another_function ≡ false }
     ensures write_behind_a_pattern { references_stay (nodes source_write_behind_a_pattern) generated_write_behind_a_pattern source_write_behind_a_pattern output_write_behind_a_pattern ≡ false }
     ensures yield_in_a_generator { stays_printable source_yield_in_a_generator output_yield_in_a_generator ≡ false }
+    ensures yield_in_another_function { numbers_carried (nodes source_yield_in_another_function) source_yield_in_another_function output_yield_in_another_function ≡ false }
 {}
 
 /// Outputs that mean what their sources mean, though a name or a value in them looks like another one.

@@ -1,12 +1,12 @@
 -- A node that stands in the source stands for itself.
-use Rattle.std.specs.Prelude.{Bool, not, ◌≡◌, ℕ, List, [], ◌∷◌, true, false, ◌&&◌, ◌||◌, nat_eq, Option}
+use Rattle.std.specs.Prelude.{◌≡◌, ℕ, List, [], ◌∷◌, true, false, ◌&&◌, nat_eq, Option}
 use Rattle.std.proofs.Common.{refl}
 use Rattle.es_base.specs.Numbered.{is_new}
 use Rattle.es_base.specs.Preorder.{number_of}
 use Rattle.es_base.specs.Tree.{Tree, Parts, Node}
 use Rattle.es_base.specs.declared.kind.Kind.{Kind}
 use Rattle.es_left.proofs.Booleans.{both}
-use Rattle.es_lowered.specs.Carriers.{OddForm, calls_eval, calls_private, deletes_private, deletes_name, no_odd_form, odd_form, keeps_form, carries, stands_for_node, is_carried}
+use Rattle.es_lowered.specs.Carriers.{OddForm, calls_eval, calls_private, deletes_private, deletes_name, takes_odd_parameters, no_odd_form, odd_form, keeps_form, carries, stands_for_node, is_carried}
 use Rattle.es_steps.proofs.Reflexive.{number-same, string-same}
 use Rattle.es_steps.specs.Parts.{at, string_of}
 use Rattle.es_steps.specs.References.{is_reference}
@@ -18,6 +18,7 @@ stays calls_eval = refl
 stays calls_private = refl
 stays deletes_private = refl
 stays deletes_name = refl
+stays takes_odd_parameters = refl
 stays no_odd_form = refl
 
 carries-itself : (kind : Kind) (ps : Parts) → carries kind ps kind ps ≡ true

@@ -13,9 +13,10 @@ use Rattle.es_base.specs.declared.kind.Kind.{Kind}
 use Rattle.es_left.proofs.Booleans.{both, none_of}
 use Rattle.es_steps.proofs.Reflexive.{number-same}
 use Rattle.es_steps.specs.Context.{is_constructor}
-use Rattle.es_lowered.specs.Definitions.{FieldDefinition, chosen, element_numbers, body_numbers, elements_kept, call_definition, definition_at, definitions_in, definitions_at, definitions_of, function_definitions, super_definitions, constructor_definitions, all_definitions, instance_definitions, static_definitions, is_instance_method, any_of, defined_fields, class_fits, classes_fit, definitions_stand, supers_stand}
+use Rattle.es_lowered.specs.Bound.{all_bound}
+use Rattle.es_lowered.specs.Definitions.{FieldDefinition, chosen, element_numbers, body_numbers, elements_kept, call_definition, definition_at, definitions_in, definitions_at, definitions_of, function_definitions, super_definitions, constructor_definitions, all_definitions, instance_definitions, static_definitions, is_instance_method, any_of, defined_fields, class_fits, classes_fit, definitions_stand}
 use Rattle.es_lowered.specs.HelperCalls.{is_new_private, kept_keys, all_by, new_private_names, private_keys, kept_keys_converted, is_helper_callee, computed_keys, StaticKey, Naming, naming_in, naming_of_element, is_class_body, field_key, method_keys, field_keys, call_fits, calls_fit, calls_in, calls_at, calls_of, calls_of_body}
-use Rattle.es_steps.specs.KeptNodes.{stands_equal, statement_list, declared_classes, carried_classes, item_number, item_numbers, free_number, free_numbers, is_static_block, free_lists, free_lists_at, free_lists_in, list_of, is_within, all_within, is_free_statement, stays_in_list, free_statements, free_at, free_in, all_homes, lowered_blocks}
+use Rattle.es_steps.specs.KeptNodes.{pair_stands, all_pairs_stand, stands_equal, statement_list, declared_classes, carried_classes, item_number, item_numbers, free_number, free_numbers, is_static_block, free_lists, free_lists_at, free_lists_in, list_of, is_within, all_within, is_free_statement, stays_in_list, free_statements, free_at, free_in, all_homes, lowered_blocks}
 use Rattle.es_lowered.specs.Lowered.{IsLowered, has_new_declarator, is_new_const, is_accounted, all_accounted}
 use Rattle.es_steps.specs.LoweredClasses.{Element, elements_of, is_lowered_element, any_element, is_lowered_class, holds_lowered, has_lowered_class, constructor_function, constructor_in, nothing_left}
 use Rattle.es_steps.specs.Options.{lowers_fields, lowers_blocks}
@@ -513,8 +514,13 @@ in-turn : (t : Tree) → t ≡ numbered_from 0 t → IsInTurn t
 in-turn t e =
     record { once = subst (λ u. EachOnce (numbers u)) (sym e) (numbered-once t); below = subst (λ u. Below (nodes t) (preorder u)) (sym e) (numbered-below (nodes t) 0 t (omega arith)) }
 
+pairs-stand : (ps qs : List (ℕ × ℕ)) → ((p : ℕ × ℕ) → pair_stands p ps ≡ true → pair_stands p qs ≡ true) → all_pairs_stand ps qs ≡ true
+pairs-stand [] qs h = refl
+pairs-stand (p ∷ ps) qs h =
+    both (h p (rw (number-same p.0, number-same p.1) refl)) (pairs-stand ps qs (λ q i. h q (or-true (nat_eq q.0 p.0 && nat_eq q.1 p.1) (pair_stands q ps) i)))
+
 definitions-stand : (o : Options) (p : Tree) → Below (nodes p) (preorder p) → has_lowered_class o p ≡ false → definitions_stand (nodes p) o [] (private_members p) p p ≡ true
-definitions-stand o p below h = either (lowers_fields o) refl
+definitions-stand o p below h = both (either (lowers_fields o) refl) (supers-stand (nodes p) o (resolve p) (preorder p))
   where
     instances : (n : ℕ) → instance_definitions (nodes p) o [] p n ≡ []
     instances n = rw (supers-none (nodes p) o n (preorder p), constructors-none (nodes p) o n p below) refl
@@ -522,9 +528,9 @@ definitions-stand o p below h = either (lowers_fields o) refl
     statics : (n : ℕ) → static_definitions (nodes p) o [] (private_members p) p n ≡ []
     statics n = rw (all_definitions-none (nodes p) o p below) refl
 
-    either : (b : Bool) → lowers_fields o ≡ b → (not b || (classes_fit (nodes p) o [] (private_members p) p p (preorder p) && supers_stand (nodes p) o [] (resolve p) (preorder p))) ≡ true
+    either : (b : Bool) → lowers_fields o ≡ b → (not b || classes_fit (nodes p) o [] (private_members p) p p (preorder p)) ≡ true
     either false f = refl
-    either true f = both (classes-fit o p p (preorder p) f instances statics h) (supers-stand (nodes p) o (resolve p) (preorder p))
+    either true f = classes-fit o p p (preorder p) f instances statics h
 
 keys-stand : (b : Bool) → (not b || true) ≡ true
 keys-stand true = refl
@@ -575,7 +581,7 @@ unchanged-owes o t e h left =
         temporaries = refl;
         keys = rw (temporaries-none (nodes t) o (private_members t) t (preorder t)) (keys-stand (lowers_fields o));
         classes = classes-stay (nodes t) t turn.once;
-        carriers = all-carried (nodes t) (preorder t) (preorder t) turn.below (λ u i. i);
+        carriers = both (all-carried (nodes t) (preorder t) (preorder t) turn.below (λ u i. i)) (pairs-stand (all_bound (nodes t) t) (all_bound (nodes t) t) (λ p i. i));
         nodes = all-stand (preorder t) (preorder t) (λ u i. i);
         statements = all-equal (free_statements o t) (preorder t) (free-among o t);
         lists = lists-within o (preorder t) turn.once t (λ u i. i);

@@ -163,6 +163,9 @@ returns-clause-conversion_in_front_of_a_named_class c = refl
 pub returns-clause-conversion_of_a_class_that_a_key_names : goal.returns-clause-conversion_of_a_class_that_a_key_names
 returns-clause-conversion_of_a_class_that_a_key_names c = refl
 
+pub returns-clause-conversion_of_a_name_with_the_number_of_a_key : goal.returns-clause-conversion_of_a_name_with_the_number_of_a_key
+returns-clause-conversion_of_a_name_with_the_number_of_a_key c = refl
+
 pub returns-clause-conversion_of_no_key : goal.returns-clause-conversion_of_no_key
 returns-clause-conversion_of_no_key c = refl
 
@@ -199,6 +202,9 @@ returns-clause-declaration_without_its_names c = refl
 pub returns-clause-declarator_in_a_const : goal.returns-clause-declarator_in_a_const
 returns-clause-declarator_in_a_const c = refl
 
+pub returns-clause-defaults_exchanged_behind_an_error : goal.returns-clause-defaults_exchanged_behind_an_error
+returns-clause-defaults_exchanged_behind_an_error c = refl
+
 pub returns-clause-delete_of_a_name_behind_a_throw : goal.returns-clause-delete_of_a_name_behind_a_throw
 returns-clause-delete_of_a_name_behind_a_throw c = refl
 
@@ -228,6 +234,15 @@ returns-clause-function_in_a_class c = refl
 
 pub returns-clause-function_out_of_its_block : goal.returns-clause-function_out_of_its_block
 returns-clause-function_out_of_its_block c = refl
+
+pub returns-clause-getter_behind_an_error : goal.returns-clause-getter_behind_an_error
+returns-clause-getter_behind_an_error c = refl
+
+pub returns-clause-handler_exchanged_behind_an_error : goal.returns-clause-handler_exchanged_behind_an_error
+returns-clause-handler_exchanged_behind_an_error c = refl
+
+pub returns-clause-heads_exchanged_behind_an_error : goal.returns-clause-heads_exchanged_behind_an_error
+returns-clause-heads_exchanged_behind_an_error c = refl
 
 pub returns-clause-hidden_body : goal.returns-clause-hidden_body
 returns-clause-hidden_body c = refl
@@ -403,6 +418,9 @@ returns-clause-property_with_the_number_of_a_block c = refl
 pub returns-clause-prototypes_behind_an_error : goal.returns-clause-prototypes_behind_an_error
 returns-clause-prototypes_behind_an_error c = refl
 
+pub returns-clause-prototypes_exchanged_behind_an_error : goal.returns-clause-prototypes_exchanged_behind_an_error
+returns-clause-prototypes_exchanged_behind_an_error c = refl
+
 pub returns-clause-raw_of_a_string : goal.returns-clause-raw_of_a_string
 returns-clause-raw_of_a_string c = refl
 
@@ -412,8 +430,14 @@ returns-clause-raw_of_a_template c = refl
 pub returns-clause-regular_expression_read_twice : goal.returns-clause-regular_expression_read_twice
 returns-clause-regular_expression_read_twice c = refl
 
+pub returns-clause-rests_exchanged_behind_an_error : goal.returns-clause-rests_exchanged_behind_an_error
+returns-clause-rests_exchanged_behind_an_error c = refl
+
 pub returns-clause-second_string_that_a_printer_makes_a_directive : goal.returns-clause-second_string_that_a_printer_makes_a_directive
 returns-clause-second_string_that_a_printer_makes_a_directive c = refl
+
+pub returns-clause-setter_in_a_super_function_that_nothing_calls : goal.returns-clause-setter_in_a_super_function_that_nothing_calls
+returns-clause-setter_in_a_super_function_that_nothing_calls c = refl
 
 pub returns-clause-strict_arrow : goal.returns-clause-strict_arrow
 returns-clause-strict_arrow c = refl
@@ -424,14 +448,23 @@ returns-clause-strict_rest c = refl
 pub returns-clause-string_that_a_printer_makes_a_directive : goal.returns-clause-string_that_a_printer_makes_a_directive
 returns-clause-string_that_a_printer_makes_a_directive c = refl
 
+pub returns-clause-super_call_in_a_super_function_that_nothing_calls : goal.returns-clause-super_call_in_a_super_function_that_nothing_calls
+returns-clause-super_call_in_a_super_function_that_nothing_calls c = refl
+
 pub returns-clause-super_function_behind_a_call : goal.returns-clause-super_function_behind_a_call
 returns-clause-super_function_behind_a_call c = refl
 
 pub returns-clause-super_function_behind_its_calls : goal.returns-clause-super_function_behind_its_calls
 returns-clause-super_function_behind_its_calls c = refl
 
+pub returns-clause-super_function_of_a_static_block : goal.returns-clause-super_function_of_a_static_block
+returns-clause-super_function_of_a_static_block c = refl
+
 pub returns-clause-super_function_outside_of_a_function : goal.returns-clause-super_function_outside_of_a_function
 returns-clause-super_function_outside_of_a_function c = refl
+
+pub returns-clause-super_function_that_nothing_calls_outside : goal.returns-clause-super_function_that_nothing_calls_outside
+returns-clause-super_function_that_nothing_calls_outside c = refl
 
 pub returns-clause-super_in_a_function_that_nothing_calls : goal.returns-clause-super_in_a_function_that_nothing_calls
 returns-clause-super_in_a_function_that_nothing_calls c = refl
@@ -492,3 +525,6 @@ returns-clause-write_behind_a_pattern c = refl
 
 pub returns-clause-yield_in_a_generator : goal.returns-clause-yield_in_a_generator
 returns-clause-yield_in_a_generator c = refl
+
+pub returns-clause-yield_in_another_function : goal.returns-clause-yield_in_another_function
+returns-clause-yield_in_another_function c = refl

@@ -1,0 +1,72 @@
+-- What stays in which node does not depend on numbers.
+use Rattle.std.specs.Prelude.{◌≡◌, ℕ, suc, List, [], ◌∷◌, map, cond, nat_eq, ◌&&◌, ◌||◌}
+use Rattle.std.proofs.Common.{refl, ap, ap₂, ◌∙◌}
+use Rattle.es_base.specs.Numbered.{is_new}
+use Rattle.es_base.specs.Preorder.{number_of}
+use Rattle.es_base.specs.Tree.{Tree, Part, Parts, Node, end, more, child, list}
+use Rattle.es_base.specs.declared.kind.Kind.{Kind}
+use Rattle.es_lowered.specs.Bound.{BoundPlace, is_bound, suspends, place_inside, bound_to, bound_node, bound_nodes, bound_in, bound_at, bound_of, all_bound, bound_stay}
+use Rattle.es_steps.specs.KeptNodes.{function_around, pair_stands, all_pairs_stand}
+use Rattle.es_steps.proofs.Mapped.{Renames, mapped, mapped_part, mapped_parts}
+use Rattle.es_steps.proofs.PartsMapped.{cond-mapped, append-mapped, number_of-mapped}
+
+abbrev mapped_place : (ℕ → ℕ) → BoundPlace → BoundPlace
+mapped_place f x = record { kind = x.kind; number = f x.number; of_function = f x.of_function }
+
+abbrev mapped_pair : (ℕ → ℕ) → ℕ × ℕ → ℕ × ℕ
+mapped_pair f p = (f p.0, f p.1)
+
+module _ {first : ℕ} {f : ℕ → ℕ} (r : Renames first f) where
+  function_around-mapped : (home : ℕ) (kind : Kind) (m i : ℕ) → function_around (f home) kind (f m) i ≡ f (function_around home kind m i)
+  function_around-mapped home Kind.FunctionDeclaration m i = cond-mapped f (nat_eq i 0) home m refl refl
+  function_around-mapped home Kind.StaticBlock m i = refl
+  function_around-mapped home Kind.FunctionExpression m i = refl
+  function_around-mapped home Kind.ArrowFunctionExpression m i = refl
+  function_around-mapped home kind m i = refl
+
+  place_inside-mapped : (x : BoundPlace) (kind : Kind) (m i : ℕ) → place_inside (mapped_place f x) kind (f m) i ≡ mapped_place f (place_inside x kind m i)
+  place_inside-mapped x kind m i = rw (function_around-mapped x.of_function kind m i) refl
+
+  bound_to-mapped : (m n : ℕ) → bound_to first (f m) (f n) ≡ map (mapped_pair f) (bound_to first m n)
+  bound_to-mapped m n = rw (r.new m) (cond-mapped (map (mapped_pair f)) (is_new first m) [] ((m, n) ∷ []) refl refl)
+
+  bound_node-mapped : (x : BoundPlace) (kind : Kind) (m : ℕ) → bound_node first (mapped_place f x) kind (f m) ≡ map (mapped_pair f) (bound_node first x kind m)
+  bound_node-mapped x kind m =
+      cond-mapped (map (mapped_pair f)) (is_bound x.kind kind) (bound_to first m x.number) (cond (suspends kind) (bound_to first m x.of_function) []) (bound_to-mapped m x.number)
+      (cond-mapped (map (mapped_pair f)) (suspends kind) (bound_to first m x.of_function) [] (bound_to-mapped m x.of_function) refl)
+
+  mutual
+    bound_nodes-mapped : (x : BoundPlace) (t : Tree) → bound_nodes first (mapped_place f x) (mapped f t) ≡ map (mapped_pair f) (bound_nodes first x t)
+    bound_nodes-mapped x (Node kind m span semantic_id ps) =
+        append-mapped (mapped_pair f) _ _ (bound_node-mapped x kind m) (bound_in-mapped _ (place_inside x kind m) (place_inside-mapped x kind m) ps)
+
+    bound_in-mapped : (y x : ℕ → BoundPlace) → ((i : ℕ) → y i ≡ mapped_place f (x i)) → (ps : Parts) → bound_in first y (mapped_parts f ps) ≡ map (mapped_pair f) (bound_in first x ps)
+    bound_in-mapped y x same end = refl
+    bound_in-mapped y x same (more p ps) =
+        append-mapped (mapped_pair f) _ _ (ap (λ h. bound_at first h (mapped_part f p)) (same 0) ∙ bound_at-mapped (x 0) p)
+        (bound_in-mapped (λ i. y (suc i)) (λ i. x (suc i)) (λ i. same (suc i)) ps)
+
+    bound_at-mapped : (x : BoundPlace) (p : Part) → bound_at first (mapped_place f x) (mapped_part f p) ≡ map (mapped_pair f) (bound_at first x p)
+    bound_at-mapped x (child t) = bound_nodes-mapped x t
+    bound_at-mapped x (list ps) = bound_of-mapped x ps
+    bound_at-mapped x p = refl
+
+    bound_of-mapped : (x : BoundPlace) (ps : Parts) → bound_of first (mapped_place f x) (mapped_parts f ps) ≡ map (mapped_pair f) (bound_of first x ps)
+    bound_of-mapped x end = refl
+    bound_of-mapped x (more p ps) = append-mapped (mapped_pair f) _ _ (bound_at-mapped x p) (bound_of-mapped x ps)
+
+  all_bound-mapped : (t : Tree) → all_bound first (mapped f t) ≡ map (mapped_pair f) (all_bound first t)
+  all_bound-mapped t =
+      ap (λ n. bound_nodes first (record { kind = Kind.Program; number = n; of_function = n }) (mapped f t)) (number_of-mapped f t)
+      ∙ bound_nodes-mapped (record { kind = Kind.Program; number = number_of t; of_function = number_of t }) t
+
+  pair_stands-mapped : (p : ℕ × ℕ) (ps : List (ℕ × ℕ)) → pair_stands (mapped_pair f p) (map (mapped_pair f) ps) ≡ pair_stands p ps
+  pair_stands-mapped p [] = refl
+  pair_stands-mapped p (q ∷ ps) = ap₂ (λ a b. a || b) (ap₂ (λ a b. a && b) (r.apart p.0 q.0) (r.apart p.1 q.1)) (pair_stands-mapped p ps)
+
+  all_pairs_stand-mapped : (ps qs : List (ℕ × ℕ)) → all_pairs_stand (map (mapped_pair f) ps) (map (mapped_pair f) qs) ≡ all_pairs_stand ps qs
+  all_pairs_stand-mapped [] qs = refl
+  all_pairs_stand-mapped (p ∷ ps) qs = ap₂ (λ a b. a && b) (pair_stands-mapped p qs) (all_pairs_stand-mapped ps qs)
+
+  pub bound_stay-mapped : (p q : Tree) → bound_stay first (mapped f p) (mapped f q) ≡ bound_stay first p q
+  bound_stay-mapped p q = ap₂ all_pairs_stand (all_bound-mapped q) (all_bound-mapped p) ∙ all_pairs_stand-mapped (all_bound first q) (all_bound first p)

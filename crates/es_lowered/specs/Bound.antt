@@ -1,0 +1,73 @@
+-- A node of the source that one sort of node alone may hold, or one alone of some, stays in the node that it is in: a property (B.3.1),
+-- a case (14.12.1), a handler (14.15), a rest and what it holds (14.3.3), the head of a loop (14.7.5.1); and `yield` and `await` stay in
+-- their functions (15.5.1, 15.8.1). So what no step looks at, as what is behind an access that always throws, is read by an engine.
+use Rattle.std.specs.Prelude.{ℕ, suc, List, [], ◌∷◌, ◌++◌, Bool, true, false, cond}
+use Rattle.es_base.specs.Numbered.{is_new}
+use Rattle.es_base.specs.Preorder.{number_of}
+use Rattle.es_base.specs.Tree.{Tree, Part, Parts, Node, end, more, child, list}
+use Rattle.es_base.specs.declared.kind.Kind.{Kind}
+use Rattle.es_steps.specs.KeptNodes.{function_around, all_pairs_stand}
+use Rattle.es_steps.specs.Repeated.{is_loop}
+
+-- by the kind of the node around
+abbrev pub is_bound : Kind → Kind → Bool
+is_bound Kind.RestElement kind = true
+is_bound around Kind.Property = true
+is_bound around Kind.BindingProperty = true
+is_bound around Kind.AssignmentTargetProperty = true
+is_bound around Kind.SwitchCase = true
+is_bound around Kind.CatchClause = true
+is_bound around Kind.RestElement = true
+is_bound around Kind.AssignmentTargetRest = true
+is_bound around Kind.TemplateElement = true
+is_bound around Kind.ExportSpecifier = true
+is_bound around Kind.VariableDeclaration = is_loop around
+is_bound Kind.AssignmentTargetRest Kind.ObjectAssignmentTarget = true
+is_bound Kind.AssignmentTargetRest Kind.ArrayAssignmentTarget = true
+is_bound around kind = false
+
+abbrev pub suspends : Kind → Bool
+suspends Kind.AwaitExpression = true
+suspends Kind.YieldExpression = true
+suspends kind = false
+
+-- the node and the function around a part
+pub record BoundPlace : Type 0 where
+  pub kind : Kind
+  pub number : ℕ
+  pub of_function : ℕ
+
+abbrev pub place_inside : BoundPlace → Kind → ℕ → ℕ → BoundPlace
+place_inside x kind m i = record { kind = kind; number = m; of_function = function_around x.of_function kind m i }
+
+module _ (first : ℕ) where
+  -- a node of the source with what it stays in
+  abbrev pub bound_to : ℕ → ℕ → List (ℕ × ℕ)
+  bound_to m n = cond (is_new first m) [] ((m, n) ∷ [])
+
+  abbrev pub bound_node : BoundPlace → Kind → ℕ → List (ℕ × ℕ)
+  bound_node x kind m = cond (is_bound x.kind kind) (bound_to m x.number) (cond (suspends kind) (bound_to m x.of_function) [])
+
+  abbrev mutual
+    pub bound_nodes : BoundPlace → Tree → List (ℕ × ℕ)
+    bound_nodes x (Node kind m span semantic_id ps) = bound_node x kind m ++ bound_in (place_inside x kind m) ps
+
+    pub bound_in : (ℕ → BoundPlace) → Parts → List (ℕ × ℕ)
+    bound_in x end = []
+    bound_in x (more p ps) = bound_at (x 0) p ++ bound_in (λ i. x (suc i)) ps
+
+    pub bound_at : BoundPlace → Part → List (ℕ × ℕ)
+    bound_at x (child t) = bound_nodes x t
+    bound_at x (list ps) = bound_of x ps
+    bound_at x p = []
+
+    pub bound_of : BoundPlace → Parts → List (ℕ × ℕ)
+    bound_of x end = []
+    bound_of x (more p ps) = bound_at x p ++ bound_of x ps
+
+  abbrev pub all_bound : Tree → List (ℕ × ℕ)
+  all_bound t = bound_nodes (record { kind = Kind.Program; number = number_of t; of_function = number_of t }) t
+
+  -- of a program and what it was lowered to
+  abbrev pub bound_stay : Tree → Tree → Bool
+  bound_stay p q = all_pairs_stand (all_bound q) (all_bound p)
