@@ -78,7 +78,7 @@ for function in SAYS:
 LISTS = 'lists_kept options_{n} source_{n} output_{n}'
 DEFINED = 'definitions_stand (nodes source_{n}) options_{n} generated_{n} (private_members source_{n}) source_{n} output_{n}'
 TIMELY = 'names_timely (nodes source_{n}) generated_{n} (private_members source_{n}) output_{n}'
-CALLS = 'helper_calls_fit (nodes source_{n}) generated_{n} (computed_keys (preorder source_{n})) output_{n}'
+CALLS = 'helper_calls_fit (nodes source_{n}) generated_{n} (keys_that_stay (nodes source_{n}) source_{n} output_{n}) output_{n}'
 HOMES = 'homes_kept (nodes source_{n}) options_{n} source_{n} output_{n}'
 PRINTABLE = 'is_printable output_{n}'
 PRINTED = 'stays_printable source_{n} output_{n}'
@@ -263,6 +263,9 @@ NOT_MET = {
     'rests_exchanged_behind_an_error': CARRIERS,
     'yield_in_another_function': CARRIERS,
     'conversion_of_a_name_with_the_number_of_a_key': CALLS,
+    'conversion_of_a_name_of_that_spelling': CALLS,
+    'conversion_of_a_sequence_with_the_number_of_a_key': CALLS,
+    'conversion_of_this_with_the_number_of_a_key': CALLS,
     'call_of_eval_by_its_name': CARRIERS,
     'delete_of_a_private_property': CARRIERS,
     'call_of_a_private_element': CARRIERS,
@@ -335,7 +338,8 @@ ghost use Rattle.es_lowered.specs.Definitions.{definitions_stand};
 ghost use Rattle.es_base.specs.Conforms.{conforms};
 ghost use Rattle.es_base.specs.Preorder.{nodes, preorder};
 ghost use Rattle.es_base.specs.declared.table.Place.{Place};
-ghost use Rattle.es_lowered.specs.HelperCalls.{computed_keys, helper_calls_fit};
+ghost use Rattle.es_lowered.specs.HelperCalls.{helper_calls_fit};
+ghost use Rattle.es_lowered.specs.KeptKeys.{keys_that_stay};
 ghost use Rattle.es_steps.specs.KeptNodes.{classes_kept, lists_kept, homes_kept};
 ghost use Rattle.es_lowered.specs.Lowered.{names_declared, declarations_accounted, initializations_stand};
 ghost use Rattle.es_steps.specs.Meaning.{source_means};

@@ -206,6 +206,12 @@ const uncalledField = { options: ['--class-properties'], source: 'class A extend
 const definedIn = t => found(t, n => n.type === 'CallExpression' && n.arguments.length === 3);
 // statements behind an access that always throws
 const exchanged = (name, says, code, change) => clause(name, `${says}, behind an access that throws`, { options: ['--class-properties'], source: `class A { #m() {} w(v) { this.#m = v; ${code} } }`, output: `var _A_brand = new WeakSet(); class A { constructor() { B.classPrivateMethodInitSpec(this, _A_brand); } w(v) { this, v, B.readOnlyError("#m"); ${code} } } function _m() {}` }, change);
+// a value that is converted in the method `w`, with the number of the computed key of a method
+function convertedAsKey(t, text = 'a') {
+  const s = statement(t, `B.toPropertyKey(${text});`), key = found(t, n => n.type === 'MethodDefinition' && n.computed).key, value = s.expression.arguments[0];
+  [key.num, value.num] = [value.num, key.num];
+  methodOf(t, 'w').unshift(s);
+}
 const behindCode = code => ({ options: ['--class-properties'], source: `${code} class A { x = 1; }`, output: `${code} class A { constructor() { B.defineProperty(this, "x", 1); } }` });
 
 const witnesses = [
@@ -765,6 +771,9 @@ const witnesses = [
     q => { const a = found(q, n => n.type === 'ExpressionStatement' && n.expression.type === 'YieldExpression'), b = found(q, n => n.type === 'ExpressionStatement' && n.expression.callee && n.expression.callee.name === 'f'); [a.expression, b.expression] = [b.expression, a.expression]; }),
   clause('conversion_of_a_name_with_the_number_of_a_key', 'a conversion of another value by a name that has the number of a key', { options: ['--class-properties'], source: 'const a = "m"; f(o(), class { [a]() {} x = 1; });', output: 'const a = "m"; var _t; f(_t = o(), (B.toPropertyKey(_t), class { constructor() { B.defineProperty(this, "x", 1); } [a]() {} }));',
     numbers: { 5: 999, 6: 999, 7: 999, 8: 5, 9: 6, 10: 7, 11: 999, 12: 999, 13: 8, 14: 9, 15: 999, 16: 999, 17: 999, 18: 999, 19: 999, 20: 13, 21: 10, 22: 11, 23: 999, 24: 999, 25: 999, 26: 999, 27: 999, 28: 999, 29: 999, 30: 999, 31: 999, 32: 999, 33: 999, 34: 18, 35: 12, 36: 999, 37: 14, 38: 15 } }, q => {}, [temporary]),
+  clause('conversion_of_a_name_of_that_spelling', 'a conversion of another name of the spelling of a key, with its number', { options: ['--class-properties'], source: 'const a = "m"; class A { [a]() {} x = 1; w(a) { g(a); } } new A().w(o());', output: 'const a = "m"; class A { constructor() { B.defineProperty(this, "x", 1); } [a]() {} w(a) { g(a); } } new A().w(o());' }, q => convertedAsKey(q)),
+  clause('conversion_of_a_sequence_with_the_number_of_a_key', 'a conversion of another sequence, with the number of a key', { options: ['--class-properties'], source: 'class A { [(0, "m")]() {} x = 1; w(a) { g(a); } } new A().w(o());', output: 'class A { constructor() { B.defineProperty(this, "x", 1); } [(0, "m")]() {} w(a) { g(a); } } new A().w(o());' }, q => convertedAsKey(q, '(0, a)')),
+  clause('conversion_of_this_with_the_number_of_a_key', 'a conversion of another `this`, with the number of a key', { options: ['--class-properties'], source: 'class A { [this]() {} x = 1; w() { g(this); } } new A().w();', output: 'class A { constructor() { B.defineProperty(this, "x", 1); } [this]() {} w() { g(this); } } new A().w();' }, q => convertedAsKey(q, 'this')),
   // forms that no value tells from others
   clause('call_of_eval_by_its_name', 'a call of `eval` by its name, which sees the names around it', { options: ['--class-properties'], source: 'class A { x = 1; m() { const y = 5; return (0, eval)("typeof y"); } } f(new A().m());',
     output: 'class A { constructor() { B.defineProperty(this, "x", 1); } m() { const y = 5; return eval("typeof y"); } } f(new A().m());', numbers: { 4: 999, 5: 999, 6: 999, 7: 999, 8: 999, 9: 999, 10: 999, 11: 999, 12: 999, 13: 999, 14: 999, 15: 6, 16: 7, 17: 8, 18: 9, 19: 10, 20: 11, 21: 12, 22: 13, 23: 14, 24: 15, 25: 16, 26: 19, 27: 20, 28: 21, 29: 22, 30: 23, 31: 24, 32: 25, 33: 26, 34: 27, 35: 28 } }, q => {}, []),

@@ -8,7 +8,7 @@ use Rattle.es_base.specs.Tree.{Tree, Part, Parts, end, more, absent, trees}
 use Rattle.es_base.specs.declared.table.Place.{Place}
 use Rattle.es_left.proofs.Booleans.{both}
 use Rattle.es_steps.specs.FirstForm.{is_first_form}
-use Rattle.es_lowered.specs.HelperCalls.{computed_keys}
+use Rattle.es_lowered.specs.KeptKeys.{keys_that_stay}
 use Rattle.es_lowered.specs.Lowered.{IsLowered}
 use Rattle.es_steps.specs.Generated.{constructor_at, define_at, void_at}
 use Rattle.es_steps.specs.declared.options.Options.{Options}
@@ -147,7 +147,7 @@ module _ (asked : Options) where
           homes = rest.homes;
           definitions = definitions-fit asked first (private_members t) t p e;
           elements = rest.elements;
-          calls = rest.calls (computed_keys (preorder t));
+          calls = rest.calls (keys_that_stay first t q);
           printable = lowered-stays_printable first t p;
         };
       }

@@ -9,7 +9,8 @@ use Rattle.es_base.specs.Preorder.{preorder, preorder_of, preorder_of_part, numb
 use Rattle.es_base.specs.Tree.{Tree, Part, Parts, Node, end, more, child, list}
 use Rattle.es_base.specs.declared.ledger.LedgerEntry.{LedgerEntry}
 use Rattle.es_lowered.specs.Definitions.{definitions_stand, all_temporaries, elements_kept}
-use Rattle.es_lowered.specs.HelperCalls.{computed_keys, helper_calls_fit}
+use Rattle.es_lowered.specs.HelperCalls.{helper_calls_fit}
+use Rattle.es_lowered.specs.KeptKeys.{keys_that_stay}
 use Rattle.es_lowered.specs.Carriers.{numbers_carried}
 use Rattle.es_steps.specs.KeptNodes.{nodes_kept, classes_kept, statements_kept, lists_kept, homes_kept}
 use Rattle.es_lowered.specs.Law.{ClausesLaw}
@@ -32,7 +33,8 @@ use Rattle.es_lowered.proofs.TextsMapped.{texts_stay-mapped}
 use Rattle.es_lowered.proofs.TimelyMapped.{names_timely-mapped}
 use Rattle.es_steps.specs.declared.options.Options.{Options}
 use Rattle.es_lowered.proofs.DefinitionsMapped.{definitions_stand-mapped, all_temporaries-mapped, elements_kept-mapped}
-use Rattle.es_lowered.proofs.HelperCallsMapped.{all_computed_keys-mapped, helper_calls_fit-mapped}
+use Rattle.es_lowered.proofs.HelperCallsMapped.{helper_calls_fit-mapped}
+use Rattle.es_lowered.proofs.KeptKeysMapped.{keys_that_stay-mapped}
 use Rattle.es_steps.proofs.KeptNodesMapped.{nodes_kept-mapped, classes_kept-mapped, statements_kept-mapped, lists_kept-mapped, homes_kept-mapped}
 use Rattle.es_lowered.proofs.LoweredMapped.{private_members-mapped, nothing_left-mapped, names_declared-mapped, declarations_accounted-mapped, initializations_stand-mapped, keys_stand-mapped}
 use Rattle.es_steps.proofs.Mapped.{Renames, mapped, mapped_part, mapped_parts, mapped_ledger, mapped_privates}
@@ -115,10 +117,10 @@ module _ (first : ℕ) (o : Options) where
   temporaries-unchanging : Unchanging first (λ l p q. temporaries_steady first l (private_members p) q)
   temporaries-unchanging f r l p q = ap (λ ms. temporaries_steady first (mapped_ledger f l) ms (mapped f q)) (private_members-mapped f p) ∙ temporaries_steady-mapped r l (private_members p) q
 
-  calls-unchanging : Unchanging first (λ l p q. helper_calls_fit first l (computed_keys (preorder p)) q)
+  calls-unchanging : Unchanging first (λ l p q. helper_calls_fit first l (keys_that_stay first p q) q)
   calls-unchanging f r l p q =
-      ap (λ ks. helper_calls_fit first (mapped_ledger f l) ks (mapped f q)) (all_computed_keys-mapped f p)
-      ∙ helper_calls_fit-mapped r l (computed_keys (preorder p)) q
+      ap (λ ks. helper_calls_fit first (mapped_ledger f l) ks (mapped f q)) (keys_that_stay-mapped r p q)
+      ∙ helper_calls_fit-mapped r l (keys_that_stay first p q) q
 
   printable-unchanging : Unchanging first (λ l p q. stays_printable p q)
   printable-unchanging f r l p q = stays_printable-mapped r p q
@@ -146,7 +148,7 @@ clauses_law first o ledger p q once old generated met = record {
     homes = kept first ledger p q once old generated (λ l p q. homes_kept first o p q) (λ f r l p q. homes_kept-mapped r o p q) met.homes;
     definitions = kept first ledger p q once old generated (λ l p q. definitions_stand first o l (private_members p) p q) (definitions-unchanging first o) met.definitions;
     elements = kept first ledger p q once old generated (λ l p q. elements_kept o (preorder p) (preorder q)) (elements-unchanging first o) met.elements;
-    calls = kept first ledger p q once old generated (λ l p q. helper_calls_fit first l (computed_keys (preorder p)) q) (calls-unchanging first o) met.calls;
+    calls = kept first ledger p q once old generated (λ l p q. helper_calls_fit first l (keys_that_stay first p q) q) (calls-unchanging first o) met.calls;
     printable = kept first ledger p q once old generated (λ l p q. stays_printable p q) (printable-unchanging first o) met.printable;
   };
 }

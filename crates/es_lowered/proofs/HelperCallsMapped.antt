@@ -10,7 +10,7 @@ use Rattle.es_base.specs.declared.ledger.LedgerEntry.{LedgerEntry}
 use Rattle.es_base.specs.declared.literal.LiteralValue.TheVariants as literal_value
 use Rattle.es_steps.specs.Context.{generated_as}
 use Rattle.es_lowered.specs.Definitions.{spelling}
-use Rattle.es_lowered.specs.HelperCalls.{last_part, generated_spelling, or_none, last_spelling, is_function_value, element_spelling, is_new_private, all_spelled, private_spelling, private_keys, new_private_names, key_spelling, kept_keys, converted_key, all_by, kept_keys_converted, is_helper_callee, part_number, computed_key, computed_keys, StaticKey, is_name, is_key_conversion, computed_static_key, static_key, method_key, field_key, method_keys, field_keys, body_keys, Naming, is_name_literal, tests_of, tests_at, naming_in, naming_of_element, is_class_body, is_without_name, runs_with_class, any_runs, body_runs, is_this_expression, is_renamed, is_key, is_key_part, gives_key, is_generated_name, ends_with_key, stands_for_key, form_for_key, part_for_key, last_for_key, any_for_key, call_fits, calls_fit, calls_in, calls_at, calls_of, calls_of_body, helper_calls_fit}
+use Rattle.es_lowered.specs.HelperCalls.{last_part, generated_spelling, or_none, last_spelling, is_function_value, element_spelling, is_new_private, all_spelled, private_spelling, private_keys, new_private_names, key_spelling, kept_keys, converted_key, all_by, kept_keys_converted, is_helper_callee, part_number, computed_key, computed_keys, StaticKey, is_name, is_key_conversion, computed_static_key, static_key, method_key, field_key, method_keys, field_keys, body_keys, Naming, is_name_literal, tests_of, tests_at, naming_in, naming_of_element, is_class_body, is_without_name, runs_with_class, any_runs, body_runs, may_be_another, is_renamed, is_key, is_key_part, gives_key, is_generated_name, ends_with_key, stands_for_key, form_for_key, part_for_key, last_for_key, any_for_key, call_fits, calls_fit, calls_in, calls_at, calls_of, calls_of_body, helper_calls_fit}
 use Rattle.es_steps.specs.Parts.{at, items, string_of, is_true}
 use Rattle.es_steps.specs.References.{is_reference}
 use Rattle.es_steps.specs.Values.{String}
@@ -148,7 +148,7 @@ module _ {first : ℕ} {f : ℕ → ℕ} (r : Renames first f) where
 
     is_key-mapped : (kind : Kind) (m : ℕ) (ps : Parts) → is_key first there (map f keys) kind (f m) (mapped_parts f ps) ≡ is_key first ledger keys kind m ps
     is_key-mapped kind m ps =
-        ap₂ (λ a b. a && not (is_this_expression kind || (is_reference kind && b))) (has_number-mapped r m keys)
+        ap₂ (λ a b. a && not (may_be_another kind || (is_reference kind && b))) (has_number-mapped r m keys)
         (ap (λ s. is_renamed (generated_as s there)) (string_at-mapped f 0 ps)
         ∙ ap (is_renamed) (generated_as-mapped f (string_of (at 0 ps)) ledger) ∙ is_renamed-mapped (generated_as (string_of (at 0 ps)) ledger))
 

@@ -6,6 +6,7 @@ pub mod TimelyMapped
 pub mod FunctionsAroundMapped
 pub mod ClassNamesMapped
 pub mod SupersMapped
+pub mod KeptKeysMapped
 pub mod KeptReferencesMapped
 pub mod OwnNamesMapped
 pub mod LoweredMapped

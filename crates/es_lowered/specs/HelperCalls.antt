@@ -160,9 +160,11 @@ is_without_name x (child (Node Kind.ClassExpression m span semantic_id ps)) = no
 is_without_name x (child (Node Kind.ThisExpression m span semantic_id ps)) = none_is_name x.keys x.tested
 is_without_name x p = false
 
-abbrev pub is_this_expression : Kind → Bool
-is_this_expression Kind.ThisExpression = true
-is_this_expression kind = false
+-- `this`, and a sequence, may be another value
+abbrev pub may_be_another : Kind → Bool
+may_be_another Kind.ThisExpression = true
+may_be_another Kind.SequenceExpression = true
+may_be_another kind = false
 
 -- a generated name, but that of a class
 abbrev pub is_renamed : Option GeneratedKind → Bool
@@ -171,9 +173,9 @@ is_renamed (Some (GeneratedKind.ClassTemp n)) = false
 is_renamed (Some kind) = true
 
 module _ (first : ℕ) (ledger : List LedgerEntry) (keys : List ℕ) where
-  -- a computed key of the source: a name by its name, or by one of a class; `this` may be another value
+  -- a computed key of the source: a name by its name, or by one of a class
   abbrev pub is_key : Kind → ℕ → Parts → Bool
-  is_key kind m ps = has_number m keys && not (is_this_expression kind || (is_reference kind && is_renamed (generated_as (string_of (at 0 ps)) ledger)))
+  is_key kind m ps = has_number m keys && not (may_be_another kind || (is_reference kind && is_renamed (generated_as (string_of (at 0 ps)) ledger)))
 
   abbrev pub is_key_part : Part → Bool
   is_key_part (child (Node kind m span semantic_id ps)) = is_key kind m ps

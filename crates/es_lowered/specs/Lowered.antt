@@ -13,7 +13,8 @@ use Rattle.es_lowered.specs.Carriers.{numbers_carried}
 use Rattle.es_lowered.specs.ClassNames.{class_numbers}
 use Rattle.es_lowered.specs.Definitions.{spelling, field_part, names_class, class_identifiers, definitions_stand, all_temporaries, all_different, elements_kept}
 use Rattle.es_steps.specs.GeneratedForms.{if_member, is_instance_field, is_static_field, is_function_member}
-use Rattle.es_lowered.specs.HelperCalls.{is_helper_callee, computed_keys, helper_calls_fit}
+use Rattle.es_lowered.specs.KeptKeys.{keys_that_stay}
+use Rattle.es_lowered.specs.HelperCalls.{is_helper_callee, helper_calls_fit}
 use Rattle.es_lowered.specs.KeptReferences.{references_stay}
 use Rattle.es_steps.specs.KeptNodes.{statement_list, is_function_declaration, is_underscored, nodes_kept, classes_kept, statements_kept, lists_kept, homes_kept}
 use Rattle.es_steps.specs.LoweredClasses.{has_lowered_class, nothing_left}
@@ -323,7 +324,7 @@ pub record MeetsClauses (first : ℕ) (o : Options) (ledger : List LedgerEntry) 
   pub homes : homes_kept first o p q ≡ true
   pub definitions : definitions_stand first o ledger (private_members p) p q ≡ true
   pub elements : elements_kept o (preorder p) (preorder q) ≡ true
-  pub calls : helper_calls_fit first ledger (computed_keys (preorder p)) q ≡ true
+  pub calls : helper_calls_fit first ledger (keys_that_stay first p q) q ≡ true
   pub printable : stays_printable p q ≡ true
 
 -- what a lowered program owes

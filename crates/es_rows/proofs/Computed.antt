@@ -9,7 +9,8 @@ use Rattle.es_base.specs.Tree.{Tree}
 use Rattle.es_base.specs.declared.ledger.LedgerEntry.{LedgerEntry}
 use Rattle.es_lowered.specs.Carriers.{numbers_carried}
 use Rattle.es_lowered.specs.Definitions.{definitions_stand, all_temporaries, elements_kept}
-use Rattle.es_lowered.specs.HelperCalls.{computed_keys, helper_calls_fit}
+use Rattle.es_lowered.specs.HelperCalls.{helper_calls_fit}
+use Rattle.es_lowered.specs.KeptKeys.{keys_that_stay}
 use Rattle.es_steps.specs.KeptNodes.{nodes_kept, classes_kept, statements_kept, lists_kept, homes_kept}
 use Rattle.es_lowered.specs.KeptReferences.{references_stay}
 use Rattle.es_lowered.specs.Lowered.{names_declared, declarations_accounted, initializations_stand, keys_stand, IsLowered}
@@ -58,7 +59,7 @@ clauses o ledger p q =
     ∷ homes_kept (nodes p) o p q
     ∷ definitions_stand (nodes p) o ledger (private_members p) p q
     ∷ elements_kept o (preorder p) (preorder q)
-    ∷ helper_calls_fit (nodes p) ledger (computed_keys (preorder p)) q
+    ∷ helper_calls_fit (nodes p) ledger (keys_that_stay (nodes p) p q) q
     ∷ stays_printable p q
     ∷ []
 

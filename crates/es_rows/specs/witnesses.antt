@@ -92,8 +92,11 @@ pub mod ConversionInAKey
 pub mod ConversionInFrontOfAKey
 pub mod ConversionInFrontOfANamedClass
 pub mod ConversionOfAClassThatAKeyNames
+pub mod ConversionOfANameOfThatSpelling
 pub mod ConversionOfANameWithTheNumberOfAKey
+pub mod ConversionOfASequenceWithTheNumberOfAKey
 pub mod ConversionOfNoKey
+pub mod ConversionOfThisWithTheNumberOfAKey
 pub mod ConversionWithTheNumberOfAKey
 pub mod ConversionsOfATemplate
 pub mod CopiedOctalEscape

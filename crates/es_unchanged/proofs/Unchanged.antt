@@ -15,7 +15,8 @@ use Rattle.es_steps.proofs.Reflexive.{number-same}
 use Rattle.es_steps.specs.Context.{is_constructor}
 use Rattle.es_lowered.specs.Bound.{all_bound}
 use Rattle.es_lowered.specs.Definitions.{FieldDefinition, chosen, element_numbers, body_numbers, elements_kept, call_definition, definition_at, definitions_in, definitions_at, definitions_of, function_definitions, super_definitions, constructor_definitions, all_definitions, instance_definitions, static_definitions, is_instance_method, any_of, defined_fields, class_fits, classes_fit, definitions_stand}
-use Rattle.es_lowered.specs.HelperCalls.{is_new_private, kept_keys, all_by, new_private_names, private_keys, kept_keys_converted, is_helper_callee, computed_keys, StaticKey, Naming, naming_in, naming_of_element, is_class_body, field_key, method_keys, field_keys, call_fits, calls_fit, calls_in, calls_at, calls_of, calls_of_body}
+use Rattle.es_lowered.specs.KeptKeys.{keys_that_stay}
+use Rattle.es_lowered.specs.HelperCalls.{is_new_private, kept_keys, all_by, new_private_names, private_keys, kept_keys_converted, is_helper_callee, StaticKey, Naming, naming_in, naming_of_element, is_class_body, field_key, method_keys, field_keys, call_fits, calls_fit, calls_in, calls_at, calls_of, calls_of_body}
 use Rattle.es_steps.specs.KeptNodes.{pair_stands, all_pairs_stand, stands_equal, statement_list, declared_classes, carried_classes, item_number, item_numbers, free_number, free_numbers, is_static_block, free_lists, free_lists_at, free_lists_in, list_of, is_within, all_within, is_free_statement, stays_in_list, free_statements, free_at, free_in, all_homes, lowered_blocks}
 use Rattle.es_lowered.specs.Lowered.{IsLowered, has_new_declarator, is_new_const, is_accounted, all_accounted}
 use Rattle.es_steps.specs.LoweredClasses.{Element, elements_of, is_lowered_element, any_element, is_lowered_class, holds_lowered, has_lowered_class, constructor_function, constructor_in, nothing_left}
@@ -588,7 +589,7 @@ unchanged-owes o t e h left =
         homes = home-same (nodes t) (lowered_blocks o t) (all_homes t);
         definitions = definitions-stand o t turn.below h;
         elements = elements-stand o (preorder t) (preorder t) h (λ u i. i) turn.once;
-        calls = both (calls-fit (nodes t) (computed_keys (preorder t)) none_around t turn.below) (none-kept (nodes t) (computed_keys (preorder t)) t turn.below);
+        calls = both (calls-fit (nodes t) (keys_that_stay (nodes t) t t) none_around t turn.below) (none-kept (nodes t) (keys_that_stay (nodes t) t t) t turn.below);
         printable = both (same_or (is_printable t)) (all-among (bare_strings (preorder t)));
       };
     }

@@ -163,11 +163,20 @@ returns-clause-conversion_in_front_of_a_named_class c = refl
 pub returns-clause-conversion_of_a_class_that_a_key_names : goal.returns-clause-conversion_of_a_class_that_a_key_names
 returns-clause-conversion_of_a_class_that_a_key_names c = refl
 
+pub returns-clause-conversion_of_a_name_of_that_spelling : goal.returns-clause-conversion_of_a_name_of_that_spelling
+returns-clause-conversion_of_a_name_of_that_spelling c = refl
+
 pub returns-clause-conversion_of_a_name_with_the_number_of_a_key : goal.returns-clause-conversion_of_a_name_with_the_number_of_a_key
 returns-clause-conversion_of_a_name_with_the_number_of_a_key c = refl
 
+pub returns-clause-conversion_of_a_sequence_with_the_number_of_a_key : goal.returns-clause-conversion_of_a_sequence_with_the_number_of_a_key
+returns-clause-conversion_of_a_sequence_with_the_number_of_a_key c = refl
+
 pub returns-clause-conversion_of_no_key : goal.returns-clause-conversion_of_no_key
 returns-clause-conversion_of_no_key c = refl
+
+pub returns-clause-conversion_of_this_with_the_number_of_a_key : goal.returns-clause-conversion_of_this_with_the_number_of_a_key
+returns-clause-conversion_of_this_with_the_number_of_a_key c = refl
 
 pub returns-clause-conversion_with_the_number_of_a_key : goal.returns-clause-conversion_with_the_number_of_a_key
 returns-clause-conversion_with_the_number_of_a_key c = refl
