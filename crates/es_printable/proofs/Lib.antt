@@ -1,0 +1,2 @@
+pub mod FormGroups
+pub mod NodeForms
