@@ -1,8 +1,8 @@
 -- What a definition by the form of a node says of any node.
-use Rattle.std.proofs.Common.{◌≡◌, refl, sym, ap, ◌∙◌, ℕ, zero, suc, arith, List, [], ◌∷◌, length, Bool, true, false, cond, ◌&&◌, ◌||◌}
+use Rattle.std.proofs.Common.{◌≡◌, refl, sym, ap, ◌∙◌, ℕ, suc, arith, List, [], ◌∷◌, length, Bool, true, false, cond, ◌&&◌, ◌||◌}
 use Rattle.std.specs.Prelude.{nat_eq, nat_le, not}
 use Rattle.es_base.specs.Conforms.{is_among}
-use Rattle.es_base.specs.Tree.{Tree, Part, Parts, Node, end, more, child, absent, list, string, no_string, boolean, literal, trees}
+use Rattle.es_base.specs.Tree.{Tree, Part, Parts, Node, end, more, child, absent, list, string, trees}
 use Rattle.es_base.specs.declared.kind.Kind.{Kind}
 use Rattle.es_node.specs.View.{kind_of, parts_in, parts_of}
 use Rattle.es_node.specs.declared.node.Part as code
