@@ -1,6 +1,6 @@
 -- Strings that are no directives, node by node.
 use Rattle.std.proofs.Common.{◌≡◌, refl, ap, ◌∙◌, ℕ, List, [], ◌∷◌, false, ◌&&◌}
-use Rattle.es_base.specs.Tree.{Tree, Parts, Node, end, more, child}
+use Rattle.es_base.specs.Tree.{Tree, Parts, Node, end, child}
 use Rattle.es_base.specs.declared.kind.Kind.{Kind}
 use Rattle.es_node.specs.View.{kind_of}
 use Rattle.es_steps.specs.Printable.{all_among, is_bare_string, prologue}

@@ -1,10 +1,10 @@
 -- What reserves words, kind by kind and place by place.
-use Rattle.std.proofs.Common.{◌≡◌, refl, sym, ap, ℕ, zero, suc, arith, [], ◌∷◌, Bool, true, false, cond, ◌&&◌, ◌||◌}
+use Rattle.std.proofs.Common.{◌≡◌, refl, sym, ap, ℕ, zero, suc, arith, [], ◌∷◌, true, false, cond, ◌&&◌, ◌||◌}
 use Rattle.std.specs.Prelude.{bytes_eq, codes, nat_eq}
 use Rattle.es_base.specs.Conforms.{is_among}
 use Rattle.es_base.specs.Tree.{Parts}
 use Rattle.es_base.specs.declared.kind.Kind.{Kind}
-use Rattle.es_steps.specs.Parts.{at, is_true, string_of}
+use Rattle.es_steps.specs.Parts.{at, string_of}
 use Rattle.es_steps.specs.Reserved.{Words, arrow_words, declaration_words, field_words, function_words, is_reserved, is_reserved_word, words_inside}
 
 pub reference_word : (w : Words) (kind : Kind) (ps : Parts) → kind ≡ Kind.IdentifierReference → is_reserved w kind ps ≡ (is_reserved_word w (string_of (at 0 ps)) || (w.in_element && bytes_eq (string_of (at 0 ps)) (codes "arguments")))
