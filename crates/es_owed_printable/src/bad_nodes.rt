@@ -7,8 +7,8 @@ ghost use Rattle.es_steps.specs.Printable as spec;
 ghost use Rattle.es_steps.specs.Printable.{bad_at, bad_in, has_bad};
 
 use es_base::kind::Kind;
-use es_base::strings::is_word;
 use es_node::node::{Node, Part};
+use es_printable::names::spells;
 use es_printable::nodes::is_bad_in;
 use es_seen_names::parts::string_at;
 
@@ -93,12 +93,12 @@ fn is_default_export(kind: Kind) -> bool
     matches!(kind, Kind::ExportDefaultDeclaration)
 }
 
-#[tactic(auto, using(crate::proofs::Walks::module_program, crate::proofs::Walks::no_module, es_base::proofs::Ascii::chars_ascii))]
+#[tactic(auto, using(crate::proofs::Walks::module_program, crate::proofs::Walks::no_module))]
 fn is_module(node: &Node) -> bool
     ensures { result ≡ spec.is_module (kind_of node.now) (parts_in node.now) }
 {
     match node.kind() {
-        Kind::Program => is_word("module", string_at(node.parts(), 0)),
+        Kind::Program => spells(string_at(node.parts(), 0), "module"),
         _ => false,
     }
 }

@@ -7,9 +7,9 @@ ghost use Rattle.es_steps.specs.Printable as spec;
 ghost use Rattle.es_steps.specs.Printable.{has_stray_target, is_new_target, stray_target_at, stray_target_of};
 ghost use Rattle.es_owed_printable.specs.Targets.{stray_target_from, target_within};
 
-use crate::words::is_string;
 use es_base::kind::Kind;
 use es_node::node::{Node, Part};
+use es_printable::names::spells;
 use es_tree::expression::MetaPropertyRef;
 use es_validity::names::name_of;
 
@@ -95,7 +95,7 @@ fn is_new_target(node: &Node) -> bool
     ensures { result ≡ is_new_target (kind_of node.now) (parts_in node.now) }
 {
     match node.kind() {
-        Kind::MetaProperty => is_string(name_of(MetaPropertyRef::from_node(node).meta), "new"),
+        Kind::MetaProperty => spells(name_of(MetaPropertyRef::from_node(node).meta), "new"),
         _ => false,
     }
 }

@@ -1,8 +1,7 @@
 // Which words are reserved at a place (ECMA-262, 12.7.2, 13.1.1, 15.7.1).
 
-ghost use Rattle.std.specs.Prelude.{◌≡◌, ◌∷◌, [], bytes_eq, codes, true};
+ghost use Rattle.std.specs.Prelude.{◌≡◌, ◌∷◌, [], codes};
 ghost use Rattle.std.specs.Str.{chars};
-ghost use Rattle.es_base.specs.Ascii.{is_ascii};
 ghost use Rattle.es_base.specs.Conforms.{is_among};
 ghost use Rattle.es_base.specs.declared.kind.Kind.{Kind};
 ghost use Rattle.es_node.specs.View.{kind_of, parts_in, parts_of};
@@ -11,8 +10,9 @@ ghost use Rattle.es_steps.specs.Reserved.{arrow_words, declaration_words, field_
 ghost use Rattle.es_owed_printable.specs.Words.{words_of};
 
 use es_base::kind::Kind;
-use es_base::strings::{is_among, is_word};
+use es_base::strings::is_among;
 use es_node::node::{Node, Part};
+use es_printable::names::spells;
 use es_seen_names::parts::{is_true_at, string_at};
 
 /// What reserves words around a name.
@@ -53,7 +53,7 @@ pub fn is_reserved(words: Words, node: &Node) -> bool
     match node.kind() {
         // a
         Kind::IdentifierReference => {
-            is_reserved_word(words, name) || (words.in_element && is_string(name, "arguments"))
+            is_reserved_word(words, name) || (words.in_element && spells(name, "arguments"))
         }
         // var a;
         Kind::BindingIdentifier => {
@@ -67,17 +67,8 @@ fn is_reserved_word(words: Words, name: &str) -> bool
     ensures { result ≡ is_reserved_word (words_of words) (chars name.now) }
 {
     (words.in_strict && is_strict_word(name))
-        || (((words.in_module || (words.in_block || words.in_async)) && is_string(name, "await"))
-            || (words.in_generator && is_string(name, "yield")))
-}
-
-/// Whether the name is this ASCII string.
-#[tactic(auto, using(es_base::proofs::Ascii::chars_ascii))]
-pub fn is_string(name: &str, word: &str) -> bool
-    requires { is_ascii word.now ≡ true }
-    ensures { result ≡ bytes_eq (chars name.now) word.now }
-{
-    is_word(word, name)
+        || (((words.in_module || (words.in_block || words.in_async)) && spells(name, "await"))
+            || (words.in_generator && spells(name, "yield")))
 }
 
 fn is_strict_word(name: &str) -> bool
@@ -124,7 +115,7 @@ pub fn words_inside(words: Words, node: &Node, i: usize) -> Words
 {
     match node.kind() {
         Kind::Program => Words {
-            in_module: is_string(string_at(node.parts(), 0), "module"),
+            in_module: spells(string_at(node.parts(), 0), "module"),
             ..words
         },
         // function f() {}

@@ -1,16 +1,14 @@
 // Chains, members and calls (ECMA-262, 13.3).
 
-ghost use Rattle.std.specs.Prelude.{◌≡◌, ◌&&◌, bytes_eq, true};
-ghost use Rattle.std.specs.Str.{chars};
-ghost use Rattle.es_base.specs.Ascii.{is_ascii};
+ghost use Rattle.std.specs.Prelude.{◌≡◌, ◌&&◌};
 ghost use Rattle.es_base.specs.Tree.{child, end, more, nullable, nullable_trees, trees};
 ghost use Rattle.es_node.specs.View.{kind_of, part_of, parts_in, parts_of};
 ghost use Rattle.es_steps.specs.Printable as spec;
 ghost use Rattle.es_steps.specs.Printable.{any_optional, behind_first, has_stray_optional, is_bad_form, is_meta_property, part_has_optional};
 ghost use Rattle.es_printable.specs.Members.{is_chain_form, is_optional_part};
 
+use crate::names::spells;
 use es_base::kind::Kind;
-use es_base::strings::is_word;
 use es_node::node::{Node, Part};
 use es_tree::expression::{
     CallExpressionRef, ChainExpressionRef, MemberExpressionRef, MetaPropertyRef, PrivateFieldRef,
@@ -57,17 +55,8 @@ fn is_meta_property(meta: &Node, property: &Node) -> bool
 {
     let meta = name_of(meta);
     let name = name_of(property);
-    (is_spelled(meta, "new") && is_spelled(name, "target"))
-        || (is_spelled(meta, "import") && is_spelled(name, "meta"))
-}
-
-/// Whether the name is this ASCII string.
-#[tactic(auto, using(es_base::proofs::Ascii::chars_ascii))]
-fn is_spelled(name: &str, word: &str) -> bool
-    requires { is_ascii word.now ≡ true }
-    ensures { result ≡ bytes_eq (chars name.now) word.now }
-{
-    is_word(word, name)
+    (spells(meta, "new") && spells(name, "target"))
+        || (spells(meta, "import") && spells(name, "meta"))
 }
 
 // ---- `?.` outside chains
