@@ -6,5 +6,5 @@ cd "$(dirname "$0")/.."
 copy=$(mktemp -d)
 trap 'rm -rf "$copy"' EXIT
 git clone -q . "$copy"
-for name in "$@"; do cp "$copy/crates/$name/edits/"*.edit "$copy/crates/$name/must-fail/"; done
+for name in "$@"; do mkdir -p "$copy/crates/$name/must-fail" && cp "$copy/crates/$name/edits/"*.edit "$copy/crates/$name/must-fail/"; done
 cd "$copy" && rt must-fail "$@"
