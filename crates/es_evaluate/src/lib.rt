@@ -3,3 +3,5 @@
 
 pub mod evaluate;
 pub mod forms;
+#[cfg(test)]
+mod tests;
