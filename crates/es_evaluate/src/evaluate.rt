@@ -8,6 +8,7 @@ ghost use Rattle.es_code_rules.specs.Elsewhere.{definition_of, opens_of};
 ghost use Rattle.es_code_rules.specs.Steps.{value_at};
 
 use crate::forms::evaluate_settled;
+use es_base::list::List;
 use es_code_rules::definition::{Definition, Opening};
 use es_code_rules::within::Within;
 use es_codes::code::Code;
@@ -19,7 +20,7 @@ use std::alloc::{AllocError, Global};
 /// The value of a code: undefined if its list throws. Refused where codes stand in codes `limit` times or more.
 pub fn evaluate(
     alloc: Global,
-    definitions: &[Definition],
+    definitions: &List<Definition>,
     opening: &Opening,
     limit: usize,
     state: &mut State,
@@ -39,7 +40,7 @@ pub fn evaluate(
     { evaluate(alloc, definitions, opening, left, state, code) };
     let within = Within {
         alloc,
-        definitions,
+        definitions: definitions.as_slice(),
         opening,
         evaluate: &inside,
     };
@@ -48,7 +49,7 @@ pub fn evaluate(
 
 /// An opening of all definitions. Fails on allocation failure alone.
 #[tactic(auto, using(crate::proofs::Whole::none_shut))]
-fn open_all(alloc: Global, definitions: &[Definition]) -> Result<Opening, AllocError>
+fn open_all(alloc: Global, definitions: &List<Definition>) -> Result<Opening, AllocError>
     ensures { IfOk result (λ o. opens_of definitions.now o ≡ direct.opening (map definition_of definitions.now)) }
 {
     let is_shut = vec![in alloc; false; definitions.len()]?;
@@ -62,7 +63,7 @@ fn open_all(alloc: Global, definitions: &[Definition]) -> Result<Opening, AllocE
 #[tactic(auto, using(crate::proofs::Whole::whole_value))]
 pub fn evaluate_among(
     alloc: Global,
-    definitions: &[Definition],
+    definitions: &List<Definition>,
     limit: usize,
     state: &mut State,
     code: &Code,
