@@ -1,5 +1,5 @@
 -- Where no definition is shut, all are opened.
-use Rattle.std.proofs.Common.{◌≡◌, refl, sym, ap, ap₂, ◌∙◌, ℕ, zero, suc, List, [], ◌∷◌, map, length, replicate, Bool, false, cond, Option}
+use Rattle.std.proofs.Common.{◌≡◌, refl, sym, ap, ap₂, ◌∙◌, suc, List, [], ◌∷◌, map, length, replicate, false}
 use Rattle.es_steps.specs.Code.{Code}
 use Rattle.es_steps.specs.Opening as of
 use Rattle.es_evaluation.specs.Direct as direct

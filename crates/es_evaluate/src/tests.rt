@@ -54,7 +54,7 @@ fn codes_in_codes(rt: HostRuntime) -> Result<(), Fail> {
     let alloc = rt.alloc();
     let code = nested(alloc)?;
     let mut state = start(alloc);
-    let Ok(value) = evaluate_among(alloc, &[], 3, &mut state, &code) else {
+    let Ok(value) = evaluate_among(alloc, &List::new(alloc), 3, &mut state, &code) else {
         return Err(Fail::new("no value"));
     };
     assert!(rt; value.is_same(&Value::result_of(5)));
@@ -78,7 +78,7 @@ fn too_deep(rt: HostRuntime) -> Result<(), Fail> {
     let alloc = rt.alloc();
     let code = nested(alloc)?;
     let mut state = start(alloc);
-    let result = evaluate_among(alloc, &[], 2, &mut state, &code);
+    let result = evaluate_among(alloc, &List::new(alloc), 2, &mut state, &code);
     assert!(rt; matches!(result, Err(Fault::TooDeep)));
     Ok(())
 }
@@ -89,15 +89,18 @@ fn opened_in_opened(rt: HostRuntime) -> Result<(), Fail> {
     let first = defined(alloc, "_f", called(alloc, "_g")?)?;
     let second = defined(alloc, "_g", Code::value(held(7)))?;
     let third = defined(alloc, "_h", called(alloc, "_h")?)?;
-    let definitions = vec![in alloc; first, second, third]?;
+    let mut definitions = List::new(alloc);
+    definitions.push(first)?;
+    definitions.push(second)?;
+    definitions.push(third)?;
     let mut state = start(alloc);
     let code = called(alloc, "_f")?;
-    let Ok(value) = evaluate_among(alloc, definitions.as_slice(), 9, &mut state, &code) else {
+    let Ok(value) = evaluate_among(alloc, &definitions, 9, &mut state, &code) else {
         return Err(Fail::new("no value"));
     };
     assert!(rt; value.is_same(&held(7)));
     let code = called(alloc, "_h")?;
-    let result = evaluate_among(alloc, definitions.as_slice(), 9, &mut state, &code);
+    let result = evaluate_among(alloc, &definitions, 9, &mut state, &code);
     assert!(rt; matches!(result, Err(Fault::NoMeaning)));
     Ok(())
 }
