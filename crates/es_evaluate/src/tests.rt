@@ -19,24 +19,52 @@ fn held(binding: u32) -> Value {
     Value::of(Origin::BindingOf(binding))
 }
 
+// a
+fn read(alloc: Global, binding: u32) -> Result<Boxed<Code>, AllocError> {
+    Boxed::new(alloc, Code::value(held(binding)))
+}
+
+// o[k]
+fn member(
+    alloc: Global,
+    node: u32,
+    object: Boxed<Code>,
+    key: Boxed<Code>,
+) -> Result<Boxed<Code>, AllocError> {
+    Boxed::new(alloc, Code::member(node, object, key))
+}
+
 // a[a[b]]
-fn nested(alloc: Global) -> Result<Code, AllocError> {
-    let object = Boxed::new(alloc, Code::value(held(1)))?;
-    let key = Boxed::new(alloc, Code::value(held(2)))?;
-    let inner = Code::member(4, object, key);
-    let object = Boxed::new(alloc, Code::value(held(1)))?;
-    Ok(Code::member(5, object, Boxed::new(alloc, inner)?))
+fn nested(alloc: Global) -> Result<Boxed<Code>, AllocError> {
+    let object = read(alloc, 1)?;
+    let key = read(alloc, 2)?;
+    let inner = member(alloc, 4, object, key)?;
+    let object = read(alloc, 1)?;
+    member(alloc, 5, object, inner)
 }
 
 // _f()
-fn called(alloc: Global, name: &str) -> Result<Code, AllocError> {
-    Ok(Code::call_closure(Name::new(alloc, name)?, List::new(alloc)))
+fn called(alloc: Global, name: Name) -> Code {
+    Code::call_closure(name, List::new(alloc))
 }
 
 // let _f = () => body;
-fn defined(alloc: Global, name: &str, body: Code) -> Result<Definition, AllocError> {
-    let name = Name::new(alloc, name)?;
-    Ok(Definition::OfName { name, body })
+fn defined(name: Name, body: Code) -> Definition {
+    Definition::OfName { name, body }
+}
+
+// let _f = () => _g(), _g = () => a, _h = () => _h();
+fn definitions(alloc: Global) -> Result<List<Definition>, AllocError> {
+    let mut definitions = List::new(alloc);
+    let name = Name::new(alloc, "_f")?;
+    let body = Name::new(alloc, "_g")?;
+    definitions.push(defined(name, called(alloc, body)))?;
+    let name = Name::new(alloc, "_g")?;
+    definitions.push(defined(name, Code::value(held(7))))?;
+    let name = Name::new(alloc, "_h")?;
+    let body = Name::new(alloc, "_h")?;
+    definitions.push(defined(name, called(alloc, body)))?;
+    Ok(definitions)
 }
 
 // nothing so far
@@ -49,12 +77,21 @@ fn start(alloc: Global) -> State {
     }
 }
 
+// the value among those definitions of what calls one of them
+fn value_of_call(alloc: Global, name: Name) -> Result<Value, Fault> {
+    let definitions = definitions(alloc)?;
+    let code = Boxed::new(alloc, called(alloc, name))?;
+    let mut state = start(alloc);
+    evaluate_among(alloc, &definitions, 9, &mut state, code.get())
+}
+
 #[test]
 fn codes_in_codes(rt: HostRuntime) -> Result<(), Fail> {
     let alloc = rt.alloc();
     let code = nested(alloc)?;
+    let definitions = List::new(alloc);
     let mut state = start(alloc);
-    let Ok(value) = evaluate_among(alloc, &List::new(alloc), 3, &mut state, &code) else {
+    let Ok(value) = evaluate_among(alloc, &definitions, 3, &mut state, code.get()) else {
         return Err(Fail::new("no value"));
     };
     assert!(rt; value.is_same(&Value::result_of(5)));
@@ -77,8 +114,9 @@ fn codes_in_codes(rt: HostRuntime) -> Result<(), Fail> {
 fn too_deep(rt: HostRuntime) -> Result<(), Fail> {
     let alloc = rt.alloc();
     let code = nested(alloc)?;
+    let definitions = List::new(alloc);
     let mut state = start(alloc);
-    let result = evaluate_among(alloc, &List::new(alloc), 2, &mut state, &code);
+    let result = evaluate_among(alloc, &definitions, 2, &mut state, code.get());
     assert!(rt; matches!(result, Err(Fault::TooDeep)));
     Ok(())
 }
@@ -86,21 +124,11 @@ fn too_deep(rt: HostRuntime) -> Result<(), Fail> {
 #[test]
 fn opened_in_opened(rt: HostRuntime) -> Result<(), Fail> {
     let alloc = rt.alloc();
-    let first = defined(alloc, "_f", called(alloc, "_g")?)?;
-    let second = defined(alloc, "_g", Code::value(held(7)))?;
-    let third = defined(alloc, "_h", called(alloc, "_h")?)?;
-    let mut definitions = List::new(alloc);
-    definitions.push(first)?;
-    definitions.push(second)?;
-    definitions.push(third)?;
-    let mut state = start(alloc);
-    let code = called(alloc, "_f")?;
-    let Ok(value) = evaluate_among(alloc, &definitions, 9, &mut state, &code) else {
+    let Ok(value) = value_of_call(alloc, Name::new(alloc, "_f")?) else {
         return Err(Fail::new("no value"));
     };
     assert!(rt; value.is_same(&held(7)));
-    let code = called(alloc, "_h")?;
-    let result = evaluate_among(alloc, &definitions, 9, &mut state, &code);
+    let result = value_of_call(alloc, Name::new(alloc, "_h")?);
     assert!(rt; matches!(result, Err(Fault::NoMeaning)));
     Ok(())
 }
