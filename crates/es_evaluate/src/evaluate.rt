@@ -2,6 +2,9 @@
 
 ghost use Rattle.std.specs.Prelude.{◌≡◌, IfOk, map};
 ghost use Rattle.es_codes.specs.CodeView.{code_of};
+ghost use Rattle.es_steps.specs.Evaluation.{ev};
+ghost use Rattle.es_steps.specs.Opening as of;
+ghost use Rattle.es_evaluation.specs.Agreement.{onto};
 ghost use Rattle.es_evaluation.specs.Direct as direct;
 ghost use Rattle.es_evaluator.specs.Running.{Returns, state_of};
 ghost use Rattle.es_code_rules.specs.Elsewhere.{definition_of, opens_of};
@@ -59,7 +62,8 @@ fn open_all(alloc: Global, definitions: &List<Definition>) -> Result<Opening, Al
     })
 }
 
-/// The value of a code among definitions. Refused where codes stand in codes `limit` times or more.
+/// Adds to the state what the run of a code among definitions has, and gives its value; refused where codes stand
+/// in codes `limit` times or more.
 #[tactic(auto, using(crate::proofs::Whole::whole_value))]
 pub fn evaluate_among(
     alloc: Global,
@@ -68,7 +72,7 @@ pub fn evaluate_among(
     state: &mut State,
     code: &Code,
 ) -> Result<Value, Fault>
-    ensures { Returns (λ v. v) result state.new (direct.evaluated (map definition_of definitions.now) (code_of code.now) (state_of state.old)) }
+    ensures { Returns (λ v. v) result state.new (onto (state_of state.old) (ev (of.opening (map definition_of definitions.now)) (code_of code.now) (state_of state.old).names)) }
 {
     let opening = open_all(alloc, definitions)?;
     evaluate(alloc, definitions, &opening, limit, state, code)
