@@ -11,8 +11,8 @@ use Rattle.es_left.proofs.Booleans.{both}
 use Rattle.es_steps.proofs.Reflexive.{number-same}
 use Rattle.es_steps.specs.KeptNodes.{are_new_or_among, numbers_in_class, none_enters, classes_kept}
 use Rattle.es_steps.specs.References.{has_number}
-use Rattle.es_unchanged.proofs.Names.{or-true, class-numbers}
-use Rattle.es_unchanged.proofs.Standing.{here, later, in-left, in-right, Among}
+use Rattle.es_unchanged.proofs.Names.{class-numbers}
+use Rattle.es_unchanged.proofs.Standing.{or_right, here, later, in-left, in-right, Among}
 use Rattle.class_properties.proofs.Numbered.{definitions_from, lowered_elements, lowered_statements, lowered_from, statement_size}
 use Rattle.class_properties.proofs.Shaped.{no_value, a_literal, a_reference, a_key, a_field, AreFields, a_name, a_body, a_class, AreClasses, IsProgram, a_program}
 
@@ -41,15 +41,15 @@ module _ (first : ℕ) (there : List ℕ) where
   fields-among end h f n l = refl
   fields-among (more p es) (a_field m span semantic_id k v (a_key km kspan k_semantic_id s) no_value, h) f n l =
       rw (le-leb first n l, le-leb first (n + 1) (omega (arith, l)), le-leb first (n + 2) (omega (arith, l)), le-leb first (n + 3) (omega (arith, l)), le-leb first (n + 4) (omega (arith, l)), le-leb first (n + 5) (omega (arith, l)), le-leb first (n + 6) (omega (arith, l)), le-leb first (n + 7) (omega (arith, l)), le-leb first (n + 7 + 1) (omega (arith, l)))
-      (fields-among es h (λ x i. f x (or-true (nat_eq x m) _ (or-true (nat_eq x km) _ i))) (n + 9) (omega (arith, l)))
+      (fields-among es h (λ x i. f x (or_right (nat_eq x m) _ (or_right (nat_eq x km) _ i))) (n + 9) (omega (arith, l)))
   fields-among (more p es) (a_field m span semantic_id k v (a_key km kspan k_semantic_id s) (a_literal vm vspan v_semantic_id x fine), h) f n l =
       rw (le-leb first n l, le-leb first (n + 1) (omega (arith, l)), le-leb first (n + 2) (omega (arith, l)), le-leb first (n + 3) (omega (arith, l)), le-leb first (n + 4) (omega (arith, l)), le-leb first (n + 5) (omega (arith, l)), le-leb first (n + 6) (omega (arith, l)))
-      (both (or-true (is_new first vm) (has_number vm there) (f vm (or-true (nat_eq vm m) _ (or-true (nat_eq vm km) _ (rw (number-same vm) refl)))))
-      (fields-among es h (λ y i. f y (or-true (nat_eq y m) _ (or-true (nat_eq y km) _ (or-true (nat_eq y vm) _ i)))) (n + 7) (omega (arith, l))))
+      (both (or_right (is_new first vm) (has_number vm there) (f vm (or_right (nat_eq vm m) _ (or_right (nat_eq vm km) _ (rw (number-same vm) refl)))))
+      (fields-among es h (λ y i. f y (or_right (nat_eq y m) _ (or_right (nat_eq y km) _ (or_right (nat_eq y vm) _ i)))) (n + 7) (omega (arith, l))))
   fields-among (more p es) (a_field m span semantic_id k v (a_key km kspan k_semantic_id s) (a_reference vm vspan v_semantic_id x), h) f n l =
       rw (le-leb first n l, le-leb first (n + 1) (omega (arith, l)), le-leb first (n + 2) (omega (arith, l)), le-leb first (n + 3) (omega (arith, l)), le-leb first (n + 4) (omega (arith, l)), le-leb first (n + 5) (omega (arith, l)), le-leb first (n + 6) (omega (arith, l)))
-      (both (or-true (is_new first vm) (has_number vm there) (f vm (or-true (nat_eq vm m) _ (or-true (nat_eq vm km) _ (rw (number-same vm) refl)))))
-      (fields-among es h (λ y i. f y (or-true (nat_eq y m) _ (or-true (nat_eq y km) _ (or-true (nat_eq y vm) _ i)))) (n + 7) (omega (arith, l))))
+      (both (or_right (is_new first vm) (has_number vm there) (f vm (or_right (nat_eq vm m) _ (or_right (nat_eq vm km) _ (rw (number-same vm) refl)))))
+      (fields-among es h (λ y i. f y (or_right (nat_eq y m) _ (or_right (nat_eq y km) _ (or_right (nat_eq y vm) _ i)))) (n + 7) (omega (arith, l))))
 
   elements-among : (es : Parts) → AreFields es → AllIn (map number_of (preorder_of es)) there → (n : ℕ) → first ≤ n → are_new_or_among first there (map number_of (preorder_of (lowered_elements n es))) ≡ true
   elements-among end h f n l = refl
@@ -83,9 +83,9 @@ module _ (first : ℕ) (us : List Tree) (once : EachOnce (map number_of us)) whe
       let made : List Tree = preorder_of (lowered_elements n es) in
       let there : List ℕ = j ∷ map number_of (preorder_of es ++ []) in
       let found : numbers_in_class m us ≡ there = class-numbers Kind.ClassDeclaration m span semantic_id (more id (more absent (more body end))) us refl once (i (Node Kind.ClassDeclaration m span semantic_id (more id (more absent (more body end)))) here) in
-      let inner : AllIn (map number_of (preorder_of es)) there = λ k e. or-true (nat_eq k j) (has_number k (map number_of (preorder_of es ++ []))) (ap (λ ts. has_number k (map number_of ts)) (append-nil (preorder_of es)) ∙ e) in
+      let inner : AllIn (map number_of (preorder_of es)) there = λ k e. or_right (nat_eq k j) (has_number k (map number_of (preorder_of es ++ []))) (ap (λ ts. has_number k (map number_of ts)) (append-nil (preorder_of es)) ∙ e) in
       let own : are_new_or_among first there (j ∷ map number_of (made ++ [])) ≡ true =
-      both (or-true (is_new first j) (has_number j there) (rw (number-same j) refl))
+      both (or_right (is_new first j) (has_number j there) (rw (number-same j) refl))
       (ap (λ ts. are_new_or_among first there (map number_of ts)) (append-nil made) ∙ elements-among first there es he inner n l) in
       both (ap (λ ns. are_new_or_among first ns (j ∷ map number_of (made ++ []))) found ∙ own)
       (enters-append first us ((made ++ []) ++ []) (preorder_of (lowered_statements next cs))

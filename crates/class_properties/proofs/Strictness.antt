@@ -10,7 +10,7 @@ use Rattle.es_base.specs.declared.kind.Kind.{Kind}
 use Rattle.es_steps.specs.KeptNodes.{are_new_or_among}
 use Rattle.es_steps.specs.References.{has_number}
 use Rattle.es_steps.specs.Strict.{if_strict, strict_numbers, strict_in, strict_at, has_use_strict}
-use Rattle.es_unchanged.proofs.Names.{or-true}
+use Rattle.es_unchanged.proofs.Standing.{or_right}
 use Rattle.class_properties.proofs.Entering.{among-append}
 use Rattle.class_properties.proofs.Laid.{Laid, none, kept, generated}
 use Rattle.class_properties.proofs.Numbered.{lowered_statement, statement_size, lowered_statements}
@@ -47,7 +47,7 @@ has-left k (x ∷ xs) ys h = either (nat_eq k x) h (has-left k xs ys)
 
 has-right : (k : ℕ) (xs ys : List ℕ) → has_number k ys ≡ true → has_number k (xs ++ ys) ≡ true
 has-right k [] ys h = h
-has-right k (x ∷ xs) ys h = or-true (nat_eq k x) (has_number k (xs ++ ys)) (has-right k xs ys h)
+has-right k (x ∷ xs) ys h = or_right (nat_eq k x) (has_number k (xs ++ ys)) (has-right k xs ys h)
 
 has-append : (k : ℕ) (ts us : List Tree) → has_number k (map number_of ts ++ map number_of us) ≡ true → has_number k (map number_of (ts ++ us)) ≡ true
 has-append k ts us h = ap (has_number k) (map-append number_of ts us) ∙ h
@@ -65,7 +65,7 @@ has-either k xs ys (inr b) f g = has-right k xs ys (g b)
 mutual
   has-node : (k n : ℕ) (t : Tree) → (nat_eq k n ≡ true) ⊎ (n + 1 ≤ k) → k < n + nodes t → has_number k (map number_of (preorder (numbered_from n t))) ≡ true
   has-node k n (Node kind m span semantic_id ps) (inl e) u = rw e refl
-  has-node k n (Node kind m span semantic_id ps) (inr i) u = or-true (nat_eq k n) (has_number k (map number_of (preorder_of (numbered_parts (n + 1) ps)))) (has-numbered_parts k (n + 1) ps i (omega (arith, u)))
+  has-node k n (Node kind m span semantic_id ps) (inr i) u = or_right (nat_eq k n) (has_number k (map number_of (preorder_of (numbered_parts (n + 1) ps)))) (has-numbered_parts k (n + 1) ps i (omega (arith, u)))
 
   has-numbered_part : (k n : ℕ) (p : Part) → n ≤ k → k < n + nodes_of_part p → has_number k (map number_of (preorder_of_part (numbered_part n p))) ≡ true
   has-numbered_part k n (child t) l u = has-node k n t (first-or-later k n l) u
@@ -120,14 +120,14 @@ no-lowered_directive n (more p ps) (a_class m span semantic_id id body named h, 
 laid-strict : {first hi m lo n : ℕ} {ts : List Tree} (strict : List ℕ) → first ≤ n → ((k : ℕ) → lo ≤ k → k < first → has_number k strict ≡ true) → Laid first hi m lo n ts → are_new_or_among first strict (map number_of ts) ≡ true
 laid-strict strict l f (none lh e) = refl
 laid-strict {first = first} {ts = t ∷ ts} strict l f (kept a b s rest) =
-    rw (or-true (is_new first (number_of t)) (has_number (number_of t) strict) (f (number_of t) a b))
+    rw (or_right (is_new first (number_of t)) (has_number (number_of t) strict) (f (number_of t) a b))
     (laid-strict strict l (λ k i j. f k (omega (arith, a, i)) j) rest)
 laid-strict {first = first} {ts = t ∷ ts} strict l f (generated e s rest) =
     rw (le-leb first (number_of t) (omega (arith, l, e))) (laid-strict strict (omega (arith, l)) f rest)
 
 -- the program itself is strict in both, or in none
 own-strict : (first : ℕ) (b : Bool) (rest : List ℕ) → are_new_or_among first (if_strict b 0 ++ rest) (if_strict b 0) ≡ true
-own-strict first true rest = rw (or-true (is_new first 0) true refl) refl
+own-strict first true rest = rw (or_right (is_new first 0) true refl) refl
 own-strict first false rest = refl
 
 pub program-strict : (first n : ℕ) (b : Bool) (all : Parts) → AreClasses all → 1 + nodes_of all ≡ first → first ≤ n → {m : ℕ} → Laid first (1 + nodes_of all) m 1 n (preorder_of (lowered_statements n (numbered_parts 1 all)))

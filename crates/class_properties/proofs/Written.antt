@@ -10,8 +10,7 @@ use Rattle.es_base.specs.declared.kind.Kind.{Kind}
 use Rattle.es_left.proofs.Booleans.{both}
 use Rattle.es_steps.specs.KeptNodes.{stands_equal}
 use Rattle.es_lowered.specs.Texts.{is_new_name, has_characters, all_have_their_texts, texts_stay}
-use Rattle.es_unchanged.proofs.Standing.{In, here, later, in-left, in-right, stands-equal}
-use Rattle.es_unchanged.proofs.Names.{or-true}
+use Rattle.es_unchanged.proofs.Standing.{or_right, In, here, later, in-left, in-right, stands-equal}
 use Rattle.es_unchanged.proofs.Unchanged.{Below, numbered-below, old-characters}
 use Rattle.class_properties.proofs.Numbered.{definitions_from, lowered_elements, lowered_statements, lowered_from, statement_size}
 use Rattle.class_properties.proofs.Numbered as numbered
@@ -39,7 +38,7 @@ module _ (first : ℕ) (ps : List Tree) where
 
   -- a new name of characters of ASCII, as the helper, its member and the constructor have
   new-characters : (n : ℕ) (s : List ℕ) → is_new_name ps s ≡ true → has_characters true first n ps s ≡ true
-  new-characters n s h = or-true (not (is_new first n)) (is_new_name ps s) h
+  new-characters n s h = or_right (not (is_new first n)) (is_new_name ps s) h
 
   helper-characters : (n : ℕ) → has_characters true first n ps (codes "babelHelpers") ≡ true
   helper-characters n = new-characters n (codes "babelHelpers") refl

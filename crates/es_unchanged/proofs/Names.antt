@@ -16,11 +16,7 @@ use Rattle.es_steps.specs.PrivateNames.{is_class}
 use Rattle.es_steps.specs.References.{Reference, resolve, has_number}
 use Rattle.es_steps.specs.Strict.{strict_numbers, none_becomes_strict}
 use Rattle.es_steps.specs.Values.{Referent, Bound}
-use Rattle.es_unchanged.proofs.Standing.{In, here, later, Among, apart-sym}
-
-pub or-true : (a b : Bool) → b ≡ true → (a || b) ≡ true
-or-true true b h = refl
-or-true false b h = h
+use Rattle.es_unchanged.proofs.Standing.{In, here, later, Among, apart-sym, or_right}
 
 -- ---- own names
 
@@ -70,7 +66,7 @@ none-loses (t ∷ ts) us rs once h = rw (loses-none t us rs once (h t here)) (no
 declares-itself : (t : Tree) (ts : List Tree) (m b : ℕ) → In t ts → declares_by m b t ≡ true → any_declares m b ts ≡ true
 declares-itself t [] m b h e = elim h [ ]
 declares-itself t (u ∷ us) m b here e = rw e refl
-declares-itself t (u ∷ us) m b (later i) e = or-true (declares_by m b u) (any_declares m b us) (declares-itself t us m b i e)
+declares-itself t (u ∷ us) m b (later i) e = or_right (declares_by m b u) (any_declares m b us) (declares-itself t us m b i e)
 
 reads-none : (moved : List Tree) (t : Tree) (ts : List Tree) (rs : List Reference) → In t ts → reads_itself moved ts rs t ≡ false
 reads-none moved (Node Kind.VariableDeclarator m span semantic_id (more (child (Node kind b bspan b_semantic_id bs)) (more e end))) ts rs h =
@@ -89,8 +85,8 @@ names-stay t once = both (none-loses (preorder t) (preorder t) (resolve t) once 
 new-or-among : (first : ℕ) (strict ns : List ℕ) → ((k : ℕ) → has_number k ns ≡ true → has_number k strict ≡ true) → are_new_or_among first strict ns ≡ true
 new-or-among first strict [] h = refl
 new-or-among first strict (n ∷ ns) h =
-    rw (or-true (is_new first n) (has_number n strict) (h n (rw (number-same n) refl)))
-    (new-or-among first strict ns (λ k i. h k (or-true (nat_eq k n) (has_number k ns) i)))
+    rw (or_right (is_new first n) (has_number n strict) (h n (rw (number-same n) refl)))
+    (new-or-among first strict ns (λ k i. h k (or_right (nat_eq k n) (has_number k ns) i)))
 
 pub strict-stays : (first : ℕ) (t : Tree) → none_becomes_strict first t t ≡ true
 strict-stays first t = new-or-among first (strict_numbers false t) (strict_numbers false t) (λ k i. i)

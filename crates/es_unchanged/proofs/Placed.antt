@@ -8,7 +8,7 @@ use Rattle.es_steps.proofs.Reflexive.{number-same}
 use Rattle.es_steps.specs.KeptNodes.{pair_stands, all_pairs_stand}
 use Rattle.es_unchanged.proofs.Standing.{or_left, or_right}
 
-pairs-stand : (xs zs : List (ℕ × ℕ)) → ((p : ℕ × ℕ) → pair_stands p xs ≡ true → pair_stands p zs ≡ true) → all_pairs_stand xs zs ≡ true
+pub pairs-stand : (xs zs : List (ℕ × ℕ)) → ((p : ℕ × ℕ) → pair_stands p xs ≡ true → pair_stands p zs ≡ true) → all_pairs_stand xs zs ≡ true
 pairs-stand [] zs h = refl
 pairs-stand (x ∷ xs) zs h =
     both (h x (rw (number-same x.0, number-same x.1) refl)) (pairs-stand xs zs (λ p i. h p (or_right (nat_eq p.0 x.0 && nat_eq p.1 x.1) (pair_stands p xs) i)))

@@ -17,7 +17,7 @@ use Rattle.es_lowered.specs.Bound.{all_bound}
 use Rattle.es_lowered.specs.Definitions.{FieldDefinition, chosen, element_numbers, body_numbers, elements_kept, call_definition, definition_at, definitions_in, definitions_at, definitions_of, function_definitions, super_definitions, constructor_definitions, all_definitions, instance_definitions, static_definitions, is_instance_method, any_of, defined_fields, class_fits, classes_fit, definitions_stand}
 use Rattle.es_lowered.specs.KeptKeys.{keys_that_stay}
 use Rattle.es_lowered.specs.HelperCalls.{is_new_private, kept_keys, all_by, new_private_names, private_keys, kept_keys_converted, is_helper_callee, StaticKey, Naming, naming_in, naming_of_element, is_class_body, field_key, method_keys, field_keys, call_fits, calls_fit, calls_in, calls_at, calls_of, calls_of_body}
-use Rattle.es_steps.specs.KeptNodes.{pair_stands, all_pairs_stand, stands_equal, statement_list, declared_classes, carried_classes, item_number, item_numbers, free_number, free_numbers, is_static_block, free_lists, free_lists_at, free_lists_in, list_of, is_within, all_within, is_free_statement, stays_in_list, free_statements, free_at, free_in, all_homes, lowered_blocks}
+use Rattle.es_steps.specs.KeptNodes.{stands_equal, statement_list, declared_classes, carried_classes, item_number, item_numbers, free_number, free_numbers, is_static_block, free_lists, free_lists_at, free_lists_in, list_of, is_within, all_within, is_free_statement, stays_in_list, free_statements, free_at, free_in, all_homes, lowered_blocks}
 use Rattle.es_lowered.specs.Lowered.{IsLowered, has_new_declarator, is_new_const, is_accounted, all_accounted}
 use Rattle.es_steps.specs.LoweredClasses.{Element, elements_of, is_lowered_element, any_element, is_lowered_class, holds_lowered, has_lowered_class, constructor_function, constructor_in, nothing_left}
 use Rattle.es_steps.specs.Options.{lowers_fields, lowers_blocks}
@@ -32,9 +32,10 @@ use Rattle.es_steps.specs.Values.{String}
 use Rattle.es_steps.specs.declared.options.Options.{Options}
 use Rattle.es_lowered.specs.Carriers.{all_carried}
 use Rattle.es_unchanged.proofs.Carried.{carried}
-use Rattle.es_unchanged.proofs.Names.{or-true, number-apart, names-stay, strict-stays, classes-stay}
+use Rattle.es_unchanged.proofs.Names.{number-apart, names-stay, strict-stays, classes-stay}
 use Rattle.es_unchanged.proofs.References.{references-stay}
-use Rattle.es_unchanged.proofs.Standing.{stands-equal, In, here, later, in-left, in-right, Among, among-append, all-equal, all-stand, within-more, within-both, within-same, within-append, all_within-append, apart-sym, home-same, temporaries-none, supers-stand}
+use Rattle.es_unchanged.proofs.Placed.{pairs-stand}
+use Rattle.es_unchanged.proofs.Standing.{or_right, stands-equal, In, here, later, in-left, in-right, Among, among-append, all-equal, all-stand, within-more, within-both, within-same, within-append, all_within-append, apart-sym, home-same, temporaries-none, supers-stand}
 use Rattle.es_unchanged.proofs.Unmarked.{names-timely}
 
 -- ---- no number is new
@@ -515,11 +516,6 @@ in-turn : (t : Tree) → t ≡ numbered_from 0 t → IsInTurn t
 in-turn t e =
     record { once = subst (λ u. EachOnce (numbers u)) (sym e) (numbered-once t); below = subst (λ u. Below (nodes t) (preorder u)) (sym e) (numbered-below (nodes t) 0 t (omega arith)) }
 
-pairs-stand : (ps qs : List (ℕ × ℕ)) → ((p : ℕ × ℕ) → pair_stands p ps ≡ true → pair_stands p qs ≡ true) → all_pairs_stand ps qs ≡ true
-pairs-stand [] qs h = refl
-pairs-stand (p ∷ ps) qs h =
-    both (h p (rw (number-same p.0, number-same p.1) refl)) (pairs-stand ps qs (λ q i. h q (or-true (nat_eq q.0 p.0 && nat_eq q.1 p.1) (pair_stands q ps) i)))
-
 definitions-stand : (o : Options) (p : Tree) → Below (nodes p) (preorder p) → has_lowered_class o p ≡ false → definitions_stand (nodes p) o [] (private_members p) p p ≡ true
 definitions-stand o p below h = both (either (lowers_fields o) refl) (supers-stand (nodes p) o (resolve p) (preorder p))
   where
@@ -539,7 +535,7 @@ keys-stand false = refl
 
 among-all : (ns ks : List ℕ) → ((n : ℕ) → has_number n ns ≡ true → has_number n ks ≡ true) → all_among ns ks ≡ true
 among-all [] ks h = refl
-among-all (n ∷ ns) ks h = both (h n (rw (number-same n) refl)) (among-all ns ks (λ k i. h k (or-true (nat_eq k n) (has_number k ns) i)))
+among-all (n ∷ ns) ks h = both (h n (rw (number-same n) refl)) (among-all ns ks (λ k i. h k (or_right (nat_eq k n) (has_number k ns) i)))
 
 all-among : (ns : List ℕ) → all_among ns ns ≡ true
 all-among ns = among-all ns ns (λ n h. h)
@@ -552,7 +548,7 @@ old-characters first false n us s e = refl
 old-text : (first : ℕ) (t : Tree) (us : List Tree) → number_of t < first → In t us → has_its_text first us t ≡ true
 old-text first (Node Kind.Literal n span semantic_id qs) us l i = rw (lt-leb first n l) (stands-equal (Node Kind.Literal n span semantic_id qs) us i)
 old-text first (Node Kind.TemplateElement n span semantic_id qs) us l i = rw (lt-leb first n l) (stands-equal (Node Kind.TemplateElement n span semantic_id qs) us i)
-old-text first (Node Kind.ExpressionStatement n span semantic_id (more e (more (string s) end))) us l i = or-true (is_new first n) (stands_equal (Node Kind.ExpressionStatement n span semantic_id (more e (more (string s) end))) us) (stands-equal (Node Kind.ExpressionStatement n span semantic_id (more e (more (string s) end))) us i)
+old-text first (Node Kind.ExpressionStatement n span semantic_id (more e (more (string s) end))) us l i = or_right (is_new first n) (stands_equal (Node Kind.ExpressionStatement n span semantic_id (more e (more (string s) end))) us) (stands-equal (Node Kind.ExpressionStatement n span semantic_id (more e (more (string s) end))) us i)
 old-text first (Node Kind.PrivateIdentifier n span semantic_id qs) us l i = rw (lt-leb first n l) (stands-equal (Node Kind.PrivateIdentifier n span semantic_id qs) us i)
 old-text first (Node kind n span semantic_id qs) us l i = old-characters first (has_name kind) n us (string_of (at 0 qs)) (lt-leb first n l)
 
