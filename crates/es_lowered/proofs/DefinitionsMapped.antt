@@ -9,13 +9,12 @@ use Rattle.es_base.specs.declared.ledger.GeneratedKind.{GeneratedKind}
 use Rattle.es_base.specs.declared.ledger.LedgerEntry.{LedgerEntry}
 use Rattle.es_base.specs.declared.literal.LiteralValue.TheVariants as literal_value
 use Rattle.es_steps.specs.Context.{generated_as, is_function}
-use Rattle.es_lowered.specs.Definitions.{DefinedKey, BrandKey, PrivateKey, PublicKey, FieldDefinition, definition, spelling, helper_definition, property_value, writable_part, field_part, loose_by, object_definition, call_definition, static_by, static_definition, set_definition, is_assignment, is_super_of, given_to, given_part, definition_at, is_given_super, definitions_in, definitions_at, definitions_of, function_definitions, super_definitions, constructor_definitions, all_definitions, is_new_this, on_this, instance_definitions, identifier_in, is_class_number, declares_class, class_identifiers, is_class_temporary, is_bound_among, names_class, is_member_of, is_static_member, key_is_static, is_static_of, statics_of, static_definitions, is_member_name, is_temporary, is_member_key, referent_at, is_property_name, same_referent, is_name_part, Names, is_computed_key, is_key_of, key_fits, is_void_zero, nodes_in, number_stands, is_followed, value_fits, all_fit, is_brand_of, is_brand_key, branded_fit, is_instance_method, any_of, chosen, defined_fields, names_of, class_fits, classes_fit, definitions_stand, key_temporary, key_temporaries, class_temporaries, with_class, all_temporaries, element_numbers, body_numbers, elements_kept, is_super_name, any_reads, any_definition, is_construction, are_constructions, is_plain_super, super_stands, supers_stand, is_made_key}
+use Rattle.es_lowered.specs.Definitions.{DefinedKey, BrandKey, PrivateKey, PublicKey, FieldDefinition, definition, spelling, helper_definition, property_value, writable_part, field_part, loose_by, object_definition, call_definition, static_by, static_definition, set_definition, is_assignment, is_super_of, given_to, given_part, definition_at, is_given_super, definitions_in, definitions_at, definitions_of, function_definitions, super_definitions, constructor_definitions, all_definitions, is_new_this, on_this, instance_definitions, identifier_in, is_class_number, declares_class, class_identifiers, is_class_temporary, is_bound_among, names_class, is_member_of, is_static_member, key_is_static, is_static_of, statics_of, static_definitions, is_member_name, is_temporary, is_member_key, referent_at, is_property_name, same_referent, is_name_part, Names, is_computed_key, is_key_of, key_fits, is_void_zero, nodes_in, number_stands, is_followed, value_fits, all_fit, is_brand_of, is_brand_key, branded_fit, is_instance_method, any_of, chosen, defined_fields, names_of, class_fits, classes_fit, definitions_stand, key_temporary, key_temporaries, class_temporaries, with_class, all_temporaries, element_numbers, body_numbers, elements_kept, is_super_name, any_reads, any_definition, is_construction, are_constructions, is_plain_super, super_stands, supers_stand}
 use Rattle.es_steps.specs.KeptNodes.{is_within}
 use Rattle.es_steps.specs.LoweredClasses.{Element, elements_of, is_left_out, is_lowered_element, constructor_in, referent_of}
 use Rattle.es_steps.specs.Options.{lowers_fields, sets_fields}
 use Rattle.es_steps.specs.Parts.{at, items, string_of, is_true, is_present}
 use Rattle.es_steps.specs.PrivateNames.{PrivateMember, member_at, is_class}
-use Rattle.es_steps.specs.Quiet.{is_regular_expression}
 use Rattle.es_steps.specs.References.{Reference, resolve}
 use Rattle.es_steps.specs.SameTrees.{same_part}
 use Rattle.es_steps.specs.SameValues.{same_boolean}
@@ -342,17 +341,9 @@ module _ {first : ℕ} {f : ℕ → ℕ} (r : Renames first f) where
   is_name_part-mapped (child (Node Kind.IdentifierReference m span semantic_id ps)) = refl
   is_name_part-mapped p = refl
 
-  is_regular_expression-mapped : (p : Part) → is_regular_expression (mapped_part f p) ≡ is_regular_expression p
-  is_regular_expression-mapped (literal (literal_value.RegExp source flags)) = refl
-  is_regular_expression-mapped p = refl
-
-  is_made_key-mapped : (key : Part) → is_made_key (mapped_part f key) ≡ is_made_key key
-  is_made_key-mapped (child (Node Kind.Literal m span semantic_id ps)) = ap is_regular_expression (at-mapped f 0 ps) ∙ is_regular_expression-mapped (at 0 ps)
-  is_made_key-mapped p = refl
-
   is_computed_key-mapped : (x : Names) (n : ℕ) (key k : Part) → is_computed_key (mapped_names f x) (f n) (mapped_part f key) (mapped_part f k) ≡ is_computed_key x n key k
   is_computed_key-mapped x n key k =
-      rw (needs_temporary-mapped r x.written x.source key, is_made_key-mapped key, generated_spelling-mapped f x.ledger k, is_temporary-mapped f (generated_as (spelling k) x.ledger), is_name_part-mapped key, referent_at-mapped key x.source, referent_at-mapped k x.lowered, same_referent-mapped (referent_at key x.source) (referent_at k x.lowered), names_class-mapped n x.ledger x.lowered x.identifiers k, same_part-mapped r key k) refl
+      rw (needs_temporary-mapped r x.written x.source key, generated_spelling-mapped f x.ledger k, is_temporary-mapped f (generated_as (spelling k) x.ledger), is_name_part-mapped key, referent_at-mapped key x.source, referent_at-mapped k x.lowered, same_referent-mapped (referent_at key x.source) (referent_at k x.lowered), names_class-mapped n x.ledger x.lowered x.identifiers k, same_part-mapped r key k) refl
 
   abbrev else_key : Names → ℕ → Bool → Part → Bool → Part → Bool
   else_key x n computed key is_name k = not is_name && cond computed (is_computed_key x n key k) (same_part key k)

@@ -14,7 +14,6 @@ use Rattle.es_steps.specs.LoweredClasses.{Element, elements_of, is_left_out, is_
 use Rattle.es_steps.specs.Options.{lowers_fields, sets_fields}
 use Rattle.es_steps.specs.Parts.{at, items, string_of, is_true, is_present}
 use Rattle.es_steps.specs.PrivateNames.{PrivateMember, member_at, is_class}
-use Rattle.es_steps.specs.Quiet.{is_regular_expression}
 use Rattle.es_steps.specs.References.{Reference, resolve, written, has_number}
 use Rattle.es_steps.specs.SameTrees.{same_part}
 use Rattle.es_steps.specs.SameValues.{same_boolean}
@@ -265,15 +264,10 @@ pub record Names : Type 0 where
   pub lowered : List Reference
   pub identifiers : List ℕ
 
--- a regular expression, which is made once, with the keys (13.2.7)
-abbrev pub is_made_key : Part → Bool
-is_made_key (child (Node Kind.Literal m span semantic_id ps)) = is_regular_expression (at 0 ps)
-is_made_key p = false
-
 -- a computed key: one that needs a temporary is one, a name is that name or one of the class, all else is itself
 abbrev pub is_computed_key : Names → ℕ → Part → Part → Bool
 is_computed_key x n key k =
-    cond (needs_temporary x.written x.source key || is_made_key key) (is_temporary (generated_as (spelling k) x.ledger))
+    cond (needs_temporary x.written x.source key) (is_temporary (generated_as (spelling k) x.ledger))
     (cond (is_name_part key) (same_referent (referent_at key x.source) (referent_at k x.lowered) || names_class n x.ledger x.lowered x.identifiers k) (same_part key k))
 
 abbrev pub is_key_of : Names → ℕ → Element → Part → Bool → Part → Bool

@@ -5,7 +5,7 @@ use Rattle.es_base.specs.declared.ledger.GeneratedKind.{GeneratedKind}
 use Rattle.es_base.specs.declared.literal.LiteralValue.{LiteralValue}
 use Rattle.es_base.specs.declared.literal.LiteralValue.TheVariants as literal_value
 use Rattle.es_steps.specs.Code.{Code, Codes, Target, FunctionForm, CalledBodyOf, no_rule, value, spelled, private_name, binding, name, super, member, private_member, super_member, private_in, assign, compound, logical, logical_assign, call, super_call, super_call_with_all, sequence, template, operation, chain, tested, pattern, function, new_function, private_field, method, private_method, generated_element, from_call, from_member, helper, helper_call, throw, private_initialize, bound, setter, private_value, call_arrow, to_name, to_private, done, and}
-use Rattle.es_steps.specs.GeneratedForms.{is_named, weak_map, static_field, private_function, loose_key, class_named, is_class_named, is_brand, known_object, is_string, home_of, single_property, writable_value, array_elements, read_private, set_private, is_method_kind, is_getter_kind, is_setter_kind, asserted, initialized_on, brand_on, define_on, super_get, super_set, is_number_literal, is_constant, is_quiet_key, helper_code, is_helper_object, helper_or_none, helper_or, branded_field, own_field, setter_on, field_setter, setter_of_pair, setter_of, underscore_of, same_number, loose_member, is_same_key, kept_name, generated_member, parameter_names, opened_body, no_spread, is_plain_arrow, arrow_call, is_pick, picked_with, picked, new_function_call, getter_call, received_call, getter_or_received, is_super_itself, super_function_call, called_with, bound_to, has_field, has_brand, loose_initialized, object_call, member_call, new_member_call, initializers_behind, passes_all, super_call_in, super_method_call, helper_call_call, generated_call, is_class_test, generated_binary, is_undefined_test, is_new_collection, only_if, is_loose_key_call, field_object, given_function, given, is_own_class, private_assignment, generated_assignment}
+use Rattle.es_steps.specs.GeneratedForms.{is_named, weak_map, static_field, private_function, loose_key, class_named, is_class_named, is_brand, known_object, is_string, home_of, single_property, writable_value, array_elements, read_private, set_private, is_method_kind, is_getter_kind, is_setter_kind, asserted, initialized_on, brand_on, define_on, super_get, super_set, is_number_literal, is_constant, is_quiet_key, helper_code, is_helper_object, helper_or_none, helper_or, branded_field, own_field, setter_on, field_setter, setter_of_pair, setter_of, underscore_of, same_number, loose_member, is_same_key, kept_name, generated_member, parameter_names, opened_body, no_spread, is_plain_arrow, arrow_call, is_pick, with_key, picked, new_function_call, getter_call, received_call, getter_or_received, is_super_itself, super_function_call, called_with, bound_to, has_field, has_brand, loose_initialized, object_call, member_call, new_member_call, initializers_behind, passes_all, super_call_in, super_method_call, helper_call_call, generated_call, is_class_test, generated_binary, is_undefined_test, is_new_collection, only_if, is_loose_key_call, field_object, given_function, given, is_own_class, private_assignment, generated_assignment}
 use Rattle.es_steps.specs.Helpers.{Helper, DefineProperty, ClassPrivateFieldInitSpec, ClassPrivateMethodInitSpec, ClassPrivateFieldGet2, ClassPrivateFieldSet2, AssertClassBrand, ToSetter, CheckInRHS, ReadOnlyError, WriteOnlyError, SuperPropGet, SuperPropSet, ClassPrivateFieldLooseBase, SetFunctionName, ToPropertyKey, helper_named}
 use Rattle.es_steps.specs.PrivateNames.{PrivateMember, PrivateReference, member_at, reference_of}
 use Rattle.es_steps.specs.Expressions.{operation_of, the_code, value_code, literal_code, is_arguments, arguments_of, name_or_arguments, spelling_of, key_code, super_member_at, checked_object, member_on, member_code, is_made_private, names_class, private_on, private_field_of, test_in, private_in_of, target_of, is_logical, without_sign, assignment_code, void_code, deleted, delete_code, unary_operation, unary_code, quiet_logical, spliced, deleted_as, ended_alone, chain_or, callee_of, checked_callee, call_code, tag_of}
@@ -97,12 +97,12 @@ arrow_call-closed : (form : FunctionForm) (names : Option (List String)) (body :
 arrow_call-closed form None body es = refl
 arrow_call-closed form (Some names) body es = either (is_plain_arrow form && no_spread es) (call_arrow names (opened_body body) es) no_rule refl refl
 
-picked_with-closed : (k e : Code) → Closed (picked_with k e)
-picked_with-closed (private_value s) e = refl
-picked_with-closed k e = refl
+with_key-closed : (k e : Code) → Closed (with_key k e)
+with_key-closed (private_value s) e = refl
+with_key-closed k e = refl
 
 picked-closed : (k : Code) (p : Option (Code × Code)) → Closed (picked k p)
-picked-closed k (Some p) = either (is_same_key k p.0) (picked_with k p.1) no_rule (picked_with-closed k p.1) refl
+picked-closed k (Some p) = either (is_same_key k p.0) (with_key k p.1) no_rule (with_key-closed k p.1) refl
 picked-closed k None = refl
 
 received_call-closed : (m : ℕ) (g : Code) (es : Codes) → Closed (received_call m g es)
@@ -256,7 +256,7 @@ module _ (c : Context) where
   helper_code-closed m SuperPropGet (and h (and k (and r done))) = super_get-closed m (home_of h) k (known_object r)
   helper_code-closed m SuperPropSet (and h (and k (and v (and r (and one done))))) = either (is_number_literal (codes "1") one) (super_set m (home_of h) k v (known_object r)) no_rule (super_set-closed m (home_of h) k v (known_object r)) refl
   helper_code-closed m ToPropertyKey (and e done) = refl
-  helper_code-closed m SetFunctionName (and e (and k done)) = either (is_named e && is_quiet_key k) (from_call e) no_rule refl refl
+  helper_code-closed m SetFunctionName (and e (and k done)) = either (is_named e && is_quiet_key k) (with_key k e) no_rule (with_key-closed k e) refl
   helper_code-closed m h es = refl
 
   setter_of_pair-closed : (m : ℕ) (es : Option Codes) → Closed (setter_of_pair c m es)

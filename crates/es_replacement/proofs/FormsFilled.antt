@@ -6,7 +6,7 @@ use Rattle.es_base.specs.declared.ledger.GeneratedKind.{GeneratedKind}
 use Rattle.es_steps.specs.Code.{initializers, Code, Codes, Target, FunctionForm, CalledBodyOf, no_rule, value, spelled, binding, name, super, member, private_member, assign, construct, super_call, super_call_with_all, sequence, operation, steps, new_function, new_return, from_call, from_member, helper, helper_call, throw, private_initialize, bound, setter, private_value, call_arrow, to_name, to_private, done, and}
 use Rattle.es_steps.specs.Context.{Context, Changing, Generated, StaticMethod}
 use Rattle.es_steps.specs.Events.{Operand, Spelled, Flag, Key, Opens, Closes, OfKind}
-use Rattle.es_steps.specs.GeneratedForms.{is_named, weak_map, static_field, private_function, loose_key, class_named, is_number, is_class_named, is_brand, known_object, is_string, home_of, is_plain_property, single_property, is_writable_form, writable_value, only_operands, array_elements, is_spread, read_private, set_private, is_method_kind, is_getter_kind, is_setter_kind, asserted, initialized_on, brand_on, define_on, super_get, super_set, is_number_literal, is_constant, is_quiet_key, helper_code, is_helper_object, helper_or_none, helper_or, helper_member, branded_field, own_field, setter_on, field_setter, setter_of_pair, setter_of, underscore_of, same_number, loose_member, is_same_key, kept_name, generated_member, with_name, parameter_names, value_or_undefined, ended, opened_body, no_spread, is_plain_arrow, arrow_call, is_pick, picked_with, picked, new_function_call, getter_call, received_call, getter_or_received, is_super_itself, super_function_call, called_with, bound_to, has_field, has_brand, loose_initialized, object_call, member_call, new_member_call, initializers_behind, passes_all, super_call_in, super_method_call, helper_call_call, generated_call, is_class_test, generated_binary, is_null, is_undefined, is_new_collection, only_if, is_loose_key_call, field_object, given_function, given, is_own_class, private_assignment, generated_assignment}
+use Rattle.es_steps.specs.GeneratedForms.{is_named, weak_map, static_field, private_function, loose_key, class_named, is_number, is_class_named, is_brand, known_object, is_string, home_of, is_plain_property, single_property, is_writable_form, writable_value, only_operands, array_elements, is_spread, read_private, set_private, is_method_kind, is_getter_kind, is_setter_kind, asserted, initialized_on, brand_on, define_on, super_get, super_set, is_number_literal, is_constant, is_quiet_key, helper_code, is_helper_object, helper_or_none, helper_or, helper_member, branded_field, own_field, setter_on, field_setter, setter_of_pair, setter_of, underscore_of, same_number, loose_member, is_same_key, kept_name, generated_member, with_name, parameter_names, value_or_undefined, ended, opened_body, no_spread, is_plain_arrow, arrow_call, is_pick, with_key, picked, new_function_call, getter_call, received_call, getter_or_received, is_super_itself, super_function_call, called_with, bound_to, has_field, has_brand, loose_initialized, object_call, member_call, new_member_call, initializers_behind, passes_all, super_call_in, super_method_call, helper_call_call, generated_call, is_class_test, generated_binary, is_null, is_undefined, is_new_collection, only_if, is_loose_key_call, field_object, given_function, given, is_own_class, private_assignment, generated_assignment}
 use Rattle.es_steps.specs.Helpers.{Helper, DefineProperty, ClassPrivateFieldInitSpec, ClassPrivateMethodInitSpec, ClassPrivateFieldGet2, ClassPrivateFieldSet2, AssertClassBrand, ToSetter, CheckInRHS, ReadOnlyError, WriteOnlyError, SuperPropGet, SuperPropSet, ClassPrivateFieldLooseKey, ClassPrivateFieldLooseBase, SetFunctionName, ToPropertyKey, helper_named}
 use Rattle.es_steps.specs.PrivateNames.{PrivateMember, PrivateReference, reference_of}
 use Rattle.es_steps.specs.Values.{String, StringOf, BooleanOf, Value, ConstantOf, ClassOf, ResultOf, Free, Home}
@@ -85,6 +85,15 @@ module _ (first : ℕ) (fill : ℕ → Code) (unasked : (n : ℕ) → is_unasked
   is_quiet_key-filled (initializers n) = is_quiet_key-unasked first (fill n) (unasked n)
   is_quiet_key-filled q = refl
 
+  with_key-unasked : (q e : Code) → is_unasked first q ≡ true → with_key q e ≡ from_call e
+  with_key-unasked (private_value s) e h = absurd (cc)
+  with_key-unasked q e h = refl
+
+  with_key-filled : (k e : Code) → with_key (filled fill k) (filled fill e) ≡ filled fill (with_key k e)
+  with_key-filled (private_value s) e = refl
+  with_key-filled (initializers n) e = with_key-unasked (fill n) (filled fill e) (unasked n)
+  with_key-filled k e = refl
+
   is_named-filled : (q : Code) → is_named (filled fill q) ≡ is_named q
   is_named-filled (initializers n) = is_named-unasked first (fill n) (unasked n)
   is_named-filled q = refl
@@ -151,17 +160,8 @@ module _ (first : ℕ) (fill : ℕ → Code) (unasked : (n : ℕ) → is_unasked
   arrow_call-filled form None body es = refl
   arrow_call-filled form (Some names) body es = rw (no_spread-filled es, opened_body-filled body) (cond-code (is_plain_arrow form && no_spread es) (call_arrow names (opened_body body) es) no_rule)
 
-  picked_with-unasked : (q e : Code) → is_unasked first q ≡ true → picked_with q e ≡ from_call e
-  picked_with-unasked (private_value s) e h = absurd (cc)
-  picked_with-unasked q e h = refl
-
-  picked_with-filled : (k e : Code) → picked_with (filled fill k) (filled fill e) ≡ filled fill (picked_with k e)
-  picked_with-filled (private_value s) e = refl
-  picked_with-filled (initializers n) e = picked_with-unasked (fill n) (filled fill e) (unasked n)
-  picked_with-filled k e = refl
-
   picked-filled : (k : Code) (p : Option (Code × Code)) → picked (filled fill k) (option_map (filled_two fill) p) ≡ filled fill (picked k p)
-  picked-filled k (Some p) = rw (is_same_key-filled k p.0, picked_with-filled k p.1) (cond-code (is_same_key k p.0) (picked_with k p.1) no_rule)
+  picked-filled k (Some p) = rw (is_same_key-filled k p.0, with_key-filled k p.1) (cond-code (is_same_key k p.0) (with_key k p.1) no_rule)
   picked-filled k None = refl
 
   received_call-filled : (m : ℕ) (g : Code) (es : Codes) → received_call m (filled fill g) (filled_all fill es) ≡ filled fill (received_call m g es)
@@ -355,7 +355,7 @@ module _ (c : Context) (fill : ℕ → Code) (unasked : (n : ℕ) → is_unasked
   helper_code-filled m SuperPropGet (and h (and k (and x done))) = rw (home_of-filled c.first_new fill unasked h, known_object-filled c.first_new fill unasked x) (super_get-filled c.first_new fill unasked m (home_of h) k (known_object x))
   helper_code-filled m SuperPropSet (and h (and k (and v (and x (and n done))))) = rw (is_number_literal-filled c.first_new fill unasked (codes "1") n, home_of-filled c.first_new fill unasked h, known_object-filled c.first_new fill unasked x) (code-cond c.first_new fill unasked (is_number_literal (codes "1") n) (super_set m (home_of h) k v (known_object x)) no_rule (super_set-filled c.first_new fill unasked m (home_of h) k v (known_object x)) refl)
   helper_code-filled m ToPropertyKey (and k done) = refl
-  helper_code-filled m SetFunctionName (and g (and k done)) = rw (is_named-filled c.first_new fill unasked g, is_quiet_key-filled c.first_new fill unasked k) (cond-code c.first_new fill unasked (is_named g && is_quiet_key k) (from_call g) no_rule)
+  helper_code-filled m SetFunctionName (and g (and k done)) = rw (is_named-filled c.first_new fill unasked g, is_quiet_key-filled c.first_new fill unasked k, with_key-filled c.first_new fill unasked k g) (cond-code c.first_new fill unasked (is_named g && is_quiet_key k) (with_key k g) no_rule)
   helper_code-filled m h es = refl
 
   is_helper_object-filled : (o : Code) → is_helper_object c (filled fill o) ≡ is_helper_object c o

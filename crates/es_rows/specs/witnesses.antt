@@ -47,6 +47,7 @@ pub mod CallOfAPrivateElement
 pub mod CallOfEvalByItsName
 pub mod CaughtKey
 pub mod CaughtNamesExchanged
+pub mod ChangingKeyBeforeARegularExpression
 pub mod ChangingKeyBehindABlock
 pub mod CharacterOfNoName
 pub mod ClassAskedForInItsKey
@@ -141,6 +142,8 @@ pub mod FunctionInABlockOfAnotherName
 pub mod FunctionInABranchOfABlock
 pub mod FunctionInACatch
 pub mod FunctionInAClass
+pub mod FunctionNamedByAnElement
+pub mod FunctionNamedByAnElementBehindIt
 pub mod FunctionOfABlock
 pub mod FunctionOfABlockOverAVar
 pub mod FunctionOfABranch
@@ -290,6 +293,7 @@ pub mod ReceiverOfAPrivateCall
 pub mod ReceiverOfASuperCall
 pub mod RegularExpressionAsAKey
 pub mod RegularExpressionAsAStaticKey
+pub mod RegularExpressionBeforeAHeritage
 pub mod RegularExpressionInATemporary
 pub mod RegularExpressionOfAnotherArgument
 pub mod RegularExpressionOfEachInstance

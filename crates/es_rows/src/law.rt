@@ -152,6 +152,7 @@ ghost use Rattle.es_rows.specs.witnesses.CallOfAPrivateElement.{source_call_of_a
 ghost use Rattle.es_rows.specs.witnesses.CallOfEvalByItsName.{source_call_of_eval_by_its_name, output_call_of_eval_by_its_name, generated_call_of_eval_by_its_name, options_call_of_eval_by_its_name};
 ghost use Rattle.es_rows.specs.witnesses.CaughtKey.{first_caught_key, second_caught_key, options_caught_key};
 ghost use Rattle.es_rows.specs.witnesses.CaughtNamesExchanged.{first_caught_names_exchanged, second_caught_names_exchanged, options_caught_names_exchanged};
+ghost use Rattle.es_rows.specs.witnesses.ChangingKeyBeforeARegularExpression.{first_changing_key_before_a_regular_expression, second_changing_key_before_a_regular_expression, options_changing_key_before_a_regular_expression};
 ghost use Rattle.es_rows.specs.witnesses.ChangingKeyBehindABlock.{first_changing_key_behind_a_block, second_changing_key_behind_a_block, options_changing_key_behind_a_block};
 ghost use Rattle.es_rows.specs.witnesses.CharacterOfNoName.{source_character_of_no_name, output_character_of_no_name, generated_character_of_no_name, options_character_of_no_name};
 ghost use Rattle.es_rows.specs.witnesses.ClassAskedForInItsKey.{source_class_asked_for_in_its_key, output_class_asked_for_in_its_key, generated_class_asked_for_in_its_key, options_class_asked_for_in_its_key};
@@ -244,6 +245,8 @@ ghost use Rattle.es_rows.specs.witnesses.FunctionInABlockOfAnotherName.{first_fu
 ghost use Rattle.es_rows.specs.witnesses.FunctionInABranchOfABlock.{first_function_in_a_branch_of_a_block, second_function_in_a_branch_of_a_block, options_function_in_a_branch_of_a_block};
 ghost use Rattle.es_rows.specs.witnesses.FunctionInACatch.{first_function_in_a_catch, second_function_in_a_catch, options_function_in_a_catch};
 ghost use Rattle.es_rows.specs.witnesses.FunctionInAClass.{source_function_in_a_class, output_function_in_a_class, generated_function_in_a_class, options_function_in_a_class};
+ghost use Rattle.es_rows.specs.witnesses.FunctionNamedByAnElement.{source_function_named_by_an_element, output_function_named_by_an_element, generated_function_named_by_an_element, options_function_named_by_an_element};
+ghost use Rattle.es_rows.specs.witnesses.FunctionNamedByAnElementBehindIt.{source_function_named_by_an_element_behind_it, output_function_named_by_an_element_behind_it, generated_function_named_by_an_element_behind_it, options_function_named_by_an_element_behind_it};
 ghost use Rattle.es_rows.specs.witnesses.FunctionOfABlock.{first_function_of_a_block, second_function_of_a_block, options_function_of_a_block};
 ghost use Rattle.es_rows.specs.witnesses.FunctionOfABlockOverAVar.{first_function_of_a_block_over_a_var, second_function_of_a_block_over_a_var, options_function_of_a_block_over_a_var};
 ghost use Rattle.es_rows.specs.witnesses.FunctionOfABranch.{first_function_of_a_branch, second_function_of_a_branch, options_function_of_a_branch};
@@ -392,6 +395,7 @@ ghost use Rattle.es_rows.specs.witnesses.ReceiverOfAPrivateCall.{source_receiver
 ghost use Rattle.es_rows.specs.witnesses.ReceiverOfASuperCall.{source_receiver_of_a_super_call, output_receiver_of_a_super_call, generated_receiver_of_a_super_call, options_receiver_of_a_super_call};
 ghost use Rattle.es_rows.specs.witnesses.RegularExpressionAsAKey.{source_regular_expression_as_a_key, output_regular_expression_as_a_key, generated_regular_expression_as_a_key, options_regular_expression_as_a_key};
 ghost use Rattle.es_rows.specs.witnesses.RegularExpressionAsAStaticKey.{source_regular_expression_as_a_static_key, output_regular_expression_as_a_static_key, generated_regular_expression_as_a_static_key, options_regular_expression_as_a_static_key};
+ghost use Rattle.es_rows.specs.witnesses.RegularExpressionBeforeAHeritage.{first_regular_expression_before_a_heritage, second_regular_expression_before_a_heritage, options_regular_expression_before_a_heritage};
 ghost use Rattle.es_rows.specs.witnesses.RegularExpressionInATemporary.{source_regular_expression_in_a_temporary, output_regular_expression_in_a_temporary, generated_regular_expression_in_a_temporary, options_regular_expression_in_a_temporary};
 ghost use Rattle.es_rows.specs.witnesses.RegularExpressionOfAnotherArgument.{source_regular_expression_of_another_argument, output_regular_expression_of_another_argument, generated_regular_expression_of_another_argument, options_regular_expression_of_another_argument};
 ghost use Rattle.es_rows.specs.witnesses.RegularExpressionOfEachInstance.{source_regular_expression_of_each_instance, output_regular_expression_of_each_instance, generated_regular_expression_of_each_instance, options_regular_expression_of_each_instance};
@@ -661,6 +665,7 @@ pub fn wrong_outputs_are_told_apart()
     ensures fields_exchanged { Refused options_fields_exchanged generated_fields_exchanged source_fields_exchanged output_fields_exchanged }
     ensures fields_of_a_written_class_exchanged { Refused options_fields_of_a_written_class_exchanged generated_fields_of_a_written_class_exchanged source_fields_of_a_written_class_exchanged output_fields_of_a_written_class_exchanged }
     ensures for_await_in_an_arrow { Refused options_for_await_in_an_arrow generated_for_await_in_an_arrow source_for_await_in_an_arrow output_for_await_in_an_arrow }
+    ensures function_named_by_an_element_behind_it { Refused options_function_named_by_an_element_behind_it generated_function_named_by_an_element_behind_it source_function_named_by_an_element_behind_it output_function_named_by_an_element_behind_it }
     ensures generator_constructor { Refused options_generator_constructor generated_generator_constructor source_generator_constructor output_generator_constructor }
     ensures getter_made_a_method { Refused options_getter_made_a_method generated_getter_made_a_method source_getter_made_a_method output_getter_made_a_method }
     ensures heritage_read_late { Refused options_heritage_read_late generated_heritage_read_late source_heritage_read_late output_heritage_read_late }
@@ -934,6 +939,7 @@ pub fn clauses_are_not_met()
 pub fn outputs_mean_their_sources()
     ensures branch_of_a_key { Means options_branch_of_a_key generated_branch_of_a_key source_branch_of_a_key output_branch_of_a_key }
     ensures class_in_a_case { Means options_class_in_a_case generated_class_in_a_case source_class_in_a_case output_class_in_a_case }
+    ensures function_named_by_an_element { Means options_function_named_by_an_element generated_function_named_by_an_element source_function_named_by_an_element output_function_named_by_an_element }
     ensures key_of_a_binding_for_a_name { Means options_key_of_a_binding_for_a_name generated_key_of_a_binding_for_a_name source_key_of_a_binding_for_a_name output_key_of_a_binding_for_a_name }
     ensures private_name_beside_a_name { Means options_private_name_beside_a_name generated_private_name_beside_a_name source_private_name_beside_a_name output_private_name_beside_a_name }
 {}
@@ -966,6 +972,7 @@ pub fn outputs_owe_nothing()
 pub fn shapes_are_told()
     ensures block_beside_a_field_outside { HaveShapes options_block_beside_a_field_outside first_block_beside_a_field_outside (3 ∷ []) second_block_beside_a_field_outside ([]) }
     ensures caught_key { HaveShapes options_caught_key first_caught_key (4 ∷ []) second_caught_key ([]) }
+    ensures changing_key_before_a_regular_expression { HaveShapes options_changing_key_before_a_regular_expression first_changing_key_before_a_regular_expression (4 ∷ []) second_changing_key_before_a_regular_expression ([]) }
     ensures changing_key_behind_a_block { HaveShapes options_changing_key_behind_a_block first_changing_key_behind_a_block (4 ∷ []) second_changing_key_behind_a_block ([]) }
     ensures imported_key { HaveShapes options_imported_key first_imported_key (4 ∷ []) second_imported_key ([]) }
     ensures imported_key_behind_a_block { HaveShapes options_imported_key_behind_a_block first_imported_key_behind_a_block (4 ∷ []) second_imported_key_behind_a_block ([]) }
@@ -977,6 +984,7 @@ pub fn shapes_are_told()
     ensures key_that_is_a_parameter_arguments { HaveShapes options_key_that_is_a_parameter_arguments first_key_that_is_a_parameter_arguments (4 ∷ []) second_key_that_is_a_parameter_arguments ([]) }
     ensures key_that_is_arguments { HaveShapes options_key_that_is_arguments first_key_that_is_arguments (4 ∷ []) second_key_that_is_arguments ([]) }
     ensures loose_member_read_once { HaveShapes options_loose_member_read_once first_loose_member_read_once ([]) second_loose_member_read_once (4 ∷ []) }
+    ensures regular_expression_before_a_heritage { HaveShapes options_regular_expression_before_a_heritage first_regular_expression_before_a_heritage (1 ∷ []) second_regular_expression_before_a_heritage ([]) }
     ensures super_key_that_stays { HaveShapes options_super_key_that_stays first_super_key_that_stays ([]) second_super_key_that_stays (4 ∷ []) }
     ensures suspended_class_written { HaveShapes options_suspended_class_written first_suspended_class_written (6 ∷ []) second_suspended_class_written ([]) }
 {}

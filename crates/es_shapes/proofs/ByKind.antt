@@ -5,10 +5,10 @@ use Rattle.std.proofs.lemmas.Bool.Decides.{nat_tests}
 use Rattle.es_base.specs.Tree.{Tree, Parts, Node, end, child, list, trees}
 use Rattle.es_base.specs.declared.kind.Kind.{Kind}
 use Rattle.es_node.specs.View.{kind_of, number_in, parts_in}
-use Rattle.es_steps.specs.LoweredClasses.{has_no_items}
+use Rattle.es_steps.specs.LoweredClasses.{has_no_items, is_regular_expression}
 use Rattle.es_steps.specs.Parts.{at}
 use Rattle.es_steps.specs.PrivateNames.{is_class}
-use Rattle.es_steps.specs.Quiet.{Around, id_number, class_name, is_new, is_this, deletes_this, is_regular_expression, is_constant, is_identifier, has_one_item, reads_name, acts, is_evaluated}
+use Rattle.es_steps.specs.Quiet.{Around, id_number, class_name, is_new, is_this, deletes_this, is_constant, is_identifier, has_one_item, reads_name, acts, is_evaluated}
 use Rattle.es_steps.specs.Shapes.{ClassAt, class_at}
 use Rattle.es_steps.specs.Values.{String, Referent, Bound, Free}
 use Rattle.es_steps.specs.declared.options.Options.{Options}

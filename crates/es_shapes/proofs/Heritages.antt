@@ -3,13 +3,14 @@ use Rattle.std.proofs.Math.Dec.{eqb-suc-zero}
 use Rattle.std.proofs.Common.{◌≡◌, refl, ap, sym, ◌∙◌, ℕ, List, [], ◌∷◌, length, nat_eq, Bool, true, false, not, Option, Some, None}
 use Rattle.es_base.specs.Tree.{Tree, Part, Node, end, more, child, list, trees}
 use Rattle.es_base.specs.declared.kind.Kind.{Kind}
-use Rattle.es_node.specs.View.{kind_of, number_in}
-use Rattle.es_steps.specs.LoweredClasses.{referent_of, is_fixed, needs_temporary}
+use Rattle.es_node.specs.View.{kind_of, number_in, parts_in}
+use Rattle.es_steps.specs.LoweredClasses.{referent_of, is_fixed, is_regular_expression, needs_temporary}
+use Rattle.es_steps.specs.Parts.{at}
 use Rattle.es_steps.specs.References.{Reference, has_number}
 use Rattle.es_steps.specs.Values.{Referent, Bound, Free}
 use Rattle.es_shapes.specs.Names.{bound_number}
 
-pub literal_needs : (written : List ℕ) (references : List Reference) (t : Tree) → kind_of t ≡ Kind.Literal → needs_temporary written references (child t) ≡ false
+pub literal_needs : (written : List ℕ) (references : List Reference) (t : Tree) → kind_of t ≡ Kind.Literal → needs_temporary written references (child t) ≡ is_regular_expression (at 0 (parts_in t))
 literal_needs written references (Node Kind.Literal m span semantic_id ps) is = refl
 literal_needs written references (Node kind m span semantic_id ps) is = absurd (cc)
 

@@ -13,6 +13,7 @@ use crate::asked::lowers_blocks;
 use crate::class::{ClassRef, elements_of};
 use crate::element::{element_kinds, element_of};
 use crate::facts::NameFacts;
+use crate::quiet::is_regular_expression;
 use es_base::kind::Kind;
 use es_node::node::Node;
 use es_steps::options::Options;
@@ -54,14 +55,14 @@ fn is_hoisted_key<F: NameFacts>(facts: &F, element: &Node) -> bool
 }
 
 /// Whether the key is evaluated once and kept: all but literals, templates without expressions and bound
-/// names that are not written (oxc's `key_needs_temp_var`).
+/// names that are not written (oxc's `key_needs_temp_var`). A regular expression, which is an object that is made, is kept.
 #[tactic(auto, using(crate::proofs::Heritages::literal_needs, crate::proofs::Heritages::name_needs, crate::proofs::Heritages::other_needs))]
 fn needs_temporary<F: NameFacts>(facts: &F, key: Option<&Node>) -> bool
     ensures { result ≡ needs_temporary (written (F.program facts.now)) (resolve (F.program facts.now)) (nullable (option_map (λ x. x.now) key.entry)) }
 {
     let Some(key) = key else { return true };
     match key.kind() {
-        Kind::Literal => false,
+        Kind::Literal => is_regular_expression(key),
         Kind::TemplateLiteral => has_expressions(key),
         Kind::IdentifierReference => match facts.binding_of(key.node_id()) {
             Some(binding) => facts.is_written(binding),

@@ -5,7 +5,7 @@ ghost use Rattle.es_base.specs.Tree.{child};
 ghost use Rattle.es_base.specs.declared.kind.Kind.{Kind};
 ghost use Rattle.es_node.specs.View.{kind_of, number_in, parts_in};
 ghost use Rattle.es_steps.specs.Expressions as expressions;
-ghost use Rattle.es_steps.specs.LoweredClasses.{has_no_items, referent_of};
+ghost use Rattle.es_steps.specs.LoweredClasses.{has_no_items, is_regular_expression, referent_of};
 ghost use Rattle.es_steps.specs.Parts.{at, is_true, string_of};
 ghost use Rattle.es_steps.specs.Quiet as spec;
 ghost use Rattle.es_steps.specs.Quiet.{is_new, is_this, is_constant};
@@ -172,9 +172,9 @@ fn is_one_string(node: &Node) -> bool
 }
 
 /// Whether the literal is a regular expression, which is an object that is made (ECMA-262, 13.2.7).
-fn is_regular_expression(node: &Node) -> bool
+pub fn is_regular_expression(node: &Node) -> bool
     requires { kind_of node.now ≡ Kind.Literal }
-    ensures { result ≡ spec.is_regular_expression (at 0 (parts_in node.now)) }
+    ensures { result ≡ is_regular_expression (at 0 (parts_in node.now)) }
 {
     matches!(
         LiteralRef::from_node(node).value,

@@ -10,7 +10,7 @@ use Rattle.es_steps.specs.Code.{Code, Codes, Target, Callee, no_rule, value, spe
 use Rattle.es_steps.specs.Context.{Context, NameKind, Changing, Generated, StaticMethod, name_kind, new_here}
 use Rattle.es_steps.specs.Events.{Operand, Spelled, Flag, OfKind, Delete}
 use Rattle.es_steps.specs.Expressions.{operation_of, the_code, value_code, literal_code, is_arguments, static_method, arguments_of, name_or_arguments, name_code, private_name_code, cooked_of, template_string_code, template_strings, template_code, spelling_of, meta_code, key_code, super_member_at, checked_object, member_on, member_code, is_made_private, names_class, private_on, private_field_of, private_field_code, static_test, test_in, private_in_of, private_in_code, target_of, is_logical, without_sign, assignment_code, update_code, void_code, deleted, delete_code, is_free_name, is_any_name, unary_operation, unary_code, binary_code, quiet_logical, logical_code, chain_code, spliced, deleted_as, ended_alone, chain_or, conditional_code, callee_of, checked_callee, call_code, new_code, tag_of, tag_code, is_prototype, key_details, property_code}
-use Rattle.es_steps.specs.GeneratedForms.{generated_member, generated_call, generated_assignment, is_undefined_test, tested_object, class_named, is_method_kind}
+use Rattle.es_steps.specs.GeneratedForms.{generated_member, generated_call, generated_assignment, is_undefined_test, class_named, is_method_kind}
 use Rattle.es_steps.specs.Members.{Member, Members, code, string, literal, at, codes_of, word_of, flag_of, details}
 use Rattle.es_steps.specs.Options.{lowers_fields}
 use Rattle.es_steps.specs.PrivateNames.{PrivateMember, PrivateReference, test_of, member_at}

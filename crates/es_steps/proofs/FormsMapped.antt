@@ -7,7 +7,7 @@ use Rattle.es_base.specs.declared.ledger.GeneratedKind.{GeneratedKind}
 use Rattle.es_steps.specs.Code.{Code, Opened, Codes, Target, FunctionForm, InitializersOf, CalledBodyOf, no_rule, value, spelled, binding, name, super, member, private_member, assign, construct, super_call, super_call_with_all, sequence, logical, operation, steps, function, new_function, new_return, class_code, from_call, from_member, helper, helper_call, throw, private_initialize, bound, setter, private_value, call_arrow, to_name, to_private, done, and}
 use Rattle.es_steps.specs.Context.{Context, Changing, MeansClass, Generated, StaticMethod}
 use Rattle.es_steps.specs.Events.{Operand, Spelled, Flag, Key, Opens, Closes, OfKind}
-use Rattle.es_steps.specs.GeneratedForms.{if_kept, is_named, if_member, is_instance_field, is_static_field, is_function_member, weak_map, static_field, private_function, loose_key, class_named, is_number, is_class_named, is_brand, class_value, known_object, class_home, prototype_home, is_string, home_of, is_plain_property, single_property, is_writable_form, writable_value, only_operands, array_elements, is_spread, read_private, set_private, is_method_kind, is_getter_kind, is_setter_kind, asserted, initialized_on, brand_on, define_on, super_get, super_set, is_number_literal, is_constant, is_quiet_key, helper_code, is_helper_object, helper_or_none, helper_or, helper_member, branded_field, own_field, setter_on, field_setter, setter_of_pair, setter_of, underscore_of, same_number, loose_member, is_same_key, kept_name, generated_member, with_name, parameter_names, value_or_undefined, ended, opened_body, no_spread, is_plain_arrow, arrow_call, is_pick, picked_with, picked, new_function_call, getter_call, received_call, getter_or_received, is_super_itself, super_function_call, called_with, bound_to, has_field, has_brand, loose_initialized, object_call, member_call, new_member_call, runs_initializers, initializers_behind, passes_all, super_call_in, super_method_call, helper_call_call, generated_call, is_class_test, generated_binary, is_null, is_undefined, is_comparison, is_null_test, is_void_test, is_undefined_test, left_of, tested_object, again_of, is_new_collection, only_if, is_loose_key_call, field_object, given_function, given, is_own_class, private_assignment, generated_assignment}
+use Rattle.es_steps.specs.GeneratedForms.{if_kept, is_named, if_member, is_instance_field, is_static_field, is_function_member, weak_map, static_field, private_function, loose_key, class_named, is_number, is_class_named, is_brand, class_value, known_object, class_home, prototype_home, is_string, home_of, is_plain_property, single_property, is_writable_form, writable_value, only_operands, array_elements, is_spread, read_private, set_private, is_method_kind, is_getter_kind, is_setter_kind, asserted, initialized_on, brand_on, define_on, super_get, super_set, is_number_literal, is_constant, is_quiet_key, with_key, helper_code, is_helper_object, helper_or_none, helper_or, helper_member, branded_field, own_field, setter_on, field_setter, setter_of_pair, setter_of, underscore_of, same_number, loose_member, is_same_key, kept_name, generated_member, with_name, parameter_names, value_or_undefined, ended, opened_body, no_spread, is_plain_arrow, arrow_call, is_pick, picked, new_function_call, getter_call, received_call, getter_or_received, is_super_itself, super_function_call, called_with, bound_to, has_field, has_brand, loose_initialized, object_call, member_call, new_member_call, runs_initializers, initializers_behind, passes_all, super_call_in, super_method_call, helper_call_call, generated_call, is_class_test, generated_binary, is_null, is_undefined, is_comparison, is_null_test, is_void_test, is_undefined_test, left_of, tested_object, again_of, is_new_collection, only_if, is_loose_key_call, field_object, given_function, given, is_own_class, private_assignment, generated_assignment}
 use Rattle.es_steps.specs.Helpers.{Helper, DefineProperty, ClassPrivateFieldInitSpec, ClassPrivateMethodInitSpec, ClassPrivateFieldGet2, ClassPrivateFieldSet2, AssertClassBrand, ToSetter, CheckInRHS, ReadOnlyError, WriteOnlyError, SuperPropGet, SuperPropSet, ClassPrivateFieldLooseKey, ClassPrivateFieldLooseBase, SetFunctionName, ToPropertyKey, helper_named}
 use Rattle.es_steps.specs.Options.{keeps_privates_as_properties}
 use Rattle.es_steps.specs.SameValues.{same_boolean}
@@ -117,6 +117,10 @@ module _ (f : ℕ → ℕ) where
   is_quiet_key-mapped (private_value s) = refl
   is_quiet_key-mapped c = refl
 
+  with_key-mapped : (k e : Code) → with_key (mapped_code f k) (mapped_code f e) ≡ mapped_code f (with_key k e)
+  with_key-mapped (private_value s) e = refl
+  with_key-mapped k e = refl
+
   is_named-mapped : (c : Code) → is_named (mapped_code f c) ≡ is_named c
   is_named-mapped (function g form own ps body) = refl
   is_named-mapped (class_code n declared h es) = refl
@@ -181,12 +185,8 @@ module _ (f : ℕ → ℕ) where
   is_pick-mapped (and (binding b p (Generated GeneratedKind.Param)) (and (binding b2 q (Generated GeneratedKind.Param)) done)) (member m (name k s (Generated g)) (name k2 t (Generated g2))) = refl
   is_pick-mapped ps body = refl
 
-  picked_with-mapped : (k e : Code) → picked_with (mapped_code f k) (mapped_code f e) ≡ mapped_code f (picked_with k e)
-  picked_with-mapped (private_value s) e = refl
-  picked_with-mapped k e = refl
-
   picked-mapped : (k : Code) (p : Option (Code × Code)) → picked (mapped_code f k) (mapped_option (mapped_two f) p) ≡ mapped_code f (picked k p)
-  picked-mapped k (Some p) = rw (is_same_key-mapped k p.0, picked_with-mapped k p.1) (cond-code (is_same_key k p.0) (picked_with k p.1) no_rule)
+  picked-mapped k (Some p) = rw (is_same_key-mapped k p.0, with_key-mapped k p.1) (cond-code (is_same_key k p.0) (with_key k p.1) no_rule)
   picked-mapped k None = refl
 
   received_call-mapped : (m : ℕ) (g : Code) (es : Codes) → received_call (f m) (mapped_code f g) (mapped_codes f es) ≡ mapped_code f (received_call m g es)
@@ -391,7 +391,7 @@ module _ {first : ℕ} {f : ℕ → ℕ} (r : Renames first f) (c : Context) (e 
   helper_code-mapped m SuperPropGet (and h (and k (and x done))) = rw (home_of-mapped f h, known_object-mapped f x) (super_get-mapped f m (home_of h) k (known_object x))
   helper_code-mapped m SuperPropSet (and h (and k (and v (and x (and n done))))) = rw (is_number_literal-mapped f (codes "1") n, home_of-mapped f h, known_object-mapped f x) (code-cond f (is_number_literal (codes "1") n) (super_set m (home_of h) k v (known_object x)) no_rule (super_set-mapped f m (home_of h) k v (known_object x)) refl)
   helper_code-mapped m ToPropertyKey (and k done) = refl
-  helper_code-mapped m SetFunctionName (and g (and k done)) = rw (is_named-mapped f g, is_quiet_key-mapped f k) (cond-code f (is_named g && is_quiet_key k) (from_call g) no_rule)
+  helper_code-mapped m SetFunctionName (and g (and k done)) = rw (is_named-mapped f g, is_quiet_key-mapped f k, with_key-mapped f k g) (cond-code f (is_named g && is_quiet_key k) (with_key k g) no_rule)
   helper_code-mapped m h es = refl
 
   is_helper_object-mapped : (o : Code) → is_helper_object there (mapped_code f o) ≡ is_helper_object c o

@@ -5,9 +5,10 @@ use Rattle.es_base.specs.Preorder.{preorder, number_of, preorder_of_part}
 use Rattle.es_base.specs.Table.{is_statement}
 use Rattle.es_base.specs.Tree.{Tree, Part, Parts, Node, end, more, child, absent, list, string, no_string, boolean, literal}
 use Rattle.es_base.specs.declared.kind.Kind.{Kind}
+use Rattle.es_base.specs.declared.literal.LiteralValue.TheVariants as literal_value
 use Rattle.es_steps.specs.Context.{is_constructor}
 use Rattle.es_steps.specs.KeptNodes.{are_new_or_among, numbers_in_class, none_enters, classes_kept, stays_in_list, NodeSort, sort_of, is_kept_sort, same_sort, stands_as, all_stand, nodes_kept, is_free_statement, free_statements, free_at, free_in, stands_equal, all_equal, statements_kept, statement_list, declared_classes, class_or_none, given_classes, carried_classes, is_static_block, item_number, item_numbers, is_function_declaration, free_number, free_numbers, free_lists, free_lists_at, free_lists_in, list_of, is_within, all_within, lists_kept, Homed, HomeHere, function_around, is_constructor_part, home_in, has_home, name_of, homed, homes, homes_in, homes_at, homes_of, all_homes, block_numbers, lowered_blocks, home_fits, name_fits, stands_at_home, stands_nowhere, all_at_home, homes_kept}
-use Rattle.es_steps.specs.LoweredClasses.{Element, is_private_key, element_of, elements_in, body_elements, elements_of, is_lowered_element, any_element, is_lowered_class, holds_lowered, has_lowered_class, constructor_function, constructor_in, referent_of, is_fixed, has_no_items, needs_temporary, is_left_out}
+use Rattle.es_steps.specs.LoweredClasses.{Element, is_private_key, element_of, elements_in, body_elements, elements_of, is_lowered_element, any_element, is_lowered_class, holds_lowered, has_lowered_class, constructor_function, constructor_in, referent_of, is_fixed, has_no_items, is_regular_expression, needs_temporary, is_left_out}
 use Rattle.es_steps.specs.Options.{lowers_blocks}
 use Rattle.es_steps.specs.Parts.{at, items, string_of}
 use Rattle.es_steps.specs.PrivateNames.{is_class}
@@ -75,6 +76,10 @@ module _ (f : ℕ → ℕ) where
   pub constructor_in-mapped : (p : Part) → constructor_in (mapped_part f p) ≡ mapped_part f (constructor_in p)
   constructor_in-mapped (child (Node Kind.ClassBody m span semantic_id ps)) = rw (items_at-mapped f 0 ps) (constructor_function-mapped (items (at 0 ps)))
   constructor_in-mapped p = refl
+
+  is_regular_expression-mapped : (p : Part) → is_regular_expression (mapped_part f p) ≡ is_regular_expression p
+  is_regular_expression-mapped (literal (literal_value.RegExp source flags)) = refl
+  is_regular_expression-mapped p = refl
 
   has_no_items-mapped : (p : Part) → has_no_items (mapped_part f p) ≡ has_no_items p
   has_no_items-mapped (list end) = refl
@@ -295,7 +300,7 @@ module _ {first : ℕ} {f : ℕ → ℕ} (r : Renames first f) where
   is_fixed-mapped written None = refl
 
   pub needs_temporary-mapped : (written : List ℕ) (references : List Reference) (p : Part) → needs_temporary (map f written) (map (mapped_reference f) references) (mapped_part f p) ≡ needs_temporary written references p
-  needs_temporary-mapped written references (child (Node Kind.Literal m span semantic_id ps)) = refl
+  needs_temporary-mapped written references (child (Node Kind.Literal m span semantic_id ps)) = rw (at-mapped f 0 ps) (is_regular_expression-mapped f (at 0 ps))
   needs_temporary-mapped written references (child (Node Kind.TemplateLiteral m span semantic_id ps)) = rw (at-mapped f 1 ps, has_no_items-mapped f (at 1 ps)) refl
   needs_temporary-mapped written references (child (Node Kind.IdentifierReference m span semantic_id ps)) = ap not (ap (is_fixed (map f written)) (referent_of-mapped m references) ∙ is_fixed-mapped written (referent_of m references))
   needs_temporary-mapped written references p = refl

@@ -200,6 +200,11 @@ is_named (value (ClassOf n)) = true
 is_named (name m s (MeansClass n b)) = true
 is_named e = false
 
+-- what a key is used for; one that is a private element is read, since it may not be there yet
+abbrev pub with_key : Code → Code → Code
+with_key (private_value s) e = from_call (sequence (and (private_value s) (and e done)))
+with_key k e = from_call e
+
 abbrev pub helper_code : Context → ℕ → Helper → Codes → Code
 helper_code c m ClassPrivateFieldGet2 (and w (and o done)) = from_call (read_private m (weak_map c w) o)
 helper_code c m ClassPrivateFieldSet2 (and w (and o (and v done))) = set_private m (weak_map c w) o v
@@ -212,7 +217,7 @@ helper_code c m DefineProperty (and o (and k (and v done))) = define_on m (known
 helper_code c m SuperPropGet (and h (and k (and r done))) = super_get m (home_of h) k (known_object r)
 helper_code c m SuperPropSet (and h (and k (and v (and r (and one done))))) = cond (is_number_literal (codes "1") one) (super_set m (home_of h) k v (known_object r)) no_rule
 helper_code c m ToPropertyKey (and e done) = key_of e
-helper_code c m SetFunctionName (and e (and k done)) = cond (is_named e && is_quiet_key k) (from_call e) no_rule
+helper_code c m SetFunctionName (and e (and k done)) = cond (is_named e && is_quiet_key k) (with_key k e) no_rule
 helper_code c m h es = helper_call m h es
 
 -- ---- members
@@ -338,13 +343,8 @@ abbrev pub is_pick : Codes → Code → Bool
 is_pick (and (binding b p (Generated GeneratedKind.Param)) (and (binding b2 q (Generated GeneratedKind.Param)) done)) (member m (name k s (Generated g)) (name k2 t (Generated g2))) = bytes_eq s q && bytes_eq t p
 is_pick ps body = false
 
--- a private element is read there, since it may not be there yet
-abbrev pub picked_with : Code → Code → Code
-picked_with (private_value s) e = from_call (sequence (and (private_value s) (and e done)))
-picked_with k e = from_call e
-
 abbrev pub picked : Code → Option (Code × Code) → Code
-picked k (Some p) = cond (is_same_key k p.0) (picked_with k p.1) no_rule
+picked k (Some p) = cond (is_same_key k p.0) (with_key k p.1) no_rule
 picked k None = no_rule
 
 abbrev pub new_function_call : Context → FunctionForm → Codes → Code → Codes → Code

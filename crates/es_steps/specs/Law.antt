@@ -6,7 +6,6 @@ use Rattle.es_base.specs.Numbered.{EachOnce, numbers}
 use Rattle.es_base.specs.Preorder.{renumbered}
 use Rattle.es_base.specs.Tree.{Tree, Node, end, more, child, list, string, boolean, trees}
 use Rattle.es_base.specs.declared.kind.Kind.{Kind}
-use Rattle.es_base.specs.declared.ledger.LedgerEntry.{LedgerEntry}
 use Rattle.es_base.specs.declared.table.Place.{Place}
 use Rattle.es_steps.specs.Code.{Opened}
 use Rattle.es_steps.specs.Context.{Context, a_function, new_here, generated_as}

@@ -1,8 +1,9 @@
 -- Which classes the options lower, and their elements.
 use Rattle.std.specs.Prelude.{ℕ, List, [], ◌∷◌, ◌++◌, Bool, true, false, cond, not, ◌&&◌, ◌||◌, nat_eq, Option, Some, None}
 use Rattle.es_base.specs.Preorder.{preorder}
-use Rattle.es_base.specs.Tree.{Tree, Part, Parts, Node, end, more, child, absent, list}
+use Rattle.es_base.specs.Tree.{Tree, Part, Parts, Node, end, more, child, absent, list, literal}
 use Rattle.es_base.specs.declared.kind.Kind.{Kind}
+use Rattle.es_base.specs.declared.literal.LiteralValue.TheVariants as literal_value
 use Rattle.es_steps.specs.Context.{is_constructor}
 use Rattle.es_steps.specs.Options.{lowers_fields, lowers_blocks, leaves_out_fields}
 use Rattle.es_steps.specs.Parts.{at, items, string_of, is_true, is_present}
@@ -95,8 +96,14 @@ abbrev pub has_no_items : Part → Bool
 has_no_items (list end) = true
 has_no_items p = false
 
+-- a regular expression is an object that is made (13.2.7)
+abbrev pub is_regular_expression : Part → Bool
+is_regular_expression (literal (literal_value.RegExp source flags)) = true
+is_regular_expression p = false
+
+-- a key that is evaluated once, with the class, and kept
 abbrev pub needs_temporary : List ℕ → List Reference → Part → Bool
-needs_temporary written references (child (Node Kind.Literal m span semantic_id ps)) = false
+needs_temporary written references (child (Node Kind.Literal m span semantic_id ps)) = is_regular_expression (at 0 ps)
 needs_temporary written references (child (Node Kind.TemplateLiteral m span semantic_id ps)) = not (has_no_items (at 1 ps))
 needs_temporary written references (child (Node Kind.IdentifierReference m span semantic_id ps)) = not (is_fixed written (referent_of m references))
 needs_temporary written references p = true

@@ -2,11 +2,10 @@
 -- quiet here is, in a program that has a meaning, what evaluation gives no events of. (Our own; docs/DECISIONS.md says why
 -- it is told by form.)
 use Rattle.std.specs.Prelude.{ℕ, suc, List, [], ◌∷◌, ◌++◌, Bool, true, false, cond, not, ◌&&◌, ◌||◌, nat_eq, codes, bytes_eq, Option, Some}
-use Rattle.es_base.specs.Tree.{Tree, Part, Parts, Node, end, more, child, list, literal}
+use Rattle.es_base.specs.Tree.{Tree, Part, Parts, Node, end, more, child, list}
 use Rattle.es_base.specs.declared.kind.Kind.{Kind}
-use Rattle.es_base.specs.declared.literal.LiteralValue.TheVariants as literal_value
 use Rattle.es_steps.specs.Expressions.{is_arguments}
-use Rattle.es_steps.specs.LoweredClasses.{has_no_items, is_private_key, referent_of}
+use Rattle.es_steps.specs.LoweredClasses.{is_regular_expression, has_no_items, is_private_key, referent_of}
 use Rattle.es_steps.specs.Options.{leaves_out_fields}
 use Rattle.es_steps.specs.Parts.{at, string_of, is_true, is_present}
 use Rattle.es_steps.specs.PrivateNames.{is_class}
@@ -63,11 +62,6 @@ is_this p = false
 -- `delete this`, which is true (13.5.1.2)
 abbrev pub deletes_this : Parts → Bool
 deletes_this ps = bytes_eq (string_of (at 0 ps)) (codes "delete") && is_this (at 1 ps)
-
--- a regular expression is an object that is made (13.2.7)
-abbrev pub is_regular_expression : Part → Bool
-is_regular_expression (literal (literal_value.RegExp source flags)) = true
-is_regular_expression p = false
 
 -- a literal but a regular expression, or `delete this`
 abbrev pub is_constant : Part → Bool

@@ -7,6 +7,9 @@ returns-clause-branch_of_a_key c = (refl, refl)
 pub returns-clause-class_in_a_case : goal.returns-clause-class_in_a_case
 returns-clause-class_in_a_case c = (refl, refl)
 
+pub returns-clause-function_named_by_an_element : goal.returns-clause-function_named_by_an_element
+returns-clause-function_named_by_an_element c = (refl, refl)
+
 pub returns-clause-key_of_a_binding_for_a_name : goal.returns-clause-key_of_a_binding_for_a_name
 returns-clause-key_of_a_binding_for_a_name c = (refl, refl)
 

@@ -7,6 +7,9 @@ returns-clause-block_beside_a_field_outside c = (refl, refl)
 pub returns-clause-caught_key : goal.returns-clause-caught_key
 returns-clause-caught_key c = (refl, refl)
 
+pub returns-clause-changing_key_before_a_regular_expression : goal.returns-clause-changing_key_before_a_regular_expression
+returns-clause-changing_key_before_a_regular_expression c = (refl, refl)
+
 pub returns-clause-changing_key_behind_a_block : goal.returns-clause-changing_key_behind_a_block
 returns-clause-changing_key_behind_a_block c = (refl, refl)
 
@@ -39,6 +42,9 @@ returns-clause-key_that_is_arguments c = (refl, refl)
 
 pub returns-clause-loose_member_read_once : goal.returns-clause-loose_member_read_once
 returns-clause-loose_member_read_once c = (refl, refl)
+
+pub returns-clause-regular_expression_before_a_heritage : goal.returns-clause-regular_expression_before_a_heritage
+returns-clause-regular_expression_before_a_heritage c = (refl, refl)
 
 pub returns-clause-super_key_that_stays : goal.returns-clause-super_key_that_stays
 returns-clause-super_key_that_stays c = (refl, refl)

@@ -88,6 +88,9 @@ returns-clause-fields_of_a_written_class_exchanged c = refl
 pub returns-clause-for_await_in_an_arrow : goal.returns-clause-for_await_in_an_arrow
 returns-clause-for_await_in_an_arrow c = refl
 
+pub returns-clause-function_named_by_an_element_behind_it : goal.returns-clause-function_named_by_an_element_behind_it
+returns-clause-function_named_by_an_element_behind_it c = refl
+
 pub returns-clause-generator_constructor : goal.returns-clause-generator_constructor
 returns-clause-generator_constructor c = refl
 
