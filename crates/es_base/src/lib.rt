@@ -2,6 +2,7 @@
 // in specs/ the tree.
 #![tactic(auto)]
 
+pub mod declaration_kind;
 pub mod diagnostic;
 pub mod ids;
 pub mod kind;

@@ -2,6 +2,7 @@
 
 ghost use Rattle.std.specs.Prelude.{◌≡◌, map, bytes_eq, is_some, IfSome, true};
 ghost use Rattle.std.specs.Str.{chars};
+ghost use Rattle.es_base.specs.Ascii.{is_ascii};
 ghost use Rattle.es_base.specs.Conforms.{is_among, begins_with, is_foreign_name, is_number_string};
 ghost use Rattle.es_base.specs.Table.{words_of};
 ghost use Rattle.es_base.specs.Words.{is_of_set, word_string};
@@ -17,6 +18,15 @@ pub fn is_word(string: &str, word: &str) -> bool
     ensures by_bytes { result ≡ bytes_eq word.now string.now }
 {
     word == string
+}
+
+/// Whether the string is this ASCII word, whose characters are its bytes.
+#[tactic(auto, using(crate::proofs::Ascii::chars_ascii))]
+pub fn spells(string: &str, word: &str) -> bool
+    requires { is_ascii word.now ≡ true }
+    ensures { result ≡ bytes_eq (chars string.now) word.now }
+{
+    is_word(word, string)
 }
 
 /// Whether the string is one of these words.

@@ -8,7 +8,7 @@ use Rattle.es_base.specs.Conforms.{begins_with}
 use Rattle.es_steps.specs.Evaluation.{Environment, added, is_private_key, without_private}
 use Rattle.es_evaluator.specs.declared.state.Named.{Named}
 use Rattle.es_evaluator.specs.Running.{onto_names, names_of}
-use Rattle.es_evaluator.proofs.Given.{length_names_of}
+use Rattle.es_evaluator.proofs.Given.{length_names_of, onto_names-append}
 use Rattle.es_class_rules.specs.Public.{unless_private, public}
 
 and_true : (b : Bool) → b && true ≡ b
@@ -28,10 +28,6 @@ added_is [] [] = omega arith
 added_is [] (y ∷ ys) = omega arith
 added_is (x ∷ xs) [] = omega arith
 added_is (x ∷ xs) (y ∷ ys) = added_is xs ys ∙ omega arith
-
-onto_names-append : (env : Environment) (xs ys : List Named) → onto_names env (xs ++ ys) ≡ onto_names (onto_names env xs) ys
-onto_names-append env [] ys = refl
-onto_names-append env (x ∷ xs) ys = onto_names-append ((x.name, x.value) ∷ env) xs ys
 
 kept_then : (b : Bool) (n : Named) (env : Environment) (ns : List Named) → onto_names (cond b env ((n.name, n.value) ∷ env)) ns ≡ onto_names env (unless_private b n ns)
 kept_then true n env ns = refl

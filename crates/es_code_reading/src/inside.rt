@@ -13,9 +13,9 @@ ghost use Rattle.es_seen_names.specs.Frames.{names_in};
 ghost use Rattle.es_code_reading.specs.Contexts.{Seen, context_of, context_with, frame_in, role_of, where_seen};
 
 use crate::context::{Around, Context, FunctionRole, Terms, This};
-use crate::words::spells;
 use es_base::kind::Kind;
 use es_base::ledger::{GeneratedKind, LedgerEntry};
+use es_base::strings::spells;
 use es_binding_faults::bound::is_binding_identifier;
 use es_binding_faults::hoisted::part_at;
 use es_binding_faults::scopes::is_body_part;

@@ -11,8 +11,8 @@ ghost use Rattle.es_code_reading.specs.Letters.{key_string, string_in};
 
 use crate::inside::is_constructor;
 use crate::letters::is_loose;
-use crate::words::spells;
 use es_base::name::Name;
+use es_base::strings::spells;
 use es_codes::code::{Code, FieldForm};
 use es_codes::value::{Constant, Origin, Value};
 use es_steps::options::Options;

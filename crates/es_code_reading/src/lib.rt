@@ -13,4 +13,3 @@ pub mod private_name;
 pub mod quiet;
 pub mod spread;
 pub mod supers;
-pub mod words;

@@ -1,4 +1,4 @@
-//! Rules of forms of code, each whatever evaluates the codes in it. Not all forms yet.
+//! Rules of forms of code, each whatever evaluates the codes in it.
 #![tactic(auto)]
 
 pub mod accesses;

@@ -13,7 +13,7 @@ use Rattle.es_codes.specs.declared.event.Token.{Token}
 use Rattle.es_evaluator.specs.declared.state.Named.{Named}
 use Rattle.es_evaluator.specs.Running.{onto_names, names_of}
 
-onto_names-append : (env : Environment) (xs ys : List Named) → onto_names env (xs ++ ys) ≡ onto_names (onto_names env xs) ys
+pub onto_names-append : (env : Environment) (xs ys : List Named) → onto_names env (xs ++ ys) ≡ onto_names (onto_names env xs) ys
 onto_names-append env [] ys = refl
 onto_names-append env (x ∷ xs) ys = onto_names-append ((x.name, x.value) ∷ env) xs ys
 

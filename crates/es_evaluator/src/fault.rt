@@ -9,7 +9,7 @@ use std::alloc::AllocError;
 pub enum Fault {
     /// The code has no meaning.
     NoMeaning,
-    /// A value was made a key 4,294,967,295 times.
+    /// More codes stand in each other than the evaluation goes into, or a value was made a key 4,294,967,295 times.
     TooDeep,
     /// There was not enough memory.
     NoMemory,

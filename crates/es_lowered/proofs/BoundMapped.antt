@@ -7,6 +7,7 @@ use Rattle.es_base.specs.Tree.{Tree, Part, Parts, Node, end, more, child, list}
 use Rattle.es_base.specs.declared.kind.Kind.{Kind}
 use Rattle.es_lowered.specs.Bound.{BoundPlace, is_bound, suspends, place_inside, bound_to, bound_node, bound_nodes, bound_in, bound_at, bound_of, all_bound, bound_stay}
 use Rattle.es_steps.specs.KeptNodes.{function_around, pair_stands, all_pairs_stand}
+use Rattle.es_steps.proofs.KeptNodesMapped.{function_around-mapped}
 use Rattle.es_steps.proofs.Mapped.{Renames, mapped, mapped_part, mapped_parts}
 use Rattle.es_steps.proofs.PartsMapped.{cond-mapped, append-mapped, number_of-mapped}
 
@@ -17,15 +18,8 @@ abbrev mapped_pair : (ℕ → ℕ) → ℕ × ℕ → ℕ × ℕ
 mapped_pair f p = (f p.0, f p.1)
 
 module _ {first : ℕ} {f : ℕ → ℕ} (r : Renames first f) where
-  function_around-mapped : (home : ℕ) (kind : Kind) (m i : ℕ) → function_around (f home) kind (f m) i ≡ f (function_around home kind m i)
-  function_around-mapped home Kind.FunctionDeclaration m i = cond-mapped f (nat_eq i 0) home m refl refl
-  function_around-mapped home Kind.StaticBlock m i = refl
-  function_around-mapped home Kind.FunctionExpression m i = refl
-  function_around-mapped home Kind.ArrowFunctionExpression m i = refl
-  function_around-mapped home kind m i = refl
-
   place_inside-mapped : (x : BoundPlace) (kind : Kind) (m i : ℕ) → place_inside (mapped_place f x) kind (f m) i ≡ mapped_place f (place_inside x kind m i)
-  place_inside-mapped x kind m i = rw (function_around-mapped x.of_function kind m i) refl
+  place_inside-mapped x kind m i = rw (function_around-mapped f x.of_function kind m i) refl
 
   bound_to-mapped : (m n : ℕ) → bound_to first (f m) (f n) ≡ map (mapped_pair f) (bound_to first m n)
   bound_to-mapped m n = rw (r.new m) (cond-mapped (map (mapped_pair f)) (is_new first m) [] ((m, n) ∷ []) refl refl)

@@ -8,16 +8,13 @@ use Rattle.es_steps.specs.Context.{is_constructor}
 use Rattle.es_steps.specs.Parts.{at}
 use Rattle.es_steps.specs.Printable.{is_accessor, is_super_part}
 use Rattle.es_steps.proofs.Mapped.{mapped, mapped_part, mapped_parts}
+use Rattle.es_steps.proofs.PrintableMapped.{is_super_part-mapped}
 use Rattle.es_steps.proofs.PartsMapped.{at-mapped, string_at-mapped, is_true_at-mapped, is_present_at-mapped}
 
 module _ (f : ℕ → ℕ) where
-  is_super_part-mapped : (p : Part) → is_super_part (mapped_part f p) ≡ is_super_part p
-  is_super_part-mapped (child (Node Kind.Super m span semantic_id ps)) = refl
-  is_super_part-mapped p = refl
-
   is_stray_super-mapped : (x : SuperPlace) (kind : Kind) (ps : Parts) → is_stray_super x kind (mapped_parts f ps) ≡ is_stray_super x kind ps
-  is_stray_super-mapped x Kind.CallExpression ps = rw (at-mapped f 0 ps, is_super_part-mapped (at 0 ps)) refl
-  is_stray_super-mapped x Kind.MemberExpression ps = rw (at-mapped f 0 ps, is_super_part-mapped (at 0 ps)) refl
+  is_stray_super-mapped x Kind.CallExpression ps = rw (at-mapped f 0 ps, is_super_part-mapped f (at 0 ps)) refl
+  is_stray_super-mapped x Kind.MemberExpression ps = rw (at-mapped f 0 ps, is_super_part-mapped f (at 0 ps)) refl
   is_stray_super-mapped x kind ps = refl
 
   super_inside-mapped : (x : SuperPlace) (kind : Kind) (ps : Parts) → super_inside x kind (mapped_parts f ps) ≡ super_inside x kind ps

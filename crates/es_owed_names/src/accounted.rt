@@ -1,7 +1,6 @@
 // New declarations are accounted for.
 
-ghost use Rattle.std.specs.Prelude.{◌≡◌, bytes_eq, codes, IfOk};
-ghost use Rattle.es_base.specs.Words.{variable_declaration_kind_string};
+ghost use Rattle.std.specs.Prelude.{◌≡◌, IfOk};
 ghost use Rattle.es_base.specs.Tree.{trees};
 ghost use Rattle.es_binding_faults.specs.Seen.{seen};
 ghost use Rattle.es_lowered.specs.Lowered as spec;
@@ -10,7 +9,6 @@ ghost use Rattle.es_lowered.specs.Lowered.{all_accounted, has_new_declarator, is
 use crate::own_names::own_name_numbers;
 use es_base::kind::Kind;
 use es_base::ledger::LedgerEntry;
-use es_base::operator::VariableDeclarationKind;
 use es_binding_faults::bound::is_binding_identifier;
 use es_generated::ledger::is_generated;
 use es_generated::numbers::{has_number, is_new};
@@ -70,18 +68,9 @@ fn is_new_const(first: u32, node: &Node) -> bool
             let variables = VariableDeclarationRef::from_node(node);
             (is_new(first, variables.node_id.0)
                 || has_new_declarator(first, variables.declarations))
-                && is_const(variables.kind)
+                && variables.kind.is_const()
         }
         _ => false,
-    }
-}
-
-fn is_const(kind: VariableDeclarationKind) -> bool
-    ensures { result ≡ bytes_eq (variable_declaration_kind_string kind) (codes "const") }
-{
-    match kind {
-        VariableDeclarationKind::Const => true,
-        VariableDeclarationKind::Var | VariableDeclarationKind::Let => false,
     }
 }
 

@@ -7,8 +7,8 @@ ghost use Rattle.es_steps.specs.Printable as spec;
 ghost use Rattle.es_steps.specs.Printable.{bad_at, bad_in, has_bad};
 
 use es_base::kind::Kind;
+use es_base::strings::spells;
 use es_node::node::{Node, Part};
-use es_printable::names::spells;
 use es_printable::nodes::is_bad_in;
 use es_seen_names::parts::string_at;
 

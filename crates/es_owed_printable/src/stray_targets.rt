@@ -8,8 +8,8 @@ ghost use Rattle.es_steps.specs.Printable.{has_stray_target, is_new_target, stra
 ghost use Rattle.es_owed_printable.specs.Targets.{stray_target_from, target_within};
 
 use es_base::kind::Kind;
+use es_base::strings::spells;
 use es_node::node::{Node, Part};
-use es_printable::names::spells;
 use es_tree::expression::MetaPropertyRef;
 use es_validity::names::name_of;
 

@@ -10,9 +10,8 @@ ghost use Rattle.es_steps.specs.Reserved.{arrow_words, declaration_words, field_
 ghost use Rattle.es_owed_printable.specs.Words.{words_of};
 
 use es_base::kind::Kind;
-use es_base::strings::is_among;
+use es_base::strings::{is_among, spells};
 use es_node::node::{Node, Part};
-use es_printable::names::spells;
 use es_seen_names::parts::{is_true_at, string_at};
 
 /// What reserves words around a name.

@@ -7,8 +7,8 @@ ghost use Rattle.es_steps.specs.Printable as spec;
 ghost use Rattle.es_steps.specs.Printable.{any_optional, behind_first, has_stray_optional, is_bad_form, is_meta_property, part_has_optional};
 ghost use Rattle.es_printable.specs.Members.{is_chain_form, is_optional_part};
 
-use crate::names::spells;
 use es_base::kind::Kind;
+use es_base::strings::spells;
 use es_node::node::{Node, Part};
 use es_tree::expression::{
     CallExpressionRef, ChainExpressionRef, MemberExpressionRef, MetaPropertyRef, PrivateFieldRef,

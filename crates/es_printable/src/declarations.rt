@@ -1,8 +1,7 @@
 // Declarations without an initializer (ECMA-262, 14.3.1.1).
 
-ghost use Rattle.std.specs.Prelude.{◌≡◌, bytes_eq, codes, not};
+ghost use Rattle.std.specs.Prelude.{◌≡◌, not};
 ghost use Rattle.es_base.specs.Tree.{child, nullable, nullable_trees, trees};
-ghost use Rattle.es_base.specs.Words.{variable_declaration_kind_string};
 ghost use Rattle.es_node.specs.View.{kind_of, part_of, parts_in, parts_of};
 ghost use Rattle.es_steps.specs.Parts.{is_present};
 ghost use Rattle.es_steps.specs.Printable.{any_bare, has_bare_declaration, is_bare_declaration, lacks_initializer};
@@ -13,7 +12,6 @@ ghost use Rattle.es_printable.specs.Members.{is_bare_declarator, is_bare_part};
 use crate::chains::behind_first;
 use crate::directives::is_declaring;
 use es_base::kind::Kind;
-use es_base::operator::VariableDeclarationKind;
 use es_node::node::{Node, Part};
 use es_tree::statement::VariableDeclarationRef;
 
@@ -96,18 +94,9 @@ fn is_bare_declaration(node: &Node) -> bool
     match node.kind() {
         Kind::VariableDeclaration => {
             let declaration = VariableDeclarationRef::from_node(node);
-            lacks_initializer(is_const(declaration.kind), declaration.declarations)
+            lacks_initializer(declaration.kind.is_const(), declaration.declarations)
         }
         _ => false,
-    }
-}
-
-fn is_const(kind: VariableDeclarationKind) -> bool
-    ensures { result ≡ bytes_eq (variable_declaration_kind_string kind) (codes "const") }
-{
-    match kind {
-        VariableDeclarationKind::Const => true,
-        VariableDeclarationKind::Var | VariableDeclarationKind::Let => false,
     }
 }
 

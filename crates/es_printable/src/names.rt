@@ -1,13 +1,10 @@
 // Names that can be written.
 
-ghost use Rattle.std.specs.Prelude.{◌≡◌, bytes_eq, true};
-ghost use Rattle.std.specs.Str.{chars};
-ghost use Rattle.es_base.specs.Ascii.{is_ascii};
+ghost use Rattle.std.specs.Prelude.{◌≡◌};
 ghost use Rattle.es_node.specs.View.{kind_of, parts_in};
 ghost use Rattle.es_steps.specs.Printable as spec;
 
 use es_base::kind::Kind;
-use es_base::strings::is_word;
 use es_lexical::names::{is_name, is_reserved_everywhere};
 use es_node::node::Node;
 use es_seen_names::parts::{name_at, string_at};
@@ -44,13 +41,4 @@ pub fn is_bad_label(node: &Node) -> bool
         Kind::ContinueStatement => is_reserved_everywhere(name_at(node.parts(), 0)),
         _ => false,
     }
-}
-
-/// Whether the name is this ASCII string.
-#[tactic(auto, using(es_base::proofs::Ascii::chars_ascii))]
-pub fn spells(name: &str, word: &str) -> bool
-    requires { is_ascii word.now ≡ true }
-    ensures { result ≡ bytes_eq (chars name.now) word.now }
-{
-    is_word(word, name)
 }

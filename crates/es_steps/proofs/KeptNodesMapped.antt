@@ -204,7 +204,7 @@ module _ (f : ℕ → ℕ) where
   abbrev mapped_here : HomeHere → HomeHere
   mapped_here x = record { of_function = f x.of_function; is_own_name = x.is_own_name; in_constructor = x.in_constructor }
 
-  function_around-mapped : (home : ℕ) (kind : Kind) (m i : ℕ) → function_around (f home) kind (f m) i ≡ f (function_around home kind m i)
+  pub function_around-mapped : (home : ℕ) (kind : Kind) (m i : ℕ) → function_around (f home) kind (f m) i ≡ f (function_around home kind m i)
   function_around-mapped home Kind.FunctionDeclaration m i = cond-mapped f (nat_eq i 0) home m refl refl
   function_around-mapped home Kind.StaticBlock m i = refl
   function_around-mapped home Kind.FunctionExpression m i = refl

@@ -197,7 +197,7 @@ module _ (f : ℕ → ℕ) where
   is_bad_if-mapped : (ps : Parts) → is_bad_if (mapped_parts f ps) ≡ is_bad_if ps
   is_bad_if-mapped ps = rw (is_present_at-mapped f 2 ps, lexical_body_at-mapped 1 ps, lexical_body_at-mapped 2 ps, at-mapped f 1 ps, part_ends_open-mapped (at 1 ps)) refl
 
-  is_super_part-mapped : (p : Part) → is_super_part (mapped_part f p) ≡ is_super_part p
+  pub is_super_part-mapped : (p : Part) → is_super_part (mapped_part f p) ≡ is_super_part p
   is_super_part-mapped (child (Node Kind.Super m span semantic_id ps)) = refl
   is_super_part-mapped p = refl
 
