@@ -1,6 +1,6 @@
 -- What a program of the first form is lowered to keeps the nodes of the source that it takes, and its new nodes are of kinds that a
 -- lowering makes.
-use Rattle.std.specs.Prelude.{◌≡◌, ℕ, ◌+◌, List, [], ◌∷◌, ◌++◌, true}
+use Rattle.std.specs.Prelude.{◌≡◌, ℕ, ◌+◌, List, [], ◌∷◌, ◌++◌, true, false}
 use Rattle.std.proofs.Common.{refl, sym, subst, ◌≤◌, arith}
 use Rattle.std.proofs.lemmas.Bool.{and_parts, le-leb}
 use Rattle.std.proofs.lemmas.List.{append-nil}
@@ -10,6 +10,7 @@ use Rattle.es_base.specs.declared.kind.Kind.{Kind}
 use Rattle.es_left.proofs.Booleans.{both}
 use Rattle.es_lowered.specs.Bound.{BoundPlace, bound_of, all_bound}
 use Rattle.es_lowered.specs.Carriers.{all_carried, numbers_carried}
+use Rattle.es_steps.proofs.Reflexive.{string-same}
 use Rattle.es_unchanged.proofs.Carried.{carried, carried-alike}
 use Rattle.es_unchanged.proofs.Standing.{here, later, in-left, in-right}
 use Rattle.es_unchanged.proofs.Unchanged.{Below, numbered-below}
@@ -60,9 +61,9 @@ module _ (first : ℕ) (ps : List Tree) where
       let named = old name (later here) in
       let inner = old _ (later (later here)) in
       let inside : Parts = more (list (lowered_elements n es)) end in
-      both (carried-alike first ps Kind.ClassDeclaration m span semantic_id _ (more (child name) (more absent (more (child (Node Kind.ClassBody j bspan b_semantic_id inside)) end))) refl refl class.0 class.1)
+      both (carried-alike first ps Kind.ClassDeclaration m span semantic_id _ (more (child name) (more absent (more (child (Node Kind.ClassBody j bspan b_semantic_id inside)) end))) refl refl refl class.0 class.1)
       (both (carried first ps name named.0 named.1)
-      (both (carried-alike first ps Kind.ClassBody j bspan b_semantic_id _ inside refl refl inner.0 inner.1)
+      (both (carried-alike first ps Kind.ClassBody j bspan b_semantic_id _ inside refl refl refl inner.0 inner.1)
       (carried-append first ps ((made ++ []) ++ []) rest
       (carried-append first ps (made ++ []) [] (carried-append first ps made [] (elements-carried es he (λ t k. old t (later (later (later (in-left t ((preorder_of es ++ []) ++ []) (preorder_of cs) (in-left t (preorder_of es ++ []) [] (in-left t (preorder_of es) [] k))))))) n l) refl) refl)
       (classes-carried cs h (λ t k. old t (later (later (later (in-right t ((preorder_of es ++ []) ++ []) (preorder_of cs) k))))) next (omega (arith, l))))))
@@ -70,13 +71,13 @@ module _ (first : ℕ) (ps : List Tree) where
   program-carried : (k : ℕ) (t : Tree) → IsProgram t → OldAmong first (preorder t) ps → first ≤ k → all_carried first ps (preorder (lowered_from k t)) ≡ true
   program-carried k t (a_program m span semantic_id s all h) old l =
       let program = old _ here in
-      both (carried-alike first ps Kind.Program m span semantic_id _ (more (string s) (more (list (lowered_statements k all)) end)) refl refl program.0 program.1)
+      both (carried-alike first ps Kind.Program m span semantic_id _ (more (string s) (more (list (lowered_statements k all)) end)) refl refl (rw (string-same s) refl) program.0 program.1)
       (carried-append first ps (preorder_of (lowered_statements k all)) [] (classes-carried all h (λ u i. old u (later (in-left u (preorder_of all) [] i))) k l) refl)
 
 -- ---- no node is bound to the one around it
 
 abbrev part_of : Kind → ℕ → ℕ → BoundPlace
-part_of kind n h = record { kind = kind; number = n; of_function = h }
+part_of kind n h = record { kind = kind; number = n; of_function = h; in_parameters = false }
 
 fields-unbound : (first n h : ℕ) (es : Parts) → AreFields es → (k : ℕ) → bound_of first (part_of Kind.BlockStatement n h) (trees (definitions_from k es)) ≡ []
 fields-unbound first n h end f k = refl

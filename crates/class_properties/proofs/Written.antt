@@ -1,5 +1,5 @@
 -- In a lowered program of the first form each literal has its text: the values are those of the source, the keys have none.
-use Rattle.std.specs.Prelude.{◌≡◌, ℕ, ◌+◌, ◌≤◌, List, [], ◌∷◌, ◌++◌, Bool, true, false, cond, not, codes}
+use Rattle.std.specs.Prelude.{◌≡◌, ℕ, ◌+◌, ◌≤◌, List, [], ◌∷◌, ◌++◌, Bool, true, false, cond, not, codes, None}
 use Rattle.std.proofs.Common.{refl, sym, subst, arith}
 use Rattle.std.proofs.lemmas.Bool.{le-leb, lt-leb, and_parts}
 use Rattle.std.proofs.lemmas.List.{append-nil}
@@ -37,14 +37,17 @@ module _ (first : ℕ) (ps : List Tree) where
   old-text t b e i = rw e (stands-equal t ps i)
 
   -- a new name of characters of ASCII, as the helper, its member and the constructor have
-  new-characters : (n : ℕ) (s : List ℕ) → is_new_name ps s ≡ true → has_characters true first n ps s ≡ true
-  new-characters n s h = or_right (not (is_new first n)) (is_new_name ps s) h
+  new-characters : (t : Tree) (s : List ℕ) → is_new_name ps s ≡ true → has_characters true ps t s ≡ true
+  new-characters t s h = or_right (stands_equal t ps) (is_new_name ps s) h
 
-  helper-characters : (n : ℕ) → has_characters true first n ps (codes "babelHelpers") ≡ true
-  helper-characters n = new-characters n (codes "babelHelpers") refl
+  helper-characters : (n : ℕ) → has_characters true ps (Node Kind.IdentifierReference n None None (more (string (codes "babelHelpers")) end)) (codes "babelHelpers") ≡ true
+  helper-characters n = new-characters (Node Kind.IdentifierReference n None None (more (string (codes "babelHelpers")) end)) (codes "babelHelpers") refl
 
-  member-characters : (n : ℕ) → has_characters true first n ps (codes "defineProperty") ≡ true
-  member-characters n = new-characters n (codes "defineProperty") refl
+  member-characters : (n : ℕ) → has_characters true ps (Node Kind.IdentifierName n None None (more (string (codes "defineProperty")) end)) (codes "defineProperty") ≡ true
+  member-characters n = new-characters (Node Kind.IdentifierName n None None (more (string (codes "defineProperty")) end)) (codes "defineProperty") refl
+
+  constructor-characters : (n : ℕ) → has_characters true ps (Node Kind.IdentifierName n None None (more (string (codes "constructor")) end)) (codes "constructor") ≡ true
+  constructor-characters n = new-characters (Node Kind.IdentifierName n None None (more (string (codes "constructor")) end)) (codes "constructor") refl
 
   fields-texts : (es : Parts) → AreFields es → OldAmong first (preorder_of es) ps → (n : ℕ) → first ≤ n → all_have_their_texts first ps (preorder_of (trees (definitions_from n es))) ≡ true
   fields-texts end h old n l = refl
@@ -56,13 +59,13 @@ module _ (first : ℕ) (ps : List Tree) where
       rw (helper-characters (n + 3), member-characters (n + 4), le-leb first (n + 6) (omega (arith, l)), stands.0, stands-equal value ps stands.1) (fields-texts es h (λ t i. old t (later (later (later i)))) (n + 7) (omega (arith, l)))
   fields-texts (more p es) (a_field m span semantic_id k v (a_key km kspan k_semantic_id s) (a_reference vm vspan v_semantic_id x), h) old n l =
       let value : Tree = Node Kind.IdentifierReference vm vspan v_semantic_id (more (string x) end) in
-      rw (helper-characters (n + 3), member-characters (n + 4), le-leb first (n + 6) (omega (arith, l)), old-characters first true vm ps x (old value (later (later here))).0) (fields-texts es h (λ t i. old t (later (later (later i)))) (n + 7) (omega (arith, l)))
+      rw (helper-characters (n + 3), member-characters (n + 4), le-leb first (n + 6) (omega (arith, l)), old-characters true value ps x (old value (later (later here))).1) (fields-texts es h (λ t i. old t (later (later (later i)))) (n + 7) (omega (arith, l)))
 
   elements-texts : (es : Parts) → AreFields es → OldAmong first (preorder_of es) ps → (n : ℕ) → first ≤ n → all_have_their_texts first ps (preorder_of (lowered_elements n es)) ≡ true
   elements-texts end h old n l = refl
   elements-texts (more p es) h old n l =
       let made : List Tree = preorder_of (trees (definitions_from (n + 4) (more p es))) in
-      rw (new-characters (n + 1) (codes "constructor") refl, append-nil made, append-nil made, append-nil made, append-nil made) (fields-texts (more p es) h old (n + 4) (omega (arith, l)))
+      rw (constructor-characters (n + 1), append-nil made, append-nil made, append-nil made, append-nil made) (fields-texts (more p es) h old (n + 4) (omega (arith, l)))
 
   classes-texts : (cs : Parts) → AreClasses cs → OldAmong first (preorder_of cs) ps → (n : ℕ) → first ≤ n → all_have_their_texts first ps (preorder_of (lowered_statements n cs)) ≡ true
   classes-texts end h old n l = refl
@@ -70,7 +73,8 @@ module _ (first : ℕ) (ps : List Tree) where
       let next : ℕ = n + statement_size p in
       let made : List Tree = preorder_of (lowered_elements n es) in
       let rest : List Tree = preorder_of (lowered_statements next cs) in
-      rw (old-characters first true i ps s (old (Node Kind.BindingIdentifier i ispan i_semantic_id (more (string s) end)) (later here)).0)
+      let name : Tree = Node Kind.BindingIdentifier i ispan i_semantic_id (more (string s) end) in
+      rw (old-characters true name ps s (old name (later here)).1)
       (texts-append first ps ((made ++ []) ++ []) rest
       (texts-append first ps (made ++ []) [] (texts-append first ps made [] (elements-texts es he (λ t k. old t (later (later (later (in-left t ((preorder_of es ++ []) ++ []) (preorder_of cs) (in-left t (preorder_of es ++ []) [] (in-left t (preorder_of es) [] k))))))) n l) refl) refl)
       (classes-texts cs h (λ t k. old t (later (later (later (in-right t ((preorder_of es ++ []) ++ []) (preorder_of cs) k))))) next (omega (arith, l))))

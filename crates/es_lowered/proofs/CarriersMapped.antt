@@ -3,12 +3,13 @@ use Rattle.std.specs.Prelude.{◌≡◌, ℕ, List, [], ◌∷◌, map, not, ◌
 use Rattle.std.proofs.Common.{refl, ap, ap₂, ◌∙◌}
 use Rattle.es_base.specs.Conforms.{is_rest}
 use Rattle.es_base.specs.Preorder.{preorder}
-use Rattle.es_base.specs.Tree.{Tree, Part, Parts, Node, end, more, child, literal}
+use Rattle.es_base.specs.Tree.{Tree, Part, Parts, Node, end, more, child, absent, literal}
 use Rattle.es_base.specs.declared.kind.Kind.{Kind}
 use Rattle.es_base.specs.declared.literal.LiteralValue.TheVariants as literal_value
-use Rattle.es_lowered.specs.Carriers.{is_loose_base, form_of_callee, form_of_deleted, parameters_of, is_one_parameter, form_of_getter, form_of_accessor, odd_form, carries, stands_for_node, is_proto, gives_prototype, is_carried, all_carried, numbers_carried}
+use Rattle.es_lowered.specs.Carriers.{is_loose_base, form_of_callee, form_of_deleted, parameters_of, is_one_parameter, form_of_getter, form_of_accessor, is_one_name, form_of_head, odd_form, carries, stands_for_node, is_proto, gives_prototype, is_carried, all_carried, numbers_carried}
 use Rattle.es_lowered.proofs.BoundMapped.{bound_stay-mapped}
-use Rattle.es_steps.specs.Parts.{at, string_of}
+use Rattle.es_lowered.proofs.KeptWordsMapped.{keeps_words-mapped}
+use Rattle.es_steps.specs.Parts.{at, items, string_of}
 use Rattle.es_steps.specs.Values.{String}
 use Rattle.es_steps.proofs.Mapped.{Renames, mapped, mapped_part, mapped_parts}
 use Rattle.es_steps.proofs.PrintableMapped.{name_of_part-mapped}
@@ -56,16 +57,28 @@ module _ {first : ℕ} {f : ℕ → ℕ} (r : Renames first f) where
   accessor-mapped : (ps : Parts) → form_of_accessor (string_of (at 2 (mapped_parts f ps))) (parameters_of (at 1 (mapped_parts f ps))) ≡ form_of_accessor (string_of (at 2 ps)) (parameters_of (at 1 ps))
   accessor-mapped ps = rw (string_at-mapped f 2 ps, at-mapped f 1 ps) (form_of_accessor-mapped (string_of (at 2 ps)) (at 1 ps))
 
+  is_one_name-mapped : (ps : Parts) → is_one_name (mapped_parts f ps) ≡ is_one_name ps
+  is_one_name-mapped (more (child (Node Kind.VariableDeclarator m span semantic_id (more id (more absent end)))) end) = refl
+  is_one_name-mapped end = refl
+  is_one_name-mapped (more p (more q ps)) = refl
+  is_one_name-mapped (more p ps) = refl
+
+  form_of_head-mapped : (p : Part) → form_of_head (mapped_part f p) ≡ form_of_head p
+  form_of_head-mapped (child (Node Kind.VariableDeclaration m span semantic_id ps)) = rw (items_at-mapped f 1 ps, is_one_name-mapped (items (at 1 ps))) refl
+  form_of_head-mapped p = refl
+
   odd_form-mapped : (kind : Kind) (ps : Parts) → odd_form kind (mapped_parts f ps) ≡ odd_form kind ps
   odd_form-mapped Kind.CallExpression ps = ap form_of_callee (at-mapped f 0 ps) ∙ form_of_callee-mapped (at 0 ps)
   odd_form-mapped Kind.TaggedTemplateExpression ps = ap form_of_callee (at-mapped f 0 ps) ∙ form_of_callee-mapped (at 0 ps)
   odd_form-mapped Kind.UnaryExpression ps = rw (string_at-mapped f 0 ps, at-mapped f 1 ps, form_of_deleted-mapped (at 1 ps)) refl
   odd_form-mapped Kind.Property ps = accessor-mapped ps
   odd_form-mapped Kind.MethodDefinition ps = accessor-mapped ps
+  odd_form-mapped Kind.ForInStatement ps = ap form_of_head (at-mapped f 0 ps) ∙ form_of_head-mapped (at 0 ps)
+  odd_form-mapped Kind.ForOfStatement ps = ap form_of_head (at-mapped f 0 ps) ∙ form_of_head-mapped (at 0 ps)
   odd_form-mapped kind ps = refl
 
   carries-mapped : (kind : Kind) (ps : Parts) (other : Kind) (qs : Parts) → carries kind (mapped_parts f ps) other (mapped_parts f qs) ≡ carries kind ps other qs
-  carries-mapped kind ps other qs = rw (string_at-mapped f 0 ps, string_at-mapped f 0 qs, odd_form-mapped kind ps, odd_form-mapped other qs) refl
+  carries-mapped kind ps other qs = rw (string_at-mapped f 0 ps, string_at-mapped f 0 qs, keeps_words-mapped f kind ps qs, odd_form-mapped kind ps, odd_form-mapped other qs) refl
 
   stands_for_node-mapped : (kind : Kind) (n : ℕ) (qs : Parts) (ts : List Tree) → stands_for_node kind (f n) (mapped_parts f qs) (map (mapped f) ts) ≡ stands_for_node kind n qs ts
   stands_for_node-mapped kind n qs [] = refl

@@ -5,6 +5,8 @@ pub mod TextsMapped
 pub mod TimelyMapped
 pub mod FunctionsAroundMapped
 pub mod ClassNamesMapped
+pub mod KeptWordsMapped
+pub mod StrayNamesMapped
 pub mod SupersMapped
 pub mod KeptKeysMapped
 pub mod KeptReferencesMapped

@@ -175,7 +175,8 @@ module _ {first : ℕ} {f : ℕ → ℕ} (r : Renames first f) where
   is_steady_name-mapped places members GeneratedKind.Temp s ts = ap₂ is_steady (gifts_of-mapped s ts) (reads_of-mapped s ts) ∙ is_steady-mapped (gifts_of s ts) (reads_of s ts)
   is_steady_name-mapped places members GeneratedKind.Param s ts = ap₂ is_at_call (gifts_of-mapped s ts) (reads_of-mapped s ts) ∙ is_at_call-mapped (gifts_of s ts) (reads_of s ts)
   is_steady_name-mapped places members GeneratedKind.Closure s ts =
-      rw (gifts_of-mapped s ts, reads_of-mapped s ts) (ap₂ (λ a b. a && not b) (is_given_with-mapped (gifts_of s ts) (reads_of s ts)) (is_none-mapped f (reads_of s ts)))
+      rw (gifts_of-mapped s ts, reads_of-mapped s ts)
+      (ap₂ (λ a b. a && b) (is_given_with-mapped (gifts_of s ts) (reads_of s ts)) (ap₂ (λ a b. not a && b) (is_none-mapped f (reads_of s ts)) (is_at_most_one-mapped (reads_of s ts))))
   is_steady_name-mapped places members (GeneratedKind.SuperFn n) s ts =
       ap (all_touched (constructs_with (map (mapped_pair f) places) (f n.0))) (gifts_of-mapped s ts)
       ∙ all_touched-mapped f _ (constructs_with places n.0) (constructs_with-mapped places n.0) (gifts_of s ts)

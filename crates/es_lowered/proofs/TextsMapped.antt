@@ -1,5 +1,5 @@
 -- That literals and strings of templates have their texts, under a change of numbers.
-use Rattle.std.specs.Prelude.{◌≡◌, ℕ, List, [], ◌∷◌, map, Bool, ◌&&◌, ◌||◌}
+use Rattle.std.specs.Prelude.{not, ◌≡◌, ℕ, List, [], ◌∷◌, map, Bool, ◌&&◌, ◌||◌}
 use Rattle.std.proofs.Common.{refl, ap, ap₂, ◌∙◌}
 use Rattle.es_base.specs.Preorder.{preorder}
 use Rattle.es_base.specs.Tree.{Tree, Part, Parts, Node, end, more, string, literal}
@@ -48,8 +48,8 @@ module _ {first : ℕ} {f : ℕ → ℕ} (r : Renames first f) where
   is_literal_among-mapped qs (Node Kind.Literal n span semantic_id ps ∷ ts) = ap₂ (λ a b. a || b) (same_parts-mapped r qs ps) (is_literal_among-mapped qs ts)
   is_literal_among-mapped qs (t ∷ ts) = is_literal_among-mapped qs ts
 
-  has_characters-mapped : (is_name : Bool) (n : ℕ) (ts : List Tree) (s : List ℕ) → has_characters is_name first (f n) (map (mapped f) ts) s ≡ has_characters is_name first n ts s
-  has_characters-mapped is_name n ts s = rw (r.new n, is_new_name-mapped f ts s) refl
+  has_characters-mapped : (is_name : Bool) (ts : List Tree) (t : Tree) (s : List ℕ) → has_characters is_name (map (mapped f) ts) (mapped f t) s ≡ has_characters is_name ts t s
+  has_characters-mapped is_name ts t s = ap₂ (λ a b. not is_name || (a || b)) (stands_equal-mapped r t ts) (is_new_name-mapped f ts s)
 
   has_its_text-mapped : (ps : List Tree) (t : Tree) → has_its_text first (map (mapped f) ps) (mapped f t) ≡ has_its_text first ps t
   has_its_text-mapped ps (Node Kind.Literal n span semantic_id qs) =
@@ -60,7 +60,7 @@ module _ {first : ℕ} {f : ℕ → ℕ} (r : Renames first f) where
       ap₂ (λ a b. a || b) (r.new n) (stands_equal-mapped r (Node Kind.ExpressionStatement n span semantic_id (more e (more (string s) end))) ps)
   has_its_text-mapped ps (Node Kind.PrivateIdentifier n span semantic_id qs) =
       rw (r.new n, string_at-mapped f 0 qs, is_new_name-mapped f ps (string_of (at 0 qs)), stands_equal-mapped r (Node Kind.PrivateIdentifier n span semantic_id qs) ps) refl
-  has_its_text-mapped ps (Node kind n span semantic_id qs) = ap (has_characters (has_name kind) first (f n) (map (mapped f) ps)) (string_at-mapped f 0 qs) ∙ has_characters-mapped (has_name kind) n ps (string_of (at 0 qs))
+  has_its_text-mapped ps (Node kind n span semantic_id qs) = ap (has_characters (has_name kind) (map (mapped f) ps) (mapped f (Node kind n span semantic_id qs))) (string_at-mapped f 0 qs) ∙ has_characters-mapped (has_name kind) ps (Node kind n span semantic_id qs) (string_of (at 0 qs))
 
   all_texts-mapped : (ps ts : List Tree) → all_have_their_texts first (map (mapped f) ps) (map (mapped f) ts) ≡ all_have_their_texts first ps ts
   all_texts-mapped ps [] = refl

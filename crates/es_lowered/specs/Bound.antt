@@ -1,12 +1,13 @@
 -- A node of the source that one sort of node alone may hold, or one alone of some, stays in the node that it is in: a property (B.3.1),
--- a case (14.12.1), a handler (14.15), a rest and what it holds (14.3.3), the head of a loop (14.7.5.1); and `yield` and `await` stay in
--- their functions (15.5.1, 15.8.1). So what no step looks at, as what is behind an access that always throws, is read by an engine.
-use Rattle.std.specs.Prelude.{ℕ, suc, List, [], ◌∷◌, ◌++◌, Bool, true, false, cond}
+-- a case (14.12.1), a handler (14.15), a rest and what it holds (14.3.3), the head of a loop (14.7.5.1); and `yield`, `await` and
+-- `for await` stay in the bodies of their functions (15.5.1, 15.8.1). So what no step looks at, as what is behind an access that always throws, is read by an engine.
+use Rattle.std.specs.Prelude.{ℕ, suc, List, [], ◌∷◌, ◌++◌, Bool, true, false, cond, nat_eq}
 use Rattle.es_base.specs.Numbered.{is_new}
 use Rattle.es_base.specs.Preorder.{number_of}
 use Rattle.es_base.specs.Tree.{Tree, Part, Parts, Node, end, more, child, list}
 use Rattle.es_base.specs.declared.kind.Kind.{Kind}
 use Rattle.es_steps.specs.KeptNodes.{function_around, all_pairs_stand}
+use Rattle.es_steps.specs.Parts.{at, is_true}
 use Rattle.es_steps.specs.Repeated.{is_loop}
 
 -- by the kind of the node around
@@ -26,31 +27,46 @@ is_bound Kind.AssignmentTargetRest Kind.ObjectAssignmentTarget = true
 is_bound Kind.AssignmentTargetRest Kind.ArrayAssignmentTarget = true
 is_bound around kind = false
 
-abbrev pub suspends : Kind → Bool
-suspends Kind.AwaitExpression = true
-suspends Kind.YieldExpression = true
-suspends kind = false
+abbrev pub suspends : Kind → Parts → Bool
+suspends Kind.AwaitExpression ps = true
+suspends Kind.YieldExpression ps = true
+suspends Kind.ForOfStatement ps = is_true (at 3 ps)
+suspends kind ps = false
+
+-- the value of a field is a function of its own (15.7.10)
+abbrev pub body_around : ℕ → Kind → ℕ → ℕ → ℕ
+body_around home Kind.PropertyDefinition m i = cond (nat_eq i 1) m home
+body_around home kind m i = function_around home kind m i
+
+-- whether the i-th part has the parameters of a function, or stands in such
+abbrev pub parameters_around : Bool → Kind → ℕ → Bool
+parameters_around b Kind.FunctionDeclaration i = nat_eq i 1
+parameters_around b Kind.FunctionExpression i = nat_eq i 1
+parameters_around b Kind.ArrowFunctionExpression i = nat_eq i 0
+parameters_around b kind i = b
 
 -- the node and the function around a part
 pub record BoundPlace : Type 0 where
   pub kind : Kind
   pub number : ℕ
   pub of_function : ℕ
+  pub in_parameters : Bool
 
 abbrev pub place_inside : BoundPlace → Kind → ℕ → ℕ → BoundPlace
-place_inside x kind m i = record { kind = kind; number = m; of_function = function_around x.of_function kind m i }
+place_inside x kind m i = record { kind = kind; number = m; of_function = body_around x.of_function kind m i; in_parameters = parameters_around x.in_parameters kind i }
 
 module _ (first : ℕ) where
   -- a node of the source with what it stays in
   abbrev pub bound_to : ℕ → ℕ → List (ℕ × ℕ)
   bound_to m n = cond (is_new first m) [] ((m, n) ∷ [])
 
-  abbrev pub bound_node : BoundPlace → Kind → ℕ → List (ℕ × ℕ)
-  bound_node x kind m = cond (is_bound x.kind kind) (bound_to m x.number) (cond (suspends kind) (bound_to m x.of_function) [])
+  -- what suspends stands in no parameters, and is said to stay in itself there
+  abbrev pub bound_node : BoundPlace → Kind → ℕ → Parts → List (ℕ × ℕ)
+  bound_node x kind m ps = cond (is_bound x.kind kind) (bound_to m x.number) (cond (suspends kind ps) (bound_to m (cond x.in_parameters m x.of_function)) [])
 
   abbrev mutual
     pub bound_nodes : BoundPlace → Tree → List (ℕ × ℕ)
-    bound_nodes x (Node kind m span semantic_id ps) = bound_node x kind m ++ bound_in (place_inside x kind m) ps
+    bound_nodes x (Node kind m span semantic_id ps) = bound_node x kind m ps ++ bound_in (place_inside x kind m) ps
 
     pub bound_in : (ℕ → BoundPlace) → Parts → List (ℕ × ℕ)
     bound_in x end = []
@@ -66,7 +82,7 @@ module _ (first : ℕ) where
     bound_of x (more p ps) = bound_at x p ++ bound_of x ps
 
   abbrev pub all_bound : Tree → List (ℕ × ℕ)
-  all_bound t = bound_nodes (record { kind = Kind.Program; number = number_of t; of_function = number_of t }) t
+  all_bound t = bound_nodes (record { kind = Kind.Program; number = number_of t; of_function = number_of t; in_parameters = false }) t
 
   -- of a program and what it was lowered to
   abbrev pub bound_stay : Tree → Tree → Bool

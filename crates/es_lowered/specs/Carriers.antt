@@ -1,13 +1,14 @@
--- Which node of the source a node of a lowered program stands for: that of its number, whose kind it has, or one that a lowering makes of
--- that kind. A node that is new is of a kind that a lowering makes. (Our own.)
+-- Which node of the source a node of a lowered program stands for: that of its number, whose kind and words it has, or of a kind that a
+-- lowering makes of that one. A node that is new is of a kind that a lowering makes. (Our own.)
 use Rattle.std.specs.Prelude.{ℕ, List, [], ◌∷◌, Bool, true, false, cond, not, nat_eq, codes, bytes_eq, ◌&&◌, ◌||◌}
 use Rattle.es_base.specs.Conforms.{is_rest}
 use Rattle.es_base.specs.Numbered.{is_new}
 use Rattle.es_base.specs.Preorder.{preorder}
-use Rattle.es_base.specs.Tree.{Tree, Part, Parts, Node, end, more, child, literal}
+use Rattle.es_base.specs.Tree.{Tree, Part, Parts, Node, end, more, child, absent, literal}
 use Rattle.es_base.specs.declared.kind.Kind.{Kind}
 use Rattle.es_base.specs.declared.literal.LiteralValue.TheVariants as literal_value
 use Rattle.es_lowered.specs.Bound.{bound_stay}
+use Rattle.es_lowered.specs.KeptWords.{keeps_words}
 use Rattle.es_steps.specs.KeptNodes.{is_underscored}
 use Rattle.es_steps.specs.Parts.{at, items, string_of}
 use Rattle.es_steps.specs.Printable.{name_of_part}
@@ -99,13 +100,14 @@ has_its_name kind s t = named_by kind && ((is_reference kind && bytes_eq s t) ||
 
 -- forms that no value tells from others: a call of the name `eval` (13.3.6.1); a call and a tag of a private member, which is handed
 -- its object (13.3.6.2); `delete` of a private member, and of a name (13.5.1.1); a getter with parameters, and a setter without its
--- one (15.4)
+-- one (15.4); the head of a for-in or for-of that declares several names or gives one a value (14.7.5)
 pub data OddForm : Type 0 where
   calls_eval : OddForm
   calls_private : OddForm
   deletes_private : OddForm
   deletes_name : OddForm
   takes_odd_parameters : OddForm
+  declares_oddly : OddForm
   no_odd_form : OddForm
 
 abbrev pub is_loose_base : Part → Bool
@@ -139,12 +141,22 @@ form_of_getter ps = takes_odd_parameters
 abbrev pub form_of_accessor : String → Parts → OddForm
 form_of_accessor kind ps = cond (bytes_eq kind (codes "get")) (form_of_getter ps) (cond (bytes_eq kind (codes "set") && not (is_one_parameter ps)) takes_odd_parameters no_odd_form)
 
+abbrev pub is_one_name : Parts → Bool
+is_one_name (more (child (Node Kind.VariableDeclarator m span semantic_id (more id (more absent end)))) end) = true
+is_one_name ps = false
+
+abbrev pub form_of_head : Part → OddForm
+form_of_head (child (Node Kind.VariableDeclaration m span semantic_id ps)) = cond (is_one_name (items (at 1 ps))) no_odd_form declares_oddly
+form_of_head p = no_odd_form
+
 abbrev pub odd_form : Kind → Parts → OddForm
 odd_form Kind.CallExpression ps = form_of_callee (at 0 ps)
 odd_form Kind.TaggedTemplateExpression ps = form_of_callee (at 0 ps)
 odd_form Kind.UnaryExpression ps = cond (bytes_eq (string_of (at 0 ps)) (codes "delete")) (form_of_deleted (at 1 ps)) no_odd_form
 odd_form Kind.Property ps = form_of_accessor (string_of (at 2 ps)) (parameters_of (at 1 ps))
 odd_form Kind.MethodDefinition ps = form_of_accessor (string_of (at 2 ps)) (parameters_of (at 1 ps))
+odd_form Kind.ForInStatement ps = form_of_head (at 0 ps)
+odd_form Kind.ForOfStatement ps = form_of_head (at 0 ps)
 odd_form kind ps = no_odd_form
 
 -- the second is none, or the first
@@ -155,10 +167,11 @@ keeps_form calls_private calls_private = true
 keeps_form deletes_private deletes_private = true
 keeps_form deletes_name deletes_name = true
 keeps_form takes_odd_parameters takes_odd_parameters = true
+keeps_form declares_oddly declares_oddly = true
 keeps_form form other = false
 
 abbrev pub carries : Kind → Parts → Kind → Parts → Bool
-carries kind ps other qs = cond (is_reference other) (has_its_name kind (string_of (at 0 ps)) (string_of (at 0 qs))) ((same_kind kind other || becomes kind other) && keeps_form (odd_form kind ps) (odd_form other qs))
+carries kind ps other qs = cond (is_reference other) (has_its_name kind (string_of (at 0 ps)) (string_of (at 0 qs))) (((same_kind kind other && keeps_words kind ps qs) || becomes kind other) && keeps_form (odd_form kind ps) (odd_form other qs))
 
 abbrev pub stands_for_node : Kind → ℕ → Parts → List Tree → Bool
 stands_for_node kind n qs [] = false

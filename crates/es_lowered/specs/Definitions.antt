@@ -393,9 +393,14 @@ module _ (first : ℕ) (o : Options) (ledger : List LedgerEntry) where
   supers_stand rs [] = true
   supers_stand rs (Node kind m span semantic_id ps ∷ ts) = super_stands rs kind ps && supers_stand rs ts
 
+-- nothing but fields needs what stands for `super(..)`
+abbrev pub names_no_super : List LedgerEntry → Bool
+names_no_super [] = true
+names_no_super (e ∷ es) = not (is_super_name (Some e.kind)) && names_no_super es
+
 -- fields are defined with class properties on
 abbrev pub definitions_stand : ℕ → Options → List LedgerEntry → List PrivateMember → Tree → Tree → Bool
-definitions_stand first o ledger members p q = (not (lowers_fields o) || classes_fit first o ledger members p q (preorder p)) && supers_stand first o ledger (resolve q) (preorder q)
+definitions_stand first o ledger members p q = cond (lowers_fields o) (classes_fit first o ledger members p q (preorder p) && supers_stand first o ledger (resolve q) (preorder q)) (names_no_super ledger)
 
 -- ---- the keys that are temporaries: no two fields have one, and each is given before its class
 

@@ -167,8 +167,9 @@ is_given_with (g ∷ gs) reads = all_touched (λ t. nat_eq g.place t.place) read
 abbrev pub is_steady_name : List (ℕ × ℕ) → List PrivateMember → GeneratedKind → String → List Touch → Bool
 is_steady_name places members GeneratedKind.Temp s ts = is_steady (gifts_of s ts) (reads_of s ts)
 is_steady_name places members GeneratedKind.Param s ts = is_at_call (gifts_of s ts) (reads_of s ts)
--- nothing says what stands in a closure that nothing calls
-is_steady_name places members GeneratedKind.Closure s ts = is_given_with (gifts_of s ts) (reads_of s ts) && not (is_none (reads_of s ts))
+-- a closure is called once: nothing says what stands in one that nothing calls, and what has no event, as a new `WeakMap`, would be
+-- made again
+is_steady_name places members GeneratedKind.Closure s ts = is_given_with (gifts_of s ts) (reads_of s ts) && (not (is_none (reads_of s ts)) && is_at_most_one (reads_of s ts))
 is_steady_name places members (GeneratedKind.SuperFn n) s ts = all_touched (constructs_with places n.0) (gifts_of s ts)
 is_steady_name places members kind s ts = all_touched (stands_with places (class_before kind members)) (gifts_of s ts)
 

@@ -71,8 +71,9 @@ is_beginning ts (c ∷ cs) = nat_le c 127 || is_beginning_among c ts
 abbrev pub is_new_name : List Tree → List ℕ → Bool
 is_new_name ts s = are_characters ts s && is_beginning ts s
 
-abbrev pub has_characters : Bool → ℕ → ℕ → List Tree → List ℕ → Bool
-has_characters is_name first n ts s = not (is_name && is_new first n) || is_new_name ts s
+-- a name is as it was, or such as a new one
+abbrev pub has_characters : Bool → List Tree → Tree → List ℕ → Bool
+has_characters is_name ts t s = not is_name || (stands_equal t ts || is_new_name ts s)
 
 -- ps are the nodes of the source
 abbrev pub has_its_text : ℕ → List Tree → Tree → Bool
@@ -80,7 +81,7 @@ has_its_text first ps (Node Kind.Literal n span semantic_id qs) = cond (is_new f
 has_its_text first ps (Node Kind.TemplateElement n span semantic_id qs) = cond (is_new first n) (is_string_among qs ps) (stands_equal (Node Kind.TemplateElement n span semantic_id qs) ps)
 has_its_text first ps (Node Kind.ExpressionStatement n span semantic_id (more e (more (string s) end))) = is_new first n || stands_equal (Node Kind.ExpressionStatement n span semantic_id (more e (more (string s) end))) ps
 has_its_text first ps (Node Kind.PrivateIdentifier n span semantic_id qs) = cond (is_new first n) (is_new_name ps (string_of (at 0 qs))) (stands_equal (Node Kind.PrivateIdentifier n span semantic_id qs) ps)
-has_its_text first ps (Node kind n span semantic_id qs) = has_characters (has_name kind) first n ps (string_of (at 0 qs))
+has_its_text first ps (Node kind n span semantic_id qs) = has_characters (has_name kind) ps (Node kind n span semantic_id qs) (string_of (at 0 qs))
 
 abbrev pub all_have_their_texts : ℕ → List Tree → List Tree → Bool
 all_have_their_texts first ps [] = true

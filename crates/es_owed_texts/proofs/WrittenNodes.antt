@@ -40,7 +40,7 @@ pub statement_text : (first : ℕ) (ps : List Tree) (t : Tree) → kind_of t ≡
 statement_text first ps t is = statement_with first 0 ps t (parts_in t) is refl
 
 pub other_text : (first : ℕ) (ps : List Tree) (t : Tree) → (kind_of t ≡ Kind.Literal → ⊥) → (kind_of t ≡ Kind.TemplateElement → ⊥) → (kind_of t ≡ Kind.ExpressionStatement → ⊥) → (kind_of t ≡ Kind.PrivateIdentifier → ⊥)
-    → has_its_text first ps t ≡ (not (has_name (kind_of t) && is_new first (number_in t)) || is_new_name ps (string_of (at 0 (parts_in t))))
+    → has_its_text first ps t ≡ (not (has_name (kind_of t)) || (stands_equal t ps || is_new_name ps (string_of (at 0 (parts_in t)))))
 other_text first ps (Node Kind.Literal n span semantic_id qs) a b c d = absurd (a refl)
 other_text first ps (Node Kind.TemplateElement n span semantic_id qs) a b c d = absurd (b refl)
 other_text first ps (Node Kind.ExpressionStatement n span semantic_id qs) a b c d = absurd (c refl)

@@ -81,7 +81,10 @@ fn has_its_text(first: u32, source: &Written, node: &Node) -> bool
                 source.stands_equal(node)
             }
         }
-        kind => !(has_name(kind) && is_new) || is_new_name(source, string_at(node.parts(), 0)),
+        kind => {
+            !has_name(kind)
+                || (source.stands_equal(node) || is_new_name(source, string_at(node.parts(), 0)))
+        }
     }
 }
 

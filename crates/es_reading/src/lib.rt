@@ -7,7 +7,7 @@ mod kinds;
 mod leaf;
 mod lengths;
 mod literal;
-mod look;
+pub mod look;
 mod members;
 pub mod numbers;
 mod read;

@@ -1,12 +1,13 @@
 -- A node that stands in the source stands for itself.
-use Rattle.std.specs.Prelude.{◌≡◌, ℕ, List, [], ◌∷◌, true, false, ◌&&◌, nat_eq, Option}
+use Rattle.std.specs.Prelude.{◌≡◌, ℕ, zero, suc, List, [], ◌∷◌, true, false, ◌&&◌, nat_eq, Option, Some, None}
 use Rattle.std.proofs.Common.{refl}
 use Rattle.es_base.specs.Numbered.{is_new}
 use Rattle.es_base.specs.Preorder.{number_of}
-use Rattle.es_base.specs.Tree.{Tree, Parts, Node}
+use Rattle.es_base.specs.Tree.{Tree, Part, Parts, Node, end, more, child, absent, list, string, no_string, boolean, literal}
 use Rattle.es_base.specs.declared.kind.Kind.{Kind}
 use Rattle.es_left.proofs.Booleans.{both}
-use Rattle.es_lowered.specs.Carriers.{OddForm, calls_eval, calls_private, deletes_private, deletes_name, takes_odd_parameters, no_odd_form, odd_form, keeps_form, carries, stands_for_node, is_carried}
+use Rattle.es_lowered.specs.Carriers.{OddForm, calls_eval, calls_private, deletes_private, deletes_name, takes_odd_parameters, declares_oddly, no_odd_form, odd_form, keeps_form, carries, stands_for_node, is_carried}
+use Rattle.es_lowered.specs.KeptWords.{same_word, same_words, same_words_but, free_part, same_words_by, keeps_words}
 use Rattle.es_steps.proofs.Reflexive.{number-same, string-same}
 use Rattle.es_steps.specs.Parts.{at, string_of}
 use Rattle.es_steps.specs.References.{is_reference}
@@ -19,11 +20,35 @@ stays calls_private = refl
 stays deletes_private = refl
 stays deletes_name = refl
 stays takes_odd_parameters = refl
+stays declares_oddly = refl
 stays no_odd_form = refl
+
+word-same : (p : Part) → same_word p p ≡ true
+word-same (child t) = refl
+word-same absent = refl
+word-same (list ps) = refl
+word-same (string s) = string-same s
+word-same no_string = refl
+word-same (boolean true) = refl
+word-same (boolean false) = refl
+word-same (literal v) = refl
+
+words-same : (ps : Parts) → same_words ps ps ≡ true
+words-same end = refl
+words-same (more p ps) = both (word-same p) (words-same ps)
+
+others-same : (i : ℕ) (ps : Parts) → same_words_but i ps ps ≡ true
+others-same i end = refl
+others-same zero (more p ps) = words-same ps
+others-same (suc i) (more p ps) = both (word-same p) (others-same i ps)
+
+by-same : (i : Option ℕ) (ps : Parts) → same_words_by i ps ps ≡ true
+by-same None ps = words-same ps
+by-same (Some i) ps = others-same i ps
 
 carries-itself : (kind : Kind) (ps : Parts) → carries kind ps kind ps ≡ true
 carries-itself Kind.IdentifierReference ps = rw (string-same (string_of (at 0 ps))) refl
-carries-itself kind ps = rw (number-same (kind_number kind)) (stays (odd_form kind ps))
+carries-itself kind ps = rw (number-same (kind_number kind), by-same (free_part kind) ps) (stays (odd_form kind ps))
 
 stands-for : (kind : Kind) (n : ℕ) (span : Option (ℕ × ℕ)) (semantic_id : Option ℕ) (ps : Parts) (us : List Tree) → In (Node kind n span semantic_id ps) us → stands_for_node kind n ps us ≡ true
 stands-for kind n span semantic_id ps [] i = elim i [ ]
@@ -35,15 +60,15 @@ stands-for kind n span semantic_id ps (Node other m mspan m_semantic_id qs ∷ u
 pub carried : (first : ℕ) (us : List Tree) (t : Tree) → is_new first (number_of t) ≡ false → In t us → is_carried first us t ≡ true
 carried first us (Node kind n span semantic_id ps) old i = rw old (stands-for kind n span semantic_id ps us i)
 
--- and one of its number and kind that is no reference, whatever its parts are
-alike : (kind : Kind) (ps qs : Parts) → is_reference kind ≡ false → odd_form kind qs ≡ no_odd_form → carries kind ps kind qs ≡ true
-alike kind ps qs e even = rw (e, number-same (kind_number kind), even) refl
+-- and one of its number and kind that is no reference and has its words
+alike : (kind : Kind) (ps qs : Parts) → is_reference kind ≡ false → odd_form kind qs ≡ no_odd_form → keeps_words kind ps qs ≡ true → carries kind ps kind qs ≡ true
+alike kind ps qs e even words = rw (e, number-same (kind_number kind), words, even) refl
 
-stands-alike : (kind : Kind) (n : ℕ) (span : Option (ℕ × ℕ)) (semantic_id : Option ℕ) (ps qs : Parts) (us : List Tree) → is_reference kind ≡ false → odd_form kind qs ≡ no_odd_form → In (Node kind n span semantic_id ps) us → stands_for_node kind n qs us ≡ true
-stands-alike kind n span semantic_id ps qs [] e even i = elim i [ ]
-stands-alike kind n span semantic_id ps qs (u ∷ us) e even here = or_left (nat_eq n n && carries kind ps kind qs) (stands_for_node kind n qs us) (both (number-same n) (alike kind ps qs e even))
-stands-alike kind n span semantic_id ps qs (Node other m mspan m_semantic_id ms ∷ us) e even (later i) =
-    or_right (nat_eq n m && carries other ms kind qs) (stands_for_node kind n qs us) (stands-alike kind n span semantic_id ps qs us e even i)
+stands-alike : (kind : Kind) (n : ℕ) (span : Option (ℕ × ℕ)) (semantic_id : Option ℕ) (ps qs : Parts) (us : List Tree) → is_reference kind ≡ false → odd_form kind qs ≡ no_odd_form → keeps_words kind ps qs ≡ true → In (Node kind n span semantic_id ps) us → stands_for_node kind n qs us ≡ true
+stands-alike kind n span semantic_id ps qs [] e even words i = elim i [ ]
+stands-alike kind n span semantic_id ps qs (u ∷ us) e even words here = or_left (nat_eq n n && carries kind ps kind qs) (stands_for_node kind n qs us) (both (number-same n) (alike kind ps qs e even words))
+stands-alike kind n span semantic_id ps qs (Node other m mspan m_semantic_id ms ∷ us) e even words (later i) =
+    or_right (nat_eq n m && carries other ms kind qs) (stands_for_node kind n qs us) (stands-alike kind n span semantic_id ps qs us e even words i)
 
-pub carried-alike : (first : ℕ) (us : List Tree) (kind : Kind) (n : ℕ) (span : Option (ℕ × ℕ)) (semantic_id : Option ℕ) (ps qs : Parts) → is_reference kind ≡ false → odd_form kind qs ≡ no_odd_form → is_new first n ≡ false → In (Node kind n span semantic_id ps) us → is_carried first us (Node kind n span semantic_id qs) ≡ true
-carried-alike first us kind n span semantic_id ps qs e even old i = rw old (stands-alike kind n span semantic_id ps qs us e even i)
+pub carried-alike : (first : ℕ) (us : List Tree) (kind : Kind) (n : ℕ) (span : Option (ℕ × ℕ)) (semantic_id : Option ℕ) (ps qs : Parts) → is_reference kind ≡ false → odd_form kind qs ≡ no_odd_form → keeps_words kind ps qs ≡ true → is_new first n ≡ false → In (Node kind n span semantic_id ps) us → is_carried first us (Node kind n span semantic_id qs) ≡ true
+carried-alike first us kind n span semantic_id ps qs e even words old i = rw old (stands-alike kind n span semantic_id ps qs us e even words i)

@@ -14,7 +14,7 @@ use Rattle.es_left.proofs.Booleans.{both, none_of}
 use Rattle.es_steps.proofs.Reflexive.{number-same}
 use Rattle.es_steps.specs.Context.{is_constructor}
 use Rattle.es_lowered.specs.Bound.{all_bound}
-use Rattle.es_lowered.specs.Definitions.{FieldDefinition, chosen, element_numbers, body_numbers, elements_kept, call_definition, definition_at, definitions_in, definitions_at, definitions_of, function_definitions, super_definitions, constructor_definitions, all_definitions, instance_definitions, static_definitions, is_instance_method, any_of, defined_fields, class_fits, classes_fit, definitions_stand}
+use Rattle.es_lowered.specs.Definitions.{FieldDefinition, chosen, element_numbers, body_numbers, elements_kept, call_definition, definition_at, definitions_in, definitions_at, definitions_of, function_definitions, super_definitions, constructor_definitions, all_definitions, instance_definitions, static_definitions, is_instance_method, any_of, defined_fields, class_fits, classes_fit, supers_stand, definitions_stand}
 use Rattle.es_lowered.specs.KeptKeys.{keys_that_stay}
 use Rattle.es_lowered.specs.HelperCalls.{is_new_private, kept_keys, all_by, new_private_names, private_keys, kept_keys_converted, is_helper_callee, StaticKey, Naming, naming_in, naming_of_element, is_class_body, field_key, method_keys, field_keys, call_fits, calls_fit, calls_in, calls_at, calls_of, calls_of_body}
 use Rattle.es_steps.specs.KeptNodes.{stands_equal, statement_list, declared_classes, carried_classes, item_number, item_numbers, free_number, free_numbers, is_static_block, free_lists, free_lists_at, free_lists_in, list_of, is_within, all_within, is_free_statement, stays_in_list, free_statements, free_at, free_in, all_homes, lowered_blocks}
@@ -517,7 +517,7 @@ in-turn t e =
     record { once = subst (λ u. EachOnce (numbers u)) (sym e) (numbered-once t); below = subst (λ u. Below (nodes t) (preorder u)) (sym e) (numbered-below (nodes t) 0 t (omega arith)) }
 
 definitions-stand : (o : Options) (p : Tree) → Below (nodes p) (preorder p) → has_lowered_class o p ≡ false → definitions_stand (nodes p) o [] (private_members p) p p ≡ true
-definitions-stand o p below h = both (either (lowers_fields o) refl) (supers-stand (nodes p) o (resolve p) (preorder p))
+definitions-stand o p below h = either (lowers_fields o) refl
   where
     instances : (n : ℕ) → instance_definitions (nodes p) o [] p n ≡ []
     instances n = rw (supers-none (nodes p) o n (preorder p), constructors-none (nodes p) o n p below) refl
@@ -525,9 +525,9 @@ definitions-stand o p below h = both (either (lowers_fields o) refl) (supers-sta
     statics : (n : ℕ) → static_definitions (nodes p) o [] (private_members p) p n ≡ []
     statics n = rw (all_definitions-none (nodes p) o p below) refl
 
-    either : (b : Bool) → lowers_fields o ≡ b → (not b || classes_fit (nodes p) o [] (private_members p) p p (preorder p)) ≡ true
+    either : (b : Bool) → lowers_fields o ≡ b → cond b (classes_fit (nodes p) o [] (private_members p) p p (preorder p) && supers_stand (nodes p) o [] (resolve p) (preorder p)) true ≡ true
     either false f = refl
-    either true f = classes-fit o p p (preorder p) f instances statics h
+    either true f = both (classes-fit o p p (preorder p) f instances statics h) (supers-stand (nodes p) o (resolve p) (preorder p))
 
 keys-stand : (b : Bool) → (not b || true) ≡ true
 keys-stand true = refl
@@ -540,9 +540,9 @@ among-all (n ∷ ns) ks h = both (h n (rw (number-same n) refl)) (among-all ns k
 all-among : (ns : List ℕ) → all_among ns ns ≡ true
 all-among ns = among-all ns ns (λ n h. h)
 
-pub old-characters : (first : ℕ) (is_name : Bool) (n : ℕ) (us : List Tree) (s : List ℕ) → is_new first n ≡ false → has_characters is_name first n us s ≡ true
-old-characters first true n us s e = rw e refl
-old-characters first false n us s e = refl
+pub old-characters : (is_name : Bool) (t : Tree) (us : List Tree) (s : List ℕ) → In t us → has_characters is_name us t s ≡ true
+old-characters true t us s i = rw (stands-equal t us i) refl
+old-characters false t us s i = refl
 
 -- each literal has its text
 old-text : (first : ℕ) (t : Tree) (us : List Tree) → number_of t < first → In t us → has_its_text first us t ≡ true
@@ -550,7 +550,7 @@ old-text first (Node Kind.Literal n span semantic_id qs) us l i = rw (lt-leb fir
 old-text first (Node Kind.TemplateElement n span semantic_id qs) us l i = rw (lt-leb first n l) (stands-equal (Node Kind.TemplateElement n span semantic_id qs) us i)
 old-text first (Node Kind.ExpressionStatement n span semantic_id (more e (more (string s) end))) us l i = or_right (is_new first n) (stands_equal (Node Kind.ExpressionStatement n span semantic_id (more e (more (string s) end))) us) (stands-equal (Node Kind.ExpressionStatement n span semantic_id (more e (more (string s) end))) us i)
 old-text first (Node Kind.PrivateIdentifier n span semantic_id qs) us l i = rw (lt-leb first n l) (stands-equal (Node Kind.PrivateIdentifier n span semantic_id qs) us i)
-old-text first (Node kind n span semantic_id qs) us l i = old-characters first (has_name kind) n us (string_of (at 0 qs)) (lt-leb first n l)
+old-text first (Node kind n span semantic_id qs) us l i = old-characters (has_name kind) (Node kind n span semantic_id qs) us (string_of (at 0 qs)) i
 
 old-texts : (first : ℕ) (ts us : List Tree) → Below first ts → Among ts us → all_have_their_texts first us ts ≡ true
 old-texts first [] us b h = refl
