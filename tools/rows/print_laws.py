@@ -261,6 +261,24 @@ NOT_MET = {
     'handler_exchanged_behind_an_error': CARRIERS,
     'heads_exchanged_behind_an_error': CARRIERS,
     'rests_exchanged_behind_an_error': CARRIERS,
+    'awaiting_loop_behind_an_error': CARRIERS,
+    'delegation_behind_an_error': CARRIERS,
+    'handler_dropped_behind_an_error': CARRIERS,
+    'test_dropped_behind_an_error': CARRIERS,
+    'label_word_behind_an_error': CARRIERS,
+    'import_meta_behind_an_error': CARRIERS,
+    'initialized_head_behind_an_error': CARRIERS,
+    'names_of_a_head_behind_an_error': CARRIERS,
+    'prototype_key_behind_an_error': CARRIERS,
+    'computed_key_behind_an_error': CARRIERS,
+    'awaiting_loop_out_of_its_function': CARRIERS,
+    'map_without_class_properties': DEFINED,
+    'await_in_parameters': CARRIERS,
+    'arguments_in_a_field': REFERENCES,
+    'undeclared_private_name': REFERENCES,
+    'super_function_without_fields': DEFINED,
+    'closure_called_twice': STEADY,
+    'name_of_another_character': TEXTS,
     'yield_in_another_function': CARRIERS,
     'conversion_of_a_name_with_the_number_of_a_key': CALLS,
     'conversion_of_a_name_of_that_spelling': CALLS,
@@ -273,7 +291,7 @@ NOT_MET = {
     'delete_of_a_name_behind_a_throw': CARRIERS,
 }
 # of those that the clause on definitions finds: whose meaning is that of the source
-MEANT = ('call_in_a_super_function_that_nothing_calls', 'super_function_of_a_static_block')
+MEANT = ('call_in_a_super_function_that_nothing_calls', 'super_function_of_a_static_block', 'map_without_class_properties', 'super_function_without_fields')
 # the shapes of the two programs
 SHAPES = {'regular_expression_before_a_heritage': ('1 ∷ []', '[]'), 'changing_key_before_a_regular_expression': ('4 ∷ []', '[]'), 'block_beside_a_field_outside': ('3 ∷ []', '[]'), 'loose_member_read_once': ('[]', '4 ∷ []'), 'super_key_that_stays': ('[]', '4 ∷ []'), 'suspended_class_written': ('6 ∷ []', '[]'), 'imported_object': ('4 ∷ []', '[]'), 'imported_key': ('4 ∷ []', '[]'), 'imported_key_of_a_method': ('4 ∷ []', '[]'), 'key_that_a_function_in_a_block_gives': ('4 ∷ []', '[]'), 'caught_key': ('4 ∷ []', '[]'), 'key_that_a_branch_gives': ('4 ∷ []', '[]'), 'key_that_a_catch_gives': ('4 ∷ []', '[]'), 'imported_key_behind_a_block': ('4 ∷ []', '[]'), 'changing_key_behind_a_block': ('4 ∷ []', '[]'), 'key_that_is_arguments': ('4 ∷ []', '[]'), 'key_that_is_a_parameter_arguments': ('4 ∷ []', '[]')}
 # outputs that mean what their sources mean

@@ -9,7 +9,7 @@ use Rattle.es_base.specs.declared.ledger.GeneratedKind.{GeneratedKind}
 use Rattle.es_base.specs.declared.ledger.LedgerEntry.{LedgerEntry}
 use Rattle.es_base.specs.declared.literal.LiteralValue.TheVariants as literal_value
 use Rattle.es_steps.specs.Context.{generated_as, is_function}
-use Rattle.es_lowered.specs.Definitions.{DefinedKey, BrandKey, PrivateKey, PublicKey, FieldDefinition, definition, spelling, helper_definition, property_value, writable_part, field_part, loose_by, object_definition, call_definition, static_by, static_definition, set_definition, is_assignment, is_super_of, given_to, given_part, definition_at, is_given_super, definitions_in, definitions_at, definitions_of, function_definitions, super_definitions, constructor_definitions, all_definitions, is_new_this, on_this, instance_definitions, identifier_in, is_class_number, declares_class, class_identifiers, is_class_temporary, is_bound_among, names_class, is_member_of, is_static_member, key_is_static, is_static_of, statics_of, static_definitions, is_member_name, is_temporary, is_member_key, referent_at, is_property_name, same_referent, is_name_part, Names, is_computed_key, is_key_of, key_fits, is_void_zero, nodes_in, number_stands, is_followed, value_fits, all_fit, is_brand_of, is_brand_key, branded_fit, is_instance_method, any_of, chosen, defined_fields, names_of, class_fits, classes_fit, definitions_stand, key_temporary, key_temporaries, class_temporaries, with_class, all_temporaries, element_numbers, body_numbers, elements_kept, is_super_name, any_reads, any_definition, is_construction, are_constructions, is_plain_super, super_stands, supers_stand, names_no_super}
+use Rattle.es_lowered.specs.Definitions.{DefinedKey, BrandKey, PrivateKey, PublicKey, FieldDefinition, definition, spelling, helper_definition, property_value, writable_part, field_part, loose_by, object_definition, call_definition, static_by, static_definition, set_definition, is_assignment, is_super_of, given_to, given_part, definition_at, is_given_super, definitions_in, definitions_at, definitions_of, function_definitions, super_definitions, constructor_definitions, all_definitions, is_new_this, on_this, instance_definitions, identifier_in, is_class_number, declares_class, class_identifiers, is_class_temporary, is_bound_among, names_class, is_member_of, is_static_member, key_is_static, is_static_of, statics_of, static_definitions, is_member_name, is_temporary, is_member_key, referent_at, is_property_name, same_referent, is_name_part, Names, is_computed_key, is_key_of, key_fits, is_void_zero, nodes_in, number_stands, is_followed, value_fits, all_fit, is_brand_of, is_brand_key, branded_fit, is_instance_method, any_of, chosen, defined_fields, names_of, class_fits, classes_fit, definitions_stand, key_temporary, key_temporaries, class_temporaries, with_class, all_temporaries, element_numbers, body_numbers, elements_kept, is_super_name, any_reads, any_definition, is_construction, are_constructions, is_plain_super, super_stands, supers_stand, is_of_members, none_of_members}
 use Rattle.es_steps.specs.KeptNodes.{is_within}
 use Rattle.es_steps.specs.LoweredClasses.{Element, elements_of, is_left_out, is_lowered_element, constructor_in, referent_of}
 use Rattle.es_steps.specs.Options.{lowers_fields, sets_fields}
@@ -426,9 +426,13 @@ module _ {first : ℕ} {f : ℕ → ℕ} (r : Renames first f) where
     supers_stand-mapped rs [] = refl
     supers_stand-mapped rs (Node kind m span semantic_id ps ∷ ts) = ap₂ (λ a b. a && b) (super_stands-mapped rs kind ps) (supers_stand-mapped rs ts)
 
-  names_no_super-mapped : (ledger : List LedgerEntry) → names_no_super (mapped_ledger f ledger) ≡ names_no_super ledger
-  names_no_super-mapped [] = refl
-  names_no_super-mapped (e ∷ es) = ap₂ (λ a b. not a && b) (is_super_name-mapped (Some e.kind)) (names_no_super-mapped es)
+  is_of_members-mapped : (g : GeneratedKind) → is_of_members (mapped_generated f g) ≡ is_of_members g
+  is_of_members-mapped GeneratedKind.Temp = refl
+  is_of_members-mapped _ = refl
+
+  none_of_members-mapped : (ledger : List LedgerEntry) → none_of_members (mapped_ledger f ledger) ≡ none_of_members ledger
+  none_of_members-mapped [] = refl
+  none_of_members-mapped (e ∷ es) = ap₂ (λ a b. not a && b) (is_of_members-mapped e.kind) (none_of_members-mapped es)
 
   pub definitions_stand-mapped : (o : Options) (ledger : List LedgerEntry) (members : List PrivateMember) (p q : Tree) → definitions_stand first o (mapped_ledger f ledger) (mapped_privates f members) (mapped f p) (mapped f q) ≡ definitions_stand first o ledger members p q
   definitions_stand-mapped o ledger members p q =
@@ -436,7 +440,7 @@ module _ {first : ℕ} {f : ℕ → ℕ} (r : Renames first f) where
       (ap₂ (λ a b. a && b)
       (ap (classes_fit first o (mapped_ledger f ledger) (mapped_privates f members) (mapped f p) (mapped f q)) (preorder-mapped f p) ∙ classes_fit-mapped o ledger members p q (preorder p))
       (ap₂ (supers_stand first o (mapped_ledger f ledger)) (resolve-mapped f q) (preorder-mapped f q) ∙ supers_stand-mapped o ledger (resolve q) (preorder q)))
-      (names_no_super-mapped ledger)
+      (none_of_members-mapped ledger)
 
   -- ---- temporaries of keys
 

@@ -393,14 +393,24 @@ module _ (first : ℕ) (o : Options) (ledger : List LedgerEntry) where
   supers_stand rs [] = true
   supers_stand rs (Node kind m span semantic_id ps ∷ ts) = super_stands rs kind ps && supers_stand rs ts
 
--- nothing but fields needs what stands for `super(..)`
-abbrev pub names_no_super : List LedgerEntry → Bool
-names_no_super [] = true
-names_no_super (e ∷ es) = not (is_super_name (Some e.kind)) && names_no_super es
+-- the names that fields and private members need, which stay in their classes without class properties
+abbrev pub is_of_members : GeneratedKind → Bool
+is_of_members (GeneratedKind.WeakMap n) = true
+is_of_members (GeneratedKind.StaticField n) = true
+is_of_members (GeneratedKind.Brand n) = true
+is_of_members (GeneratedKind.Method n) = true
+is_of_members (GeneratedKind.LooseKey n) = true
+is_of_members (GeneratedKind.SuperFn n) = true
+is_of_members GeneratedKind.Args = true
+is_of_members g = false
+
+abbrev pub none_of_members : List LedgerEntry → Bool
+none_of_members [] = true
+none_of_members (e ∷ es) = not (is_of_members e.kind) && none_of_members es
 
 -- fields are defined with class properties on
 abbrev pub definitions_stand : ℕ → Options → List LedgerEntry → List PrivateMember → Tree → Tree → Bool
-definitions_stand first o ledger members p q = cond (lowers_fields o) (classes_fit first o ledger members p q (preorder p) && supers_stand first o ledger (resolve q) (preorder q)) (names_no_super ledger)
+definitions_stand first o ledger members p q = cond (lowers_fields o) (classes_fit first o ledger members p q (preorder p) && supers_stand first o ledger (resolve q) (preorder q)) (none_of_members ledger)
 
 -- ---- the keys that are temporaries: no two fields have one, and each is given before its class
 

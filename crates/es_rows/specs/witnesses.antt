@@ -3,6 +3,7 @@ pub mod AnotherLiteralBehindParameters
 pub mod AnotherLiteralOfAWrittenClass
 pub mod ArgumentInFrontOfItsClass
 pub mod ArgumentsBehindAWrite
+pub mod ArgumentsInAField
 pub mod ArgumentsInAStaticBlock
 pub mod ArgumentsOfABlock
 pub mod ArgumentsOfAFunctionAround
@@ -24,6 +25,9 @@ pub mod AwaitInAFunctionThatNothingCalls
 pub mod AwaitInAStaticBlock
 pub mod AwaitInAStaticElement
 pub mod AwaitInAnAsyncFunction
+pub mod AwaitInParameters
+pub mod AwaitingLoopBehindAnError
+pub mod AwaitingLoopOutOfItsFunction
 pub mod BindingInATemporary
 pub mod BindingNotRenamed
 pub mod BlockBehindAKeptField
@@ -80,10 +84,12 @@ pub mod ClassThatSuspends
 pub mod ClassesThatSuspend
 pub mod ClosureBeforeItsClass
 pub mod ClosureCalledInAKey
+pub mod ClosureCalledTwice
 pub mod ClosureGivenBehindItsCall
 pub mod ClosureGivenInEachRound
 pub mod ClosureWithTheNameOfAKey
 pub mod CompoundAssignment
+pub mod ComputedKeyBehindAnError
 pub mod ConstBesideAwaitInAnArrow
 pub mod ConstWithoutAValue
 pub mod ConstantTemporary
@@ -116,6 +122,7 @@ pub mod DefaultFunction
 pub mod DefaultFunctionExpression
 pub mod DefaultsExchangedBehindAnError
 pub mod DefinitionsNested
+pub mod DelegationBehindAnError
 pub mod DeleteOfAName
 pub mod DeleteOfANameBehindAThrow
 pub mod DeleteOfAPrivateProperty
@@ -156,18 +163,21 @@ pub mod GetterBehindAnError
 pub mod GetterMadeAMethod
 pub mod GetterOrMethod
 pub mod GlobalRenamed
+pub mod HandlerDroppedBehindAnError
 pub mod HandlerExchangedBehindAnError
 pub mod HeadsExchangedBehindAnError
 pub mod HeritageReadLate
 pub mod HexadecimalBigint
 pub mod HiddenBody
 pub mod HoleInAPattern
+pub mod ImportMetaBehindAnError
 pub mod ImportReadEarly
 pub mod ImportedKey
 pub mod ImportedKeyBehindABlock
 pub mod ImportedKeyOfAMethod
 pub mod ImportedObject
 pub mod ImportsExchanged
+pub mod InitializedHeadBehindAnError
 pub mod InnerNameOfAWrittenClass
 pub mod KeyGivenAgain
 pub mod KeyGivenBehindTheFields
@@ -188,6 +198,7 @@ pub mod KeyThatIsAParameterArguments
 pub mod KeyThatIsArguments
 pub mod LabelBehindAnError
 pub mod LabelTwice
+pub mod LabelWordBehindAnError
 pub mod LabelledFunctionInABlock
 pub mod LetBehindACall
 pub mod LetBehindAConstructor
@@ -216,6 +227,7 @@ pub mod MapMadeInEachRound
 pub mod MapOfAFunctionExpression
 pub mod MapOutsideOfACalledFunction
 pub mod MapOutsideOfAPrivateMethod
+pub mod MapWithoutClassProperties
 pub mod MapsInLooseMode
 pub mod MemberOfAnObject
 pub mod MethodAssignedInAnotherFunction
@@ -227,6 +239,7 @@ pub mod NameGivenInAClosure
 pub mod NameInAStaticBlock
 pub mod NameOfAClassWithABlock
 pub mod NameOfANamedClass
+pub mod NameOfAnotherCharacter
 pub mod NameOfNoMember
 pub mod NameThatBeginsAsNone
 pub mod NameTwice
@@ -234,6 +247,7 @@ pub mod NameWithoutASign
 pub mod NamedValue
 pub mod NamelessClassThatSuspends
 pub mod NamesOfAConstructor
+pub mod NamesOfAHeadBehindAnError
 pub mod NestedClasses
 pub mod NewImport
 pub mod NewTargetOfAProgram
@@ -279,6 +293,7 @@ pub mod PrivateNameOfAnotherMember
 pub mod PrivateNameOfTheOuterClass
 pub mod PrivateNameTwice
 pub mod PropertyWithTheNumberOfABlock
+pub mod PrototypeKeyBehindAnError
 pub mod PrototypesBehindAnError
 pub mod PrototypesExchangedBehindAnError
 pub mod QuestionForAGeneratedElement
@@ -331,6 +346,7 @@ pub mod SuperFunctionCalledWithAnother
 pub mod SuperFunctionOfAStaticBlock
 pub mod SuperFunctionOutsideOfAFunction
 pub mod SuperFunctionThatNothingCallsOutside
+pub mod SuperFunctionWithoutFields
 pub mod SuperGivesZero
 pub mod SuperInAFunctionThatNothingCalls
 pub mod SuperKeyThatStays
@@ -349,6 +365,7 @@ pub mod TemporaryNeverGiven
 pub mod TemporaryOfAHoistedFunction
 pub mod TemporaryOfTheProgram
 pub mod TemporaryOfTheRoundBefore
+pub mod TestDroppedBehindAnError
 pub mod TestOfAnotherObject
 pub mod TestOfOneNull
 pub mod TestedName
@@ -362,6 +379,7 @@ pub mod TypeofOfAName
 pub mod UnconvertedKeptKey
 pub mod UnconvertedNameOfAClass
 pub mod UncookedTemplate
+pub mod UndeclaredPrivateName
 pub mod UntestedNameOfAClass
 pub mod ValueAsAKey
 pub mod ValueInFrontOfItsClass

@@ -109,6 +109,7 @@ ghost use Rattle.es_rows.specs.witnesses.AnotherLiteralBehindParameters.{source_
 ghost use Rattle.es_rows.specs.witnesses.AnotherLiteralOfAWrittenClass.{source_another_literal_of_a_written_class, output_another_literal_of_a_written_class, generated_another_literal_of_a_written_class, options_another_literal_of_a_written_class};
 ghost use Rattle.es_rows.specs.witnesses.ArgumentInFrontOfItsClass.{source_argument_in_front_of_its_class, output_argument_in_front_of_its_class, generated_argument_in_front_of_its_class, options_argument_in_front_of_its_class};
 ghost use Rattle.es_rows.specs.witnesses.ArgumentsBehindAWrite.{first_arguments_behind_a_write, second_arguments_behind_a_write, options_arguments_behind_a_write};
+ghost use Rattle.es_rows.specs.witnesses.ArgumentsInAField.{source_arguments_in_a_field, output_arguments_in_a_field, generated_arguments_in_a_field, options_arguments_in_a_field};
 ghost use Rattle.es_rows.specs.witnesses.ArgumentsInAStaticBlock.{source_arguments_in_a_static_block, output_arguments_in_a_static_block, generated_arguments_in_a_static_block, options_arguments_in_a_static_block};
 ghost use Rattle.es_rows.specs.witnesses.ArgumentsOfABlock.{first_arguments_of_a_block, second_arguments_of_a_block, options_arguments_of_a_block};
 ghost use Rattle.es_rows.specs.witnesses.ArgumentsOfAFunctionAround.{source_arguments_of_a_function_around, output_arguments_of_a_function_around, generated_arguments_of_a_function_around, options_arguments_of_a_function_around};
@@ -129,6 +130,9 @@ ghost use Rattle.es_rows.specs.witnesses.AwaitInAFunctionThatNothingCalls.{sourc
 ghost use Rattle.es_rows.specs.witnesses.AwaitInAStaticBlock.{source_await_in_a_static_block, output_await_in_a_static_block, generated_await_in_a_static_block, options_await_in_a_static_block};
 ghost use Rattle.es_rows.specs.witnesses.AwaitInAStaticElement.{source_await_in_a_static_element, output_await_in_a_static_element, generated_await_in_a_static_element, options_await_in_a_static_element};
 ghost use Rattle.es_rows.specs.witnesses.AwaitInAnAsyncFunction.{source_await_in_an_async_function, output_await_in_an_async_function, generated_await_in_an_async_function, options_await_in_an_async_function};
+ghost use Rattle.es_rows.specs.witnesses.AwaitInParameters.{source_await_in_parameters, output_await_in_parameters, generated_await_in_parameters, options_await_in_parameters};
+ghost use Rattle.es_rows.specs.witnesses.AwaitingLoopBehindAnError.{source_awaiting_loop_behind_an_error, output_awaiting_loop_behind_an_error, generated_awaiting_loop_behind_an_error, options_awaiting_loop_behind_an_error};
+ghost use Rattle.es_rows.specs.witnesses.AwaitingLoopOutOfItsFunction.{source_awaiting_loop_out_of_its_function, output_awaiting_loop_out_of_its_function, generated_awaiting_loop_out_of_its_function, options_awaiting_loop_out_of_its_function};
 ghost use Rattle.es_rows.specs.witnesses.BindingInATemporary.{source_binding_in_a_temporary, output_binding_in_a_temporary, generated_binding_in_a_temporary, options_binding_in_a_temporary};
 ghost use Rattle.es_rows.specs.witnesses.BindingNotRenamed.{source_binding_not_renamed, output_binding_not_renamed, generated_binding_not_renamed, options_binding_not_renamed};
 ghost use Rattle.es_rows.specs.witnesses.BlockBehindAKeptField.{source_block_behind_a_kept_field, output_block_behind_a_kept_field, generated_block_behind_a_kept_field, options_block_behind_a_kept_field};
@@ -185,9 +189,11 @@ ghost use Rattle.es_rows.specs.witnesses.ClassThatSuspends.{source_class_that_su
 ghost use Rattle.es_rows.specs.witnesses.ClassesThatSuspend.{source_classes_that_suspend, output_classes_that_suspend, generated_classes_that_suspend, options_classes_that_suspend};
 ghost use Rattle.es_rows.specs.witnesses.ClosureBeforeItsClass.{source_closure_before_its_class, output_closure_before_its_class, generated_closure_before_its_class, options_closure_before_its_class};
 ghost use Rattle.es_rows.specs.witnesses.ClosureCalledInAKey.{source_closure_called_in_a_key, output_closure_called_in_a_key, generated_closure_called_in_a_key, options_closure_called_in_a_key};
+ghost use Rattle.es_rows.specs.witnesses.ClosureCalledTwice.{source_closure_called_twice, output_closure_called_twice, generated_closure_called_twice, options_closure_called_twice};
 ghost use Rattle.es_rows.specs.witnesses.ClosureGivenBehindItsCall.{source_closure_given_behind_its_call, output_closure_given_behind_its_call, generated_closure_given_behind_its_call, options_closure_given_behind_its_call};
 ghost use Rattle.es_rows.specs.witnesses.ClosureGivenInEachRound.{source_closure_given_in_each_round, output_closure_given_in_each_round, generated_closure_given_in_each_round, options_closure_given_in_each_round};
 ghost use Rattle.es_rows.specs.witnesses.ClosureWithTheNameOfAKey.{source_closure_with_the_name_of_a_key, output_closure_with_the_name_of_a_key, generated_closure_with_the_name_of_a_key, options_closure_with_the_name_of_a_key};
+ghost use Rattle.es_rows.specs.witnesses.ComputedKeyBehindAnError.{source_computed_key_behind_an_error, output_computed_key_behind_an_error, generated_computed_key_behind_an_error, options_computed_key_behind_an_error};
 ghost use Rattle.es_rows.specs.witnesses.ConstBesideAwaitInAnArrow.{source_const_beside_await_in_an_arrow, output_const_beside_await_in_an_arrow, generated_const_beside_await_in_an_arrow, options_const_beside_await_in_an_arrow};
 ghost use Rattle.es_rows.specs.witnesses.ConstWithoutAValue.{source_const_without_a_value, output_const_without_a_value, generated_const_without_a_value, options_const_without_a_value};
 ghost use Rattle.es_rows.specs.witnesses.ConstantTemporary.{source_constant_temporary, output_constant_temporary, generated_constant_temporary, options_constant_temporary};
@@ -220,6 +226,7 @@ ghost use Rattle.es_rows.specs.witnesses.DefaultFunction.{first_default_function
 ghost use Rattle.es_rows.specs.witnesses.DefaultFunctionExpression.{source_default_function_expression, output_default_function_expression, generated_default_function_expression, options_default_function_expression};
 ghost use Rattle.es_rows.specs.witnesses.DefaultsExchangedBehindAnError.{source_defaults_exchanged_behind_an_error, output_defaults_exchanged_behind_an_error, generated_defaults_exchanged_behind_an_error, options_defaults_exchanged_behind_an_error};
 ghost use Rattle.es_rows.specs.witnesses.DefinitionsNested.{source_definitions_nested, output_definitions_nested, generated_definitions_nested, options_definitions_nested};
+ghost use Rattle.es_rows.specs.witnesses.DelegationBehindAnError.{source_delegation_behind_an_error, output_delegation_behind_an_error, generated_delegation_behind_an_error, options_delegation_behind_an_error};
 ghost use Rattle.es_rows.specs.witnesses.DeleteOfAName.{first_delete_of_a_name, second_delete_of_a_name, options_delete_of_a_name};
 ghost use Rattle.es_rows.specs.witnesses.DeleteOfANameBehindAThrow.{source_delete_of_a_name_behind_a_throw, output_delete_of_a_name_behind_a_throw, generated_delete_of_a_name_behind_a_throw, options_delete_of_a_name_behind_a_throw};
 ghost use Rattle.es_rows.specs.witnesses.DeleteOfAPrivateProperty.{source_delete_of_a_private_property, output_delete_of_a_private_property, generated_delete_of_a_private_property, options_delete_of_a_private_property};
@@ -259,18 +266,21 @@ ghost use Rattle.es_rows.specs.witnesses.GetterBehindAnError.{source_getter_behi
 ghost use Rattle.es_rows.specs.witnesses.GetterMadeAMethod.{source_getter_made_a_method, output_getter_made_a_method, generated_getter_made_a_method, options_getter_made_a_method};
 ghost use Rattle.es_rows.specs.witnesses.GetterOrMethod.{first_getter_or_method, second_getter_or_method, options_getter_or_method};
 ghost use Rattle.es_rows.specs.witnesses.GlobalRenamed.{first_global_renamed, second_global_renamed, options_global_renamed};
+ghost use Rattle.es_rows.specs.witnesses.HandlerDroppedBehindAnError.{source_handler_dropped_behind_an_error, output_handler_dropped_behind_an_error, generated_handler_dropped_behind_an_error, options_handler_dropped_behind_an_error};
 ghost use Rattle.es_rows.specs.witnesses.HandlerExchangedBehindAnError.{source_handler_exchanged_behind_an_error, output_handler_exchanged_behind_an_error, generated_handler_exchanged_behind_an_error, options_handler_exchanged_behind_an_error};
 ghost use Rattle.es_rows.specs.witnesses.HeadsExchangedBehindAnError.{source_heads_exchanged_behind_an_error, output_heads_exchanged_behind_an_error, generated_heads_exchanged_behind_an_error, options_heads_exchanged_behind_an_error};
 ghost use Rattle.es_rows.specs.witnesses.HeritageReadLate.{source_heritage_read_late, output_heritage_read_late, generated_heritage_read_late, options_heritage_read_late};
 ghost use Rattle.es_rows.specs.witnesses.HexadecimalBigint.{source_hexadecimal_bigint, output_hexadecimal_bigint, generated_hexadecimal_bigint, options_hexadecimal_bigint};
 ghost use Rattle.es_rows.specs.witnesses.HiddenBody.{source_hidden_body, output_hidden_body, generated_hidden_body, options_hidden_body};
 ghost use Rattle.es_rows.specs.witnesses.HoleInAPattern.{first_hole_in_a_pattern, second_hole_in_a_pattern, options_hole_in_a_pattern};
+ghost use Rattle.es_rows.specs.witnesses.ImportMetaBehindAnError.{source_import_meta_behind_an_error, output_import_meta_behind_an_error, generated_import_meta_behind_an_error, options_import_meta_behind_an_error};
 ghost use Rattle.es_rows.specs.witnesses.ImportReadEarly.{source_import_read_early, output_import_read_early, generated_import_read_early, options_import_read_early};
 ghost use Rattle.es_rows.specs.witnesses.ImportedKey.{first_imported_key, second_imported_key, options_imported_key};
 ghost use Rattle.es_rows.specs.witnesses.ImportedKeyBehindABlock.{first_imported_key_behind_a_block, second_imported_key_behind_a_block, options_imported_key_behind_a_block};
 ghost use Rattle.es_rows.specs.witnesses.ImportedKeyOfAMethod.{first_imported_key_of_a_method, second_imported_key_of_a_method, options_imported_key_of_a_method};
 ghost use Rattle.es_rows.specs.witnesses.ImportedObject.{first_imported_object, second_imported_object, options_imported_object};
 ghost use Rattle.es_rows.specs.witnesses.ImportsExchanged.{first_imports_exchanged, second_imports_exchanged, options_imports_exchanged};
+ghost use Rattle.es_rows.specs.witnesses.InitializedHeadBehindAnError.{source_initialized_head_behind_an_error, output_initialized_head_behind_an_error, generated_initialized_head_behind_an_error, options_initialized_head_behind_an_error};
 ghost use Rattle.es_rows.specs.witnesses.InnerNameOfAWrittenClass.{first_inner_name_of_a_written_class, second_inner_name_of_a_written_class, options_inner_name_of_a_written_class};
 ghost use Rattle.es_rows.specs.witnesses.KeyGivenAgain.{source_key_given_again, output_key_given_again, generated_key_given_again, options_key_given_again};
 ghost use Rattle.es_rows.specs.witnesses.KeyGivenBehindTheFields.{source_key_given_behind_the_fields, output_key_given_behind_the_fields, generated_key_given_behind_the_fields, options_key_given_behind_the_fields};
@@ -291,6 +301,7 @@ ghost use Rattle.es_rows.specs.witnesses.KeyThatIsAParameterArguments.{first_key
 ghost use Rattle.es_rows.specs.witnesses.KeyThatIsArguments.{first_key_that_is_arguments, second_key_that_is_arguments, options_key_that_is_arguments};
 ghost use Rattle.es_rows.specs.witnesses.LabelBehindAnError.{source_label_behind_an_error, output_label_behind_an_error, generated_label_behind_an_error, options_label_behind_an_error};
 ghost use Rattle.es_rows.specs.witnesses.LabelTwice.{source_label_twice, output_label_twice, generated_label_twice, options_label_twice};
+ghost use Rattle.es_rows.specs.witnesses.LabelWordBehindAnError.{source_label_word_behind_an_error, output_label_word_behind_an_error, generated_label_word_behind_an_error, options_label_word_behind_an_error};
 ghost use Rattle.es_rows.specs.witnesses.LabelledFunctionInABlock.{first_labelled_function_in_a_block, second_labelled_function_in_a_block, options_labelled_function_in_a_block};
 ghost use Rattle.es_rows.specs.witnesses.LetBehindACall.{source_let_behind_a_call, output_let_behind_a_call, generated_let_behind_a_call, options_let_behind_a_call};
 ghost use Rattle.es_rows.specs.witnesses.LetBehindAConstructor.{source_let_behind_a_constructor, output_let_behind_a_constructor, generated_let_behind_a_constructor, options_let_behind_a_constructor};
@@ -319,6 +330,7 @@ ghost use Rattle.es_rows.specs.witnesses.MapMadeInEachRound.{source_map_made_in_
 ghost use Rattle.es_rows.specs.witnesses.MapOfAFunctionExpression.{source_map_of_a_function_expression, output_map_of_a_function_expression, generated_map_of_a_function_expression, options_map_of_a_function_expression};
 ghost use Rattle.es_rows.specs.witnesses.MapOutsideOfACalledFunction.{source_map_outside_of_a_called_function, output_map_outside_of_a_called_function, generated_map_outside_of_a_called_function, options_map_outside_of_a_called_function};
 ghost use Rattle.es_rows.specs.witnesses.MapOutsideOfAPrivateMethod.{source_map_outside_of_a_private_method, output_map_outside_of_a_private_method, generated_map_outside_of_a_private_method, options_map_outside_of_a_private_method};
+ghost use Rattle.es_rows.specs.witnesses.MapWithoutClassProperties.{source_map_without_class_properties, output_map_without_class_properties, generated_map_without_class_properties, options_map_without_class_properties};
 ghost use Rattle.es_rows.specs.witnesses.MapsInLooseMode.{source_maps_in_loose_mode, output_maps_in_loose_mode, generated_maps_in_loose_mode, options_maps_in_loose_mode};
 ghost use Rattle.es_rows.specs.witnesses.MemberOfAnObject.{source_member_of_an_object, output_member_of_an_object, generated_member_of_an_object, options_member_of_an_object};
 ghost use Rattle.es_rows.specs.witnesses.MethodAssignedInAnotherFunction.{source_method_assigned_in_another_function, output_method_assigned_in_another_function, generated_method_assigned_in_another_function, options_method_assigned_in_another_function};
@@ -330,6 +342,7 @@ ghost use Rattle.es_rows.specs.witnesses.NameGivenInAClosure.{source_name_given_
 ghost use Rattle.es_rows.specs.witnesses.NameInAStaticBlock.{source_name_in_a_static_block, output_name_in_a_static_block, generated_name_in_a_static_block, options_name_in_a_static_block};
 ghost use Rattle.es_rows.specs.witnesses.NameOfAClassWithABlock.{source_name_of_a_class_with_a_block, output_name_of_a_class_with_a_block, generated_name_of_a_class_with_a_block, options_name_of_a_class_with_a_block};
 ghost use Rattle.es_rows.specs.witnesses.NameOfANamedClass.{source_name_of_a_named_class, output_name_of_a_named_class, generated_name_of_a_named_class, options_name_of_a_named_class};
+ghost use Rattle.es_rows.specs.witnesses.NameOfAnotherCharacter.{source_name_of_another_character, output_name_of_another_character, generated_name_of_another_character, options_name_of_another_character};
 ghost use Rattle.es_rows.specs.witnesses.NameOfNoMember.{source_name_of_no_member, output_name_of_no_member, generated_name_of_no_member, options_name_of_no_member};
 ghost use Rattle.es_rows.specs.witnesses.NameThatBeginsAsNone.{source_name_that_begins_as_none, output_name_that_begins_as_none, generated_name_that_begins_as_none, options_name_that_begins_as_none};
 ghost use Rattle.es_rows.specs.witnesses.NameTwice.{source_name_twice, output_name_twice, generated_name_twice, options_name_twice};
@@ -337,6 +350,7 @@ ghost use Rattle.es_rows.specs.witnesses.NameWithoutASign.{source_name_without_a
 ghost use Rattle.es_rows.specs.witnesses.NamedValue.{source_named_value, output_named_value, generated_named_value, options_named_value};
 ghost use Rattle.es_rows.specs.witnesses.NamelessClassThatSuspends.{source_nameless_class_that_suspends, output_nameless_class_that_suspends, generated_nameless_class_that_suspends, options_nameless_class_that_suspends};
 ghost use Rattle.es_rows.specs.witnesses.NamesOfAConstructor.{source_names_of_a_constructor, output_names_of_a_constructor, generated_names_of_a_constructor, options_names_of_a_constructor};
+ghost use Rattle.es_rows.specs.witnesses.NamesOfAHeadBehindAnError.{source_names_of_a_head_behind_an_error, output_names_of_a_head_behind_an_error, generated_names_of_a_head_behind_an_error, options_names_of_a_head_behind_an_error};
 ghost use Rattle.es_rows.specs.witnesses.NewImport.{source_new_import, output_new_import, generated_new_import, options_new_import};
 ghost use Rattle.es_rows.specs.witnesses.NewTargetOfAProgram.{source_new_target_of_a_program, output_new_target_of_a_program, generated_new_target_of_a_program, options_new_target_of_a_program};
 ghost use Rattle.es_rows.specs.witnesses.NewTargetOutside.{source_new_target_outside, output_new_target_outside, generated_new_target_outside, options_new_target_outside};
@@ -381,6 +395,7 @@ ghost use Rattle.es_rows.specs.witnesses.PrivateNameOfAnotherMember.{source_priv
 ghost use Rattle.es_rows.specs.witnesses.PrivateNameOfTheOuterClass.{source_private_name_of_the_outer_class, output_private_name_of_the_outer_class, generated_private_name_of_the_outer_class, options_private_name_of_the_outer_class};
 ghost use Rattle.es_rows.specs.witnesses.PrivateNameTwice.{source_private_name_twice, output_private_name_twice, generated_private_name_twice, options_private_name_twice};
 ghost use Rattle.es_rows.specs.witnesses.PropertyWithTheNumberOfABlock.{source_property_with_the_number_of_a_block, output_property_with_the_number_of_a_block, generated_property_with_the_number_of_a_block, options_property_with_the_number_of_a_block};
+ghost use Rattle.es_rows.specs.witnesses.PrototypeKeyBehindAnError.{source_prototype_key_behind_an_error, output_prototype_key_behind_an_error, generated_prototype_key_behind_an_error, options_prototype_key_behind_an_error};
 ghost use Rattle.es_rows.specs.witnesses.PrototypesBehindAnError.{source_prototypes_behind_an_error, output_prototypes_behind_an_error, generated_prototypes_behind_an_error, options_prototypes_behind_an_error};
 ghost use Rattle.es_rows.specs.witnesses.PrototypesExchangedBehindAnError.{source_prototypes_exchanged_behind_an_error, output_prototypes_exchanged_behind_an_error, generated_prototypes_exchanged_behind_an_error, options_prototypes_exchanged_behind_an_error};
 ghost use Rattle.es_rows.specs.witnesses.QuestionForAGeneratedElement.{source_question_for_a_generated_element, output_question_for_a_generated_element, generated_question_for_a_generated_element, options_question_for_a_generated_element};
@@ -433,6 +448,7 @@ ghost use Rattle.es_rows.specs.witnesses.SuperFunctionCalledWithAnother.{source_
 ghost use Rattle.es_rows.specs.witnesses.SuperFunctionOfAStaticBlock.{source_super_function_of_a_static_block, output_super_function_of_a_static_block, generated_super_function_of_a_static_block, options_super_function_of_a_static_block};
 ghost use Rattle.es_rows.specs.witnesses.SuperFunctionOutsideOfAFunction.{source_super_function_outside_of_a_function, output_super_function_outside_of_a_function, generated_super_function_outside_of_a_function, options_super_function_outside_of_a_function};
 ghost use Rattle.es_rows.specs.witnesses.SuperFunctionThatNothingCallsOutside.{source_super_function_that_nothing_calls_outside, output_super_function_that_nothing_calls_outside, generated_super_function_that_nothing_calls_outside, options_super_function_that_nothing_calls_outside};
+ghost use Rattle.es_rows.specs.witnesses.SuperFunctionWithoutFields.{source_super_function_without_fields, output_super_function_without_fields, generated_super_function_without_fields, options_super_function_without_fields};
 ghost use Rattle.es_rows.specs.witnesses.SuperGivesZero.{source_super_gives_zero, output_super_gives_zero, generated_super_gives_zero, options_super_gives_zero};
 ghost use Rattle.es_rows.specs.witnesses.SuperInAFunctionThatNothingCalls.{source_super_in_a_function_that_nothing_calls, output_super_in_a_function_that_nothing_calls, generated_super_in_a_function_that_nothing_calls, options_super_in_a_function_that_nothing_calls};
 ghost use Rattle.es_rows.specs.witnesses.SuperKeyThatStays.{first_super_key_that_stays, second_super_key_that_stays, options_super_key_that_stays};
@@ -451,6 +467,7 @@ ghost use Rattle.es_rows.specs.witnesses.TemporaryNeverGiven.{source_temporary_n
 ghost use Rattle.es_rows.specs.witnesses.TemporaryOfAHoistedFunction.{source_temporary_of_a_hoisted_function, output_temporary_of_a_hoisted_function, generated_temporary_of_a_hoisted_function, options_temporary_of_a_hoisted_function};
 ghost use Rattle.es_rows.specs.witnesses.TemporaryOfTheProgram.{source_temporary_of_the_program, output_temporary_of_the_program, generated_temporary_of_the_program, options_temporary_of_the_program};
 ghost use Rattle.es_rows.specs.witnesses.TemporaryOfTheRoundBefore.{source_temporary_of_the_round_before, output_temporary_of_the_round_before, generated_temporary_of_the_round_before, options_temporary_of_the_round_before};
+ghost use Rattle.es_rows.specs.witnesses.TestDroppedBehindAnError.{source_test_dropped_behind_an_error, output_test_dropped_behind_an_error, generated_test_dropped_behind_an_error, options_test_dropped_behind_an_error};
 ghost use Rattle.es_rows.specs.witnesses.TestOfAnotherObject.{source_test_of_another_object, output_test_of_another_object, generated_test_of_another_object, options_test_of_another_object};
 ghost use Rattle.es_rows.specs.witnesses.TestOfOneNull.{source_test_of_one_null, output_test_of_one_null, generated_test_of_one_null, options_test_of_one_null};
 ghost use Rattle.es_rows.specs.witnesses.TestedName.{first_tested_name, second_tested_name, options_tested_name};
@@ -464,6 +481,7 @@ ghost use Rattle.es_rows.specs.witnesses.TypeofOfAName.{first_typeof_of_a_name, 
 ghost use Rattle.es_rows.specs.witnesses.UnconvertedKeptKey.{source_unconverted_kept_key, output_unconverted_kept_key, generated_unconverted_kept_key, options_unconverted_kept_key};
 ghost use Rattle.es_rows.specs.witnesses.UnconvertedNameOfAClass.{source_unconverted_name_of_a_class, output_unconverted_name_of_a_class, generated_unconverted_name_of_a_class, options_unconverted_name_of_a_class};
 ghost use Rattle.es_rows.specs.witnesses.UncookedTemplate.{source_uncooked_template, output_uncooked_template, generated_uncooked_template, options_uncooked_template};
+ghost use Rattle.es_rows.specs.witnesses.UndeclaredPrivateName.{source_undeclared_private_name, output_undeclared_private_name, generated_undeclared_private_name, options_undeclared_private_name};
 ghost use Rattle.es_rows.specs.witnesses.UntestedNameOfAClass.{source_untested_name_of_a_class, output_untested_name_of_a_class, generated_untested_name_of_a_class, options_untested_name_of_a_class};
 ghost use Rattle.es_rows.specs.witnesses.ValueAsAKey.{source_value_as_a_key, output_value_as_a_key, generated_value_as_a_key, options_value_as_a_key};
 ghost use Rattle.es_rows.specs.witnesses.ValueInFrontOfItsClass.{source_value_in_front_of_its_class, output_value_in_front_of_its_class, generated_value_in_front_of_its_class, options_value_in_front_of_its_class};
@@ -756,6 +774,7 @@ pub fn wrong_outputs_behind_parameters_are_told_apart()
 pub fn clauses_are_not_met()
     ensures another_literal_of_a_written_class { definitions_stand (nodes source_another_literal_of_a_written_class) options_another_literal_of_a_written_class generated_another_literal_of_a_written_class (private_members source_another_literal_of_a_written_class) source_another_literal_of_a_written_class output_another_literal_of_a_written_class ≡ false }
     ensures argument_in_front_of_its_class { references_stay (nodes source_argument_in_front_of_its_class) generated_argument_in_front_of_its_class source_argument_in_front_of_its_class output_argument_in_front_of_its_class ≡ false }
+    ensures arguments_in_a_field { references_stay (nodes source_arguments_in_a_field) generated_arguments_in_a_field source_arguments_in_a_field output_arguments_in_a_field ≡ false }
     ensures arguments_in_a_static_block { stays_printable source_arguments_in_a_static_block output_arguments_in_a_static_block ≡ false }
     ensures arguments_of_a_static_field { stays_printable source_arguments_of_a_static_field output_arguments_of_a_static_field ≡ false }
     ensures arrow_out_of_a_block { references_stay (nodes source_arrow_out_of_a_block) generated_arrow_out_of_a_block source_arrow_out_of_a_block output_arrow_out_of_a_block ≡ false }
@@ -765,6 +784,9 @@ pub fn clauses_are_not_met()
     ensures await_in_a_function_that_nothing_calls { temporaries_steady (nodes source_await_in_a_function_that_nothing_calls) generated_await_in_a_function_that_nothing_calls (private_members source_await_in_a_function_that_nothing_calls) output_await_in_a_function_that_nothing_calls ≡ false }
     ensures await_in_a_static_block { stays_printable source_await_in_a_static_block output_await_in_a_static_block ≡ false }
     ensures await_in_an_async_function { stays_printable source_await_in_an_async_function output_await_in_an_async_function ≡ false }
+    ensures await_in_parameters { numbers_carried (nodes source_await_in_parameters) source_await_in_parameters output_await_in_parameters ≡ false }
+    ensures awaiting_loop_behind_an_error { numbers_carried (nodes source_awaiting_loop_behind_an_error) source_awaiting_loop_behind_an_error output_awaiting_loop_behind_an_error ≡ false }
+    ensures awaiting_loop_out_of_its_function { numbers_carried (nodes source_awaiting_loop_out_of_its_function) source_awaiting_loop_out_of_its_function output_awaiting_loop_out_of_its_function ≡ false }
     ensures block_in_front_of_its_class { references_stay (nodes source_block_in_front_of_its_class) generated_block_in_front_of_its_class source_block_in_front_of_its_class output_block_in_front_of_its_class ≡ false }
     ensures block_without_a_function { homes_kept (nodes source_block_without_a_function) options_block_without_a_function source_block_without_a_function output_block_without_a_function ≡ false }
     ensures body_dropped { definitions_stand (nodes source_body_dropped) options_body_dropped generated_body_dropped (private_members source_body_dropped) source_body_dropped output_body_dropped ≡ false }
@@ -797,9 +819,11 @@ pub fn clauses_are_not_met()
     ensures class_temporary_of_another_case { names_timely (nodes source_class_temporary_of_another_case) generated_class_temporary_of_another_case (private_members source_class_temporary_of_another_case) output_class_temporary_of_another_case ≡ false }
     ensures closure_before_its_class { names_timely (nodes source_closure_before_its_class) generated_closure_before_its_class (private_members source_closure_before_its_class) output_closure_before_its_class ≡ false }
     ensures closure_called_in_a_key { names_timely (nodes source_closure_called_in_a_key) generated_closure_called_in_a_key (private_members source_closure_called_in_a_key) output_closure_called_in_a_key ≡ false }
+    ensures closure_called_twice { temporaries_steady (nodes source_closure_called_twice) generated_closure_called_twice (private_members source_closure_called_twice) output_closure_called_twice ≡ false }
     ensures closure_given_behind_its_call { names_timely (nodes source_closure_given_behind_its_call) generated_closure_given_behind_its_call (private_members source_closure_given_behind_its_call) output_closure_given_behind_its_call ≡ false }
     ensures closure_given_in_each_round { temporaries_steady (nodes source_closure_given_in_each_round) generated_closure_given_in_each_round (private_members source_closure_given_in_each_round) output_closure_given_in_each_round ≡ false }
     ensures closure_with_the_name_of_a_key { references_stay (nodes source_closure_with_the_name_of_a_key) generated_closure_with_the_name_of_a_key source_closure_with_the_name_of_a_key output_closure_with_the_name_of_a_key ≡ false }
+    ensures computed_key_behind_an_error { numbers_carried (nodes source_computed_key_behind_an_error) source_computed_key_behind_an_error output_computed_key_behind_an_error ≡ false }
     ensures const_beside_await_in_an_arrow { stays_printable source_const_beside_await_in_an_arrow output_const_beside_await_in_an_arrow ≡ false }
     ensures const_without_a_value { stays_printable source_const_without_a_value output_const_without_a_value ≡ false }
     ensures constant_temporary { declarations_accounted (nodes source_constant_temporary) generated_constant_temporary source_constant_temporary output_constant_temporary ≡ false }
@@ -825,6 +849,7 @@ pub fn clauses_are_not_met()
     ensures declaration_without_its_names { stays_printable source_declaration_without_its_names output_declaration_without_its_names ≡ false }
     ensures declarator_in_a_const { declarations_accounted (nodes source_declarator_in_a_const) generated_declarator_in_a_const source_declarator_in_a_const output_declarator_in_a_const ≡ false }
     ensures defaults_exchanged_behind_an_error { numbers_carried (nodes source_defaults_exchanged_behind_an_error) source_defaults_exchanged_behind_an_error output_defaults_exchanged_behind_an_error ≡ false }
+    ensures delegation_behind_an_error { numbers_carried (nodes source_delegation_behind_an_error) source_delegation_behind_an_error output_delegation_behind_an_error ≡ false }
     ensures delete_of_a_name_behind_a_throw { numbers_carried (nodes source_delete_of_a_name_behind_a_throw) source_delete_of_a_name_behind_a_throw output_delete_of_a_name_behind_a_throw ≡ false }
     ensures delete_of_a_private_property { numbers_carried (nodes source_delete_of_a_private_property) source_delete_of_a_private_property output_delete_of_a_private_property ≡ false }
     ensures directive_behind_a_name { is_printable output_directive_behind_a_name ≡ false }
@@ -836,15 +861,19 @@ pub fn clauses_are_not_met()
     ensures function_in_a_class { none_becomes_strict (nodes source_function_in_a_class) source_function_in_a_class output_function_in_a_class ≡ false }
     ensures function_out_of_its_block { lists_kept options_function_out_of_its_block source_function_out_of_its_block output_function_out_of_its_block ≡ false }
     ensures getter_behind_an_error { numbers_carried (nodes source_getter_behind_an_error) source_getter_behind_an_error output_getter_behind_an_error ≡ false }
+    ensures handler_dropped_behind_an_error { numbers_carried (nodes source_handler_dropped_behind_an_error) source_handler_dropped_behind_an_error output_handler_dropped_behind_an_error ≡ false }
     ensures handler_exchanged_behind_an_error { numbers_carried (nodes source_handler_exchanged_behind_an_error) source_handler_exchanged_behind_an_error output_handler_exchanged_behind_an_error ≡ false }
     ensures heads_exchanged_behind_an_error { numbers_carried (nodes source_heads_exchanged_behind_an_error) source_heads_exchanged_behind_an_error output_heads_exchanged_behind_an_error ≡ false }
     ensures hidden_body { conforms Place.Program output_hidden_body ≡ false }
+    ensures import_meta_behind_an_error { numbers_carried (nodes source_import_meta_behind_an_error) source_import_meta_behind_an_error output_import_meta_behind_an_error ≡ false }
+    ensures initialized_head_behind_an_error { numbers_carried (nodes source_initialized_head_behind_an_error) source_initialized_head_behind_an_error output_initialized_head_behind_an_error ≡ false }
     ensures key_given_again { initializations_stand (nodes source_key_given_again) generated_key_given_again source_key_given_again output_key_given_again generated_key_given_again ≡ false }
     ensures key_kept_by_a_call { helper_calls_fit (nodes source_key_kept_by_a_call) generated_key_kept_by_a_call (keys_that_stay (nodes source_key_kept_by_a_call) source_key_kept_by_a_call output_key_kept_by_a_call) output_key_kept_by_a_call ≡ false }
     ensures key_of_another_member { helper_calls_fit (nodes source_key_of_another_member) generated_key_of_another_member (keys_that_stay (nodes source_key_of_another_member) source_key_of_another_member output_key_of_another_member) output_key_of_another_member ≡ false }
     ensures key_outside_of_a_called_function { names_timely (nodes source_key_outside_of_a_called_function) generated_key_outside_of_a_called_function (private_members source_key_outside_of_a_called_function) output_key_outside_of_a_called_function ≡ false }
     ensures label_behind_an_error { numbers_carried (nodes source_label_behind_an_error) source_label_behind_an_error output_label_behind_an_error ≡ false }
     ensures label_twice { stays_printable source_label_twice output_label_twice ≡ false }
+    ensures label_word_behind_an_error { numbers_carried (nodes source_label_word_behind_an_error) source_label_word_behind_an_error output_label_word_behind_an_error ≡ false }
     ensures let_behind_a_call { names_timely (nodes source_let_behind_a_call) generated_let_behind_a_call (private_members source_let_behind_a_call) output_let_behind_a_call ≡ false }
     ensures let_behind_a_constructor { names_timely (nodes source_let_behind_a_constructor) generated_let_behind_a_constructor (private_members source_let_behind_a_constructor) output_let_behind_a_constructor ≡ false }
     ensures let_behind_a_field { names_timely (nodes source_let_behind_a_field) generated_let_behind_a_field (private_members source_let_behind_a_field) output_let_behind_a_field ≡ false }
@@ -864,6 +893,7 @@ pub fn clauses_are_not_met()
     ensures map_of_a_function_expression { initializations_stand (nodes source_map_of_a_function_expression) generated_map_of_a_function_expression source_map_of_a_function_expression output_map_of_a_function_expression generated_map_of_a_function_expression ≡ false }
     ensures map_outside_of_a_called_function { names_timely (nodes source_map_outside_of_a_called_function) generated_map_outside_of_a_called_function (private_members source_map_outside_of_a_called_function) output_map_outside_of_a_called_function ≡ false }
     ensures map_outside_of_a_private_method { names_timely (nodes source_map_outside_of_a_private_method) generated_map_outside_of_a_private_method (private_members source_map_outside_of_a_private_method) output_map_outside_of_a_private_method ≡ false }
+    ensures map_without_class_properties { definitions_stand (nodes source_map_without_class_properties) options_map_without_class_properties generated_map_without_class_properties (private_members source_map_without_class_properties) source_map_without_class_properties output_map_without_class_properties ≡ false }
     ensures method_assigned_in_another_function { names_timely (nodes source_method_assigned_in_another_function) generated_method_assigned_in_another_function (private_members source_method_assigned_in_another_function) output_method_assigned_in_another_function ≡ false }
     ensures method_given_behind_its_calls { initializations_stand (nodes source_method_given_behind_its_calls) generated_method_given_behind_its_calls source_method_given_behind_its_calls output_method_given_behind_its_calls generated_method_given_behind_its_calls ≡ false }
     ensures method_outside_of_a_called_function { names_timely (nodes source_method_outside_of_a_called_function) generated_method_outside_of_a_called_function (private_members source_method_outside_of_a_called_function) output_method_outside_of_a_called_function ≡ false }
@@ -872,10 +902,12 @@ pub fn clauses_are_not_met()
     ensures name_in_a_static_block { classes_kept (nodes source_name_in_a_static_block) source_name_in_a_static_block output_name_in_a_static_block ≡ false }
     ensures name_of_a_class_with_a_block { helper_calls_fit (nodes source_name_of_a_class_with_a_block) generated_name_of_a_class_with_a_block (keys_that_stay (nodes source_name_of_a_class_with_a_block) source_name_of_a_class_with_a_block output_name_of_a_class_with_a_block) output_name_of_a_class_with_a_block ≡ false }
     ensures name_of_a_named_class { helper_calls_fit (nodes source_name_of_a_named_class) generated_name_of_a_named_class (keys_that_stay (nodes source_name_of_a_named_class) source_name_of_a_named_class output_name_of_a_named_class) output_name_of_a_named_class ≡ false }
+    ensures name_of_another_character { texts_stay (nodes source_name_of_another_character) source_name_of_another_character output_name_of_another_character ≡ false }
     ensures name_of_no_member { initializations_stand (nodes source_name_of_no_member) generated_name_of_no_member source_name_of_no_member output_name_of_no_member generated_name_of_no_member ≡ false }
     ensures name_that_begins_as_none { texts_stay (nodes source_name_that_begins_as_none) source_name_that_begins_as_none output_name_that_begins_as_none ≡ false }
     ensures name_twice { names_declared (nodes source_name_twice) generated_name_twice output_name_twice ≡ false }
     ensures name_without_a_sign { names_declared (nodes source_name_without_a_sign) generated_name_without_a_sign output_name_without_a_sign ≡ false }
+    ensures names_of_a_head_behind_an_error { numbers_carried (nodes source_names_of_a_head_behind_an_error) source_names_of_a_head_behind_an_error output_names_of_a_head_behind_an_error ≡ false }
     ensures new_target_outside { is_printable output_new_target_outside ≡ false }
     ensures nothing_declared_behind_a_bigint { stays_printable source_nothing_declared_behind_a_bigint output_nothing_declared_behind_a_bigint ≡ false }
     ensures nothing_declared_behind_a_directive { stays_printable source_nothing_declared_behind_a_directive output_nothing_declared_behind_a_directive ≡ false }
@@ -895,6 +927,7 @@ pub fn clauses_are_not_met()
     ensures private_name_of_another_member { texts_stay (nodes source_private_name_of_another_member) source_private_name_of_another_member output_private_name_of_another_member ≡ false }
     ensures private_name_twice { names_declared (nodes source_private_name_twice) generated_private_name_twice output_private_name_twice ≡ false }
     ensures property_with_the_number_of_a_block { numbers_carried (nodes source_property_with_the_number_of_a_block) source_property_with_the_number_of_a_block output_property_with_the_number_of_a_block ≡ false }
+    ensures prototype_key_behind_an_error { numbers_carried (nodes source_prototype_key_behind_an_error) source_prototype_key_behind_an_error output_prototype_key_behind_an_error ≡ false }
     ensures prototypes_behind_an_error { numbers_carried (nodes source_prototypes_behind_an_error) source_prototypes_behind_an_error output_prototypes_behind_an_error ≡ false }
     ensures prototypes_exchanged_behind_an_error { numbers_carried (nodes source_prototypes_exchanged_behind_an_error) source_prototypes_exchanged_behind_an_error output_prototypes_exchanged_behind_an_error ≡ false }
     ensures raw_of_a_string { texts_stay (nodes source_raw_of_a_string) source_raw_of_a_string output_raw_of_a_string ≡ false }
@@ -912,6 +945,7 @@ pub fn clauses_are_not_met()
     ensures super_function_of_a_static_block { definitions_stand (nodes source_super_function_of_a_static_block) options_super_function_of_a_static_block generated_super_function_of_a_static_block (private_members source_super_function_of_a_static_block) source_super_function_of_a_static_block output_super_function_of_a_static_block ≡ false }
     ensures super_function_outside_of_a_function { references_stay (nodes source_super_function_outside_of_a_function) generated_super_function_outside_of_a_function source_super_function_outside_of_a_function output_super_function_outside_of_a_function ≡ false }
     ensures super_function_that_nothing_calls_outside { references_stay (nodes source_super_function_that_nothing_calls_outside) generated_super_function_that_nothing_calls_outside source_super_function_that_nothing_calls_outside output_super_function_that_nothing_calls_outside ≡ false }
+    ensures super_function_without_fields { definitions_stand (nodes source_super_function_without_fields) options_super_function_without_fields generated_super_function_without_fields (private_members source_super_function_without_fields) source_super_function_without_fields output_super_function_without_fields ≡ false }
     ensures super_in_a_function_that_nothing_calls { temporaries_steady (nodes source_super_in_a_function_that_nothing_calls) generated_super_in_a_function_that_nothing_calls (private_members source_super_in_a_function_that_nothing_calls) output_super_in_a_function_that_nothing_calls ≡ false }
     ensures tag_of_a_private_element { numbers_carried (nodes source_tag_of_a_private_element) source_tag_of_a_private_element output_tag_of_a_private_element ≡ false }
     ensures temporary_given_again { temporaries_steady (nodes source_temporary_given_again) generated_temporary_given_again (private_members source_temporary_given_again) output_temporary_given_again ≡ false }
@@ -920,6 +954,7 @@ pub fn clauses_are_not_met()
     ensures temporary_given_again_in_a_round { initializations_stand (nodes source_temporary_given_again_in_a_round) generated_temporary_given_again_in_a_round source_temporary_given_again_in_a_round output_temporary_given_again_in_a_round generated_temporary_given_again_in_a_round ≡ false }
     ensures temporary_of_a_hoisted_function { temporaries_steady (nodes source_temporary_of_a_hoisted_function) generated_temporary_of_a_hoisted_function (private_members source_temporary_of_a_hoisted_function) output_temporary_of_a_hoisted_function ≡ false }
     ensures temporary_of_the_program { temporaries_steady (nodes source_temporary_of_the_program) generated_temporary_of_the_program (private_members source_temporary_of_the_program) output_temporary_of_the_program ≡ false }
+    ensures test_dropped_behind_an_error { numbers_carried (nodes source_test_dropped_behind_an_error) source_test_dropped_behind_an_error output_test_dropped_behind_an_error ≡ false }
     ensures text_of_a_directive { texts_stay (nodes source_text_of_a_directive) source_text_of_a_directive output_text_of_a_directive ≡ false }
     ensures two_brands { names_declared (nodes source_two_brands) generated_two_brands output_two_brands ≡ false }
     ensures two_functions { names_declared (nodes source_two_functions) generated_two_functions output_two_functions ≡ false }
@@ -927,6 +962,7 @@ pub fn clauses_are_not_met()
     ensures unconverted_kept_key { helper_calls_fit (nodes source_unconverted_kept_key) generated_unconverted_kept_key (keys_that_stay (nodes source_unconverted_kept_key) source_unconverted_kept_key output_unconverted_kept_key) output_unconverted_kept_key ≡ false }
     ensures unconverted_name_of_a_class { helper_calls_fit (nodes source_unconverted_name_of_a_class) generated_unconverted_name_of_a_class (keys_that_stay (nodes source_unconverted_name_of_a_class) source_unconverted_name_of_a_class output_unconverted_name_of_a_class) output_unconverted_name_of_a_class ≡ false }
     ensures uncooked_template { stays_printable source_uncooked_template output_uncooked_template ≡ false }
+    ensures undeclared_private_name { references_stay (nodes source_undeclared_private_name) generated_undeclared_private_name source_undeclared_private_name output_undeclared_private_name ≡ false }
     ensures untested_name_of_a_class { helper_calls_fit (nodes source_untested_name_of_a_class) generated_untested_name_of_a_class (keys_that_stay (nodes source_untested_name_of_a_class) source_untested_name_of_a_class output_untested_name_of_a_class) output_untested_name_of_a_class ≡ false }
     ensures value_in_front_of_its_class { references_stay (nodes source_value_in_front_of_its_class) generated_value_in_front_of_its_class source_value_in_front_of_its_class output_value_in_front_of_its_class ≡ false }
     ensures weak_map_in_another_function { names_timely (nodes source_weak_map_in_another_function) generated_weak_map_in_another_function (private_members source_weak_map_in_another_function) output_weak_map_in_another_function ≡ false }

@@ -7,6 +7,9 @@ returns-clause-another_literal_of_a_written_class c = refl
 pub returns-clause-argument_in_front_of_its_class : goal.returns-clause-argument_in_front_of_its_class
 returns-clause-argument_in_front_of_its_class c = refl
 
+pub returns-clause-arguments_in_a_field : goal.returns-clause-arguments_in_a_field
+returns-clause-arguments_in_a_field c = refl
+
 pub returns-clause-arguments_in_a_static_block : goal.returns-clause-arguments_in_a_static_block
 returns-clause-arguments_in_a_static_block c = refl
 
@@ -33,6 +36,15 @@ returns-clause-await_in_a_static_block c = refl
 
 pub returns-clause-await_in_an_async_function : goal.returns-clause-await_in_an_async_function
 returns-clause-await_in_an_async_function c = refl
+
+pub returns-clause-await_in_parameters : goal.returns-clause-await_in_parameters
+returns-clause-await_in_parameters c = refl
+
+pub returns-clause-awaiting_loop_behind_an_error : goal.returns-clause-awaiting_loop_behind_an_error
+returns-clause-awaiting_loop_behind_an_error c = refl
+
+pub returns-clause-awaiting_loop_out_of_its_function : goal.returns-clause-awaiting_loop_out_of_its_function
+returns-clause-awaiting_loop_out_of_its_function c = refl
 
 pub returns-clause-block_in_front_of_its_class : goal.returns-clause-block_in_front_of_its_class
 returns-clause-block_in_front_of_its_class c = refl
@@ -130,6 +142,9 @@ returns-clause-closure_before_its_class c = refl
 pub returns-clause-closure_called_in_a_key : goal.returns-clause-closure_called_in_a_key
 returns-clause-closure_called_in_a_key c = refl
 
+pub returns-clause-closure_called_twice : goal.returns-clause-closure_called_twice
+returns-clause-closure_called_twice c = refl
+
 pub returns-clause-closure_given_behind_its_call : goal.returns-clause-closure_given_behind_its_call
 returns-clause-closure_given_behind_its_call c = refl
 
@@ -138,6 +153,9 @@ returns-clause-closure_given_in_each_round c = refl
 
 pub returns-clause-closure_with_the_name_of_a_key : goal.returns-clause-closure_with_the_name_of_a_key
 returns-clause-closure_with_the_name_of_a_key c = refl
+
+pub returns-clause-computed_key_behind_an_error : goal.returns-clause-computed_key_behind_an_error
+returns-clause-computed_key_behind_an_error c = refl
 
 pub returns-clause-const_beside_await_in_an_arrow : goal.returns-clause-const_beside_await_in_an_arrow
 returns-clause-const_beside_await_in_an_arrow c = refl
@@ -214,6 +232,9 @@ returns-clause-declarator_in_a_const c = refl
 pub returns-clause-defaults_exchanged_behind_an_error : goal.returns-clause-defaults_exchanged_behind_an_error
 returns-clause-defaults_exchanged_behind_an_error c = refl
 
+pub returns-clause-delegation_behind_an_error : goal.returns-clause-delegation_behind_an_error
+returns-clause-delegation_behind_an_error c = refl
+
 pub returns-clause-delete_of_a_name_behind_a_throw : goal.returns-clause-delete_of_a_name_behind_a_throw
 returns-clause-delete_of_a_name_behind_a_throw c = refl
 
@@ -247,6 +268,9 @@ returns-clause-function_out_of_its_block c = refl
 pub returns-clause-getter_behind_an_error : goal.returns-clause-getter_behind_an_error
 returns-clause-getter_behind_an_error c = refl
 
+pub returns-clause-handler_dropped_behind_an_error : goal.returns-clause-handler_dropped_behind_an_error
+returns-clause-handler_dropped_behind_an_error c = refl
+
 pub returns-clause-handler_exchanged_behind_an_error : goal.returns-clause-handler_exchanged_behind_an_error
 returns-clause-handler_exchanged_behind_an_error c = refl
 
@@ -255,6 +279,12 @@ returns-clause-heads_exchanged_behind_an_error c = refl
 
 pub returns-clause-hidden_body : goal.returns-clause-hidden_body
 returns-clause-hidden_body c = refl
+
+pub returns-clause-import_meta_behind_an_error : goal.returns-clause-import_meta_behind_an_error
+returns-clause-import_meta_behind_an_error c = refl
+
+pub returns-clause-initialized_head_behind_an_error : goal.returns-clause-initialized_head_behind_an_error
+returns-clause-initialized_head_behind_an_error c = refl
 
 pub returns-clause-key_given_again : goal.returns-clause-key_given_again
 returns-clause-key_given_again c = refl
@@ -273,6 +303,9 @@ returns-clause-label_behind_an_error c = refl
 
 pub returns-clause-label_twice : goal.returns-clause-label_twice
 returns-clause-label_twice c = refl
+
+pub returns-clause-label_word_behind_an_error : goal.returns-clause-label_word_behind_an_error
+returns-clause-label_word_behind_an_error c = refl
 
 pub returns-clause-let_behind_a_call : goal.returns-clause-let_behind_a_call
 returns-clause-let_behind_a_call c = refl
@@ -331,6 +364,9 @@ returns-clause-map_outside_of_a_called_function c = refl
 pub returns-clause-map_outside_of_a_private_method : goal.returns-clause-map_outside_of_a_private_method
 returns-clause-map_outside_of_a_private_method c = refl
 
+pub returns-clause-map_without_class_properties : goal.returns-clause-map_without_class_properties
+returns-clause-map_without_class_properties c = refl
+
 pub returns-clause-method_assigned_in_another_function : goal.returns-clause-method_assigned_in_another_function
 returns-clause-method_assigned_in_another_function c = refl
 
@@ -355,6 +391,9 @@ returns-clause-name_of_a_class_with_a_block c = refl
 pub returns-clause-name_of_a_named_class : goal.returns-clause-name_of_a_named_class
 returns-clause-name_of_a_named_class c = refl
 
+pub returns-clause-name_of_another_character : goal.returns-clause-name_of_another_character
+returns-clause-name_of_another_character c = refl
+
 pub returns-clause-name_of_no_member : goal.returns-clause-name_of_no_member
 returns-clause-name_of_no_member c = refl
 
@@ -366,6 +405,9 @@ returns-clause-name_twice c = refl
 
 pub returns-clause-name_without_a_sign : goal.returns-clause-name_without_a_sign
 returns-clause-name_without_a_sign c = refl
+
+pub returns-clause-names_of_a_head_behind_an_error : goal.returns-clause-names_of_a_head_behind_an_error
+returns-clause-names_of_a_head_behind_an_error c = refl
 
 pub returns-clause-new_target_outside : goal.returns-clause-new_target_outside
 returns-clause-new_target_outside c = refl
@@ -424,6 +466,9 @@ returns-clause-private_name_twice c = refl
 pub returns-clause-property_with_the_number_of_a_block : goal.returns-clause-property_with_the_number_of_a_block
 returns-clause-property_with_the_number_of_a_block c = refl
 
+pub returns-clause-prototype_key_behind_an_error : goal.returns-clause-prototype_key_behind_an_error
+returns-clause-prototype_key_behind_an_error c = refl
+
 pub returns-clause-prototypes_behind_an_error : goal.returns-clause-prototypes_behind_an_error
 returns-clause-prototypes_behind_an_error c = refl
 
@@ -475,6 +520,9 @@ returns-clause-super_function_outside_of_a_function c = refl
 pub returns-clause-super_function_that_nothing_calls_outside : goal.returns-clause-super_function_that_nothing_calls_outside
 returns-clause-super_function_that_nothing_calls_outside c = refl
 
+pub returns-clause-super_function_without_fields : goal.returns-clause-super_function_without_fields
+returns-clause-super_function_without_fields c = refl
+
 pub returns-clause-super_in_a_function_that_nothing_calls : goal.returns-clause-super_in_a_function_that_nothing_calls
 returns-clause-super_in_a_function_that_nothing_calls c = refl
 
@@ -499,6 +547,9 @@ returns-clause-temporary_of_a_hoisted_function c = refl
 pub returns-clause-temporary_of_the_program : goal.returns-clause-temporary_of_the_program
 returns-clause-temporary_of_the_program c = refl
 
+pub returns-clause-test_dropped_behind_an_error : goal.returns-clause-test_dropped_behind_an_error
+returns-clause-test_dropped_behind_an_error c = refl
+
 pub returns-clause-text_of_a_directive : goal.returns-clause-text_of_a_directive
 returns-clause-text_of_a_directive c = refl
 
@@ -519,6 +570,9 @@ returns-clause-unconverted_name_of_a_class c = refl
 
 pub returns-clause-uncooked_template : goal.returns-clause-uncooked_template
 returns-clause-uncooked_template c = refl
+
+pub returns-clause-undeclared_private_name : goal.returns-clause-undeclared_private_name
+returns-clause-undeclared_private_name c = refl
 
 pub returns-clause-untested_name_of_a_class : goal.returns-clause-untested_name_of_a_class
 returns-clause-untested_name_of_a_class c = refl
