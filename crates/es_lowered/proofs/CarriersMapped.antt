@@ -13,7 +13,7 @@ use Rattle.es_steps.specs.Parts.{at, items, string_of}
 use Rattle.es_steps.specs.Values.{String}
 use Rattle.es_steps.proofs.Mapped.{Renames, mapped, mapped_part, mapped_parts}
 use Rattle.es_steps.proofs.PrintableMapped.{name_of_part-mapped}
-use Rattle.es_steps.proofs.PartsMapped.{at-mapped, items_at-mapped, string_at-mapped, preorder-mapped}
+use Rattle.es_steps.proofs.PartsMapped.{at-mapped, items_at-mapped, string_at-mapped, is_true_at-mapped, preorder-mapped}
 
 module _ {first : ℕ} {f : ℕ → ℕ} (r : Renames first f) where
   is_loose_base-mapped : (p : Part) → is_loose_base (mapped_part f p) ≡ is_loose_base p
@@ -90,7 +90,7 @@ module _ {first : ℕ} {f : ℕ → ℕ} (r : Renames first f) where
   is_proto-mapped p = refl
 
   gives_prototype-mapped : (kind : Kind) (ps : Parts) → gives_prototype kind (mapped_parts f ps) ≡ gives_prototype kind ps
-  gives_prototype-mapped Kind.Property ps = ap is_proto (at-mapped f 0 ps) ∙ is_proto-mapped (at 0 ps)
+  gives_prototype-mapped Kind.Property ps = ap₂ (λ a b. a && not b) (ap is_proto (at-mapped f 0 ps) ∙ is_proto-mapped (at 0 ps)) (is_true_at-mapped f 5 ps)
   gives_prototype-mapped kind ps = refl
 
   is_carried-mapped : (ps : List Tree) (t : Tree) → is_carried first (map (mapped f) ps) (mapped f t) ≡ is_carried first ps t

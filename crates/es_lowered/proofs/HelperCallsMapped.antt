@@ -276,6 +276,7 @@ module _ {first : ℕ} {f : ℕ → ℕ} (r : Renames first f) where
     key_spelling-mapped names (child (Node Kind.PrivateField m span semantic_id ps)) =
         let p : Part = child (Node Kind.PrivateField m span semantic_id ps) in
         rw (private_spelling-mapped p, all_spelled-mapped (private_spelling first ledger keys p) names) refl
+    key_spelling-mapped names (child (Node Kind.Literal m span semantic_id (more (literal (literal_value.String s raw)) end))) = refl
     key_spelling-mapped names p = ap (or_none first there (map f keys)) (generated_spelling-mapped p) ∙ or_none-mapped (generated_spelling first ledger keys p)
 
     kept_keys-mapped : (names privates : List String) (t : Tree) → kept_keys first there (map f keys) names privates (mapped f t) ≡ kept_keys first ledger keys names privates t

@@ -10,7 +10,7 @@ use Rattle.es_base.specs.declared.literal.LiteralValue.TheVariants as literal_va
 use Rattle.es_lowered.specs.Bound.{bound_stay}
 use Rattle.es_lowered.specs.KeptWords.{keeps_words}
 use Rattle.es_steps.specs.KeptNodes.{is_underscored}
-use Rattle.es_steps.specs.Parts.{at, items, string_of}
+use Rattle.es_steps.specs.Parts.{at, items, string_of, is_true}
 use Rattle.es_steps.specs.Printable.{name_of_part}
 use Rattle.es_steps.specs.References.{is_reference}
 use Rattle.es_steps.specs.SameTrees.{same_kind}
@@ -177,14 +177,14 @@ abbrev pub stands_for_node : Kind → ℕ → Parts → List Tree → Bool
 stands_for_node kind n qs [] = false
 stands_for_node kind n qs (Node other m span semantic_id ps ∷ ts) = (nat_eq n m && carries other ps kind qs) || stands_for_node kind n qs ts
 
--- a new object gives no prototype (B.3.1)
+-- a new object gives no prototype (B.3.1): a key that is computed names a property
 abbrev pub is_proto : Part → Bool
 is_proto (child (Node Kind.IdentifierName m span semantic_id ps)) = bytes_eq (string_of (at 0 ps)) (codes "__proto__")
 is_proto (child (Node Kind.Literal m span semantic_id (more (literal (literal_value.String s raw)) end))) = bytes_eq s (codes "__proto__")
 is_proto p = false
 
 abbrev pub gives_prototype : Kind → Parts → Bool
-gives_prototype Kind.Property ps = is_proto (at 0 ps)
+gives_prototype Kind.Property ps = is_proto (at 0 ps) && not (is_true (at 5 ps))
 gives_prototype kind ps = false
 
 -- ps are the nodes of the source

@@ -297,9 +297,10 @@ module _ (first : ℕ) (ledger : List LedgerEntry) (keys : List ℕ) where
   new_private_names (Node Kind.PropertyDefinition m span semantic_id ps ∷ ts) = cond (is_new_private (at 0 ps)) (name_of_part (at 0 ps) ∷ []) [] ++ new_private_names ts
   new_private_names (t ∷ ts) = new_private_names ts
 
-  -- one that is no name, and no private element that is new
+  -- one that is no name, no string, and no private element that is new
   abbrev pub key_spelling : List String → Part → List String
   key_spelling names (child (Node Kind.PrivateField m span semantic_id ps)) = cond (all_spelled (private_spelling (child (Node Kind.PrivateField m span semantic_id ps))) names) [] ([] ∷ [])
+  key_spelling names (child (Node Kind.Literal m span semantic_id (more (literal (literal_value.String s raw)) end))) = []
   key_spelling names p = or_none (generated_spelling p)
 
   abbrev pub kept_keys : List String → List String → Tree → List String
