@@ -81,6 +81,7 @@ pub mod ClassTemporaryInItsClass
 pub mod ClassTemporaryOfAFunctionExpression
 pub mod ClassTemporaryOfAnotherCase
 pub mod ClassThatSuspends
+pub mod ClassWithTheNameOfAPrototype
 pub mod ClassesThatSuspend
 pub mod ClosureBeforeItsClass
 pub mod ClosureCalledInAKey

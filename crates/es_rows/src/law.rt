@@ -186,6 +186,7 @@ ghost use Rattle.es_rows.specs.witnesses.ClassTemporaryInItsClass.{source_class_
 ghost use Rattle.es_rows.specs.witnesses.ClassTemporaryOfAFunctionExpression.{source_class_temporary_of_a_function_expression, output_class_temporary_of_a_function_expression, generated_class_temporary_of_a_function_expression, options_class_temporary_of_a_function_expression};
 ghost use Rattle.es_rows.specs.witnesses.ClassTemporaryOfAnotherCase.{source_class_temporary_of_another_case, output_class_temporary_of_another_case, generated_class_temporary_of_another_case, options_class_temporary_of_another_case};
 ghost use Rattle.es_rows.specs.witnesses.ClassThatSuspends.{source_class_that_suspends, output_class_that_suspends, generated_class_that_suspends, options_class_that_suspends};
+ghost use Rattle.es_rows.specs.witnesses.ClassWithTheNameOfAPrototype.{source_class_with_the_name_of_a_prototype, output_class_with_the_name_of_a_prototype, generated_class_with_the_name_of_a_prototype, options_class_with_the_name_of_a_prototype};
 ghost use Rattle.es_rows.specs.witnesses.ClassesThatSuspend.{source_classes_that_suspend, output_classes_that_suspend, generated_classes_that_suspend, options_classes_that_suspend};
 ghost use Rattle.es_rows.specs.witnesses.ClosureBeforeItsClass.{source_closure_before_its_class, output_closure_before_its_class, generated_closure_before_its_class, options_closure_before_its_class};
 ghost use Rattle.es_rows.specs.witnesses.ClosureCalledInAKey.{source_closure_called_in_a_key, output_closure_called_in_a_key, generated_closure_called_in_a_key, options_closure_called_in_a_key};
@@ -987,6 +988,7 @@ pub fn outputs_owe_nothing()
     ensures block_of_an_arrow { Kept options_block_of_an_arrow generated_block_of_an_arrow source_block_of_an_arrow output_block_of_an_arrow [] }
     ensures class_named_await { Kept options_class_named_await generated_class_named_await source_class_named_await output_class_named_await [] }
     ensures class_that_suspends { Kept options_class_that_suspends generated_class_that_suspends source_class_that_suspends output_class_that_suspends [] }
+    ensures class_with_the_name_of_a_prototype { Kept options_class_with_the_name_of_a_prototype generated_class_with_the_name_of_a_prototype source_class_with_the_name_of_a_prototype output_class_with_the_name_of_a_prototype [] }
     ensures classes_that_suspend { Kept options_classes_that_suspend generated_classes_that_suspend source_classes_that_suspend output_classes_that_suspend [] }
     ensures directive_with_an_escape { Kept options_directive_with_an_escape generated_directive_with_an_escape source_directive_with_an_escape output_directive_with_an_escape [] }
     ensures hexadecimal_bigint { Kept options_hexadecimal_bigint generated_hexadecimal_bigint source_hexadecimal_bigint output_hexadecimal_bigint [] }

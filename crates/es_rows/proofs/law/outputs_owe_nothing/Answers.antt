@@ -17,6 +17,9 @@ returns-clause-class_named_await c = (refl, refl, lowered refl, refl)
 pub returns-clause-class_that_suspends : goal.returns-clause-class_that_suspends
 returns-clause-class_that_suspends c = (refl, refl, lowered refl, refl)
 
+pub returns-clause-class_with_the_name_of_a_prototype : goal.returns-clause-class_with_the_name_of_a_prototype
+returns-clause-class_with_the_name_of_a_prototype c = (refl, refl, lowered refl, refl)
+
 pub returns-clause-classes_that_suspend : goal.returns-clause-classes_that_suspend
 returns-clause-classes_that_suspend c = (refl, refl, lowered refl, refl)
 
