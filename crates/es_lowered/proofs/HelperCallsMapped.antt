@@ -10,7 +10,7 @@ use Rattle.es_base.specs.declared.ledger.LedgerEntry.{LedgerEntry}
 use Rattle.es_base.specs.declared.literal.LiteralValue.TheVariants as literal_value
 use Rattle.es_steps.specs.Context.{generated_as}
 use Rattle.es_lowered.specs.Definitions.{spelling}
-use Rattle.es_lowered.specs.HelperCalls.{last_part, generated_spelling, or_none, last_spelling, is_function_value, element_spelling, is_new_private, all_spelled, private_spelling, private_keys, new_private_names, key_spelling, kept_keys, converted_key, all_by, kept_keys_converted, is_helper_callee, part_number, computed_key, computed_keys, StaticKey, is_name, is_key_conversion, computed_static_key, static_key, method_key, field_key, method_keys, field_keys, body_keys, Naming, is_name_literal, tests_of, tests_at, naming_in, naming_of_element, is_class_body, is_without_name, runs_with_class, any_runs, body_runs, may_be_another, is_renamed, is_key, is_key_part, gives_key, is_generated_name, ends_with_key, stands_for_key, form_for_key, part_for_key, last_for_key, any_for_key, call_fits, calls_fit, calls_in, calls_at, calls_of, calls_of_body, helper_calls_fit}
+use Rattle.es_lowered.specs.HelperCalls.{last_part, generated_spelling, or_none, last_spelling, is_function_value, element_spelling, is_new_private, all_spelled, private_spelling, private_keys, new_private_names, key_spelling, kept_keys, converted_key, all_by, kept_keys_converted, is_helper_callee, part_number, is_number_key, computed_key, computed_keys, StaticKey, is_name, is_key_conversion, computed_static_key, static_key, method_key, field_key, method_keys, field_keys, body_keys, Naming, is_name_literal, tests_of, tests_at, naming_in, naming_of_element, is_class_body, is_without_name, runs_with_class, any_runs, body_runs, may_be_another, is_renamed, is_key, is_key_part, gives_key, is_generated_name, ends_with_key, stands_for_key, form_for_key, part_for_key, last_for_key, any_for_key, call_fits, calls_fit, calls_in, calls_at, calls_of, calls_of_body, helper_calls_fit}
 use Rattle.es_steps.specs.Parts.{at, items, string_of, is_true}
 use Rattle.es_steps.specs.References.{is_reference}
 use Rattle.es_steps.specs.Values.{String}
@@ -31,8 +31,17 @@ module _ (f : ℕ → ℕ) where
   key_number-mapped : (b : Bool) (ps : Parts) → cond b (part_number (at 0 (mapped_parts f ps))) [] ≡ map f (cond b (part_number (at 0 ps)) [])
   key_number-mapped b ps = cond-mapped (map f) b (part_number (at 0 ps)) [] (ap part_number (at-mapped f 0 ps) ∙ part_number-mapped (at 0 ps)) refl
 
+  is_number_key-mapped : (p : Part) → is_number_key (mapped_part f p) ≡ is_number_key p
+  is_number_key-mapped (child (Node Kind.Literal m span semantic_id (more (literal (literal_value.Number raw)) end))) = refl
+  is_number_key-mapped (child (Node Kind.Literal m span semantic_id (more (literal (literal_value.BigInt s)) end))) = refl
+  is_number_key-mapped p = refl
+
+  is_number_at-mapped : (ps : Parts) → is_number_key (at 0 (mapped_parts f ps)) ≡ is_number_key (at 0 ps)
+  is_number_at-mapped ps = ap is_number_key (at-mapped f 0 ps) ∙ is_number_key-mapped (at 0 ps)
+
   computed_key-mapped : (t : Tree) → computed_key (mapped f t) ≡ map f (computed_key t)
-  computed_key-mapped (Node Kind.PropertyDefinition m span semantic_id ps) = rw (is_true_at-mapped f 2 ps) (key_number-mapped (is_true (at 2 ps)) ps)
+  computed_key-mapped (Node Kind.PropertyDefinition m span semantic_id ps) =
+      rw (is_true_at-mapped f 2 ps, is_number_at-mapped ps) (key_number-mapped (is_true (at 2 ps) || is_number_key (at 0 ps)) ps)
   computed_key-mapped (Node Kind.MethodDefinition m span semantic_id ps) = rw (is_true_at-mapped f 3 ps) (key_number-mapped (is_true (at 3 ps)) ps)
   computed_key-mapped t = refl
 

@@ -3,8 +3,9 @@ use Rattle.std.specs.Prelude.{◌≡◌, ℕ, zero, suc, ◌&&◌, Option, Some,
 use Rattle.std.proofs.Common.{refl, ap₂}
 use Rattle.es_base.specs.Tree.{Part, Parts, end, more, child, absent, list, string, no_string, boolean, literal}
 use Rattle.es_base.specs.declared.kind.Kind.{Kind}
-use Rattle.es_lowered.specs.KeptWords.{same_word, same_words, same_words_but, free_part, same_words_by, keeps_words}
+use Rattle.es_lowered.specs.KeptWords.{same_word, same_words, same_words_but, free_part, same_words_by, keeps_computed, keeps_words}
 use Rattle.es_steps.proofs.Mapped.{mapped_part, mapped_parts}
+use Rattle.es_steps.proofs.PartsMapped.{is_true_at-mapped}
 
 module _ (f : ℕ → ℕ) where
   same_word-mapped : (p q : Part) → same_word (mapped_part f p) (mapped_part f q) ≡ same_word p q
@@ -35,5 +36,9 @@ module _ (f : ℕ → ℕ) where
   by-mapped None ps qs = same_words-mapped ps qs
   by-mapped (Some i) ps qs = same_words_but-mapped i ps qs
 
+  keeps_computed-mapped : (kind : Kind) (ps qs : Parts) → keeps_computed kind (mapped_parts f ps) (mapped_parts f qs) ≡ keeps_computed kind ps qs
+  keeps_computed-mapped Kind.PropertyDefinition ps qs = rw (is_true_at-mapped f 2 ps, is_true_at-mapped f 2 qs) refl
+  keeps_computed-mapped kind ps qs = refl
+
   pub keeps_words-mapped : (kind : Kind) (ps qs : Parts) → keeps_words kind (mapped_parts f ps) (mapped_parts f qs) ≡ keeps_words kind ps qs
-  keeps_words-mapped kind ps qs = by-mapped (free_part kind) ps qs
+  keeps_words-mapped kind ps qs = ap₂ (λ a b. a && b) (by-mapped (free_part kind) ps qs) (keeps_computed-mapped kind ps qs)

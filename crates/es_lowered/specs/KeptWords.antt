@@ -1,8 +1,9 @@
 -- What a node says by itself stays: its strings and flags, and which of its parts are there. So what no step looks at, as what is
 -- behind an access that always throws, is read by an engine as it was. (Our own.)
-use Rattle.std.specs.Prelude.{ℕ, zero, suc, Bool, true, false, ◌&&◌, bytes_eq, Option, Some, None}
+use Rattle.std.specs.Prelude.{ℕ, zero, suc, Bool, true, false, not, ◌&&◌, ◌||◌, bytes_eq, Option, Some, None}
 use Rattle.es_base.specs.Tree.{Tree, Part, Parts, end, more, child, absent, list, string, no_string, boolean, literal}
 use Rattle.es_base.specs.declared.kind.Kind.{Kind}
+use Rattle.es_steps.specs.Parts.{at, is_true}
 use Rattle.es_steps.specs.SameValues.{same_boolean}
 
 -- what parts hold is told of their own nodes, and what a literal says of `texts_stay`
@@ -29,7 +30,7 @@ same_words_but (suc i) (more p ps) (more q qs) = same_word p q && same_words_but
 same_words_but i ps qs = false
 
 -- what a lowering changes: a name, which `carries` and `homes` tell of; the name of a class; `?.`; the operator of an assignment;
--- `{ a }`; what an export declares
+-- `{ a }`; whether the key of a field is computed; what an export declares
 abbrev pub free_part : Kind → Option ℕ
 free_part Kind.IdentifierReference = Some 0
 free_part Kind.BindingIdentifier = Some 0
@@ -42,6 +43,7 @@ free_part Kind.AssignmentExpression = Some 0
 free_part Kind.Property = Some 4
 free_part Kind.BindingProperty = Some 4
 free_part Kind.AssignmentTargetProperty = Some 4
+free_part Kind.PropertyDefinition = Some 2
 free_part Kind.ExportNamedDeclaration = Some 0
 free_part kind = None
 
@@ -49,5 +51,10 @@ abbrev pub same_words_by : Option ℕ → Parts → Parts → Bool
 same_words_by None ps qs = same_words ps qs
 same_words_by (Some i) ps qs = same_words_but i ps qs
 
+-- the key of a field, a number, may become a computed one
+abbrev pub keeps_computed : Kind → Parts → Parts → Bool
+keeps_computed Kind.PropertyDefinition ps qs = not (is_true (at 2 ps)) || is_true (at 2 qs)
+keeps_computed kind ps qs = true
+
 abbrev pub keeps_words : Kind → Parts → Parts → Bool
-keeps_words kind ps qs = same_words_by (free_part kind) ps qs
+keeps_words kind ps qs = same_words_by (free_part kind) ps qs && keeps_computed kind ps qs

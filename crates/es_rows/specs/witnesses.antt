@@ -256,6 +256,7 @@ pub mod NewTargetOutside
 pub mod NothingDeclaredBehindABigint
 pub mod NothingDeclaredBehindADirective
 pub mod NothingDeclaredBehindAString
+pub mod NumberAsAKey
 pub mod NumberThatStrictCodeHasNot
 pub mod ObjectEvaluatedTwice
 pub mod OddConstructor

@@ -1,5 +1,5 @@
 -- A node that stands in the source stands for itself.
-use Rattle.std.specs.Prelude.{◌≡◌, ℕ, zero, suc, List, [], ◌∷◌, true, false, ◌&&◌, nat_eq, Option, Some, None}
+use Rattle.std.specs.Prelude.{◌≡◌, ℕ, zero, suc, List, [], ◌∷◌, Bool, true, false, not, ◌&&◌, ◌||◌, nat_eq, Option, Some, None}
 use Rattle.std.proofs.Common.{refl}
 use Rattle.es_base.specs.Numbered.{is_new}
 use Rattle.es_base.specs.Preorder.{number_of}
@@ -7,9 +7,9 @@ use Rattle.es_base.specs.Tree.{Tree, Part, Parts, Node, end, more, child, absent
 use Rattle.es_base.specs.declared.kind.Kind.{Kind}
 use Rattle.es_left.proofs.Booleans.{both}
 use Rattle.es_lowered.specs.Carriers.{OddForm, calls_eval, calls_private, deletes_private, deletes_name, takes_odd_parameters, declares_oddly, no_odd_form, odd_form, keeps_form, carries, stands_for_node, is_carried}
-use Rattle.es_lowered.specs.KeptWords.{same_word, same_words, same_words_but, free_part, same_words_by, keeps_words}
+use Rattle.es_lowered.specs.KeptWords.{same_word, same_words, same_words_but, free_part, same_words_by, keeps_computed, keeps_words}
 use Rattle.es_steps.proofs.Reflexive.{number-same, string-same}
-use Rattle.es_steps.specs.Parts.{at, string_of}
+use Rattle.es_steps.specs.Parts.{at, is_true, string_of}
 use Rattle.es_steps.specs.References.{is_reference}
 use Rattle.es_steps.specs.SameTrees.{kind_number}
 use Rattle.es_unchanged.proofs.Standing.{In, here, later, or_left, or_right}
@@ -46,9 +46,17 @@ by-same : (i : Option ℕ) (ps : Parts) → same_words_by i ps ps ≡ true
 by-same None ps = words-same ps
 by-same (Some i) ps = others-same i ps
 
+computed-same : (kind : Kind) (ps : Parts) → keeps_computed kind ps ps ≡ true
+computed-same Kind.PropertyDefinition ps = either (is_true (at 2 ps))
+  where
+    either : (b : Bool) → (not b || b) ≡ true
+    either true = refl
+    either false = refl
+computed-same kind ps = refl
+
 carries-itself : (kind : Kind) (ps : Parts) → carries kind ps kind ps ≡ true
 carries-itself Kind.IdentifierReference ps = rw (string-same (string_of (at 0 ps))) refl
-carries-itself kind ps = rw (number-same (kind_number kind), by-same (free_part kind) ps) (stays (odd_form kind ps))
+carries-itself kind ps = rw (number-same (kind_number kind), by-same (free_part kind) ps, computed-same kind ps) (stays (odd_form kind ps))
 
 stands-for : (kind : Kind) (n : ℕ) (span : Option (ℕ × ℕ)) (semantic_id : Option ℕ) (ps : Parts) (us : List Tree) → In (Node kind n span semantic_id ps) us → stands_for_node kind n ps us ≡ true
 stands-for kind n span semantic_id ps [] i = elim i [ ]

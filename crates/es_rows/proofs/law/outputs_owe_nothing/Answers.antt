@@ -38,6 +38,9 @@ returns-clause-map_in_front_of_a_key_that_asks c = (refl, refl, lowered refl, re
 pub returns-clause-nameless_class_that_suspends : goal.returns-clause-nameless_class_that_suspends
 returns-clause-nameless_class_that_suspends c = (refl, refl, lowered refl, refl)
 
+pub returns-clause-number_as_a_key : goal.returns-clause-number_as_a_key
+returns-clause-number_as_a_key c = (refl, refl, lowered refl, refl)
+
 pub returns-clause-own_name_that_nothing_means : goal.returns-clause-own_name_that_nothing_means
 returns-clause-own_name_that_nothing_means c = (refl, refl, lowered refl, refl)
 
