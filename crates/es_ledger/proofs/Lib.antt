@@ -1,1 +1,2 @@
+mod Signs
 mod Written

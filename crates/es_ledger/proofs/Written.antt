@@ -1,7 +1,7 @@
 -- The generated names that were written are read again.
-use Rattle.std.proofs.Common.{◌≡◌, refl, sym, ap, ◌∙◌, ℕ, zero, suc, ◌<◌, ◌^◌, List, [], ◌∷◌, ◌++◌, map, true, Option, Some, None, if◌then◌else◌, IsAscii, arith}
+use Rattle.std.proofs.Common.{◌≡◌, refl, sym, ap, ◌∙◌, ℕ, zero, suc, ◌<◌, ◌^◌, List, [], ◌∷◌, ◌++◌, map, Some, None, if◌then◌else◌, IsAscii, arith}
 use Rattle.std.specs.Prelude.{codes, option_and_then}
-use Rattle.std.specs.Str.{chars, encode_utf8_all, IsUtf8}
+use Rattle.std.specs.Str.{chars, encode_utf8_all}
 use Rattle.std.proofs.lemmas.Bool.{lt-ltb}
 use Rattle.std.proofs.lemmas.Str.{IsUtf8-from_ascii, chars-append, chars-IsAscii}
 use lib.Utf8.{encode}
@@ -30,13 +30,16 @@ abbrev rest_of : List ℕ → List ℕ
 rest_of [] = []
 rest_of (c ∷ cs) = cs
 
+abbrev entry_of : GeneratedKind → List ℕ → LedgerEntry
+entry_of kind name = record { name = name; kind = kind }
+
 module _ (name : List ℕ) where
-  by_number : (kind : NodeId → GeneratedKind) (n : NodeId) (written : List ℕ) → n.0 < 2 ^ 32 → entry_by (kind n) written ≡ Some (record { name = name; kind = kind n })
-      → option_and_then (λ k. option_and_then (entry_by k) (Some written)) (of_number kind (below_2_32 n.0)) ≡ Some (record { name = name; kind = kind n })
+  by_number : (kind : NodeId → GeneratedKind) (n : NodeId) (written : List ℕ) → n.0 < 2 ^ 32 → entry_by (kind n) written ≡ Some (entry_of (kind n) name)
+      → option_and_then (λ k. option_and_then (entry_by k) (Some written)) (of_number kind (below_2_32 n.0)) ≡ Some (entry_of (kind n) name)
   by_number kind n written fits is = ap (λ o. option_and_then (λ k. option_and_then (entry_by k) (Some written)) (of_number kind o)) (below n.0 fits) ∙ is
 
-  named : (kind : GeneratedKind) (cs : List ℕ) → cs ≡ name → Some (record { name = cs; kind = kind }) ≡ Some (record { name = name; kind = kind })
-  named kind cs is = ap (λ s. Some (record { name = s; kind = kind })) is
+  named : (kind : GeneratedKind) (cs : List ℕ) → cs ≡ name → Some (entry_of kind cs) ≡ Some (entry_of kind name)
+  named kind cs is = ap (λ s. Some (entry_of kind s)) is
 
   -- #name
   signed_bytes : encode_utf8_all (35 ∷ name) ≡ 35 ∷ encode_utf8_all name
@@ -53,10 +56,10 @@ module _ (name : List ℕ) where
   behind : IsString (35 ∷ name) → chars (encode_utf8_all name) ≡ name
   behind is = ap rest_of (sym (sign_chars (encode_utf8_all name)) ∙ ap chars (sym signed_bytes) ∙ is)
 
-  private_back : (n : NodeId) → IsString (35 ∷ name) → entry_by (GeneratedKind.Private n) (encode_utf8_all (35 ∷ name)) ≡ Some (record { name = name; kind = GeneratedKind.Private n })
+  private_back : (n : NodeId) → IsString (35 ∷ name) → entry_by (GeneratedKind.Private n) (encode_utf8_all (35 ∷ name)) ≡ Some (entry_of (GeneratedKind.Private n) name)
   private_back n is = ap (entry_by (GeneratedKind.Private n)) signed_bytes ∙ named (GeneratedKind.Private n) (chars (encode_utf8_all name)) (behind is)
 
-  entry_back : (kind : GeneratedKind) → IsString (signed kind name) → number_in kind < 2 ^ 32 → entry_in (entry_value (record { name = name; kind = kind })) ≡ Some (record { name = name; kind = kind })
+  entry_back : (kind : GeneratedKind) → IsString (signed kind name) → number_in kind < 2 ^ 32 → entry_in (entry_value (entry_of kind name)) ≡ Some (entry_of kind name)
   entry_back GeneratedKind.Temp is fits = named GeneratedKind.Temp _ is
   entry_back GeneratedKind.Param is fits = named GeneratedKind.Param _ is
   entry_back GeneratedKind.Args is fits = named GeneratedKind.Args _ is

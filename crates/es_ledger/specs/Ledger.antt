@@ -1,6 +1,6 @@
 -- The generated names that a lowered program lists (docs/JSON.md): for each its `name`, its `kind`, and `class` or `member`
 -- where the kind carries a number.
-use Rattle.std.specs.Prelude.{ℕ, List, [], ◌∷◌, ◌++◌, Option, Some, None, option_map, option_and_then, if◌then◌else◌, bytes_eq, nat_eq, codes}
+use Rattle.std.specs.Prelude.{ℕ, List, [], ◌∷◌, Option, Some, None, option_map, option_and_then, if◌then◌else◌, bytes_eq, nat_eq, codes}
 use Rattle.std.specs.Str.{chars}
 use Rattle.serde_json.specs.Data.{Data, Items, no_items, item}
 use Rattle.es_base.specs.declared.ids.NodeId.{NodeId}

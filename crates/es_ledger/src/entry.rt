@@ -37,7 +37,6 @@ fn name_by(kind: GeneratedKind, written: &str) -> Option<&str>
     }
 }
 
-#[tactic(auto, using(std::proofs::lemmas::Str::Pattern::strip_prefix_char))]
 fn behind_sign(written: &str) -> Option<&str>
     ensures { option_map (λ s. s.now) result ≡ behind_sign written.now }
 {

@@ -4,3 +4,5 @@
 mod entry;
 pub mod law;
 pub mod ledger;
+#[cfg(test)]
+mod tests;
