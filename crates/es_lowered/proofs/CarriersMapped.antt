@@ -1,12 +1,12 @@
 -- Which node of the source a node stands for does not depend on numbers.
-use Rattle.std.specs.Prelude.{◌≡◌, ℕ, List, [], ◌∷◌, map, not, ◌&&◌, ◌||◌}
+use Rattle.std.specs.Prelude.{◌≡◌, ℕ, List, [], ◌∷◌, map, cond, not, ◌&&◌, ◌||◌}
 use Rattle.std.proofs.Common.{refl, ap, ap₂, ◌∙◌}
 use Rattle.es_base.specs.Conforms.{is_rest}
 use Rattle.es_base.specs.Preorder.{preorder}
 use Rattle.es_base.specs.Tree.{Tree, Part, Parts, Node, end, more, child, absent, literal}
 use Rattle.es_base.specs.declared.kind.Kind.{Kind}
 use Rattle.es_base.specs.declared.literal.LiteralValue.TheVariants as literal_value
-use Rattle.es_lowered.specs.Carriers.{is_loose_base, form_of_callee, form_of_deleted, parameters_of, is_one_parameter, form_of_getter, form_of_accessor, is_one_name, form_of_head, odd_form, carries, stands_for_node, is_proto, gives_prototype, is_carried, all_carried, numbers_carried}
+use Rattle.es_lowered.specs.Carriers.{is_loose_base, form_of_callee, form_of_deleted, parameters_of, is_one_parameter, form_of_getter, form_of_accessor, is_proto, is_shorthand, gives_prototype, form_of_property, is_one_name, form_of_head, odd_form, carries, stands_for_node, is_carried, all_carried, numbers_carried}
 use Rattle.es_lowered.proofs.BoundMapped.{bound_stay-mapped}
 use Rattle.es_lowered.proofs.KeptWordsMapped.{keeps_words-mapped}
 use Rattle.es_steps.specs.Parts.{at, items, string_of}
@@ -57,6 +57,16 @@ module _ {first : ℕ} {f : ℕ → ℕ} (r : Renames first f) where
   accessor-mapped : (ps : Parts) → form_of_accessor (string_of (at 2 (mapped_parts f ps))) (parameters_of (at 1 (mapped_parts f ps))) ≡ form_of_accessor (string_of (at 2 ps)) (parameters_of (at 1 ps))
   accessor-mapped ps = rw (string_at-mapped f 2 ps, at-mapped f 1 ps) (form_of_accessor-mapped (string_of (at 2 ps)) (at 1 ps))
 
+  is_proto-mapped : (p : Part) → is_proto (mapped_part f p) ≡ is_proto p
+  is_proto-mapped (child (Node Kind.IdentifierName m span semantic_id ps)) = rw (string_at-mapped f 0 ps) refl
+  is_proto-mapped (child (Node Kind.Literal m span semantic_id (more (literal (literal_value.String s raw)) end))) = refl
+  is_proto-mapped p = refl
+
+  form_of_property-mapped : (ps : Parts) → form_of_property (mapped_parts f ps) ≡ form_of_property ps
+  form_of_property-mapped ps =
+      ap₂ (λ b a. cond b is_shorthand a) (is_true_at-mapped f 4 ps)
+      (ap₂ (λ b a. cond b gives_prototype a) (ap₂ (λ a b. a && not b) (ap is_proto (at-mapped f 0 ps) ∙ is_proto-mapped (at 0 ps)) (is_true_at-mapped f 5 ps)) (accessor-mapped ps))
+
   is_one_name-mapped : (ps : Parts) → is_one_name (mapped_parts f ps) ≡ is_one_name ps
   is_one_name-mapped (more (child (Node Kind.VariableDeclarator m span semantic_id (more id (more absent end)))) end) = refl
   is_one_name-mapped end = refl
@@ -71,7 +81,7 @@ module _ {first : ℕ} {f : ℕ → ℕ} (r : Renames first f) where
   odd_form-mapped Kind.CallExpression ps = ap form_of_callee (at-mapped f 0 ps) ∙ form_of_callee-mapped (at 0 ps)
   odd_form-mapped Kind.TaggedTemplateExpression ps = ap form_of_callee (at-mapped f 0 ps) ∙ form_of_callee-mapped (at 0 ps)
   odd_form-mapped Kind.UnaryExpression ps = rw (string_at-mapped f 0 ps, at-mapped f 1 ps, form_of_deleted-mapped (at 1 ps)) refl
-  odd_form-mapped Kind.Property ps = accessor-mapped ps
+  odd_form-mapped Kind.Property ps = form_of_property-mapped ps
   odd_form-mapped Kind.MethodDefinition ps = accessor-mapped ps
   odd_form-mapped Kind.ForInStatement ps = ap form_of_head (at-mapped f 0 ps) ∙ form_of_head-mapped (at 0 ps)
   odd_form-mapped Kind.ForOfStatement ps = ap form_of_head (at-mapped f 0 ps) ∙ form_of_head-mapped (at 0 ps)
@@ -84,17 +94,8 @@ module _ {first : ℕ} {f : ℕ → ℕ} (r : Renames first f) where
   stands_for_node-mapped kind n qs [] = refl
   stands_for_node-mapped kind n qs (Node other m span semantic_id ps ∷ ts) = ap₂ (λ a b. a || b) (ap₂ (λ a b. a && b) (r.apart n m) (carries-mapped other ps kind qs)) (stands_for_node-mapped kind n qs ts)
 
-  is_proto-mapped : (p : Part) → is_proto (mapped_part f p) ≡ is_proto p
-  is_proto-mapped (child (Node Kind.IdentifierName m span semantic_id ps)) = rw (string_at-mapped f 0 ps) refl
-  is_proto-mapped (child (Node Kind.Literal m span semantic_id (more (literal (literal_value.String s raw)) end))) = refl
-  is_proto-mapped p = refl
-
-  gives_prototype-mapped : (kind : Kind) (ps : Parts) → gives_prototype kind (mapped_parts f ps) ≡ gives_prototype kind ps
-  gives_prototype-mapped Kind.Property ps = ap₂ (λ a b. a && not b) (ap is_proto (at-mapped f 0 ps) ∙ is_proto-mapped (at 0 ps)) (is_true_at-mapped f 5 ps)
-  gives_prototype-mapped kind ps = refl
-
   is_carried-mapped : (ps : List Tree) (t : Tree) → is_carried first (map (mapped f) ps) (mapped f t) ≡ is_carried first ps t
-  is_carried-mapped ps (Node kind n span semantic_id qs) = rw (r.new n, gives_prototype-mapped kind qs, odd_form-mapped kind qs, stands_for_node-mapped kind n qs ps) refl
+  is_carried-mapped ps (Node kind n span semantic_id qs) = rw (r.new n, odd_form-mapped kind qs, stands_for_node-mapped kind n qs ps) refl
 
   all_carried-mapped : (ps ts : List Tree) → all_carried first (map (mapped f) ps) (map (mapped f) ts) ≡ all_carried first ps ts
   all_carried-mapped ps [] = refl

@@ -1,15 +1,25 @@
 -- What a node says by itself does not depend on numbers.
 use Rattle.std.specs.Prelude.{◌≡◌, ℕ, zero, suc, ◌&&◌, Option, Some, None}
-use Rattle.std.proofs.Common.{refl, ap₂}
-use Rattle.es_base.specs.Tree.{Part, Parts, end, more, child, absent, list, string, no_string, boolean, literal}
+use Rattle.std.proofs.Common.{refl, ap, ap₂, ◌∙◌}
+use Rattle.es_base.specs.Tree.{Tree, Part, Parts, Node, end, more, child, absent, list, string, no_string, boolean, literal}
 use Rattle.es_base.specs.declared.kind.Kind.{Kind}
-use Rattle.es_lowered.specs.KeptWords.{same_word, same_words, same_words_but, free_part, same_words_by, keeps_computed, keeps_words}
-use Rattle.es_steps.proofs.Mapped.{mapped_part, mapped_parts}
-use Rattle.es_steps.proofs.PartsMapped.{is_true_at-mapped}
+use Rattle.es_lowered.specs.KeptWords.{is_this_name, same_name, same_word, same_words, same_words_but, free_part, same_words_by, keeps_computed, keeps_words}
+use Rattle.es_steps.specs.Parts.{at, string_of}
+use Rattle.es_steps.specs.Values.{String}
+use Rattle.es_steps.proofs.Mapped.{mapped, mapped_part, mapped_parts}
+use Rattle.es_steps.proofs.PartsMapped.{is_true_at-mapped, string_at-mapped}
 
 module _ (f : ℕ → ℕ) where
+  is_this_name-mapped : (s : String) (t : Tree) → is_this_name s (mapped f t) ≡ is_this_name s t
+  is_this_name-mapped s (Node Kind.IdentifierName m span semantic_id ps) = rw (string_at-mapped f 0 ps) refl
+  is_this_name-mapped s t = refl
+
+  same_name-mapped : (t u : Tree) → same_name (mapped f t) (mapped f u) ≡ same_name t u
+  same_name-mapped (Node Kind.IdentifierName m span semantic_id ps) u = ap (λ s. is_this_name s (mapped f u)) (string_at-mapped f 0 ps) ∙ is_this_name-mapped (string_of (at 0 ps)) u
+  same_name-mapped t u = refl
+
   same_word-mapped : (p q : Part) → same_word (mapped_part f p) (mapped_part f q) ≡ same_word p q
-  same_word-mapped (child t) (child u) = refl
+  same_word-mapped (child t) (child u) = same_name-mapped t u
   same_word-mapped (child t) q = refl
   same_word-mapped p (child u) = refl
   same_word-mapped (list ps) (list qs) = refl

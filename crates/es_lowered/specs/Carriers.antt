@@ -100,7 +100,8 @@ has_its_name kind s t = named_by kind && ((is_reference kind && bytes_eq s t) ||
 
 -- forms that no value tells from others: a call of the name `eval` (13.3.6.1); a call and a tag of a private member, which is handed
 -- its object (13.3.6.2); `delete` of a private member, and of a name (13.5.1.1); a getter with parameters, and a setter without its
--- one (15.4); the head of a for-in or for-of that declares several names or gives one a value (14.7.5)
+-- one (15.4); the head of a for-in or for-of that declares several names or gives one a value (14.7.5); a property
+-- that gives a prototype, and one without a value of its own (13.2.5.1, B.3.1)
 pub data OddForm : Type 0 where
   calls_eval : OddForm
   calls_private : OddForm
@@ -108,6 +109,8 @@ pub data OddForm : Type 0 where
   deletes_name : OddForm
   takes_odd_parameters : OddForm
   declares_oddly : OddForm
+  gives_prototype : OddForm
+  is_shorthand : OddForm
   no_odd_form : OddForm
 
 abbrev pub is_loose_base : Part → Bool
@@ -141,6 +144,18 @@ form_of_getter ps = takes_odd_parameters
 abbrev pub form_of_accessor : String → Parts → OddForm
 form_of_accessor kind ps = cond (bytes_eq kind (codes "get")) (form_of_getter ps) (cond (bytes_eq kind (codes "set") && not (is_one_parameter ps)) takes_odd_parameters no_odd_form)
 
+-- a key that is computed gives no prototype
+abbrev pub is_proto : Part → Bool
+is_proto (child (Node Kind.IdentifierName m span semantic_id ps)) = bytes_eq (string_of (at 0 ps)) (codes "__proto__")
+is_proto (child (Node Kind.Literal m span semantic_id (more (literal (literal_value.String s raw)) end))) = bytes_eq s (codes "__proto__")
+is_proto p = false
+
+abbrev pub form_of_property : Parts → OddForm
+form_of_property ps =
+    cond (is_true (at 4 ps)) is_shorthand
+    (cond (is_proto (at 0 ps) && not (is_true (at 5 ps))) gives_prototype
+    (form_of_accessor (string_of (at 2 ps)) (parameters_of (at 1 ps))))
+
 abbrev pub is_one_name : Parts → Bool
 is_one_name (more (child (Node Kind.VariableDeclarator m span semantic_id (more id (more absent end)))) end) = true
 is_one_name ps = false
@@ -153,7 +168,7 @@ abbrev pub odd_form : Kind → Parts → OddForm
 odd_form Kind.CallExpression ps = form_of_callee (at 0 ps)
 odd_form Kind.TaggedTemplateExpression ps = form_of_callee (at 0 ps)
 odd_form Kind.UnaryExpression ps = cond (bytes_eq (string_of (at 0 ps)) (codes "delete")) (form_of_deleted (at 1 ps)) no_odd_form
-odd_form Kind.Property ps = form_of_accessor (string_of (at 2 ps)) (parameters_of (at 1 ps))
+odd_form Kind.Property ps = form_of_property ps
 odd_form Kind.MethodDefinition ps = form_of_accessor (string_of (at 2 ps)) (parameters_of (at 1 ps))
 odd_form Kind.ForInStatement ps = form_of_head (at 0 ps)
 odd_form Kind.ForOfStatement ps = form_of_head (at 0 ps)
@@ -168,6 +183,8 @@ keeps_form deletes_private deletes_private = true
 keeps_form deletes_name deletes_name = true
 keeps_form takes_odd_parameters takes_odd_parameters = true
 keeps_form declares_oddly declares_oddly = true
+keeps_form gives_prototype gives_prototype = true
+keeps_form is_shorthand is_shorthand = true
 keeps_form form other = false
 
 abbrev pub carries : Kind → Parts → Kind → Parts → Bool
@@ -177,19 +194,9 @@ abbrev pub stands_for_node : Kind → ℕ → Parts → List Tree → Bool
 stands_for_node kind n qs [] = false
 stands_for_node kind n qs (Node other m span semantic_id ps ∷ ts) = (nat_eq n m && carries other ps kind qs) || stands_for_node kind n qs ts
 
--- a new object gives no prototype (B.3.1): a key that is computed names a property
-abbrev pub is_proto : Part → Bool
-is_proto (child (Node Kind.IdentifierName m span semantic_id ps)) = bytes_eq (string_of (at 0 ps)) (codes "__proto__")
-is_proto (child (Node Kind.Literal m span semantic_id (more (literal (literal_value.String s raw)) end))) = bytes_eq s (codes "__proto__")
-is_proto p = false
-
-abbrev pub gives_prototype : Kind → Parts → Bool
-gives_prototype Kind.Property ps = is_proto (at 0 ps) && not (is_true (at 5 ps))
-gives_prototype kind ps = false
-
 -- ps are the nodes of the source
 abbrev pub is_carried : ℕ → List Tree → Tree → Bool
-is_carried first ps (Node kind n span semantic_id qs) = cond (is_new first n) ((is_made kind && not (gives_prototype kind qs)) && keeps_form no_odd_form (odd_form kind qs)) (stands_for_node kind n qs ps)
+is_carried first ps (Node kind n span semantic_id qs) = cond (is_new first n) (is_made kind && keeps_form no_odd_form (odd_form kind qs)) (stands_for_node kind n qs ps)
 
 abbrev pub all_carried : ℕ → List Tree → List Tree → Bool
 all_carried first ps [] = true

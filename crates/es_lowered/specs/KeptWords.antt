@@ -1,14 +1,24 @@
 -- What a node says by itself stays: its strings and flags, and which of its parts are there. So what no step looks at, as what is
 -- behind an access that always throws, is read by an engine as it was. (Our own.)
 use Rattle.std.specs.Prelude.{ℕ, zero, suc, Bool, true, false, not, ◌&&◌, ◌||◌, bytes_eq, Option, Some, None}
-use Rattle.es_base.specs.Tree.{Tree, Part, Parts, end, more, child, absent, list, string, no_string, boolean, literal}
+use Rattle.es_base.specs.Tree.{Tree, Part, Parts, Node, end, more, child, absent, list, string, no_string, boolean, literal}
 use Rattle.es_base.specs.declared.kind.Kind.{Kind}
-use Rattle.es_steps.specs.Parts.{at, is_true}
+use Rattle.es_steps.specs.Parts.{at, is_true, string_of}
 use Rattle.es_steps.specs.SameValues.{same_boolean}
+use Rattle.es_steps.specs.Values.{String}
 
--- what parts hold is told of their own nodes, and what a literal says of `texts_stay`
+-- a name that is no reference is a word of the node around it, as a label, a key or `new.target`
+abbrev pub is_this_name : String → Tree → Bool
+is_this_name s (Node Kind.IdentifierName m span semantic_id ps) = bytes_eq s (string_of (at 0 ps))
+is_this_name s t = false
+
+abbrev pub same_name : Tree → Tree → Bool
+same_name (Node Kind.IdentifierName m span semantic_id ps) u = is_this_name (string_of (at 0 ps)) u
+same_name t u = true
+
+-- what else parts hold is told of their own nodes, and what a literal says of `texts_stay`
 abbrev pub same_word : Part → Part → Bool
-same_word (child t) (child u) = true
+same_word (child t) (child u) = same_name t u
 same_word absent absent = true
 same_word (list ps) (list qs) = true
 same_word (string s) (string t) = bytes_eq s t

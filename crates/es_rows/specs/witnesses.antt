@@ -251,6 +251,7 @@ pub mod NamesOfAConstructor
 pub mod NamesOfAHeadBehindAnError
 pub mod NestedClasses
 pub mod NewImport
+pub mod NewLabelBehindAnError
 pub mod NewTargetOfAProgram
 pub mod NewTargetOutside
 pub mod NothingDeclaredBehindABigint
@@ -295,6 +296,7 @@ pub mod PrivateNameOfAnotherMember
 pub mod PrivateNameOfTheOuterClass
 pub mod PrivateNameTwice
 pub mod PropertyWithTheNumberOfABlock
+pub mod PrototypeByExchangedNamesBehindAnError
 pub mod PrototypeKeyBehindAnError
 pub mod PrototypesBehindAnError
 pub mod PrototypesExchangedBehindAnError
@@ -325,6 +327,7 @@ pub mod ScriptInAnArrow
 pub mod SecondStringThatAPrinterMakesADirective
 pub mod SetterInASuperFunctionThatNothingCalls
 pub mod SharedParameters
+pub mod ShorthandOfAnOperator
 pub mod SpreadForAParameter
 pub mod StatementOfAnIf
 pub mod StatementOfAnotherCase

@@ -353,6 +353,7 @@ ghost use Rattle.es_rows.specs.witnesses.NamelessClassThatSuspends.{source_namel
 ghost use Rattle.es_rows.specs.witnesses.NamesOfAConstructor.{source_names_of_a_constructor, output_names_of_a_constructor, generated_names_of_a_constructor, options_names_of_a_constructor};
 ghost use Rattle.es_rows.specs.witnesses.NamesOfAHeadBehindAnError.{source_names_of_a_head_behind_an_error, output_names_of_a_head_behind_an_error, generated_names_of_a_head_behind_an_error, options_names_of_a_head_behind_an_error};
 ghost use Rattle.es_rows.specs.witnesses.NewImport.{source_new_import, output_new_import, generated_new_import, options_new_import};
+ghost use Rattle.es_rows.specs.witnesses.NewLabelBehindAnError.{source_new_label_behind_an_error, output_new_label_behind_an_error, generated_new_label_behind_an_error, options_new_label_behind_an_error};
 ghost use Rattle.es_rows.specs.witnesses.NewTargetOfAProgram.{source_new_target_of_a_program, output_new_target_of_a_program, generated_new_target_of_a_program, options_new_target_of_a_program};
 ghost use Rattle.es_rows.specs.witnesses.NewTargetOutside.{source_new_target_outside, output_new_target_outside, generated_new_target_outside, options_new_target_outside};
 ghost use Rattle.es_rows.specs.witnesses.NothingDeclaredBehindABigint.{source_nothing_declared_behind_a_bigint, output_nothing_declared_behind_a_bigint, generated_nothing_declared_behind_a_bigint, options_nothing_declared_behind_a_bigint};
@@ -397,6 +398,7 @@ ghost use Rattle.es_rows.specs.witnesses.PrivateNameOfAnotherMember.{source_priv
 ghost use Rattle.es_rows.specs.witnesses.PrivateNameOfTheOuterClass.{source_private_name_of_the_outer_class, output_private_name_of_the_outer_class, generated_private_name_of_the_outer_class, options_private_name_of_the_outer_class};
 ghost use Rattle.es_rows.specs.witnesses.PrivateNameTwice.{source_private_name_twice, output_private_name_twice, generated_private_name_twice, options_private_name_twice};
 ghost use Rattle.es_rows.specs.witnesses.PropertyWithTheNumberOfABlock.{source_property_with_the_number_of_a_block, output_property_with_the_number_of_a_block, generated_property_with_the_number_of_a_block, options_property_with_the_number_of_a_block};
+ghost use Rattle.es_rows.specs.witnesses.PrototypeByExchangedNamesBehindAnError.{source_prototype_by_exchanged_names_behind_an_error, output_prototype_by_exchanged_names_behind_an_error, generated_prototype_by_exchanged_names_behind_an_error, options_prototype_by_exchanged_names_behind_an_error};
 ghost use Rattle.es_rows.specs.witnesses.PrototypeKeyBehindAnError.{source_prototype_key_behind_an_error, output_prototype_key_behind_an_error, generated_prototype_key_behind_an_error, options_prototype_key_behind_an_error};
 ghost use Rattle.es_rows.specs.witnesses.PrototypesBehindAnError.{source_prototypes_behind_an_error, output_prototypes_behind_an_error, generated_prototypes_behind_an_error, options_prototypes_behind_an_error};
 ghost use Rattle.es_rows.specs.witnesses.PrototypesExchangedBehindAnError.{source_prototypes_exchanged_behind_an_error, output_prototypes_exchanged_behind_an_error, generated_prototypes_exchanged_behind_an_error, options_prototypes_exchanged_behind_an_error};
@@ -427,6 +429,7 @@ ghost use Rattle.es_rows.specs.witnesses.ScriptInAnArrow.{source_script_in_an_ar
 ghost use Rattle.es_rows.specs.witnesses.SecondStringThatAPrinterMakesADirective.{source_second_string_that_a_printer_makes_a_directive, output_second_string_that_a_printer_makes_a_directive, generated_second_string_that_a_printer_makes_a_directive, options_second_string_that_a_printer_makes_a_directive};
 ghost use Rattle.es_rows.specs.witnesses.SetterInASuperFunctionThatNothingCalls.{source_setter_in_a_super_function_that_nothing_calls, output_setter_in_a_super_function_that_nothing_calls, generated_setter_in_a_super_function_that_nothing_calls, options_setter_in_a_super_function_that_nothing_calls};
 ghost use Rattle.es_rows.specs.witnesses.SharedParameters.{first_shared_parameters, second_shared_parameters, options_shared_parameters};
+ghost use Rattle.es_rows.specs.witnesses.ShorthandOfAnOperator.{source_shorthand_of_an_operator, output_shorthand_of_an_operator, generated_shorthand_of_an_operator, options_shorthand_of_an_operator};
 ghost use Rattle.es_rows.specs.witnesses.SpreadForAParameter.{source_spread_for_a_parameter, output_spread_for_a_parameter, generated_spread_for_a_parameter, options_spread_for_a_parameter};
 ghost use Rattle.es_rows.specs.witnesses.StatementOfAnIf.{first_statement_of_an_if, second_statement_of_an_if, options_statement_of_an_if};
 ghost use Rattle.es_rows.specs.witnesses.StatementOfAnotherCase.{source_statement_of_another_case, output_statement_of_another_case, generated_statement_of_another_case, options_statement_of_another_case};
@@ -910,6 +913,7 @@ pub fn clauses_are_not_met()
     ensures name_twice { names_declared (nodes source_name_twice) generated_name_twice output_name_twice ≡ false }
     ensures name_without_a_sign { names_declared (nodes source_name_without_a_sign) generated_name_without_a_sign output_name_without_a_sign ≡ false }
     ensures names_of_a_head_behind_an_error { numbers_carried (nodes source_names_of_a_head_behind_an_error) source_names_of_a_head_behind_an_error output_names_of_a_head_behind_an_error ≡ false }
+    ensures new_label_behind_an_error { numbers_carried (nodes source_new_label_behind_an_error) source_new_label_behind_an_error output_new_label_behind_an_error ≡ false }
     ensures new_target_outside { is_printable output_new_target_outside ≡ false }
     ensures nothing_declared_behind_a_bigint { stays_printable source_nothing_declared_behind_a_bigint output_nothing_declared_behind_a_bigint ≡ false }
     ensures nothing_declared_behind_a_directive { stays_printable source_nothing_declared_behind_a_directive output_nothing_declared_behind_a_directive ≡ false }
@@ -929,6 +933,7 @@ pub fn clauses_are_not_met()
     ensures private_name_of_another_member { texts_stay (nodes source_private_name_of_another_member) source_private_name_of_another_member output_private_name_of_another_member ≡ false }
     ensures private_name_twice { names_declared (nodes source_private_name_twice) generated_private_name_twice output_private_name_twice ≡ false }
     ensures property_with_the_number_of_a_block { numbers_carried (nodes source_property_with_the_number_of_a_block) source_property_with_the_number_of_a_block output_property_with_the_number_of_a_block ≡ false }
+    ensures prototype_by_exchanged_names_behind_an_error { numbers_carried (nodes source_prototype_by_exchanged_names_behind_an_error) source_prototype_by_exchanged_names_behind_an_error output_prototype_by_exchanged_names_behind_an_error ≡ false }
     ensures prototype_key_behind_an_error { numbers_carried (nodes source_prototype_key_behind_an_error) source_prototype_key_behind_an_error output_prototype_key_behind_an_error ≡ false }
     ensures prototypes_behind_an_error { numbers_carried (nodes source_prototypes_behind_an_error) source_prototypes_behind_an_error output_prototypes_behind_an_error ≡ false }
     ensures prototypes_exchanged_behind_an_error { numbers_carried (nodes source_prototypes_exchanged_behind_an_error) source_prototypes_exchanged_behind_an_error output_prototypes_exchanged_behind_an_error ≡ false }
@@ -938,6 +943,7 @@ pub fn clauses_are_not_met()
     ensures rests_exchanged_behind_an_error { numbers_carried (nodes source_rests_exchanged_behind_an_error) source_rests_exchanged_behind_an_error output_rests_exchanged_behind_an_error ≡ false }
     ensures second_string_that_a_printer_makes_a_directive { stays_printable source_second_string_that_a_printer_makes_a_directive output_second_string_that_a_printer_makes_a_directive ≡ false }
     ensures setter_in_a_super_function_that_nothing_calls { numbers_carried (nodes source_setter_in_a_super_function_that_nothing_calls) source_setter_in_a_super_function_that_nothing_calls output_setter_in_a_super_function_that_nothing_calls ≡ false }
+    ensures shorthand_of_an_operator { numbers_carried (nodes source_shorthand_of_an_operator) source_shorthand_of_an_operator output_shorthand_of_an_operator ≡ false }
     ensures strict_arrow { none_becomes_strict (nodes source_strict_arrow) source_strict_arrow output_strict_arrow ≡ false }
     ensures strict_rest { is_printable output_strict_rest ≡ false }
     ensures string_that_a_printer_makes_a_directive { stays_printable source_string_that_a_printer_makes_a_directive output_string_that_a_printer_makes_a_directive ≡ false }

@@ -6,8 +6,8 @@ use Rattle.es_base.specs.Preorder.{number_of}
 use Rattle.es_base.specs.Tree.{Tree, Part, Parts, Node, end, more, child, absent, list, string, no_string, boolean, literal}
 use Rattle.es_base.specs.declared.kind.Kind.{Kind}
 use Rattle.es_left.proofs.Booleans.{both}
-use Rattle.es_lowered.specs.Carriers.{OddForm, calls_eval, calls_private, deletes_private, deletes_name, takes_odd_parameters, declares_oddly, no_odd_form, odd_form, keeps_form, carries, stands_for_node, is_carried}
-use Rattle.es_lowered.specs.KeptWords.{same_word, same_words, same_words_but, free_part, same_words_by, keeps_computed, keeps_words}
+use Rattle.es_lowered.specs.Carriers.{OddForm, calls_eval, calls_private, deletes_private, deletes_name, takes_odd_parameters, declares_oddly, gives_prototype, is_shorthand, no_odd_form, odd_form, keeps_form, carries, stands_for_node, is_carried}
+use Rattle.es_lowered.specs.KeptWords.{same_name, same_word, same_words, same_words_but, free_part, same_words_by, keeps_computed, keeps_words}
 use Rattle.es_steps.proofs.Reflexive.{number-same, string-same}
 use Rattle.es_steps.specs.Parts.{at, is_true, string_of}
 use Rattle.es_steps.specs.References.{is_reference}
@@ -21,10 +21,16 @@ stays deletes_private = refl
 stays deletes_name = refl
 stays takes_odd_parameters = refl
 stays declares_oddly = refl
+stays gives_prototype = refl
+stays is_shorthand = refl
 stays no_odd_form = refl
 
+name-same : (t : Tree) → same_name t t ≡ true
+name-same (Node Kind.IdentifierName m span semantic_id ps) = string-same (string_of (at 0 ps))
+name-same t = refl
+
 word-same : (p : Part) → same_word p p ≡ true
-word-same (child t) = refl
+word-same (child t) = name-same t
 word-same absent = refl
 word-same (list ps) = refl
 word-same (string s) = string-same s

@@ -409,6 +409,9 @@ returns-clause-name_without_a_sign c = refl
 pub returns-clause-names_of_a_head_behind_an_error : goal.returns-clause-names_of_a_head_behind_an_error
 returns-clause-names_of_a_head_behind_an_error c = refl
 
+pub returns-clause-new_label_behind_an_error : goal.returns-clause-new_label_behind_an_error
+returns-clause-new_label_behind_an_error c = refl
+
 pub returns-clause-new_target_outside : goal.returns-clause-new_target_outside
 returns-clause-new_target_outside c = refl
 
@@ -466,6 +469,9 @@ returns-clause-private_name_twice c = refl
 pub returns-clause-property_with_the_number_of_a_block : goal.returns-clause-property_with_the_number_of_a_block
 returns-clause-property_with_the_number_of_a_block c = refl
 
+pub returns-clause-prototype_by_exchanged_names_behind_an_error : goal.returns-clause-prototype_by_exchanged_names_behind_an_error
+returns-clause-prototype_by_exchanged_names_behind_an_error c = refl
+
 pub returns-clause-prototype_key_behind_an_error : goal.returns-clause-prototype_key_behind_an_error
 returns-clause-prototype_key_behind_an_error c = refl
 
@@ -492,6 +498,9 @@ returns-clause-second_string_that_a_printer_makes_a_directive c = refl
 
 pub returns-clause-setter_in_a_super_function_that_nothing_calls : goal.returns-clause-setter_in_a_super_function_that_nothing_calls
 returns-clause-setter_in_a_super_function_that_nothing_calls c = refl
+
+pub returns-clause-shorthand_of_an_operator : goal.returns-clause-shorthand_of_an_operator
+returns-clause-shorthand_of_an_operator c = refl
 
 pub returns-clause-strict_arrow : goal.returns-clause-strict_arrow
 returns-clause-strict_arrow c = refl
