@@ -272,6 +272,8 @@ NOT_MET = {
     'prototype_key_behind_an_error': CARRIERS,
     'computed_key_behind_an_error': CARRIERS,
     'awaiting_loop_out_of_its_function': CARRIERS,
+    'export_of_a_call': CARRIERS,
+    'export_in_a_block': CARRIERS,
     'new_label_behind_an_error': CARRIERS,
     'prototype_by_exchanged_names_behind_an_error': CARRIERS,
     'shorthand_of_an_operator': CARRIERS,

@@ -5,7 +5,7 @@ use Rattle.es_base.specs.Numbered.{is_new}
 use Rattle.es_base.specs.Preorder.{number_of}
 use Rattle.es_base.specs.Tree.{Tree, Part, Parts, Node, end, more, child, list}
 use Rattle.es_base.specs.declared.kind.Kind.{Kind}
-use Rattle.es_lowered.specs.Bound.{BoundPlace, is_bound, suspends, body_around, place_inside, bound_to, bound_node, bound_nodes, bound_in, bound_at, bound_of, all_bound, bound_stay}
+use Rattle.es_lowered.specs.Bound.{BoundPlace, is_bound, is_nested_item, suspends, body_around, place_inside, bound_to, bound_node, bound_nodes, bound_in, bound_at, bound_of, all_bound, bound_stay}
 use Rattle.es_steps.specs.KeptNodes.{function_around, pair_stands, all_pairs_stand}
 use Rattle.es_steps.proofs.KeptNodesMapped.{function_around-mapped}
 use Rattle.es_steps.proofs.Mapped.{Renames, mapped, mapped_part, mapped_parts}
@@ -35,9 +35,10 @@ module _ {first : ℕ} {f : ℕ → ℕ} (r : Renames first f) where
   bound_node-mapped : (x : BoundPlace) (kind : Kind) (m : ℕ) (ps : Parts) → bound_node first (mapped_place f x) kind (f m) (mapped_parts f ps) ≡ map (mapped_pair f) (bound_node first x kind m ps)
   bound_node-mapped x kind m ps =
       rw (suspends-mapped kind ps)
+      (cond-mapped (map (mapped_pair f)) (is_nested_item x.kind kind) ((m, m) ∷ []) (cond (is_bound x.kind kind) (bound_to first m x.number) (cond (suspends kind ps) (bound_to first m (cond x.in_parameters m x.of_function)) [])) refl
       (cond-mapped (map (mapped_pair f)) (is_bound x.kind kind) (bound_to first m x.number) (cond (suspends kind ps) (bound_to first m (cond x.in_parameters m x.of_function)) []) (bound_to-mapped m x.number)
       (cond-mapped (map (mapped_pair f)) (suspends kind ps) (bound_to first m (cond x.in_parameters m x.of_function)) []
-      (ap (bound_to first (f m)) (cond-mapped f x.in_parameters m x.of_function refl refl) ∙ bound_to-mapped m (cond x.in_parameters m x.of_function)) refl))
+      (ap (bound_to first (f m)) (cond-mapped f x.in_parameters m x.of_function refl refl) ∙ bound_to-mapped m (cond x.in_parameters m x.of_function)) refl)))
 
   mutual
     bound_nodes-mapped : (x : BoundPlace) (t : Tree) → bound_nodes first (mapped_place f x) (mapped f t) ≡ map (mapped_pair f) (bound_nodes first x t)

@@ -6,7 +6,7 @@ use Rattle.es_base.specs.Preorder.{preorder}
 use Rattle.es_base.specs.Tree.{Tree, Part, Parts, Node, end, more, child, absent, literal}
 use Rattle.es_base.specs.declared.kind.Kind.{Kind}
 use Rattle.es_base.specs.declared.literal.LiteralValue.TheVariants as literal_value
-use Rattle.es_lowered.specs.Carriers.{is_loose_base, form_of_callee, form_of_deleted, parameters_of, is_one_parameter, form_of_getter, form_of_accessor, is_proto, is_shorthand, gives_prototype, form_of_property, is_one_name, form_of_head, odd_form, carries, stands_for_node, is_carried, all_carried, numbers_carried}
+use Rattle.es_lowered.specs.Carriers.{is_loose_base, form_of_callee, form_of_deleted, parameters_of, is_one_parameter, form_of_getter, form_of_accessor, is_proto, is_shorthand, gives_prototype, form_of_property, is_one_name, form_of_head, form_of_export, odd_form, carries, stands_for_node, is_carried, all_carried, numbers_carried}
 use Rattle.es_lowered.proofs.BoundMapped.{bound_stay-mapped}
 use Rattle.es_lowered.proofs.KeptWordsMapped.{keeps_words-mapped}
 use Rattle.es_steps.specs.Parts.{at, items, string_of}
@@ -77,6 +77,13 @@ module _ {first : ℕ} {f : ℕ → ℕ} (r : Renames first f) where
   form_of_head-mapped (child (Node Kind.VariableDeclaration m span semantic_id ps)) = rw (items_at-mapped f 1 ps, is_one_name-mapped (items (at 1 ps))) refl
   form_of_head-mapped p = refl
 
+  form_of_export-mapped : (p : Part) → form_of_export (mapped_part f p) ≡ form_of_export p
+  form_of_export-mapped (child (Node Kind.FunctionDeclaration m span semantic_id ps)) = refl
+  form_of_export-mapped (child (Node Kind.ClassDeclaration m span semantic_id ps)) = refl
+  form_of_export-mapped (child (Node Kind.VariableDeclaration m span semantic_id ps)) = refl
+  form_of_export-mapped (child (Node kind m span semantic_id ps)) = refl
+  form_of_export-mapped p = refl
+
   odd_form-mapped : (kind : Kind) (ps : Parts) → odd_form kind (mapped_parts f ps) ≡ odd_form kind ps
   odd_form-mapped Kind.CallExpression ps = ap form_of_callee (at-mapped f 0 ps) ∙ form_of_callee-mapped (at 0 ps)
   odd_form-mapped Kind.TaggedTemplateExpression ps = ap form_of_callee (at-mapped f 0 ps) ∙ form_of_callee-mapped (at 0 ps)
@@ -85,6 +92,7 @@ module _ {first : ℕ} {f : ℕ → ℕ} (r : Renames first f) where
   odd_form-mapped Kind.MethodDefinition ps = accessor-mapped ps
   odd_form-mapped Kind.ForInStatement ps = ap form_of_head (at-mapped f 0 ps) ∙ form_of_head-mapped (at 0 ps)
   odd_form-mapped Kind.ForOfStatement ps = ap form_of_head (at-mapped f 0 ps) ∙ form_of_head-mapped (at 0 ps)
+  odd_form-mapped Kind.ExportNamedDeclaration ps = ap form_of_export (at-mapped f 0 ps) ∙ form_of_export-mapped (at 0 ps)
   odd_form-mapped kind ps = refl
 
   carries-mapped : (kind : Kind) (ps : Parts) (other : Kind) (qs : Parts) → carries kind (mapped_parts f ps) other (mapped_parts f qs) ≡ carries kind ps other qs

@@ -33,6 +33,18 @@ suspends Kind.YieldExpression ps = true
 suspends Kind.ForOfStatement ps = is_true (at 3 ps)
 suspends kind ps = false
 
+-- imports and exports stand in the list of the program (16.2)
+abbrev pub is_module_item : Kind → Bool
+is_module_item Kind.ImportDeclaration = true
+is_module_item Kind.ExportNamedDeclaration = true
+is_module_item Kind.ExportDefaultDeclaration = true
+is_module_item Kind.ExportAllDeclaration = true
+is_module_item kind = false
+
+abbrev pub is_nested_item : Kind → Kind → Bool
+is_nested_item Kind.Program kind = false
+is_nested_item around kind = is_module_item kind
+
 -- the value of a field is a function of its own (15.7.10)
 abbrev pub body_around : ℕ → Kind → ℕ → ℕ → ℕ
 body_around home Kind.PropertyDefinition m i = cond (nat_eq i 1) m home
@@ -60,9 +72,10 @@ module _ (first : ℕ) where
   abbrev pub bound_to : ℕ → ℕ → List (ℕ × ℕ)
   bound_to m n = cond (is_new first m) [] ((m, n) ∷ [])
 
-  -- what suspends stands in no parameters, and is said to stay in itself there
+  -- what suspends stands in no parameters, and what a module imports and exports in no other list; they are said to stay in themselves
+  -- there, which no node does
   abbrev pub bound_node : BoundPlace → Kind → ℕ → Parts → List (ℕ × ℕ)
-  bound_node x kind m ps = cond (is_bound x.kind kind) (bound_to m x.number) (cond (suspends kind ps) (bound_to m (cond x.in_parameters m x.of_function)) [])
+  bound_node x kind m ps = cond (is_nested_item x.kind kind) ((m, m) ∷ []) (cond (is_bound x.kind kind) (bound_to m x.number) (cond (suspends kind ps) (bound_to m (cond x.in_parameters m x.of_function)) []))
 
   abbrev mutual
     pub bound_nodes : BoundPlace → Tree → List (ℕ × ℕ)

@@ -101,7 +101,7 @@ has_its_name kind s t = named_by kind && ((is_reference kind && bytes_eq s t) ||
 -- forms that no value tells from others: a call of the name `eval` (13.3.6.1); a call and a tag of a private member, which is handed
 -- its object (13.3.6.2); `delete` of a private member, and of a name (13.5.1.1); a getter with parameters, and a setter without its
 -- one (15.4); the head of a for-in or for-of that declares several names or gives one a value (14.7.5); a property
--- that gives a prototype, and one without a value of its own (13.2.5.1, B.3.1)
+-- that gives a prototype, and one without a value of its own (13.2.5.1, B.3.1); an export that declares nothing (16.2.3)
 pub data OddForm : Type 0 where
   calls_eval : OddForm
   calls_private : OddForm
@@ -111,6 +111,7 @@ pub data OddForm : Type 0 where
   declares_oddly : OddForm
   gives_prototype : OddForm
   is_shorthand : OddForm
+  exports_oddly : OddForm
   no_odd_form : OddForm
 
 abbrev pub is_loose_base : Part → Bool
@@ -164,6 +165,13 @@ abbrev pub form_of_head : Part → OddForm
 form_of_head (child (Node Kind.VariableDeclaration m span semantic_id ps)) = cond (is_one_name (items (at 1 ps))) no_odd_form declares_oddly
 form_of_head p = no_odd_form
 
+abbrev pub form_of_export : Part → OddForm
+form_of_export (child (Node Kind.FunctionDeclaration m span semantic_id ps)) = no_odd_form
+form_of_export (child (Node Kind.ClassDeclaration m span semantic_id ps)) = no_odd_form
+form_of_export (child (Node Kind.VariableDeclaration m span semantic_id ps)) = no_odd_form
+form_of_export (child t) = exports_oddly
+form_of_export p = no_odd_form
+
 abbrev pub odd_form : Kind → Parts → OddForm
 odd_form Kind.CallExpression ps = form_of_callee (at 0 ps)
 odd_form Kind.TaggedTemplateExpression ps = form_of_callee (at 0 ps)
@@ -172,6 +180,7 @@ odd_form Kind.Property ps = form_of_property ps
 odd_form Kind.MethodDefinition ps = form_of_accessor (string_of (at 2 ps)) (parameters_of (at 1 ps))
 odd_form Kind.ForInStatement ps = form_of_head (at 0 ps)
 odd_form Kind.ForOfStatement ps = form_of_head (at 0 ps)
+odd_form Kind.ExportNamedDeclaration ps = form_of_export (at 0 ps)
 odd_form kind ps = no_odd_form
 
 -- the second is none, or the first
@@ -185,6 +194,7 @@ keeps_form takes_odd_parameters takes_odd_parameters = true
 keeps_form declares_oddly declares_oddly = true
 keeps_form gives_prototype gives_prototype = true
 keeps_form is_shorthand is_shorthand = true
+keeps_form exports_oddly exports_oddly = true
 keeps_form form other = false
 
 abbrev pub carries : Kind → Parts → Kind → Parts → Bool

@@ -132,6 +132,8 @@ pub mod DirectiveBehindAName
 pub mod DirectiveWithAnEscape
 pub mod ElementsDropped
 pub mod ElementsOfAWrittenClassDropped
+pub mod ExportInABlock
+pub mod ExportOfACall
 pub mod FieldBeforeSuper
 pub mod FieldBehindParametersDoubled
 pub mod FieldBehindParametersDropped

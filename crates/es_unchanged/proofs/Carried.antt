@@ -6,7 +6,7 @@ use Rattle.es_base.specs.Preorder.{number_of}
 use Rattle.es_base.specs.Tree.{Tree, Part, Parts, Node, end, more, child, absent, list, string, no_string, boolean, literal}
 use Rattle.es_base.specs.declared.kind.Kind.{Kind}
 use Rattle.es_left.proofs.Booleans.{both}
-use Rattle.es_lowered.specs.Carriers.{OddForm, calls_eval, calls_private, deletes_private, deletes_name, takes_odd_parameters, declares_oddly, gives_prototype, is_shorthand, no_odd_form, odd_form, keeps_form, carries, stands_for_node, is_carried}
+use Rattle.es_lowered.specs.Carriers.{OddForm, calls_eval, calls_private, deletes_private, deletes_name, takes_odd_parameters, declares_oddly, gives_prototype, is_shorthand, exports_oddly, no_odd_form, odd_form, keeps_form, carries, stands_for_node, is_carried}
 use Rattle.es_lowered.specs.KeptWords.{same_name, same_word, same_words, same_words_but, free_part, same_words_by, keeps_computed, keeps_words}
 use Rattle.es_steps.proofs.Reflexive.{number-same, string-same}
 use Rattle.es_steps.specs.Parts.{at, is_true, string_of}
@@ -23,6 +23,7 @@ stays takes_odd_parameters = refl
 stays declares_oddly = refl
 stays gives_prototype = refl
 stays is_shorthand = refl
+stays exports_oddly = refl
 stays no_odd_form = refl
 
 name-same : (t : Tree) → same_name t t ≡ true

@@ -247,6 +247,12 @@ returns-clause-directive_behind_a_name c = refl
 pub returns-clause-elements_of_a_written_class_dropped : goal.returns-clause-elements_of_a_written_class_dropped
 returns-clause-elements_of_a_written_class_dropped c = refl
 
+pub returns-clause-export_in_a_block : goal.returns-clause-export_in_a_block
+returns-clause-export_in_a_block c = refl
+
+pub returns-clause-export_of_a_call : goal.returns-clause-export_of_a_call
+returns-clause-export_of_a_call c = refl
+
 pub returns-clause-field_of_a_written_class_doubled : goal.returns-clause-field_of_a_written_class_doubled
 returns-clause-field_of_a_written_class_doubled c = refl
 
