@@ -61,9 +61,9 @@ module _ (first : ℕ) (ps : List Tree) where
       let named = old name (later here) in
       let inner = old _ (later (later here)) in
       let inside : Parts = more (list (lowered_elements n es)) end in
-      both (carried-alike first ps Kind.ClassDeclaration m span semantic_id _ (more (child name) (more absent (more (child (Node Kind.ClassBody j bspan b_semantic_id inside)) end))) refl refl refl class.0 class.1)
+      both (carried-alike first ps Kind.ClassDeclaration m span semantic_id _ (more (child name) (more absent (more (child (Node Kind.ClassBody j bspan b_semantic_id inside)) end))) refl refl refl refl class.0 class.1)
       (both (carried first ps name named.0 named.1)
-      (both (carried-alike first ps Kind.ClassBody j bspan b_semantic_id _ inside refl refl refl inner.0 inner.1)
+      (both (carried-alike first ps Kind.ClassBody j bspan b_semantic_id _ inside refl refl refl refl inner.0 inner.1)
       (carried-append first ps ((made ++ []) ++ []) rest
       (carried-append first ps (made ++ []) [] (carried-append first ps made [] (elements-carried es he (λ t k. old t (later (later (later (in-left t ((preorder_of es ++ []) ++ []) (preorder_of cs) (in-left t (preorder_of es ++ []) [] (in-left t (preorder_of es) [] k))))))) n l) refl) refl)
       (classes-carried cs h (λ t k. old t (later (later (later (in-right t ((preorder_of es ++ []) ++ []) (preorder_of cs) k))))) next (omega (arith, l))))))
@@ -71,7 +71,7 @@ module _ (first : ℕ) (ps : List Tree) where
   program-carried : (k : ℕ) (t : Tree) → IsProgram t → OldAmong first (preorder t) ps → first ≤ k → all_carried first ps (preorder (lowered_from k t)) ≡ true
   program-carried k t (a_program m span semantic_id s all h) old l =
       let program = old _ here in
-      both (carried-alike first ps Kind.Program m span semantic_id _ (more (string s) (more (list (lowered_statements k all)) end)) refl refl (rw (string-same s) refl) program.0 program.1)
+      both (carried-alike first ps Kind.Program m span semantic_id _ (more (string s) (more (list (lowered_statements k all)) end)) refl refl (rw (string-same s) refl) refl program.0 program.1)
       (carried-append first ps (preorder_of (lowered_statements k all)) [] (classes-carried all h (λ u i. old u (later (in-left u (preorder_of all) [] i))) k l) refl)
 
 -- ---- no node is bound to the one around it
@@ -85,16 +85,16 @@ fields-unbound first n h (more p es) (a_field m span semantic_id key v (a_key i 
 fields-unbound first n h (more p es) (a_field m span semantic_id key v (a_key i ispan i_semantic_id s) (a_literal l lspan l_semantic_id w fine), f) k = fields-unbound first n h es f (k + 7)
 fields-unbound first n h (more p es) (a_field m span semantic_id key v (a_key i ispan i_semantic_id s) (a_reference r rspan r_semantic_id y), f) k = fields-unbound first n h es f (k + 7)
 
-classes-unbound : (first n h : ℕ) (ps : Parts) → AreClasses ps → (k : ℕ) → bound_of first (part_of Kind.Program n h) (lowered_statements k ps) ≡ []
-classes-unbound first n h end c k = refl
-classes-unbound first n h (more p ps) (a_class m span semantic_id id body (a_name i ispan i_semantic_id s free) (a_body b bspan b_semantic_id end he), c) k = classes-unbound first n h ps c _
-classes-unbound first n h (more p ps) (a_class m span semantic_id id body (a_name i ispan i_semantic_id s free) (a_body b bspan b_semantic_id (more e es) he), c) k =
-    rw (fields-unbound first _ _ (more e es) he (k + 4)) (classes-unbound first n h ps c _)
+classes-unbound : (first n h : ℕ) (ps : Parts) → AreClasses ps → (k : ℕ) → first ≤ k → bound_of first (part_of Kind.Program n h) (lowered_statements k ps) ≡ []
+classes-unbound first n h end c k l = refl
+classes-unbound first n h (more p ps) (a_class m span semantic_id id body (a_name i ispan i_semantic_id s free) (a_body b bspan b_semantic_id end he), c) k l = classes-unbound first n h ps c _ (omega (arith, l))
+classes-unbound first n h (more p ps) (a_class m span semantic_id id body (a_name i ispan i_semantic_id s free) (a_body b bspan b_semantic_id (more e es) he), c) k l =
+    rw (fields-unbound first _ _ (more e es) he (k + 4), le-leb first (k + 3) (omega (arith, l))) (classes-unbound first n h ps c _ (omega (arith, l)))
 
-program-unbound : (first k : ℕ) (t : Tree) → IsProgram t → all_bound first (lowered_from k t) ≡ []
-program-unbound first k t (a_program m span semantic_id s all h) = rw (classes-unbound first _ _ all h k) refl
+program-unbound : (first k : ℕ) (t : Tree) → IsProgram t → first ≤ k → all_bound first (lowered_from k t) ≡ []
+program-unbound first k t (a_program m span semantic_id s all h) l = rw (classes-unbound first _ _ all h k l) refl
 
 pub numbers-carried : (t : Tree) → IsProgram t → t ≡ numbered_from 0 t → numbers_carried (nodes t) t (numbered.lowered t) ≡ true
 numbers-carried t p e =
     let below : Below (nodes t) (preorder t) = subst (λ u. Below (nodes t) (preorder u)) (sym e) (numbered-below (nodes t) 0 t (omega arith)) in
-    rw (program-unbound (nodes t) (nodes t) t p, program-carried (nodes t) (preorder t) (nodes t) t p (λ u i. (below-old (nodes t) u (preorder t) below i, i)) (omega arith)) refl
+    rw (program-unbound (nodes t) (nodes t) t p (omega arith), program-carried (nodes t) (preorder t) (nodes t) t p (λ u i. (below-old (nodes t) u (preorder t) below i, i)) (omega arith)) refl

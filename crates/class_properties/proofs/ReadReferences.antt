@@ -9,7 +9,7 @@ use Rattle.es_steps.specs.FirstForm.{is_first_form}
 use Rattle.es_steps.specs.KeptNodes.{is_constructor_part}
 use Rattle.es_lowered.specs.FunctionsAround.{functions_in, placed_reference, placed_references, placed_in, placed_at, placed_of}
 use Rattle.es_lowered.specs.KeptReferences.{plain_targets, writing_numbers, writes_fit, references_stay}
-use Rattle.es_lowered.specs.StrayNames.{in_program, has_stray_name, stray_name_of}
+use Rattle.es_lowered.specs.StrayNames.{has_stray_name, stray_name_of}
 use Rattle.es_lowered.specs.Supers.{SuperPlace, no_place, has_stray_super, stray_super_of}
 use Rattle.es_steps.specs.Parts.{at, string_of}
 use Rattle.es_steps.specs.PrivateNames.{PrivateMember}
@@ -71,21 +71,21 @@ classes-without x (more p ps) (a_class n span semantic_id id body (a_name i ispa
 program-without : (k : ℕ) (t : Tree) → IsProgram t → has_stray_super no_place (lowered_from k t) ≡ false
 program-without k t (a_program m span semantic_id s all h) = rw (classes-without _ all h k) refl
 
--- ---- no private name is made, and `arguments` stands in a constructor
+-- ---- no private name is made
 
-definitions-named : (seen : List PrivateMember) (es : Parts) → AreFields es → (k : ℕ) → stray_name_of (record { seen = seen; no_arguments = false }) (trees (definitions_from k es)) ≡ false
+definitions-named : (seen : List PrivateMember) (es : Parts) → AreFields es → (k : ℕ) → stray_name_of seen (trees (definitions_from k es)) ≡ false
 definitions-named seen end h k = refl
 definitions-named seen (more p es) (a_field m span semantic_id key v (a_key i ispan i_semantic_id s) no_value, h) k = definitions-named seen es h (k + 9)
 definitions-named seen (more p es) (a_field m span semantic_id key v (a_key i ispan i_semantic_id s) (a_literal l lspan l_semantic_id w fine), h) k = definitions-named seen es h (k + 7)
 definitions-named seen (more p es) (a_field m span semantic_id key v (a_key i ispan i_semantic_id s) (a_reference r rspan r_semantic_id y), h) k = definitions-named seen es h (k + 7)
 
-classes-named : (seen : List PrivateMember) (ps : Parts) → AreClasses ps → (k : ℕ) → stray_name_of (record { seen = seen; no_arguments = false }) (lowered_statements k ps) ≡ false
+classes-named : (seen : List PrivateMember) (ps : Parts) → AreClasses ps → (k : ℕ) → stray_name_of seen (lowered_statements k ps) ≡ false
 classes-named seen end h k = refl
 classes-named seen (more p ps) (a_class n span semantic_id id body (a_name i ispan i_semantic_id s free) (a_body b bspan b_semantic_id end he), h) k = classes-named seen ps h _
 classes-named seen (more p ps) (a_class n span semantic_id id body (a_name i ispan i_semantic_id s free) (a_body b bspan b_semantic_id (more e es) he), h) k =
     rw (definitions-named _ (more e es) he (k + 4)) (classes-named seen ps h _)
 
-program-named : (k : ℕ) (t : Tree) → IsProgram t → has_stray_name in_program (lowered_from k t) ≡ false
+program-named : (k : ℕ) (t : Tree) → IsProgram t → has_stray_name [] (lowered_from k t) ≡ false
 program-named k t (a_program m span semantic_id s all h) = rw (classes-named _ all h k) refl
 
 stay-without : (b c : Bool) → c ≡ false → (b || not c) ≡ true
@@ -94,4 +94,4 @@ stay-without false c e = rw e refl
 
 pub references-stay : (first k : ℕ) (t : Tree) → IsProgram t → is_first_form t [] ≡ true → references_stay first [] t (lowered_from k t) ≡ true
 references-stay first k t p f =
-    rw (classes-timely first k t p f, stay-without (has_stray_super no_place t) (has_stray_super no_place (lowered_from k t)) (program-without k t p), stay-without (has_stray_name in_program t) (has_stray_name in_program (lowered_from k t)) (program-named k t p), tree-none first (λ m s. gives_inside s (preorder t)) (λ m s. inside-none t p s) false [] (lowered_from k t), unwriting (plain_targets (preorder (lowered_from k t))) (writing_numbers (resolve t)) (resolve (lowered_from k t)) (writing-none k t p)) refl
+    rw (classes-timely first k t p f, stay-without (has_stray_super no_place t) (has_stray_super no_place (lowered_from k t)) (program-without k t p), stay-without (has_stray_name [] t) (has_stray_name [] (lowered_from k t)) (program-named k t p), tree-none first (λ m s. gives_inside s (preorder t)) (λ m s. inside-none t p s) false [] (lowered_from k t), unwriting (plain_targets (preorder (lowered_from k t))) (writing_numbers (resolve t)) (resolve (lowered_from k t)) (writing-none k t p)) refl

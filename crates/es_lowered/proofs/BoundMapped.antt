@@ -5,11 +5,13 @@ use Rattle.es_base.specs.Numbered.{is_new}
 use Rattle.es_base.specs.Preorder.{number_of}
 use Rattle.es_base.specs.Tree.{Tree, Part, Parts, Node, end, more, child, list}
 use Rattle.es_base.specs.declared.kind.Kind.{Kind}
-use Rattle.es_lowered.specs.Bound.{BoundPlace, is_bound, is_nested_item, suspends, body_around, place_inside, bound_to, bound_node, bound_nodes, bound_in, bound_at, bound_of, all_bound, bound_stay}
+use Rattle.es_lowered.specs.Bound.{BoundPlace, is_bound, is_nested_item, depends_on_function, body_around, has_body, place_inside, bound_to, bound_node, bound_block, bound_nodes, bound_in, bound_at, bound_of, all_bound, bound_stay}
 use Rattle.es_steps.specs.KeptNodes.{function_around, pair_stands, all_pairs_stand}
 use Rattle.es_steps.proofs.KeptNodesMapped.{function_around-mapped}
 use Rattle.es_steps.proofs.Mapped.{Renames, mapped, mapped_part, mapped_parts}
-use Rattle.es_steps.proofs.PartsMapped.{cond-mapped, append-mapped, number_of-mapped, is_true_at-mapped}
+use Rattle.es_steps.specs.Parts.{at}
+use Rattle.es_steps.proofs.PrintableMapped.{name_of_part-mapped}
+use Rattle.es_steps.proofs.PartsMapped.{at-mapped, cond-mapped, append-mapped, number_of-mapped, is_true_at-mapped}
 
 abbrev mapped_place : (ℕ → ℕ) → BoundPlace → BoundPlace
 mapped_place f x = record { kind = x.kind; number = f x.number; of_function = f x.of_function; in_parameters = x.in_parameters }
@@ -28,22 +30,29 @@ module _ {first : ℕ} {f : ℕ → ℕ} (r : Renames first f) where
   bound_to-mapped : (m n : ℕ) → bound_to first (f m) (f n) ≡ map (mapped_pair f) (bound_to first m n)
   bound_to-mapped m n = rw (r.new m) (cond-mapped (map (mapped_pair f)) (is_new first m) [] ((m, n) ∷ []) refl refl)
 
-  suspends-mapped : (kind : Kind) (ps : Parts) → suspends kind (mapped_parts f ps) ≡ suspends kind ps
-  suspends-mapped Kind.ForOfStatement ps = is_true_at-mapped f 3 ps
-  suspends-mapped kind ps = refl
+  depends_on_function-mapped : (kind : Kind) (ps : Parts) → depends_on_function kind (mapped_parts f ps) ≡ depends_on_function kind ps
+  depends_on_function-mapped Kind.LabeledStatement ps = rw (at-mapped f 0 ps, name_of_part-mapped f (at 0 ps)) refl
+  depends_on_function-mapped Kind.ForOfStatement ps = is_true_at-mapped f 3 ps
+  depends_on_function-mapped kind ps = refl
 
   bound_node-mapped : (x : BoundPlace) (kind : Kind) (m : ℕ) (ps : Parts) → bound_node first (mapped_place f x) kind (f m) (mapped_parts f ps) ≡ map (mapped_pair f) (bound_node first x kind m ps)
   bound_node-mapped x kind m ps =
-      rw (suspends-mapped kind ps)
-      (cond-mapped (map (mapped_pair f)) (is_nested_item x.kind kind) ((m, m) ∷ []) (cond (is_bound x.kind kind) (bound_to first m x.number) (cond (suspends kind ps) (bound_to first m (cond x.in_parameters m x.of_function)) [])) refl
-      (cond-mapped (map (mapped_pair f)) (is_bound x.kind kind) (bound_to first m x.number) (cond (suspends kind ps) (bound_to first m (cond x.in_parameters m x.of_function)) []) (bound_to-mapped m x.number)
-      (cond-mapped (map (mapped_pair f)) (suspends kind ps) (bound_to first m (cond x.in_parameters m x.of_function)) []
+      rw (depends_on_function-mapped kind ps)
+      (cond-mapped (map (mapped_pair f)) (is_nested_item x.kind kind) ((m, m) ∷ []) (cond (is_bound x.kind kind) (bound_to first m x.number) (cond (depends_on_function kind ps) (bound_to first m (cond x.in_parameters m x.of_function)) [])) refl
+      (cond-mapped (map (mapped_pair f)) (is_bound x.kind kind) (bound_to first m x.number) (cond (depends_on_function kind ps) (bound_to first m (cond x.in_parameters m x.of_function)) []) (bound_to-mapped m x.number)
+      (cond-mapped (map (mapped_pair f)) (depends_on_function kind ps) (bound_to first m (cond x.in_parameters m x.of_function)) []
       (ap (bound_to first (f m)) (cond-mapped f x.in_parameters m x.of_function refl refl) ∙ bound_to-mapped m (cond x.in_parameters m x.of_function)) refl)))
+
+  bound_block-mapped : (x : BoundPlace) (kind : Kind) (m : ℕ) → bound_block first (mapped_place f x) kind (f m) ≡ map (mapped_pair f) (bound_block first x kind m)
+  bound_block-mapped x Kind.BlockStatement m =
+      ap (bound_to first (f m)) (cond-mapped f (has_body x.kind) x.number m refl refl) ∙ bound_to-mapped m (cond (has_body x.kind) x.number m)
+  bound_block-mapped x kind m = refl
 
   mutual
     bound_nodes-mapped : (x : BoundPlace) (t : Tree) → bound_nodes first (mapped_place f x) (mapped f t) ≡ map (mapped_pair f) (bound_nodes first x t)
     bound_nodes-mapped x (Node kind m span semantic_id ps) =
-        append-mapped (mapped_pair f) _ _ (bound_node-mapped x kind m ps) (bound_in-mapped _ (place_inside x kind m) (place_inside-mapped x kind m) ps)
+        append-mapped (mapped_pair f) _ _ (bound_node-mapped x kind m ps)
+        (append-mapped (mapped_pair f) _ _ (bound_block-mapped x kind m) (bound_in-mapped _ (place_inside x kind m) (place_inside-mapped x kind m) ps))
 
     bound_in-mapped : (y x : ℕ → BoundPlace) → ((i : ℕ) → y i ≡ mapped_place f (x i)) → (ps : Parts) → bound_in first y (mapped_parts f ps) ≡ map (mapped_pair f) (bound_in first x ps)
     bound_in-mapped y x same end = refl

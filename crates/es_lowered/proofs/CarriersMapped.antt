@@ -1,12 +1,12 @@
 -- Which node of the source a node stands for does not depend on numbers.
-use Rattle.std.specs.Prelude.{◌≡◌, ℕ, List, [], ◌∷◌, map, cond, not, ◌&&◌, ◌||◌}
+use Rattle.std.specs.Prelude.{◌≡◌, ℕ, List, [], ◌∷◌, map, Bool, true, cond, not, bytes_eq, codes, ◌&&◌, ◌||◌}
 use Rattle.std.proofs.Common.{refl, ap, ap₂, ◌∙◌}
 use Rattle.es_base.specs.Conforms.{is_rest}
 use Rattle.es_base.specs.Preorder.{preorder}
 use Rattle.es_base.specs.Tree.{Tree, Part, Parts, Node, end, more, child, absent, literal}
 use Rattle.es_base.specs.declared.kind.Kind.{Kind}
 use Rattle.es_base.specs.declared.literal.LiteralValue.TheVariants as literal_value
-use Rattle.es_lowered.specs.Carriers.{is_loose_base, form_of_callee, form_of_deleted, parameters_of, is_one_parameter, form_of_getter, form_of_accessor, is_proto, is_shorthand, gives_prototype, form_of_property, is_one_name, form_of_head, form_of_export, odd_form, carries, stands_for_node, is_carried, all_carried, numbers_carried}
+use Rattle.es_lowered.specs.Carriers.{is_loose_base, form_of_callee, form_of_deleted, parameters_of, is_one_parameter, form_of_getter, form_of_accessor, is_proto, is_shorthand, gives_prototype, form_of_property, form_of_names, form_of_head, is_function_statement, is_labelled_function, ends_in_function, is_odd_branch, is_odd_body, odd_if, head_or, form_of_export, odd_form, is_call_of, may_question, has_question, carries, stands_for_node, is_carried, all_carried, numbers_carried}
 use Rattle.es_lowered.proofs.BoundMapped.{bound_stay-mapped}
 use Rattle.es_lowered.proofs.KeptWordsMapped.{keeps_words-mapped}
 use Rattle.es_steps.specs.Parts.{at, items, string_of}
@@ -67,15 +67,45 @@ module _ {first : ℕ} {f : ℕ → ℕ} (r : Renames first f) where
       ap₂ (λ b a. cond b is_shorthand a) (is_true_at-mapped f 4 ps)
       (ap₂ (λ b a. cond b gives_prototype a) (ap₂ (λ a b. a && not b) (ap is_proto (at-mapped f 0 ps) ∙ is_proto-mapped (at 0 ps)) (is_true_at-mapped f 5 ps)) (accessor-mapped ps))
 
-  is_one_name-mapped : (ps : Parts) → is_one_name (mapped_parts f ps) ≡ is_one_name ps
-  is_one_name-mapped (more (child (Node Kind.VariableDeclarator m span semantic_id (more id (more absent end)))) end) = refl
-  is_one_name-mapped end = refl
-  is_one_name-mapped (more p (more q ps)) = refl
-  is_one_name-mapped (more p ps) = refl
+  form_of_names-mapped : (is_var : Bool) (ps : Parts) → form_of_names is_var (mapped_parts f ps) ≡ form_of_names is_var ps
+  form_of_names-mapped is_var (more (child (Node Kind.VariableDeclarator m span semantic_id (more id (more absent end)))) end) = refl
+  form_of_names-mapped true (more (child (Node Kind.VariableDeclarator m span semantic_id (more (child (Node Kind.BindingIdentifier k kspan k_semantic_id ks)) rest))) end) = refl
+  form_of_names-mapped is_var ps = refl
 
   form_of_head-mapped : (p : Part) → form_of_head (mapped_part f p) ≡ form_of_head p
-  form_of_head-mapped (child (Node Kind.VariableDeclaration m span semantic_id ps)) = rw (items_at-mapped f 1 ps, is_one_name-mapped (items (at 1 ps))) refl
+  form_of_head-mapped (child (Node Kind.VariableDeclaration m span semantic_id ps)) =
+      rw (string_at-mapped f 0 ps, items_at-mapped f 1 ps) (form_of_names-mapped (bytes_eq (string_of (at 0 ps)) (codes "var")) (items (at 1 ps)))
   form_of_head-mapped p = refl
+
+  is_function_statement-mapped : (t : Tree) → is_function_statement (mapped f t) ≡ is_function_statement t
+  is_function_statement-mapped (Node Kind.FunctionDeclaration m span semantic_id ps) = refl
+  is_function_statement-mapped (Node kind m span semantic_id ps) = refl
+
+  mutual
+    is_labelled_function-mapped : (t : Tree) → is_labelled_function (mapped f t) ≡ is_labelled_function t
+    is_labelled_function-mapped (Node Kind.LabeledStatement m span semantic_id ps) = ends_in_function-mapped ps
+    is_labelled_function-mapped (Node kind m span semantic_id ps) = refl
+
+    ends_in_function-mapped : (ps : Parts) → ends_in_function (mapped_parts f ps) ≡ ends_in_function ps
+    ends_in_function-mapped (more label (more (child t) end)) = ap₂ (λ a b. a || b) (is_function_statement-mapped t) (is_labelled_function-mapped t)
+    ends_in_function-mapped ps = refl
+
+  is_odd_branch-mapped : (p : Part) → is_odd_branch (mapped_part f p) ≡ is_odd_branch p
+  is_odd_branch-mapped (child t) = is_labelled_function-mapped t
+  is_odd_branch-mapped p = refl
+
+  is_odd_body-mapped : (p : Part) → is_odd_body (mapped_part f p) ≡ is_odd_body p
+  is_odd_body-mapped (child t) = ap₂ (λ a b. a || b) (is_function_statement-mapped t) (is_labelled_function-mapped t)
+  is_odd_body-mapped p = refl
+
+  branch_at-mapped : (i : ℕ) (ps : Parts) → is_odd_branch (at i (mapped_parts f ps)) ≡ is_odd_branch (at i ps)
+  branch_at-mapped i ps = ap is_odd_branch (at-mapped f i ps) ∙ is_odd_branch-mapped (at i ps)
+
+  body_at-mapped : (i : ℕ) (ps : Parts) → is_odd_body (at i (mapped_parts f ps)) ≡ is_odd_body (at i ps)
+  body_at-mapped i ps = ap is_odd_body (at-mapped f i ps) ∙ is_odd_body-mapped (at i ps)
+
+  loop-mapped : (ps : Parts) → head_or (form_of_head (at 0 (mapped_parts f ps))) (odd_if (is_odd_body (at 2 (mapped_parts f ps)))) ≡ head_or (form_of_head (at 0 ps)) (odd_if (is_odd_body (at 2 ps)))
+  loop-mapped ps = ap₂ head_or (ap form_of_head (at-mapped f 0 ps) ∙ form_of_head-mapped (at 0 ps)) (ap odd_if (body_at-mapped 2 ps))
 
   form_of_export-mapped : (p : Part) → form_of_export (mapped_part f p) ≡ form_of_export p
   form_of_export-mapped (child (Node Kind.FunctionDeclaration m span semantic_id ps)) = refl
@@ -90,20 +120,39 @@ module _ {first : ℕ} {f : ℕ → ℕ} (r : Renames first f) where
   odd_form-mapped Kind.UnaryExpression ps = rw (string_at-mapped f 0 ps, at-mapped f 1 ps, form_of_deleted-mapped (at 1 ps)) refl
   odd_form-mapped Kind.Property ps = form_of_property-mapped ps
   odd_form-mapped Kind.MethodDefinition ps = accessor-mapped ps
-  odd_form-mapped Kind.ForInStatement ps = ap form_of_head (at-mapped f 0 ps) ∙ form_of_head-mapped (at 0 ps)
-  odd_form-mapped Kind.ForOfStatement ps = ap form_of_head (at-mapped f 0 ps) ∙ form_of_head-mapped (at 0 ps)
+  odd_form-mapped Kind.ForInStatement ps = loop-mapped ps
+  odd_form-mapped Kind.ForOfStatement ps = loop-mapped ps
+  odd_form-mapped Kind.ForStatement ps = ap odd_if (body_at-mapped 3 ps)
+  odd_form-mapped Kind.WhileStatement ps = ap odd_if (body_at-mapped 1 ps)
+  odd_form-mapped Kind.DoWhileStatement ps = ap odd_if (body_at-mapped 0 ps)
+  odd_form-mapped Kind.IfStatement ps = ap₂ (λ a b. odd_if (a || b)) (branch_at-mapped 1 ps) (branch_at-mapped 2 ps)
   odd_form-mapped Kind.ExportNamedDeclaration ps = ap form_of_export (at-mapped f 0 ps) ∙ form_of_export-mapped (at 0 ps)
   odd_form-mapped kind ps = refl
 
+  has_question-mapped : (kind : Kind) (ps : Parts) → has_question kind (mapped_parts f ps) ≡ has_question kind ps
+  has_question-mapped Kind.MemberExpression ps = is_true_at-mapped f 3 ps
+  has_question-mapped Kind.PrivateField ps = is_true_at-mapped f 3 ps
+  has_question-mapped Kind.CallExpression ps = is_true_at-mapped f 2 ps
+  has_question-mapped kind ps = refl
+
+  is_call_of-mapped : (ps : Parts) → is_call_of (mapped_parts f ps) ≡ is_call_of ps
+  is_call_of-mapped ps = rw (at-mapped f 1 ps, name_of_part-mapped f (at 1 ps), is_true_at-mapped f 2 ps) refl
+
+  may_question-mapped : (kind : Kind) (ps : Parts) → may_question kind (mapped_parts f ps) ≡ may_question kind ps
+  may_question-mapped Kind.MemberExpression ps = ap₂ (λ a b. not a || b) (is_true_at-mapped f 3 ps) (is_call_of-mapped ps)
+  may_question-mapped Kind.PrivateField ps = ap not (is_true_at-mapped f 3 ps)
+  may_question-mapped Kind.CallExpression ps = ap not (is_true_at-mapped f 2 ps)
+  may_question-mapped kind ps = refl
+
   carries-mapped : (kind : Kind) (ps : Parts) (other : Kind) (qs : Parts) → carries kind (mapped_parts f ps) other (mapped_parts f qs) ≡ carries kind ps other qs
-  carries-mapped kind ps other qs = rw (string_at-mapped f 0 ps, string_at-mapped f 0 qs, keeps_words-mapped f kind ps qs, odd_form-mapped kind ps, odd_form-mapped other qs) refl
+  carries-mapped kind ps other qs = rw (string_at-mapped f 0 ps, string_at-mapped f 0 qs, keeps_words-mapped f kind ps qs, odd_form-mapped kind ps, odd_form-mapped other qs, has_question-mapped kind ps, may_question-mapped other qs) refl
 
   stands_for_node-mapped : (kind : Kind) (n : ℕ) (qs : Parts) (ts : List Tree) → stands_for_node kind (f n) (mapped_parts f qs) (map (mapped f) ts) ≡ stands_for_node kind n qs ts
   stands_for_node-mapped kind n qs [] = refl
   stands_for_node-mapped kind n qs (Node other m span semantic_id ps ∷ ts) = ap₂ (λ a b. a || b) (ap₂ (λ a b. a && b) (r.apart n m) (carries-mapped other ps kind qs)) (stands_for_node-mapped kind n qs ts)
 
   is_carried-mapped : (ps : List Tree) (t : Tree) → is_carried first (map (mapped f) ps) (mapped f t) ≡ is_carried first ps t
-  is_carried-mapped ps (Node kind n span semantic_id qs) = rw (r.new n, odd_form-mapped kind qs, stands_for_node-mapped kind n qs ps) refl
+  is_carried-mapped ps (Node kind n span semantic_id qs) = rw (r.new n, odd_form-mapped kind qs, may_question-mapped kind qs, stands_for_node-mapped kind n qs ps) refl
 
   all_carried-mapped : (ps ts : List Tree) → all_carried first (map (mapped f) ps) (map (mapped f) ts) ≡ all_carried first ps ts
   all_carried-mapped ps [] = refl

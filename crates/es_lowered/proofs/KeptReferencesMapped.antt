@@ -13,7 +13,7 @@ use Rattle.es_lowered.proofs.ClassNamesMapped.{classes_timely-mapped}
 use Rattle.es_steps.proofs.ContextMapped.{is_generated-mapped}
 use Rattle.es_lowered.proofs.FunctionsAroundMapped.{mapped_placed, placed_references-mapped, all_stand_where-mapped}
 use Rattle.es_lowered.proofs.HelperCallsMapped.{part_number-mapped}
-use Rattle.es_lowered.proofs.StrayNamesMapped.{names_may_stand-mapped}
+use Rattle.es_lowered.proofs.StrayNamesMapped.{private_names_stay-mapped}
 use Rattle.es_lowered.proofs.SupersMapped.{supers_stay-mapped}
 use Rattle.es_steps.proofs.Mapped.{Renames, mapped, mapped_parts, mapped_reference, mapped_ledger}
 use Rattle.es_steps.proofs.PartsMapped.{cond-mapped, append-mapped, at-mapped, string_at-mapped, preorder-mapped}
@@ -55,7 +55,7 @@ module _ {first : ℕ} {f : ℕ → ℕ} (r : Renames first f) where
 
   pub references_stay-mapped : (ledger : List LedgerEntry) (p q : Tree) → references_stay first (mapped_ledger f ledger) (mapped f p) (mapped f q) ≡ references_stay first ledger p q
   references_stay-mapped ledger p q =
-      ap₂ (λ a b. a && b) (ap₂ (λ a b. a && b) (classes_timely-mapped r ledger p q) (ap₂ (λ a b. a && b) (supers_stay-mapped f p q) (names_may_stand-mapped f p q)))
+      ap₂ (λ a b. a && b) (ap₂ (λ a b. a && b) (classes_timely-mapped r ledger p q) (ap₂ (λ a b. a && b) (supers_stay-mapped f p q) (private_names_stay-mapped f p q)))
       (ap₂ (λ a b. a && b)
       (rw (preorder-mapped f q, plain_targets-mapped f (preorder q), resolve-mapped f p, writing_numbers-mapped (resolve p), resolve-mapped f q) (writes_fit-mapped ledger (plain_targets (preorder q)) (writing_numbers (resolve p)) (resolve q)))
       (inner_names_stay-mapped p q))

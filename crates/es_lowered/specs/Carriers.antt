@@ -101,7 +101,8 @@ has_its_name kind s t = named_by kind && ((is_reference kind && bytes_eq s t) ||
 -- forms that no value tells from others: a call of the name `eval` (13.3.6.1); a call and a tag of a private member, which is handed
 -- its object (13.3.6.2); `delete` of a private member, and of a name (13.5.1.1); a getter with parameters, and a setter without its
 -- one (15.4); the head of a for-in or for-of that declares several names or gives one a value (14.7.5); a property
--- that gives a prototype, and one without a value of its own (13.2.5.1, B.3.1); an export that declares nothing (16.2.3)
+-- that gives a prototype, and one without a value of its own (13.2.5.1, B.3.1); an export that declares nothing
+-- (16.2.3); a branch or a body that is a function (14.6.1, 14.7.1)
 pub data OddForm : Type 0 where
   calls_eval : OddForm
   calls_private : OddForm
@@ -109,6 +110,8 @@ pub data OddForm : Type 0 where
   deletes_name : OddForm
   takes_odd_parameters : OddForm
   declares_oddly : OddForm
+  gives_value : OddForm
+  has_odd_body : OddForm
   gives_prototype : OddForm
   is_shorthand : OddForm
   exports_oddly : OddForm
@@ -157,13 +160,45 @@ form_of_property ps =
     (cond (is_proto (at 0 ps) && not (is_true (at 5 ps))) gives_prototype
     (form_of_accessor (string_of (at 2 ps)) (parameters_of (at 1 ps))))
 
-abbrev pub is_one_name : Parts → Bool
-is_one_name (more (child (Node Kind.VariableDeclarator m span semantic_id (more id (more absent end)))) end) = true
-is_one_name ps = false
+-- sloppy code may give a `var` a value in the head of a for-in (B.3.5)
+abbrev pub form_of_names : Bool → Parts → OddForm
+form_of_names is_var (more (child (Node Kind.VariableDeclarator m span semantic_id (more id (more absent end)))) end) = no_odd_form
+form_of_names true (more (child (Node Kind.VariableDeclarator m span semantic_id (more (child (Node Kind.BindingIdentifier k kspan k_semantic_id ks)) rest))) end) = gives_value
+form_of_names is_var ps = declares_oddly
 
 abbrev pub form_of_head : Part → OddForm
-form_of_head (child (Node Kind.VariableDeclaration m span semantic_id ps)) = cond (is_one_name (items (at 1 ps))) no_odd_form declares_oddly
+form_of_head (child (Node Kind.VariableDeclaration m span semantic_id ps)) = form_of_names (bytes_eq (string_of (at 0 ps)) (codes "var")) (items (at 1 ps))
 form_of_head p = no_odd_form
+
+-- a function with a label, or one that is the body of a loop, is none of a block (14.6.1, 14.7.1)
+abbrev pub is_function_statement : Tree → Bool
+is_function_statement (Node Kind.FunctionDeclaration m span semantic_id ps) = true
+is_function_statement t = false
+
+abbrev mutual
+  pub is_labelled_function : Tree → Bool
+  is_labelled_function (Node Kind.LabeledStatement m span semantic_id ps) = ends_in_function ps
+  is_labelled_function t = false
+
+  pub ends_in_function : Parts → Bool
+  ends_in_function (more label (more (child t) end)) = is_function_statement t || is_labelled_function t
+  ends_in_function ps = false
+
+abbrev pub is_odd_branch : Part → Bool
+is_odd_branch (child t) = is_labelled_function t
+is_odd_branch p = false
+
+abbrev pub is_odd_body : Part → Bool
+is_odd_body (child t) = is_function_statement t || is_labelled_function t
+is_odd_body p = false
+
+abbrev pub odd_if : Bool → OddForm
+odd_if b = cond b has_odd_body no_odd_form
+
+-- the body of a loop is not looked at where the head has a form of its own
+abbrev pub head_or : OddForm → OddForm → OddForm
+head_or no_odd_form body = body
+head_or head body = head
 
 abbrev pub form_of_export : Part → OddForm
 form_of_export (child (Node Kind.FunctionDeclaration m span semantic_id ps)) = no_odd_form
@@ -178,8 +213,12 @@ odd_form Kind.TaggedTemplateExpression ps = form_of_callee (at 0 ps)
 odd_form Kind.UnaryExpression ps = cond (bytes_eq (string_of (at 0 ps)) (codes "delete")) (form_of_deleted (at 1 ps)) no_odd_form
 odd_form Kind.Property ps = form_of_property ps
 odd_form Kind.MethodDefinition ps = form_of_accessor (string_of (at 2 ps)) (parameters_of (at 1 ps))
-odd_form Kind.ForInStatement ps = form_of_head (at 0 ps)
-odd_form Kind.ForOfStatement ps = form_of_head (at 0 ps)
+odd_form Kind.ForInStatement ps = head_or (form_of_head (at 0 ps)) (odd_if (is_odd_body (at 2 ps)))
+odd_form Kind.ForOfStatement ps = head_or (form_of_head (at 0 ps)) (odd_if (is_odd_body (at 2 ps)))
+odd_form Kind.ForStatement ps = odd_if (is_odd_body (at 3 ps))
+odd_form Kind.WhileStatement ps = odd_if (is_odd_body (at 1 ps))
+odd_form Kind.DoWhileStatement ps = odd_if (is_odd_body (at 0 ps))
+odd_form Kind.IfStatement ps = odd_if (is_odd_branch (at 1 ps) || is_odd_branch (at 2 ps))
 odd_form Kind.ExportNamedDeclaration ps = form_of_export (at 0 ps)
 odd_form kind ps = no_odd_form
 
@@ -192,13 +231,31 @@ keeps_form deletes_private deletes_private = true
 keeps_form deletes_name deletes_name = true
 keeps_form takes_odd_parameters takes_odd_parameters = true
 keeps_form declares_oddly declares_oddly = true
+keeps_form gives_value gives_value = true
+keeps_form has_odd_body has_odd_body = true
 keeps_form gives_prototype gives_prototype = true
 keeps_form is_shorthand is_shorthand = true
 keeps_form exports_oddly exports_oddly = true
 keeps_form form other = false
 
+-- `?.`, of which a generated form has no event but `f?.call(o)`
+abbrev pub is_call_of : Parts → Bool
+is_call_of ps = bytes_eq (name_of_part (at 1 ps)) (codes "call") && not (is_true (at 2 ps))
+
+abbrev pub may_question : Kind → Parts → Bool
+may_question Kind.MemberExpression ps = not (is_true (at 3 ps)) || is_call_of ps
+may_question Kind.PrivateField ps = not (is_true (at 3 ps))
+may_question Kind.CallExpression ps = not (is_true (at 2 ps))
+may_question kind ps = true
+
+abbrev pub has_question : Kind → Parts → Bool
+has_question Kind.MemberExpression ps = is_true (at 3 ps)
+has_question Kind.PrivateField ps = is_true (at 3 ps)
+has_question Kind.CallExpression ps = is_true (at 2 ps)
+has_question kind ps = false
+
 abbrev pub carries : Kind → Parts → Kind → Parts → Bool
-carries kind ps other qs = cond (is_reference other) (has_its_name kind (string_of (at 0 ps)) (string_of (at 0 qs))) (((same_kind kind other && keeps_words kind ps qs) || becomes kind other) && keeps_form (odd_form kind ps) (odd_form other qs))
+carries kind ps other qs = cond (is_reference other) (has_its_name kind (string_of (at 0 ps)) (string_of (at 0 qs))) (((same_kind kind other && keeps_words kind ps qs) || becomes kind other) && (keeps_form (odd_form kind ps) (odd_form other qs) && (has_question kind ps || may_question other qs)))
 
 abbrev pub stands_for_node : Kind → ℕ → Parts → List Tree → Bool
 stands_for_node kind n qs [] = false
@@ -206,7 +263,7 @@ stands_for_node kind n qs (Node other m span semantic_id ps ∷ ts) = (nat_eq n 
 
 -- ps are the nodes of the source
 abbrev pub is_carried : ℕ → List Tree → Tree → Bool
-is_carried first ps (Node kind n span semantic_id qs) = cond (is_new first n) (is_made kind && keeps_form no_odd_form (odd_form kind qs)) (stands_for_node kind n qs ps)
+is_carried first ps (Node kind n span semantic_id qs) = cond (is_new first n) (is_made kind && (keeps_form no_odd_form (odd_form kind qs) && may_question kind qs)) (stands_for_node kind n qs ps)
 
 abbrev pub all_carried : ℕ → List Tree → List Tree → Bool
 all_carried first ps [] = true

@@ -39,6 +39,7 @@ pub mod BlockOfABinding
 pub mod BlockOfAnArrow
 pub mod BlockWithoutAFunction
 pub mod BodyDropped
+pub mod BodyInABlock
 pub mod BodyInAnArrow
 pub mod BoundBeforeItsTest
 pub mod BranchOfAKey
@@ -200,9 +201,11 @@ pub mod KeyThatAFunctionInABlockGives
 pub mod KeyThatIsAParameterArguments
 pub mod KeyThatIsArguments
 pub mod LabelBehindAnError
+pub mod LabelInAnAsyncFunction
 pub mod LabelTwice
 pub mod LabelWordBehindAnError
 pub mod LabelledFunctionInABlock
+pub mod LabelledFunctionInABranch
 pub mod LetBehindACall
 pub mod LetBehindAConstructor
 pub mod LetBehindAField
@@ -304,6 +307,7 @@ pub mod PrototypesBehindAnError
 pub mod PrototypesExchangedBehindAnError
 pub mod QuestionForAGeneratedElement
 pub mod QuestionForAnotherField
+pub mod QuestionOnAStaticField
 pub mod RawOfAString
 pub mod RawOfATemplate
 pub mod ReadBehindAFunctionInABlock

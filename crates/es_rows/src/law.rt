@@ -144,6 +144,7 @@ ghost use Rattle.es_rows.specs.witnesses.BlockOfABinding.{source_block_of_a_bind
 ghost use Rattle.es_rows.specs.witnesses.BlockOfAnArrow.{source_block_of_an_arrow, output_block_of_an_arrow, generated_block_of_an_arrow, options_block_of_an_arrow};
 ghost use Rattle.es_rows.specs.witnesses.BlockWithoutAFunction.{source_block_without_a_function, output_block_without_a_function, generated_block_without_a_function, options_block_without_a_function};
 ghost use Rattle.es_rows.specs.witnesses.BodyDropped.{source_body_dropped, output_body_dropped, generated_body_dropped, options_body_dropped};
+ghost use Rattle.es_rows.specs.witnesses.BodyInABlock.{source_body_in_a_block, output_body_in_a_block, generated_body_in_a_block, options_body_in_a_block};
 ghost use Rattle.es_rows.specs.witnesses.BodyInAnArrow.{source_body_in_an_arrow, output_body_in_an_arrow, generated_body_in_an_arrow, options_body_in_an_arrow};
 ghost use Rattle.es_rows.specs.witnesses.BoundBeforeItsTest.{source_bound_before_its_test, output_bound_before_its_test, generated_bound_before_its_test, options_bound_before_its_test};
 ghost use Rattle.es_rows.specs.witnesses.BranchOfAKey.{source_branch_of_a_key, output_branch_of_a_key, generated_branch_of_a_key, options_branch_of_a_key};
@@ -303,9 +304,11 @@ ghost use Rattle.es_rows.specs.witnesses.KeyThatAFunctionInABlockGives.{first_ke
 ghost use Rattle.es_rows.specs.witnesses.KeyThatIsAParameterArguments.{first_key_that_is_a_parameter_arguments, second_key_that_is_a_parameter_arguments, options_key_that_is_a_parameter_arguments};
 ghost use Rattle.es_rows.specs.witnesses.KeyThatIsArguments.{first_key_that_is_arguments, second_key_that_is_arguments, options_key_that_is_arguments};
 ghost use Rattle.es_rows.specs.witnesses.LabelBehindAnError.{source_label_behind_an_error, output_label_behind_an_error, generated_label_behind_an_error, options_label_behind_an_error};
+ghost use Rattle.es_rows.specs.witnesses.LabelInAnAsyncFunction.{source_label_in_an_async_function, output_label_in_an_async_function, generated_label_in_an_async_function, options_label_in_an_async_function};
 ghost use Rattle.es_rows.specs.witnesses.LabelTwice.{source_label_twice, output_label_twice, generated_label_twice, options_label_twice};
 ghost use Rattle.es_rows.specs.witnesses.LabelWordBehindAnError.{source_label_word_behind_an_error, output_label_word_behind_an_error, generated_label_word_behind_an_error, options_label_word_behind_an_error};
 ghost use Rattle.es_rows.specs.witnesses.LabelledFunctionInABlock.{first_labelled_function_in_a_block, second_labelled_function_in_a_block, options_labelled_function_in_a_block};
+ghost use Rattle.es_rows.specs.witnesses.LabelledFunctionInABranch.{source_labelled_function_in_a_branch, output_labelled_function_in_a_branch, generated_labelled_function_in_a_branch, options_labelled_function_in_a_branch};
 ghost use Rattle.es_rows.specs.witnesses.LetBehindACall.{source_let_behind_a_call, output_let_behind_a_call, generated_let_behind_a_call, options_let_behind_a_call};
 ghost use Rattle.es_rows.specs.witnesses.LetBehindAConstructor.{source_let_behind_a_constructor, output_let_behind_a_constructor, generated_let_behind_a_constructor, options_let_behind_a_constructor};
 ghost use Rattle.es_rows.specs.witnesses.LetBehindAField.{source_let_behind_a_field, output_let_behind_a_field, generated_let_behind_a_field, options_let_behind_a_field};
@@ -406,6 +409,7 @@ ghost use Rattle.es_rows.specs.witnesses.PrototypesBehindAnError.{source_prototy
 ghost use Rattle.es_rows.specs.witnesses.PrototypesExchangedBehindAnError.{source_prototypes_exchanged_behind_an_error, output_prototypes_exchanged_behind_an_error, generated_prototypes_exchanged_behind_an_error, options_prototypes_exchanged_behind_an_error};
 ghost use Rattle.es_rows.specs.witnesses.QuestionForAGeneratedElement.{source_question_for_a_generated_element, output_question_for_a_generated_element, generated_question_for_a_generated_element, options_question_for_a_generated_element};
 ghost use Rattle.es_rows.specs.witnesses.QuestionForAnotherField.{source_question_for_another_field, output_question_for_another_field, generated_question_for_another_field, options_question_for_another_field};
+ghost use Rattle.es_rows.specs.witnesses.QuestionOnAStaticField.{source_question_on_a_static_field, output_question_on_a_static_field, generated_question_on_a_static_field, options_question_on_a_static_field};
 ghost use Rattle.es_rows.specs.witnesses.RawOfAString.{source_raw_of_a_string, output_raw_of_a_string, generated_raw_of_a_string, options_raw_of_a_string};
 ghost use Rattle.es_rows.specs.witnesses.RawOfATemplate.{source_raw_of_a_template, output_raw_of_a_template, generated_raw_of_a_template, options_raw_of_a_template};
 ghost use Rattle.es_rows.specs.witnesses.ReadBehindAFunctionInABlock.{first_read_behind_a_function_in_a_block, second_read_behind_a_function_in_a_block, options_read_behind_a_function_in_a_block};
@@ -781,7 +785,7 @@ pub fn wrong_outputs_behind_parameters_are_told_apart()
 pub fn clauses_are_not_met()
     ensures another_literal_of_a_written_class { definitions_stand (nodes source_another_literal_of_a_written_class) options_another_literal_of_a_written_class generated_another_literal_of_a_written_class (private_members source_another_literal_of_a_written_class) source_another_literal_of_a_written_class output_another_literal_of_a_written_class ≡ false }
     ensures argument_in_front_of_its_class { references_stay (nodes source_argument_in_front_of_its_class) generated_argument_in_front_of_its_class source_argument_in_front_of_its_class output_argument_in_front_of_its_class ≡ false }
-    ensures arguments_in_a_field { references_stay (nodes source_arguments_in_a_field) generated_arguments_in_a_field source_arguments_in_a_field output_arguments_in_a_field ≡ false }
+    ensures arguments_in_a_field { is_printable output_arguments_in_a_field ≡ false }
     ensures arguments_in_a_static_block { stays_printable source_arguments_in_a_static_block output_arguments_in_a_static_block ≡ false }
     ensures arguments_of_a_static_field { stays_printable source_arguments_of_a_static_field output_arguments_of_a_static_field ≡ false }
     ensures arrow_out_of_a_block { references_stay (nodes source_arrow_out_of_a_block) generated_arrow_out_of_a_block source_arrow_out_of_a_block output_arrow_out_of_a_block ≡ false }
@@ -797,6 +801,7 @@ pub fn clauses_are_not_met()
     ensures block_in_front_of_its_class { references_stay (nodes source_block_in_front_of_its_class) generated_block_in_front_of_its_class source_block_in_front_of_its_class output_block_in_front_of_its_class ≡ false }
     ensures block_without_a_function { homes_kept (nodes source_block_without_a_function) options_block_without_a_function source_block_without_a_function output_block_without_a_function ≡ false }
     ensures body_dropped { definitions_stand (nodes source_body_dropped) options_body_dropped generated_body_dropped (private_members source_body_dropped) source_body_dropped output_body_dropped ≡ false }
+    ensures body_in_a_block { numbers_carried (nodes source_body_in_a_block) source_body_in_a_block output_body_in_a_block ≡ false }
     ensures body_in_an_arrow { homes_kept (nodes source_body_in_an_arrow) options_body_in_an_arrow source_body_in_an_arrow output_body_in_an_arrow ≡ false }
     ensures brand_outside_of_a_called_function { names_timely (nodes source_brand_outside_of_a_called_function) generated_brand_outside_of_a_called_function (private_members source_brand_outside_of_a_called_function) output_brand_outside_of_a_called_function ≡ false }
     ensures break_in_an_arrow { is_printable output_break_in_an_arrow ≡ false }
@@ -881,8 +886,10 @@ pub fn clauses_are_not_met()
     ensures key_of_another_member { helper_calls_fit (nodes source_key_of_another_member) generated_key_of_another_member (keys_that_stay (nodes source_key_of_another_member) source_key_of_another_member output_key_of_another_member) output_key_of_another_member ≡ false }
     ensures key_outside_of_a_called_function { names_timely (nodes source_key_outside_of_a_called_function) generated_key_outside_of_a_called_function (private_members source_key_outside_of_a_called_function) output_key_outside_of_a_called_function ≡ false }
     ensures label_behind_an_error { numbers_carried (nodes source_label_behind_an_error) source_label_behind_an_error output_label_behind_an_error ≡ false }
+    ensures label_in_an_async_function { numbers_carried (nodes source_label_in_an_async_function) source_label_in_an_async_function output_label_in_an_async_function ≡ false }
     ensures label_twice { stays_printable source_label_twice output_label_twice ≡ false }
     ensures label_word_behind_an_error { numbers_carried (nodes source_label_word_behind_an_error) source_label_word_behind_an_error output_label_word_behind_an_error ≡ false }
+    ensures labelled_function_in_a_branch { numbers_carried (nodes source_labelled_function_in_a_branch) source_labelled_function_in_a_branch output_labelled_function_in_a_branch ≡ false }
     ensures let_behind_a_call { names_timely (nodes source_let_behind_a_call) generated_let_behind_a_call (private_members source_let_behind_a_call) output_let_behind_a_call ≡ false }
     ensures let_behind_a_constructor { names_timely (nodes source_let_behind_a_constructor) generated_let_behind_a_constructor (private_members source_let_behind_a_constructor) output_let_behind_a_constructor ≡ false }
     ensures let_behind_a_field { names_timely (nodes source_let_behind_a_field) generated_let_behind_a_field (private_members source_let_behind_a_field) output_let_behind_a_field ≡ false }
@@ -941,6 +948,7 @@ pub fn clauses_are_not_met()
     ensures prototype_key_behind_an_error { numbers_carried (nodes source_prototype_key_behind_an_error) source_prototype_key_behind_an_error output_prototype_key_behind_an_error ≡ false }
     ensures prototypes_behind_an_error { numbers_carried (nodes source_prototypes_behind_an_error) source_prototypes_behind_an_error output_prototypes_behind_an_error ≡ false }
     ensures prototypes_exchanged_behind_an_error { numbers_carried (nodes source_prototypes_exchanged_behind_an_error) source_prototypes_exchanged_behind_an_error output_prototypes_exchanged_behind_an_error ≡ false }
+    ensures question_on_a_static_field { numbers_carried (nodes source_question_on_a_static_field) source_question_on_a_static_field output_question_on_a_static_field ≡ false }
     ensures raw_of_a_string { texts_stay (nodes source_raw_of_a_string) source_raw_of_a_string output_raw_of_a_string ≡ false }
     ensures raw_of_a_template { texts_stay (nodes source_raw_of_a_template) source_raw_of_a_template output_raw_of_a_template ≡ false }
     ensures regular_expression_read_twice { temporaries_steady (nodes source_regular_expression_read_twice) generated_regular_expression_read_twice (private_members source_regular_expression_read_twice) output_regular_expression_read_twice ≡ false }

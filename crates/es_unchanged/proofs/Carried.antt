@@ -6,7 +6,7 @@ use Rattle.es_base.specs.Preorder.{number_of}
 use Rattle.es_base.specs.Tree.{Tree, Part, Parts, Node, end, more, child, absent, list, string, no_string, boolean, literal}
 use Rattle.es_base.specs.declared.kind.Kind.{Kind}
 use Rattle.es_left.proofs.Booleans.{both}
-use Rattle.es_lowered.specs.Carriers.{OddForm, calls_eval, calls_private, deletes_private, deletes_name, takes_odd_parameters, declares_oddly, gives_prototype, is_shorthand, exports_oddly, no_odd_form, odd_form, keeps_form, carries, stands_for_node, is_carried}
+use Rattle.es_lowered.specs.Carriers.{OddForm, calls_eval, calls_private, deletes_private, deletes_name, takes_odd_parameters, declares_oddly, gives_value, has_odd_body, gives_prototype, is_shorthand, exports_oddly, no_odd_form, odd_form, keeps_form, is_call_of, may_question, has_question, carries, stands_for_node, is_carried}
 use Rattle.es_lowered.specs.KeptWords.{same_name, same_word, same_words, same_words_but, free_part, same_words_by, keeps_computed, keeps_words}
 use Rattle.es_steps.proofs.Reflexive.{number-same, string-same}
 use Rattle.es_steps.specs.Parts.{at, is_true, string_of}
@@ -21,6 +21,8 @@ stays deletes_private = refl
 stays deletes_name = refl
 stays takes_odd_parameters = refl
 stays declares_oddly = refl
+stays gives_value = refl
+stays has_odd_body = refl
 stays gives_prototype = refl
 stays is_shorthand = refl
 stays exports_oddly = refl
@@ -53,6 +55,20 @@ by-same : (i : Option ℕ) (ps : Parts) → same_words_by i ps ps ≡ true
 by-same None ps = words-same ps
 by-same (Some i) ps = others-same i ps
 
+asked : (b c : Bool) → (b || (not b || c)) ≡ true
+asked true c = refl
+asked false c = refl
+
+not-asked : (b : Bool) → (b || not b) ≡ true
+not-asked true = refl
+not-asked false = refl
+
+asked-or-not : (kind : Kind) (ps : Parts) → (has_question kind ps || may_question kind ps) ≡ true
+asked-or-not Kind.MemberExpression ps = asked (is_true (at 3 ps)) (is_call_of ps)
+asked-or-not Kind.PrivateField ps = not-asked (is_true (at 3 ps))
+asked-or-not Kind.CallExpression ps = not-asked (is_true (at 2 ps))
+asked-or-not kind ps = refl
+
 computed-same : (kind : Kind) (ps : Parts) → keeps_computed kind ps ps ≡ true
 computed-same Kind.PropertyDefinition ps = either (is_true (at 2 ps))
   where
@@ -63,7 +79,7 @@ computed-same kind ps = refl
 
 carries-itself : (kind : Kind) (ps : Parts) → carries kind ps kind ps ≡ true
 carries-itself Kind.IdentifierReference ps = rw (string-same (string_of (at 0 ps))) refl
-carries-itself kind ps = rw (number-same (kind_number kind), by-same (free_part kind) ps, computed-same kind ps) (stays (odd_form kind ps))
+carries-itself kind ps = rw (number-same (kind_number kind), by-same (free_part kind) ps, computed-same kind ps) (both (stays (odd_form kind ps)) (asked-or-not kind ps))
 
 stands-for : (kind : Kind) (n : ℕ) (span : Option (ℕ × ℕ)) (semantic_id : Option ℕ) (ps : Parts) (us : List Tree) → In (Node kind n span semantic_id ps) us → stands_for_node kind n ps us ≡ true
 stands-for kind n span semantic_id ps [] i = elim i [ ]
@@ -76,14 +92,14 @@ pub carried : (first : ℕ) (us : List Tree) (t : Tree) → is_new first (number
 carried first us (Node kind n span semantic_id ps) old i = rw old (stands-for kind n span semantic_id ps us i)
 
 -- and one of its number and kind that is no reference and has its words
-alike : (kind : Kind) (ps qs : Parts) → is_reference kind ≡ false → odd_form kind qs ≡ no_odd_form → keeps_words kind ps qs ≡ true → carries kind ps kind qs ≡ true
-alike kind ps qs e even words = rw (e, number-same (kind_number kind), words, even) refl
+alike : (kind : Kind) (ps qs : Parts) → is_reference kind ≡ false → odd_form kind qs ≡ no_odd_form → keeps_words kind ps qs ≡ true → may_question kind qs ≡ true → carries kind ps kind qs ≡ true
+alike kind ps qs e even words plain = rw (e, number-same (kind_number kind), words, even, plain) (or_right (has_question kind ps) true refl)
 
-stands-alike : (kind : Kind) (n : ℕ) (span : Option (ℕ × ℕ)) (semantic_id : Option ℕ) (ps qs : Parts) (us : List Tree) → is_reference kind ≡ false → odd_form kind qs ≡ no_odd_form → keeps_words kind ps qs ≡ true → In (Node kind n span semantic_id ps) us → stands_for_node kind n qs us ≡ true
-stands-alike kind n span semantic_id ps qs [] e even words i = elim i [ ]
-stands-alike kind n span semantic_id ps qs (u ∷ us) e even words here = or_left (nat_eq n n && carries kind ps kind qs) (stands_for_node kind n qs us) (both (number-same n) (alike kind ps qs e even words))
-stands-alike kind n span semantic_id ps qs (Node other m mspan m_semantic_id ms ∷ us) e even words (later i) =
-    or_right (nat_eq n m && carries other ms kind qs) (stands_for_node kind n qs us) (stands-alike kind n span semantic_id ps qs us e even words i)
+stands-alike : (kind : Kind) (n : ℕ) (span : Option (ℕ × ℕ)) (semantic_id : Option ℕ) (ps qs : Parts) (us : List Tree) → is_reference kind ≡ false → odd_form kind qs ≡ no_odd_form → keeps_words kind ps qs ≡ true → may_question kind qs ≡ true → In (Node kind n span semantic_id ps) us → stands_for_node kind n qs us ≡ true
+stands-alike kind n span semantic_id ps qs [] e even words plain i = elim i [ ]
+stands-alike kind n span semantic_id ps qs (u ∷ us) e even words plain here = or_left (nat_eq n n && carries kind ps kind qs) (stands_for_node kind n qs us) (both (number-same n) (alike kind ps qs e even words plain))
+stands-alike kind n span semantic_id ps qs (Node other m mspan m_semantic_id ms ∷ us) e even words plain (later i) =
+    or_right (nat_eq n m && carries other ms kind qs) (stands_for_node kind n qs us) (stands-alike kind n span semantic_id ps qs us e even words plain i)
 
-pub carried-alike : (first : ℕ) (us : List Tree) (kind : Kind) (n : ℕ) (span : Option (ℕ × ℕ)) (semantic_id : Option ℕ) (ps qs : Parts) → is_reference kind ≡ false → odd_form kind qs ≡ no_odd_form → keeps_words kind ps qs ≡ true → is_new first n ≡ false → In (Node kind n span semantic_id ps) us → is_carried first us (Node kind n span semantic_id qs) ≡ true
-carried-alike first us kind n span semantic_id ps qs e even words old i = rw old (stands-alike kind n span semantic_id ps qs us e even words i)
+pub carried-alike : (first : ℕ) (us : List Tree) (kind : Kind) (n : ℕ) (span : Option (ℕ × ℕ)) (semantic_id : Option ℕ) (ps qs : Parts) → is_reference kind ≡ false → odd_form kind qs ≡ no_odd_form → keeps_words kind ps qs ≡ true → may_question kind qs ≡ true → is_new first n ≡ false → In (Node kind n span semantic_id ps) us → is_carried first us (Node kind n span semantic_id qs) ≡ true
+carried-alike first us kind n span semantic_id ps qs e even words plain old i = rw old (stands-alike kind n span semantic_id ps qs us e even words plain i)

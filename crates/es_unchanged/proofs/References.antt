@@ -7,7 +7,7 @@ use Rattle.es_left.proofs.Booleans.{both}
 use Rattle.es_steps.proofs.Reflexive.{number-same}
 use Rattle.es_lowered.specs.FunctionsAround.{PlacedReference}
 use Rattle.es_lowered.specs.KeptReferences.{plain_targets, writing_numbers, writes_fit, inner_references, references_stay}
-use Rattle.es_lowered.specs.StrayNames.{in_program, has_stray_name}
+use Rattle.es_lowered.specs.StrayNames.{has_stray_name}
 use Rattle.es_lowered.specs.Supers.{no_place, has_stray_super}
 use Rattle.es_steps.specs.References.{Reference, resolve, has_number}
 use Rattle.es_unchanged.proofs.ClassNames.{classes-timely}
@@ -34,4 +34,4 @@ none-comes false = refl
 pub references-stay : (first : ℕ) (t : Tree) → references_stay first [] t t ≡ true
 references-stay first t =
     let inner : List PlacedReference = inner_references first (preorder t) t in
-    both (both (classes-timely first t) (both (none-comes (has_stray_super no_place t)) (none-comes (has_stray_name in_program t)))) (both (writes-own (plain_targets (preorder t)) (writing_numbers (resolve t)) (resolve t) (λ m i. i)) (stand-where first inner inner (λ r i. i)))
+    both (both (classes-timely first t) (both (none-comes (has_stray_super no_place t)) (none-comes (has_stray_name [] t)))) (both (writes-own (plain_targets (preorder t)) (writing_numbers (resolve t)) (resolve t) (λ m i. i)) (stand-where first inner inner (λ r i. i)))

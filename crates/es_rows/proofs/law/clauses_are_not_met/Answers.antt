@@ -55,6 +55,9 @@ returns-clause-block_without_a_function c = refl
 pub returns-clause-body_dropped : goal.returns-clause-body_dropped
 returns-clause-body_dropped c = refl
 
+pub returns-clause-body_in_a_block : goal.returns-clause-body_in_a_block
+returns-clause-body_in_a_block c = refl
+
 pub returns-clause-body_in_an_arrow : goal.returns-clause-body_in_an_arrow
 returns-clause-body_in_an_arrow c = refl
 
@@ -307,11 +310,17 @@ returns-clause-key_outside_of_a_called_function c = refl
 pub returns-clause-label_behind_an_error : goal.returns-clause-label_behind_an_error
 returns-clause-label_behind_an_error c = refl
 
+pub returns-clause-label_in_an_async_function : goal.returns-clause-label_in_an_async_function
+returns-clause-label_in_an_async_function c = refl
+
 pub returns-clause-label_twice : goal.returns-clause-label_twice
 returns-clause-label_twice c = refl
 
 pub returns-clause-label_word_behind_an_error : goal.returns-clause-label_word_behind_an_error
 returns-clause-label_word_behind_an_error c = refl
+
+pub returns-clause-labelled_function_in_a_branch : goal.returns-clause-labelled_function_in_a_branch
+returns-clause-labelled_function_in_a_branch c = refl
 
 pub returns-clause-let_behind_a_call : goal.returns-clause-let_behind_a_call
 returns-clause-let_behind_a_call c = refl
@@ -486,6 +495,9 @@ returns-clause-prototypes_behind_an_error c = refl
 
 pub returns-clause-prototypes_exchanged_behind_an_error : goal.returns-clause-prototypes_exchanged_behind_an_error
 returns-clause-prototypes_exchanged_behind_an_error c = refl
+
+pub returns-clause-question_on_a_static_field : goal.returns-clause-question_on_a_static_field
+returns-clause-question_on_a_static_field c = refl
 
 pub returns-clause-raw_of_a_string : goal.returns-clause-raw_of_a_string
 returns-clause-raw_of_a_string c = refl
