@@ -1,0 +1,4 @@
+pub mod FirstScopes
+pub mod Iife
+pub mod Law
+pub mod ScopeBelow
