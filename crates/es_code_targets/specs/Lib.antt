@@ -1,0 +1,4 @@
+pub mod ConstantKeys
+pub mod Patterns
+pub mod PropertyView
+pub mod Written
