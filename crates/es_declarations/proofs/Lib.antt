@@ -1,0 +1,3 @@
+mod Declarings
+mod FunctionNodes
+mod ScriptNames

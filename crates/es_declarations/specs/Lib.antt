@@ -1,0 +1,4 @@
+pub mod Declaring
+pub mod Functions
+pub mod Globals
+pub mod Kinds
