@@ -10,7 +10,7 @@ use Rattle.es_base.specs.declared.kind.Kind.{Kind}
 use Rattle.es_steps.specs.Context.{is_function}
 use Rattle.es_steps.specs.KeptNodes.{function_around, all_pairs_stand}
 use Rattle.es_steps.specs.Parts.{at, is_true}
-use Rattle.es_steps.specs.Printable.{name_of_part}
+use Rattle.es_steps.specs.Printable.{name_of_part, is_module_item}
 use Rattle.es_steps.specs.Repeated.{is_loop}
 use Rattle.es_steps.specs.Reserved.{strict_words}
 use Rattle.es_steps.specs.Values.{String}
@@ -44,13 +44,6 @@ depends_on_function Kind.ForOfStatement ps = is_true (at 3 ps)
 depends_on_function kind ps = false
 
 -- imports and exports stand in the list of the program (16.2)
-abbrev pub is_module_item : Kind → Bool
-is_module_item Kind.ImportDeclaration = true
-is_module_item Kind.ExportNamedDeclaration = true
-is_module_item Kind.ExportDefaultDeclaration = true
-is_module_item Kind.ExportAllDeclaration = true
-is_module_item kind = false
-
 abbrev pub is_nested_item : Kind → Kind → Bool
 is_nested_item Kind.Program kind = false
 is_nested_item around kind = is_module_item kind
