@@ -1,0 +1,3 @@
+pub mod MovedNodes
+pub mod NameReads
+pub mod Spellings

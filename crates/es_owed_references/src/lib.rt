@@ -1,0 +1,7 @@
+//! What references of a lowered program owe: that no name of a class is read where it is not there yet.
+#![tactic(auto)]
+
+pub mod moved;
+pub mod own_names;
+pub mod reads;
+pub mod spelling;
