@@ -1,6 +1,6 @@
--- The last class that declares a name, and the end of a list.
-use Rattle.std.proofs.Common.{◌≡◌, refl, sym, ap, ◌∙◌, ℕ, zero, suc, ◌+◌, ◌<◌, List, [], ◌∷◌, ◌++◌, true, false, Option, Some, None, length, get_or, drop, add-one, arith}
-use Rattle.std.specs.Prelude.{is_some, slice_get, remove}
+-- The last class that declares a name.
+use Rattle.std.proofs.Common.{◌≡◌, refl, sym, ap, ◌∙◌, ℕ, zero, suc, ◌+◌, ◌<◌, List, [], ◌∷◌, true, false, Option, Some, None, length, get_or, drop, add-one, arith}
+use Rattle.std.specs.Prelude.{is_some}
 use Rattle.std.proofs.lemmas.List.{at_drop_more}
 use Rattle.class_details.specs.Stack.{found, found_from, found_in, or_outer}
 use Rattle.class_details.specs.declared.class_details.ClassDetails.{ClassDetails}
@@ -28,10 +28,3 @@ found_next name i n cs c o at within here is none =
 pub none_some : (o : Option Found) → is_some o ≡ false → o ≡ None
 none_some None h = refl
 none_some (Some f) h = cc
-
--- the last item, and what stands before it
-pub last_apart : {X : Type 0} (xs : List X) (i : ℕ) (x : X) → i + 1 ≡ length xs → slice_get xs i ≡ Some x → xs ≡ remove xs i ++ x ∷ []
-last_apart [] i x at is = absurd (omega arith)
-last_apart (y ∷ []) zero x at is = cc
-last_apart (y ∷ z ∷ xs) zero x at is = absurd (omega arith)
-last_apart (y ∷ xs) (suc i) x at is = let next : i + 1 ≡ length xs = omega (arith, at) in ap (λ t. y ∷ t) (last_apart xs i x next is)

@@ -1,4 +1,5 @@
 pub mod Created
 pub mod Details
 pub mod Law
+pub mod Lending
 pub mod Stack

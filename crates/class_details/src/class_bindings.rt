@@ -37,6 +37,29 @@ pub struct ClassBindings {
 impl ClassBindings {
     ghost use Rattle.class_details.specs.Created.{IsTempCreated, class_base};
 
+    /// Of the class of this number.
+    pub fn new(
+        name: Option<BoundIdentifier>,
+        temp: Option<BoundIdentifier>,
+        brand: Option<BoundIdentifier>,
+        outer_hoist_scope_id: ScopeId,
+        static_private_fields_use_temp: bool,
+        temp_var_is_created: bool,
+        class: NodeId,
+    ) -> ClassBindings
+        ensures { result ≡ record { name = name; temp = temp; brand = brand; outer_hoist_scope_id = outer_hoist_scope_id; static_private_fields_use_temp = static_private_fields_use_temp; temp_var_is_created = temp_var_is_created; class = class } }
+    {
+        ClassBindings {
+            name,
+            temp,
+            brand,
+            outer_hoist_scope_id,
+            static_private_fields_use_temp,
+            temp_var_is_created,
+            class,
+        }
+    }
+
     /// Those of no class: no name, the scope of number 0, and the number of no node.
     pub fn dummy() -> ClassBindings
         ensures name { result.name ≡ None }
@@ -47,15 +70,7 @@ impl ClassBindings {
         ensures created { result.temp_var_is_created ≡ false }
         ensures class { result.class ≡ node_id.DUMMY }
     {
-        ClassBindings {
-            name: None,
-            temp: None,
-            brand: None,
-            outer_hoist_scope_id: ScopeId(0),
-            static_private_fields_use_temp: false,
-            temp_var_is_created: false,
-            class: NodeId::DUMMY,
-        }
+        ClassBindings::new(None, None, None, ScopeId(0), false, false, NodeId::DUMMY)
     }
 
     /// The symbol of the class's name.

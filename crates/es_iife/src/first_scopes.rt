@@ -1,6 +1,6 @@
 // The scopes of a tree that stand in no other scope of it.
 
-ghost use Rattle.std.specs.Prelude.{◌≡◌, ◌++◌, [], IfOk, OnOk};
+ghost use Rattle.std.specs.Prelude.{◌≡◌, ◌++◌, IfOk, OnOk};
 ghost use Rattle.es_base.specs.Carried.{scope_number};
 ghost use Rattle.es_base.specs.Tree.{trees, nullable, nullable_trees};
 ghost use Rattle.es_iife.specs.FirstScopes.{first_scopes, outside_scopes, own_scope, part_scopes, scopes_in};

@@ -1,6 +1,6 @@
 // Functions that are called where they stand.
 
-ghost use Rattle.std.specs.Prelude.{◌≡◌, ◌∷◌, [], All, IfOk, OnOk, length};
+ghost use Rattle.std.specs.Prelude.{◌≡◌, All, IfOk, OnOk, length};
 ghost use Rattle.es_iife.specs.FirstScopes.{first_scopes};
 ghost use Rattle.es_iife.specs.Iife.{arrow_flags, called, called_with_value, made};
 ghost use Rattle.es_iife.specs.ScopeBelow.{CanStandBelow, with_scope_below};

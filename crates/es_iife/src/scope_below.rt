@@ -1,6 +1,6 @@
 // A new scope between an expression and the scope that it stands in.
 
-ghost use Rattle.std.specs.Prelude.{◌≡◌, ◌∷◌, [], All, Some, IfOk, OnOk, length};
+ghost use Rattle.std.specs.Prelude.{◌≡◌, All, Some, IfOk, OnOk, length};
 ghost use Rattle.es_base.specs.declared.ids.ScopeId.{ScopeId};
 ghost use Rattle.es_iife.specs.FirstScopes.{first_scopes};
 ghost use Rattle.es_iife.specs.ScopeBelow.{CanStandBelow, flags_below, with_parents, with_scope_below};
