@@ -1,0 +1,7 @@
+pub mod ClassNames
+pub mod GivenForms
+pub mod Initializing
+pub mod InnerClasses
+pub mod PairsBehind
+pub mod Placed
+pub mod Spellings

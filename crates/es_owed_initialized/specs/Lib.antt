@@ -1,0 +1,4 @@
+pub mod Behind
+pub mod Forms
+pub mod Initial
+pub mod Placed

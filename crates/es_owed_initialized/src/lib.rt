@@ -1,0 +1,11 @@
+//! That each generated name of a lowered program is given what it stands for, once and in its place.
+#![tactic(auto)]
+
+pub mod behind;
+pub mod class_names;
+pub mod forms;
+pub mod initialized;
+pub mod initializing;
+pub mod inner;
+pub mod kinds;
+pub mod members;
