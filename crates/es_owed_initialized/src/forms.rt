@@ -13,34 +13,10 @@ use es_base::kind::Kind;
 use es_base::strings::is_word;
 use es_generated::numbers::is_new;
 use es_node::node::Node;
-use es_seen_names::parts::string_at;
 use es_tree::expression::{
     CallExpressionRef, MemberExpressionRef, NewExpressionRef, ObjectExpressionRef, PropertyRef,
 };
 use es_tree::identifier::{IdentifierNameRef, IdentifierReferenceRef};
-
-/// The name of an identifier; else nothing.
-#[tactic(auto, using(crate::proofs::Spellings::spelled_reference, crate::proofs::Spellings::spelled_binding, crate::proofs::Spellings::no_spelling, es_seen_names::proofs::Strings::no_characters))]
-pub fn spelling(node: &Node) -> &str
-    ensures { chars result.now ≡ definitions.spelling (child node.now) }
-{
-    match node.kind() {
-        Kind::IdentifierReference => string_at(node.parts(), 0),
-        Kind::BindingIdentifier => string_at(node.parts(), 0),
-        _ => "",
-    }
-}
-
-/// The name of an identifier; nothing where none stands.
-#[tactic(auto, using(es_seen_names::proofs::Strings::no_characters))]
-pub fn spelling_of(node: Option<&Node>) -> &str
-    ensures { chars result.now ≡ definitions.spelling (nullable (option_map (λ x. x.now) node.entry)) }
-{
-    match node {
-        Some(node) => spelling(node),
-        None => "",
-    }
-}
 
 /// Whether the node is `new NAME()`.
 #[tactic(auto, using(crate::proofs::GivenForms::new_of, crate::proofs::GivenForms::no_new))]
@@ -88,7 +64,7 @@ fn is_reference_named(name: &str, node: &Node) -> bool
 
 /// Whether the node is a function or an arrow.
 #[tactic(auto, using(crate::proofs::GivenForms::function_by_kind))]
-pub fn is_function(node: &Node) -> bool
+pub fn is_function_value(node: &Node) -> bool
     ensures { result ≡ spec.is_function_part (child node.now) }
 {
     matches!(

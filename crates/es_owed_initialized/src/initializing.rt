@@ -13,8 +13,9 @@ ghost use Rattle.es_steps.specs.References.{resolve};
 use crate::behind::has_pair;
 use crate::class_names::{class_identifiers, names_class};
 use crate::forms::{
-    has_field_value, is_function, is_key_call, is_new_weak_map, is_new_weak_set, spelling_of,
+    has_field_value, is_function_value, is_key_call, is_new_weak_map, is_new_weak_set,
 };
+use crate::spelling::spelling_of;
 use es_base::kind::Kind;
 use es_base::ledger::{GeneratedKind, LedgerEntry};
 use es_base::strings::is_word;
@@ -208,9 +209,9 @@ fn is_initial(
         // babelHelpers.classPrivateFieldLooseKey("a")
         GeneratedKind::LooseKey(_) => Ok(is_key_call(names.first, value)),
         // function () {}
-        GeneratedKind::Method(_) => Ok(is_function(value)),
-        GeneratedKind::SuperFn(_) => Ok(is_function(value)),
-        GeneratedKind::Closure => Ok(is_function(value)),
+        GeneratedKind::Method(_) => Ok(is_function_value(value)),
+        GeneratedKind::SuperFn(_) => Ok(is_function_value(value)),
+        GeneratedKind::Closure => Ok(is_function_value(value)),
         // A
         GeneratedKind::ClassTemp(class) => is_class_value(alloc, names, number, class.0, value),
         GeneratedKind::Temp => Ok(true),

@@ -9,3 +9,4 @@ pub mod initializing;
 pub mod inner;
 pub mod kinds;
 pub mod members;
+pub mod spelling;

@@ -1,1 +1,5 @@
 pub mod InTime
+pub mod Inside
+pub mod Leading
+pub mod Search
+pub mod Walk

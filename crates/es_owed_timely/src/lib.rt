@@ -3,4 +3,9 @@
 
 pub mod around;
 pub mod in_time;
+pub mod inside;
+pub mod leading;
 pub mod marks;
+pub mod search;
+pub mod timely;
+pub mod walk;
