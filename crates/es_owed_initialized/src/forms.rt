@@ -1,6 +1,6 @@
 // The forms that generated names are given.
 
-ghost use Rattle.std.specs.Prelude.{◌≡◌, ◌&&◌, bytes_eq, codes, is_some, option_map};
+ghost use Rattle.std.specs.Prelude.{◌≡◌, codes, is_some, option_map};
 ghost use Rattle.std.specs.Str.{chars};
 ghost use Rattle.es_base.specs.Tree.{child, nullable};
 ghost use Rattle.es_owed_initialized.specs.Forms.{has_none, is_babel_helpers, is_property_named, is_reference_named, only_tree};
@@ -10,7 +10,7 @@ ghost use Rattle.es_lowered.specs.Lowered as spec;
 ghost use Rattle.es_steps.specs.Parts.{is_present};
 
 use es_base::kind::Kind;
-use es_base::strings::is_word;
+use es_base::strings::{is_word, spells};
 use es_generated::numbers::is_new;
 use es_node::node::Node;
 use es_tree::expression::{
@@ -117,17 +117,10 @@ fn is_babel_helpers(first: u32, node: &Node) -> bool
     match node.kind() {
         Kind::IdentifierReference => {
             let reference = IdentifierReferenceRef::from_node(node);
-            is_new(first, reference.node_id.0) && is_helpers_word(reference.name.as_str())
+            is_new(first, reference.node_id.0) && spells(reference.name.as_str(), "babelHelpers")
         }
         _ => false,
     }
-}
-
-#[tactic(auto, using(es_base::proofs::Ascii::chars_ascii))]
-fn is_helpers_word(name: &str) -> bool
-    ensures { result ≡ bytes_eq (chars name.now) (codes "babelHelpers") }
-{
-    is_word("babelHelpers", name)
 }
 
 /// Whether the node is a property name that is spelled so.

@@ -205,7 +205,7 @@ fn all_before(number: u32, classes: &[u32], nodes: &[&Node]) -> bool
 
 /// Whether the first of these numbers comes before the other in preorder.
 #[tactic(auto, using(es_owed::proofs::Nodes::number_of_node))]
-fn comes_before(number: u32, other: u32, nodes: &[&Node]) -> bool
+pub fn comes_before(number: u32, other: u32, nodes: &[&Node]) -> bool
     ensures { result ≡ spec.comes_before number other (seen nodes.now) }
 {
     for node in nodes {

@@ -7,6 +7,7 @@ pub mod forms;
 pub mod initialized;
 pub mod initializing;
 pub mod inner;
+pub mod keys;
 pub mod kinds;
 pub mod members;
 pub mod spelling;

@@ -10,8 +10,8 @@ use Rattle.es_steps.specs.Repeated as spec
 use Rattle.es_steps.specs.Repeated.{function_place, is_arrow, is_loop, is_parameters_part, loop_place, parameters_place, surroundings_in}
 use Rattle.es_owed_temporaries.specs.declared.surroundings.Surroundings.{Surroundings}
 
-abbrev pub around_here : Surroundings → spec.Surroundings
-around_here x = record { place = x.place; hoisted = x.hoisted; in_var = x.in_var; class = x.class; constructs = x.constructs }
+abbrev pub surroundings_of : Surroundings → spec.Surroundings
+surroundings_of x = record { place = x.place; hoisted = x.hoisted; in_var = x.in_var; class = x.class; constructs = x.constructs }
 
 abbrev pub surroundings_within : ℕ → List LedgerEntry → spec.Surroundings → Tree → ℕ → spec.Surroundings
 surroundings_within first ledger s (Node kind m span semantic_id ps) i = surroundings_in first ledger s kind m ps i

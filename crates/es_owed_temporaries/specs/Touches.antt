@@ -8,7 +8,7 @@ use Rattle.es_lowered.specs.Temporaries as spec
 use Rattle.es_lowered.specs.Temporaries.{spot_in, touches_at}
 use Rattle.es_steps.specs.References.{is_target}
 use Rattle.es_steps.specs.Scopes.{binds}
-use Rattle.es_owed_temporaries.specs.Surroundings.{around_here}
+use Rattle.es_owed_temporaries.specs.Surroundings.{surroundings_of}
 use Rattle.es_owed_temporaries.specs.declared.touches.Spot.{Spot}
 use Rattle.es_owed_temporaries.specs.declared.touches.Touch.{Touch}
 
@@ -19,7 +19,7 @@ abbrev pub touches_all : List Touch → List spec.Touch
 touches_all xs = map touch_here xs
 
 abbrev pub spot_here : Spot → spec.Spot
-spot_here x = record { around = around_here x.around; is_function_name = x.is_function_name; declaration = x.declaration; home = x.home }
+spot_here x = record { around = surroundings_of x.around; is_function_name = x.is_function_name; declaration = x.declaration; home = x.home }
 
 abbrev pub spot_within : ℕ → List LedgerEntry → spec.Spot → Tree → ℕ → spec.Spot
 spot_within first ledger x (Node kind m span semantic_id ps) i = spot_in first ledger x kind m ps i

@@ -6,7 +6,7 @@ ghost use Rattle.es_node.specs.View.{kind_of, number_in, part_of, parts_of};
 ghost use Rattle.es_steps.specs.Repeated as spec;
 ghost use Rattle.es_steps.specs.Scopes as scopes;
 ghost use Rattle.es_owed_temporaries.specs.Places.{placed_all, places_from};
-ghost use Rattle.es_owed_temporaries.specs.Surroundings.{around_here, surroundings_within};
+ghost use Rattle.es_owed_temporaries.specs.Surroundings.{surroundings_of, surroundings_within};
 
 use crate::surroundings::{Surroundings, around_program, surroundings_in};
 use es_base::kind::Kind;
@@ -57,7 +57,7 @@ fn add_places(
     node: &Node,
     places: &mut Vec<Placed>,
 ) -> Result<(), AllocError>
-    ensures { OnOk result (placed_all places.new.items ≡ placed_all places.old.items ++ spec.places terms.now.first terms.now.ledger.now terms.now.private_functions.now (around_here around) node.now) }
+    ensures { OnOk result (placed_all places.new.items ≡ placed_all places.old.items ++ spec.places terms.now.first terms.now.ledger.now terms.now.private_functions.now (surroundings_of around) node.now) }
 {
     add_place(terms, around, node, places)?;
     add_places_in(terms, around, node, node.parts(), places)
@@ -71,7 +71,7 @@ fn add_places_in(
     parts: &[Part],
     places: &mut Vec<Placed>,
 ) -> Result<(), AllocError>
-    ensures { OnOk result (placed_all places.new.items ≡ placed_all places.old.items ++ places_from terms.now.first terms.now.ledger.now terms.now.private_functions.now (surroundings_within terms.now.first terms.now.ledger.now (around_here around) node.now) 0 (parts_of parts.now)) }
+    ensures { OnOk result (placed_all places.new.items ≡ placed_all places.old.items ++ places_from terms.now.first terms.now.ledger.now terms.now.private_functions.now (surroundings_within terms.now.first terms.now.ledger.now (surroundings_of around) node.now) 0 (parts_of parts.now)) }
 {
     for (i, part) in parts.iter().enumerate() {
         let inside = surroundings_in(terms.first, terms.ledger, around, node, i);
@@ -87,7 +87,7 @@ fn add_places_at(
     part: &Part,
     places: &mut Vec<Placed>,
 ) -> Result<(), AllocError>
-    ensures { OnOk result (placed_all places.new.items ≡ placed_all places.old.items ++ spec.places_at terms.now.first terms.now.ledger.now terms.now.private_functions.now (around_here around) (part_of part.now)) }
+    ensures { OnOk result (placed_all places.new.items ≡ placed_all places.old.items ++ spec.places_at terms.now.first terms.now.ledger.now terms.now.private_functions.now (surroundings_of around) (part_of part.now)) }
 {
     match part {
         Part::Child(node) => add_places(terms, around, node, places),
@@ -106,7 +106,7 @@ fn add_places_of_list(
     nodes: &[Node],
     places: &mut Vec<Placed>,
 ) -> Result<(), AllocError>
-    ensures { OnOk result (placed_all places.new.items ≡ placed_all places.old.items ++ spec.places_of terms.now.first terms.now.ledger.now terms.now.private_functions.now (around_here around) (trees nodes.now)) }
+    ensures { OnOk result (placed_all places.new.items ≡ placed_all places.old.items ++ spec.places_of terms.now.first terms.now.ledger.now terms.now.private_functions.now (surroundings_of around) (trees nodes.now)) }
 {
     for node in nodes {
         add_places(terms, around, node, places)?;
@@ -121,7 +121,7 @@ fn add_places_of_list_with_holes(
     nodes: &[Option<Node>],
     places: &mut Vec<Placed>,
 ) -> Result<(), AllocError>
-    ensures { OnOk result (placed_all places.new.items ≡ placed_all places.old.items ++ spec.places_of terms.now.first terms.now.ledger.now terms.now.private_functions.now (around_here around) (nullable_trees nodes.now)) }
+    ensures { OnOk result (placed_all places.new.items ≡ placed_all places.old.items ++ spec.places_of terms.now.first terms.now.ledger.now terms.now.private_functions.now (surroundings_of around) (nullable_trees nodes.now)) }
 {
     for node in nodes {
         add_places_of_hole(terms, around, node, places)?;
@@ -136,7 +136,7 @@ fn add_places_of_hole(
     node: &Option<Node>,
     places: &mut Vec<Placed>,
 ) -> Result<(), AllocError>
-    ensures { OnOk result (placed_all places.new.items ≡ placed_all places.old.items ++ spec.places_at terms.now.first terms.now.ledger.now terms.now.private_functions.now (around_here around) (nullable node.now)) }
+    ensures { OnOk result (placed_all places.new.items ≡ placed_all places.old.items ++ spec.places_at terms.now.first terms.now.ledger.now terms.now.private_functions.now (surroundings_of around) (nullable node.now)) }
 {
     match node {
         Some(node) => add_places(terms, around, node, places),
@@ -151,7 +151,7 @@ fn add_place(
     node: &Node,
     places: &mut Vec<Placed>,
 ) -> Result<(), AllocError>
-    ensures { OnOk result (placed_all places.new.items ≡ placed_all places.old.items ++ spec.place_of terms.now.first terms.now.ledger.now terms.now.private_functions.now (around_here around) (kind_of node.now) (number_in node.now)) }
+    ensures { OnOk result (placed_all places.new.items ≡ placed_all places.old.items ++ spec.place_of terms.now.first terms.now.ledger.now terms.now.private_functions.now (surroundings_of around) (kind_of node.now) (number_in node.now)) }
 {
     let number = node.node_id().0;
     let is_left_out = is_new(terms.first, number) || has_number(number, terms.private_functions);
@@ -172,7 +172,7 @@ fn is_placed(kind: Kind) -> bool
 
 /// The place of a node: the identifier of a `var` stands where the `var` is hoisted to.
 fn own_place(around: Surroundings, kind: Kind) -> u32
-    ensures { result ≡ spec.own_place (around_here around) kind }
+    ensures { result ≡ spec.own_place (surroundings_of around) kind }
 {
     if is_declaring(kind) && around.in_var {
         around.hoisted

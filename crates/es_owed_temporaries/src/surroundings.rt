@@ -8,7 +8,7 @@ ghost use Rattle.es_seen_names.specs.Items.{items_of};
 ghost use Rattle.es_steps.specs.Parts as parts;
 ghost use Rattle.es_steps.specs.Parts.{at, items};
 ghost use Rattle.es_steps.specs.Repeated as spec;
-ghost use Rattle.es_owed_temporaries.specs.Surroundings.{around_here, function_or_loop, surroundings_within};
+ghost use Rattle.es_owed_temporaries.specs.Surroundings.{surroundings_of, function_or_loop, surroundings_within};
 
 use es_base::kind::Kind;
 use es_base::ledger::{GeneratedKind, LedgerEntry};
@@ -41,7 +41,7 @@ pub struct Surroundings {
 /// Around a program.
 #[tactic(auto, using(es_owed::proofs::Nodes::number_of_node))]
 pub fn around_program(program: &Node) -> Surroundings
-    ensures { around_here result ≡ spec.around_program program.now }
+    ensures { surroundings_of result ≡ spec.around_program program.now }
 {
     let number = program.node_id().0;
     Surroundings {
@@ -62,7 +62,7 @@ pub fn surroundings_in(
     node: &Node,
     i: usize,
 ) -> Surroundings
-    ensures { around_here result ≡ surroundings_within first ledger.now (around_here around) node.now i }
+    ensures { surroundings_of result ≡ surroundings_within first ledger.now (surroundings_of around) node.now i }
 {
     let place = place_in(first, around, node, i);
     Surroundings {
@@ -81,7 +81,7 @@ pub fn surroundings_in(
 /// Where the i-th part of the node stands.
 #[tactic(auto, using(crate::proofs::Places::place_of_field, crate::proofs::Places::place_of_other))]
 fn place_in(first: u32, around: Surroundings, node: &Node, i: usize) -> u32
-    ensures { result ≡ spec.place_in first (around_here around) (kind_of node.now) (number_in node.now) (parts_in node.now) i }
+    ensures { result ≡ spec.place_in first (surroundings_of around) (kind_of node.now) (number_in node.now) (parts_in node.now) i }
 {
     match node.kind() {
         // a = 1;
@@ -97,7 +97,7 @@ fn place_in(first: u32, around: Surroundings, node: &Node, i: usize) -> u32
 }
 
 fn place_in_other(first: u32, around: Surroundings, node: &Node, i: usize) -> u32
-    ensures { result ≡ function_or_loop first (around_here around) (kind_of node.now) (number_in node.now) (parts_in node.now) i }
+    ensures { result ≡ function_or_loop first (surroundings_of around) (kind_of node.now) (number_in node.now) (parts_in node.now) i }
 {
     let kind = node.kind();
     let number = node.node_id().0;

@@ -10,7 +10,7 @@ ghost use Rattle.es_steps.specs.Parts.{at, string_of};
 ghost use Rattle.es_steps.specs.References as references;
 ghost use Rattle.es_steps.specs.Scopes as scopes;
 ghost use Rattle.es_lowered.specs.Temporaries as spec;
-ghost use Rattle.es_owed_temporaries.specs.Surroundings.{around_here};
+ghost use Rattle.es_owed_temporaries.specs.Surroundings.{surroundings_of};
 ghost use Rattle.es_owed_temporaries.specs.Touches.{spot_here, spot_within, touch_here, touches_all, touches_from};
 
 use crate::surroundings::{Surroundings, around_program, surroundings_in};
