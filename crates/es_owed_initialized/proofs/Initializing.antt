@@ -1,12 +1,13 @@
 -- What gives names their values, by the kind of a node.
 use Rattle.std.proofs.Common.{◌≡◌, refl, ap, ◌∙◌, ℕ, List, [], ◌∷◌, ◌++◌, Bool, true, false, cond, ◌&&◌}
 use Rattle.std.proofs.Math.Bool.{and-true, and-false}
+use Rattle.std.specs.Prelude.{nat_eq}
 use Rattle.es_base.specs.Tree.{Tree, Part, Parts, Node, child, absent}
 use Rattle.es_base.specs.declared.kind.Kind.{Kind}
 use Rattle.es_base.specs.declared.ledger.GeneratedKind.{GeneratedKind}
 use Rattle.es_base.specs.declared.ledger.LedgerEntry.{LedgerEntry}
 use Rattle.es_node.specs.View.{kind_of, number_in, parts_in}
-use Rattle.es_lowered.specs.Lowered.{initialization_at, initializations, is_class_kind, is_initial, is_method_kind, spelled_as}
+use Rattle.es_lowered.specs.Lowered.{initialization_at, initializations, is_class_itself, is_class_kind, is_initial, is_method_kind, spelled_as}
 use Rattle.es_steps.specs.Parts.{at, is_present}
 use Rattle.es_steps.specs.Values.{String}
 
@@ -51,3 +52,12 @@ by_none first ledger q s g Kind.ClassDeclaration m ps a b c d e f = absurd (d re
 by_none first ledger q s g Kind.ClassExpression m ps a b c d e f = absurd (e refl)
 by_none first ledger q s g Kind.FunctionExpression m ps a b c d e f = absurd (f refl)
 by_none first ledger q s g kind m ps a b c d e f = refl
+
+-- ---- classes
+
+pub class_itself : (n : ℕ) (t : Tree) → kind_of t ≡ Kind.ClassExpression → is_class_itself n (child t) ≡ nat_eq n (number_in t)
+class_itself n (Node kind m span semantic_id ps) is = ap (λ k. is_class_itself n (child (Node k m span semantic_id ps))) is
+
+pub no_class_itself : (n : ℕ) (t : Tree) → (kind_of t ≡ Kind.ClassExpression → ⊥) → is_class_itself n (child t) ≡ false
+no_class_itself n (Node Kind.ClassExpression m span semantic_id ps) other = absurd (other refl)
+no_class_itself n (Node kind m span semantic_id ps) other = refl

@@ -20,7 +20,6 @@ use es_base::kind::Kind;
 use es_base::ledger::{GeneratedKind, LedgerEntry};
 use es_base::strings::is_word;
 use es_node::node::Node;
-use es_owed::classes::class_below;
 use es_owed::listed::Listed;
 use es_references::references::Reference;
 use es_tree::class::{ClassDeclarationRef, ClassExpressionRef};
@@ -233,19 +232,29 @@ fn is_class_value(
     requires { references_of names.entry.references.now ≡ resolve names.entry.lowered.now.program.now }
     ensures { IfOk result (λ r. r ≡ spec.is_class_value names.entry.first names.entry.ledger.now names.entry.lowered.now.program.now number class (child value.now)) }
 {
-    match class_below(alloc, value)? {
-        Some(other) => Ok(class == other),
-        None => {
-            let nodes = names.lowered.nodes.as_slice();
-            let identifiers = class_identifiers(alloc, names.first, class, nodes)?;
-            let is_name = names_class(
-                class,
-                names.ledger,
-                names.references,
-                identifiers.as_slice(),
-                value,
-            );
-            Ok(is_name && has_pair(number, class, nodes))
-        }
+    if is_class_itself(class, value) {
+        return Ok(true);
+    }
+    let nodes = names.lowered.nodes.as_slice();
+    let identifiers = class_identifiers(alloc, names.first, class, nodes)?;
+    let is_name = names_class(
+        class,
+        names.ledger,
+        names.references,
+        identifiers.as_slice(),
+        value,
+    );
+    Ok(is_name && has_pair(number, class, nodes))
+}
+
+/// Whether the value is this class expression.
+#[tactic(auto, using(crate::proofs::Initializing::class_itself, crate::proofs::Initializing::no_class_itself))]
+fn is_class_itself(class: u32, value: &Node) -> bool
+    ensures { result ≡ spec.is_class_itself class (child value.now) }
+{
+    match value.kind() {
+        // (class {})
+        Kind::ClassExpression => class == value.node_id().0,
+        _ => false,
     }
 }

@@ -6,7 +6,7 @@ ghost use Rattle.es_seen_names.specs.PrivateMembers.{private_member_of, private_
 ghost use Rattle.es_steps.specs.GeneratedForms as sorts;
 ghost use Rattle.es_lowered.specs.Lowered as spec;
 ghost use Rattle.es_lowered.specs.Temporaries as temporaries;
-ghost use Rattle.es_steps.specs.PrivateNames as members;
+ghost use Rattle.es_steps.specs.PrivateNames as privates;
 ghost use Rattle.es_validity.specs.Reached.{kind_in};
 
 use es_base::ledger::GeneratedKind;
@@ -40,7 +40,7 @@ pub fn belongs(members: &[PrivateMember], kind: GeneratedKind) -> bool
 }
 
 fn is_a_field(kind: PrivateKind) -> bool
-    ensures { result ≡ members.is_a_field (kind_in kind) }
+    ensures { result ≡ privates.is_a_field (kind_in kind) }
 {
     matches!(kind, PrivateKind::Field)
 }
@@ -77,7 +77,7 @@ pub fn class_before(kind: GeneratedKind, members: &[PrivateMember]) -> Option<u3
 }
 
 fn class_of_member(key: u32, members: &[PrivateMember]) -> Option<u32>
-    ensures { option_to_list result ≡ temporaries.class_of_member (members.member_at key (private_members_of members.now)) }
+    ensures { option_to_list result ≡ temporaries.class_of_member (privates.member_at key (private_members_of members.now)) }
 {
     match member_at(key, members) {
         Some(member) => Some(member.class),
