@@ -141,7 +141,7 @@ fn stays_in_list(statement: &Node) -> bool
 
 /// The class that a statement declares.
 #[tactic(auto, using(crate::proofs::StayingLists::declared_named, crate::proofs::StayingLists::declared_default, crate::proofs::StayingLists::declared_own))]
-pub fn declared_class(statement: &Node) -> Option<u32>
+fn declared_class(statement: &Node) -> Option<u32>
     ensures { option_to_list result ≡ declared_classes (child statement.now) }
 {
     match statement.kind() {
