@@ -1,8 +1,8 @@
 pub mod ClassNames
 pub mod GivenForms
-pub mod Initializing
+pub mod GivenValues
 pub mod InnerClasses
-pub mod Keys
+pub mod KeyNames
 pub mod PairsBehind
 pub mod Placed
 pub mod Spellings

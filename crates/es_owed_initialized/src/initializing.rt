@@ -46,7 +46,7 @@ pub struct Initialization {
 }
 
 /// What gives a name of this kind a value among these nodes. Fails on allocation failure alone.
-#[tactic(auto, using(crate::proofs::Initializing::more_initializations))]
+#[tactic(auto, using(crate::proofs::GivenValues::more_initializations))]
 pub fn initializations(
     alloc: Global,
     names: Generated,
@@ -58,7 +58,7 @@ pub fn initializations(
 {
     let mut found = Vec::new(alloc);
     for node in names.lowered.nodes.as_slice() {
-        add_some(initialization(alloc, names, name, kind, node)?, &mut found)?;
+        add_some(initialization_at(alloc, names, name, kind, node)?, &mut found)?;
     }
     Ok(found)
 }
@@ -73,8 +73,8 @@ fn add_some(one: Option<Initialization>, found: &mut Vec<Initialization>) -> Res
 }
 
 /// Whether and how the node gives a name of this kind a value. Fails on allocation failure alone.
-#[tactic(auto, using(crate::proofs::Initializing::by_assignment, crate::proofs::Initializing::by_declarator, crate::proofs::Initializing::by_empty_declarator, crate::proofs::Initializing::by_function, crate::proofs::Initializing::by_class, crate::proofs::Initializing::by_class_expression, crate::proofs::Initializing::by_own_name, crate::proofs::Initializing::by_none))]
-fn initialization(
+#[tactic(auto, using(crate::proofs::GivenValues::by_assignment, crate::proofs::GivenValues::by_declarator, crate::proofs::GivenValues::by_empty_declarator, crate::proofs::GivenValues::by_function, crate::proofs::GivenValues::by_class, crate::proofs::GivenValues::by_class_expression, crate::proofs::GivenValues::by_own_name, crate::proofs::GivenValues::by_none))]
+fn initialization_at(
     alloc: Global,
     names: Generated,
     name: &str,
@@ -248,7 +248,7 @@ fn is_class_value(
 }
 
 /// Whether the value is this class expression.
-#[tactic(auto, using(crate::proofs::Initializing::class_itself, crate::proofs::Initializing::no_class_itself))]
+#[tactic(auto, using(crate::proofs::GivenValues::class_itself, crate::proofs::GivenValues::no_class_itself))]
 fn is_class_itself(class: u32, value: &Node) -> bool
     ensures { result ≡ spec.is_class_itself class (child value.now) }
 {

@@ -60,7 +60,7 @@ pub fn keys_stand(
 }
 
 /// Whether no two of these temporaries are one.
-#[tactic(auto, using(crate::proofs::Keys::more_different))]
+#[tactic(auto, using(crate::proofs::KeyNames::more_different))]
 fn all_different(keys: &[KeyTemporary]) -> bool
     ensures { result ≡ definitions.all_different (keys_of keys.now) }
 {

@@ -1,5 +1,5 @@
-pub mod Apart
-pub mod Places
 pub mod PlacesAround
-pub mod Steady
+pub mod PlacesByKind
+pub mod PrivateReads
+pub mod SteadyKinds
 pub mod TouchesAround

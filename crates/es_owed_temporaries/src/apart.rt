@@ -106,7 +106,7 @@ fn is_around(
 }
 
 /// Whether this class is among these nodes.
-#[tactic(auto, using(crate::proofs::Apart::class_more))]
+#[tactic(auto, using(crate::proofs::PrivateReads::class_more))]
 fn holds_class(class: u32, nodes: &[&Node]) -> bool
     ensures { result ≡ spec.holds_class class (seen nodes.now) }
 {
@@ -119,7 +119,7 @@ fn holds_class(class: u32, nodes: &[&Node]) -> bool
 }
 
 /// Whether a private name of this spelling is read or written by one of these nodes.
-#[tactic(auto, using(crate::proofs::Apart::read_more))]
+#[tactic(auto, using(crate::proofs::PrivateReads::read_more))]
 fn reads_private(name: &str, nodes: &[&Node]) -> bool
     ensures { result ≡ spec.reads_private (chars name.now) (seen nodes.now) }
 {
@@ -131,7 +131,7 @@ fn reads_private(name: &str, nodes: &[&Node]) -> bool
     false
 }
 
-#[tactic(auto, using(crate::proofs::Apart::read_by_field, crate::proofs::Apart::read_by_none, crate::proofs::Apart::name_of_part))]
+#[tactic(auto, using(crate::proofs::PrivateReads::read_by_field, crate::proofs::PrivateReads::read_by_none, crate::proofs::PrivateReads::name_of_part))]
 fn is_private_field(name: &str, node: &Node) -> bool
     ensures { result ≡ private_read (chars name.now) node.now }
 {

@@ -45,7 +45,7 @@ pub fn all_steady(
     Ok(true)
 }
 
-#[tactic(auto, using(crate::proofs::Steady::steady_name))]
+#[tactic(auto, using(crate::proofs::SteadyKinds::steady_name))]
 fn is_steady_entry(
     alloc: Global,
     places: &[Placed],

@@ -54,7 +54,7 @@ pub fn around_program(program: &Node) -> Surroundings
 }
 
 /// What is around the i-th part of a node, where the first new node has this number.
-#[tactic(auto, using(crate::proofs::Places::within_node))]
+#[tactic(auto, using(crate::proofs::PlacesByKind::within_node))]
 pub fn surroundings_in(
     first: u32,
     ledger: &[LedgerEntry],
@@ -79,7 +79,7 @@ pub fn surroundings_in(
 }
 
 /// Where the i-th part of the node stands.
-#[tactic(auto, using(crate::proofs::Places::place_of_field, crate::proofs::Places::place_of_other))]
+#[tactic(auto, using(crate::proofs::PlacesByKind::place_of_field, crate::proofs::PlacesByKind::place_of_other))]
 fn place_in(first: u32, around: Surroundings, node: &Node, i: usize) -> u32
     ensures { result ≡ spec.place_in first (surroundings_of around) (kind_of node.now) (number_in node.now) (parts_in node.now) i }
 {
@@ -130,7 +130,7 @@ fn function_place(is_new: bool, around: Surroundings, number: u32) -> u32
 }
 
 /// Whether the i-th part is the parameters of a function.
-#[tactic(auto, using(crate::proofs::Places::no_parameters))]
+#[tactic(auto, using(crate::proofs::PlacesByKind::no_parameters))]
 fn is_parameters_part(kind: Kind, i: usize) -> bool
     ensures { result ≡ spec.is_parameters_part kind i }
 {
@@ -204,7 +204,7 @@ fn is_simple_or_hole(parameter: &Option<Node>) -> bool
     }
 }
 
-#[tactic(auto, using(crate::proofs::Places::simple_name, crate::proofs::Places::rest_name, crate::proofs::Places::no_simple))]
+#[tactic(auto, using(crate::proofs::PlacesByKind::simple_name, crate::proofs::PlacesByKind::rest_name, crate::proofs::PlacesByKind::no_simple))]
 fn is_simple_parameter(parameter: &Node) -> bool
     ensures { result ≡ parts.is_simple_parameter (child parameter.now) }
 {
@@ -222,7 +222,7 @@ fn is_simple_parameter(parameter: &Node) -> bool
 // ---- loops
 
 /// Where the i-th part of a loop stands: its head may be evaluated once (14.7.4.4).
-#[tactic(auto, using(crate::proofs::Places::for_head, crate::proofs::Places::for_in_head, crate::proofs::Places::for_of_head, crate::proofs::Places::no_head))]
+#[tactic(auto, using(crate::proofs::PlacesByKind::for_head, crate::proofs::PlacesByKind::for_in_head, crate::proofs::PlacesByKind::for_of_head, crate::proofs::PlacesByKind::no_head))]
 fn loop_place(node: &Node, i: usize, place: u32) -> u32
     ensures { result ≡ spec.loop_place (kind_of node.now) (number_in node.now) (parts_in node.now) i place }
 {
@@ -254,7 +254,7 @@ fn once_place(parts: &[Part], place: u32) -> u32
     }
 }
 
-#[tactic(auto, using(crate::proofs::Places::declaration_once, crate::proofs::Places::no_declaration))]
+#[tactic(auto, using(crate::proofs::PlacesByKind::declaration_once, crate::proofs::PlacesByKind::no_declaration))]
 fn declaration_place(node: &Node, place: u32) -> u32
     ensures { result ≡ spec.once_place (child node.now) place }
 {
@@ -267,7 +267,7 @@ fn declaration_place(node: &Node, place: u32) -> u32
 // ---- variables
 
 /// Whether what is declared by `var` in a node of this kind is hoisted no further.
-#[tactic(auto, using(crate::proofs::Places::takes_no_block))]
+#[tactic(auto, using(crate::proofs::PlacesByKind::takes_no_block))]
 fn takes_vars(kind: Kind) -> bool
     ensures { result ≡ spec.takes_vars kind }
 {
@@ -279,7 +279,7 @@ fn takes_vars(kind: Kind) -> bool
 }
 
 /// Whether a `var` declares in the parts of a node.
-#[tactic(auto, using(crate::proofs::Places::var_of, crate::proofs::Places::no_var))]
+#[tactic(auto, using(crate::proofs::PlacesByKind::var_of, crate::proofs::PlacesByKind::no_var))]
 fn in_var_at(in_var: bool, node: &Node) -> bool
     ensures { result ≡ spec.in_var_at in_var (kind_of node.now) (parts_in node.now) }
 {
@@ -294,7 +294,7 @@ fn in_var_at(in_var: bool, node: &Node) -> bool
 
 /// The class whose construction a function that is the i-th part belongs to: that of a constructor, and that of a `super`
 /// function which a generated name is given.
-#[tactic(auto, using(crate::proofs::Places::constructs_by_assignment, crate::proofs::Places::constructs_by_declarator, crate::proofs::Places::constructs_none))]
+#[tactic(auto, using(crate::proofs::PlacesByKind::constructs_by_assignment, crate::proofs::PlacesByKind::constructs_by_declarator, crate::proofs::PlacesByKind::constructs_none))]
 fn constructs_at(ledger: &[LedgerEntry], class: u32, node: &Node, i: usize) -> Option<u32>
     ensures { result ≡ spec.constructs_at ledger.now class (kind_of node.now) (parts_in node.now) i }
 {

@@ -1,5 +1,5 @@
+pub mod AroundParts
 pub mod InTime
-pub mod Inside
-pub mod Leading
-pub mod Search
-pub mod Walk
+pub mod ListHeads
+pub mod OwnMarks
+pub mod WalkedMarks

@@ -31,7 +31,7 @@ use es_seen_names::parts::{is_true_at, string_at};
 use es_tree::class::ClassBodyRef;
 
 /// What is around the i-th part of a node, where the first new node has this number.
-#[tactic(auto, using(crate::proofs::Inside::around_node))]
+#[tactic(auto, using(crate::proofs::AroundParts::around_node))]
 pub fn around_in<'r, 'a>(
     first: u32,
     ledger: &[LedgerEntry],
@@ -77,7 +77,7 @@ fn held_inside<'r>(
 }
 
 /// Whether the i-th part of the node may run or not, or again.
-#[tactic(auto, using(crate::proofs::Inside::held_otherwise))]
+#[tactic(auto, using(crate::proofs::AroundParts::held_otherwise))]
 fn is_held(node: &Node, i: usize) -> bool
     ensures { result ≡ spec.is_held (kind_of node.now) (parts_in node.now) i }
 {
@@ -136,7 +136,7 @@ fn is_held_arrow(first: u32, is_called: bool, node: &Node) -> bool
 }
 
 /// Whether the i-th part is the value of a field of instances.
-#[tactic(auto, using(crate::proofs::Inside::no_instance_value))]
+#[tactic(auto, using(crate::proofs::AroundParts::no_instance_value))]
 fn is_instance_value(node: &Node, i: usize) -> bool
     ensures { result ≡ spec.is_instance_value (kind_of node.now) (parts_in node.now) i }
 {
@@ -182,7 +182,7 @@ fn runs_later(first: u32, node: &Node, i: usize) -> bool
 
 /// Whether the node is a function declaration that anything may call: not that of a generated name, which its class alone
 /// calls.
-#[tactic(auto, using(crate::proofs::Inside::not_hoisted))]
+#[tactic(auto, using(crate::proofs::AroundParts::not_hoisted))]
 fn is_hoisted(ledger: &[LedgerEntry], node: &Node) -> bool
     ensures { result ≡ spec.is_hoisted ledger.now (kind_of node.now) (parts_in node.now) }
 {
@@ -200,7 +200,7 @@ fn is_declared(kind: Kind) -> bool
 }
 
 /// Whether the i-th part is what a call calls.
-#[tactic(auto, using(crate::proofs::Inside::no_callee))]
+#[tactic(auto, using(crate::proofs::AroundParts::no_callee))]
 fn is_callee_of_call(kind: Kind, i: usize) -> bool
     ensures { result ≡ spec.is_callee_of_call kind i }
 {
@@ -240,7 +240,7 @@ fn class_name_inside<'a>(around: &Around<'_, 'a>, node: &'a Node) -> &'a str
 }
 
 /// Whether an element runs with its class: a static block, and a static field.
-#[tactic(auto, using(crate::proofs::Inside::runs_block, crate::proofs::Inside::runs_field, crate::proofs::Inside::runs_not))]
+#[tactic(auto, using(crate::proofs::AroundParts::runs_block, crate::proofs::AroundParts::runs_field, crate::proofs::AroundParts::runs_not))]
 pub fn runs_with_class(element: &Node) -> bool
     ensures { result ≡ calls.runs_with_class (child element.now) }
 {
@@ -265,7 +265,7 @@ fn any_runs(elements: &[Node]) -> bool
 }
 
 /// Whether the body has an element that runs with the class.
-#[tactic(auto, using(crate::proofs::Inside::no_body))]
+#[tactic(auto, using(crate::proofs::AroundParts::no_body))]
 fn body_runs(body: &Node) -> bool
     ensures { result ≡ calls.body_runs (child body.now) }
 {

@@ -18,7 +18,7 @@ use std::alloc::{AllocError, Global};
 
 /// The declarations by `let` at the heads of the lists of these nodes, in front of which nothing there runs. Fails on
 /// allocation failure alone.
-#[tactic(auto, using(crate::proofs::Leading::more_lists))]
+#[tactic(auto, using(crate::proofs::ListHeads::more_lists))]
 pub fn leading_lets(alloc: Global, nodes: &[&Node]) -> Result<Vec<u32>, AllocError>
     ensures { IfOk result (λ r. r.items ≡ spec.leading_lets (seen nodes.now)) }
 {
@@ -30,7 +30,7 @@ pub fn leading_lets(alloc: Global, nodes: &[&Node]) -> Result<Vec<u32>, AllocErr
 }
 
 /// The statements that stand in a list which runs as a whole: not those of a case.
-#[tactic(auto, using(crate::proofs::Leading::no_case))]
+#[tactic(auto, using(crate::proofs::ListHeads::no_case))]
 fn whole_list(node: &Node) -> &[Node]
     ensures { trees result.now ≡ spec.whole_list (kind_of node.now) (parts_in node.now) }
 {
@@ -42,7 +42,7 @@ fn whole_list(node: &Node) -> &[Node]
 }
 
 /// Adds those at the head of a list. Fails on allocation failure alone.
-#[tactic(auto, using(crate::proofs::Leading::more_statements))]
+#[tactic(auto, using(crate::proofs::ListHeads::more_statements))]
 fn add_leading(statements: &[Node], leading: &mut Vec<u32>) -> Result<(), AllocError>
     ensures { OnOk result (leading.new.items ≡ leading.old.items ++ spec.leading_in (trees statements.now)) }
 {
@@ -56,7 +56,7 @@ fn add_leading(statements: &[Node], leading: &mut Vec<u32>) -> Result<(), AllocE
 }
 
 /// Adds the number of a declaration by `let`. Fails on allocation failure alone.
-#[tactic(auto, using(crate::proofs::Leading::let_node, crate::proofs::Leading::no_let))]
+#[tactic(auto, using(crate::proofs::ListHeads::let_node, crate::proofs::ListHeads::no_let))]
 fn add_let(statement: &Node, leading: &mut Vec<u32>) -> Result<(), AllocError>
     ensures { OnOk result (leading.new.items ≡ leading.old.items ++ spec.let_number (child statement.now)) }
 {
@@ -79,7 +79,7 @@ pub fn is_let(parts: &[Part]) -> bool
 }
 
 /// Whether nothing runs where the statement stands.
-#[tactic(auto, using(crate::proofs::Leading::nothing_of_function, crate::proofs::Leading::nothing_of_import, crate::proofs::Leading::something))]
+#[tactic(auto, using(crate::proofs::ListHeads::nothing_of_function, crate::proofs::ListHeads::nothing_of_import, crate::proofs::ListHeads::something))]
 fn runs_nothing(statement: &Node) -> bool
     ensures { result ≡ spec.runs_nothing (child statement.now) }
 {
@@ -103,7 +103,7 @@ fn runs_nothing(statement: &Node) -> bool
 }
 
 /// Whether these are declarators without a value.
-#[tactic(auto, using(crate::proofs::Leading::more_bare))]
+#[tactic(auto, using(crate::proofs::ListHeads::more_bare))]
 fn are_bare(declarators: &[Node]) -> bool
     ensures { result ≡ spec.are_bare (trees declarators.now) }
 {
@@ -115,7 +115,7 @@ fn are_bare(declarators: &[Node]) -> bool
     true
 }
 
-#[tactic(auto, using(crate::proofs::Leading::no_declarator, crate::proofs::Leading::bare_declarator))]
+#[tactic(auto, using(crate::proofs::ListHeads::no_declarator, crate::proofs::ListHeads::bare_declarator))]
 fn is_bare(declarator: &Node) -> bool
     ensures { result ≡ is_bare declarator.now }
 {

@@ -53,7 +53,7 @@ pub struct Search<'a> {
 
 impl<'a> Asked<'a> {
     /// Whether a mark of this name and node is asked for.
-    #[tactic(auto, using(crate::proofs::Search::among_one))]
+    #[tactic(auto, using(crate::proofs::OwnMarks::among_one))]
     pub fn asks(&self, name: &str, node: Option<u32>) -> bool
         ensures { result ≡ asked_by self.now (chars name.now) (option_to_list node) }
     {
@@ -109,7 +109,7 @@ fn push_mark<'a>(
 // ---- in front of the marks of the parts
 
 /// Adds the marks that a node has in front of those of its parts. Fails on allocation failure alone.
-#[tactic(auto, using(crate::proofs::Search::before_reference, crate::proofs::Search::before_class, crate::proofs::Search::before_class_expression, crate::proofs::Search::before_function, crate::proofs::Search::before_none))]
+#[tactic(auto, using(crate::proofs::OwnMarks::before_reference, crate::proofs::OwnMarks::before_class, crate::proofs::OwnMarks::before_class_expression, crate::proofs::OwnMarks::before_function, crate::proofs::OwnMarks::before_none))]
 pub fn add_marks_before<'a>(
     alloc: Global,
     search: &Search<'a>,
@@ -213,7 +213,7 @@ fn called_around<'r, 'a>(around: &Around<'r, 'a>) -> Around<'r, 'a>
 // ---- what a class needs
 
 /// Adds a mark for each name that has to be given in front of this class. Fails on allocation failure alone.
-#[tactic(auto, using(crate::proofs::Search::needed_more))]
+#[tactic(auto, using(crate::proofs::OwnMarks::needed_more))]
 fn add_needed<'a>(
     alloc: Global,
     search: &Search<'a>,
@@ -259,7 +259,7 @@ fn is_of_class(class: u32, key: u32, members: &[PrivateMember]) -> bool
 
 /// Adds the marks that a node has behind those of its parts, which stands in a declaration by `let` of this form, if in one.
 /// Fails on allocation failure alone.
-#[tactic(auto, using(crate::proofs::Search::behind_assignment, crate::proofs::Search::behind_declarator, crate::proofs::Search::behind_class, crate::proofs::Search::behind_class_expression, crate::proofs::Search::behind_none))]
+#[tactic(auto, using(crate::proofs::OwnMarks::behind_assignment, crate::proofs::OwnMarks::behind_declarator, crate::proofs::OwnMarks::behind_class, crate::proofs::OwnMarks::behind_class_expression, crate::proofs::OwnMarks::behind_none))]
 pub fn add_marks_behind<'a>(
     alloc: Global,
     search: &Search<'a>,

@@ -30,7 +30,7 @@ use std::alloc::{AllocError, Global};
 /// Adds the marks of a node with this around it, which stands in a declaration by `let` of this form, if in one. Fails on
 /// allocation failure alone.
 #[cycle(marks)]
-#[tactic(auto, using(crate::proofs::Walk::marks_node, es_node::proofs::Below::nodes_in))]
+#[tactic(auto, using(crate::proofs::WalkedMarks::marks_node, es_node::proofs::Below::nodes_in))]
 pub fn add_marks<'a>(
     alloc: Global,
     search: &Search<'a>,
@@ -48,7 +48,7 @@ pub fn add_marks<'a>(
 
 /// Adds the marks of the parts of a node. Fails on allocation failure alone.
 #[cycle(marks)]
-#[tactic(auto, using(crate::proofs::Walk::inside_body, crate::proofs::Walk::inside_other, es_node::proofs::Below::nodes_in))]
+#[tactic(auto, using(crate::proofs::WalkedMarks::inside_body, crate::proofs::WalkedMarks::inside_other, es_node::proofs::Below::nodes_in))]
 fn add_marks_inside<'a>(
     alloc: Global,
     search: &Search<'a>,
@@ -79,7 +79,7 @@ fn add_marks_inside<'a>(
 /// Adds the marks of the parts of a call: an arrow that is called where it stands is behind the arguments. Fails on
 /// allocation failure alone.
 #[cycle(marks)]
-#[tactic(auto, using(crate::proofs::Walk::called_arrow, crate::proofs::Walk::called_other))]
+#[tactic(auto, using(crate::proofs::WalkedMarks::called_arrow, crate::proofs::WalkedMarks::called_other))]
 fn add_marks_of_call<'a>(
     alloc: Global,
     search: &Search<'a>,
@@ -104,7 +104,7 @@ fn add_marks_of_call<'a>(
 /// Adds the marks of these parts of a node from this one on, but of the second, if that is a name which the node gives a
 /// value. Fails on allocation failure alone.
 #[cycle(marks)]
-#[tactic(auto, using(crate::proofs::Walk::dropped))]
+#[tactic(auto, using(crate::proofs::WalkedMarks::dropped))]
 fn add_marks_from<'a>(
     alloc: Global,
     search: &Search<'a>,
@@ -243,7 +243,7 @@ fn add_marks_of_body<'a>(
 
 /// Adds the marks of the keys. Fails on allocation failure alone.
 #[cycle(marks)]
-#[tactic(auto, using(crate::proofs::Walk::keys_more))]
+#[tactic(auto, using(crate::proofs::WalkedMarks::keys_more))]
 fn add_keys<'a>(
     alloc: Global,
     search: &Search<'a>,
@@ -281,7 +281,7 @@ fn add_key<'a>(
 /// Adds the marks of the elements that run with the class, or of the others, but for keys. Fails on allocation failure
 /// alone.
 #[cycle(marks)]
-#[tactic(auto, using(crate::proofs::Walk::values_more))]
+#[tactic(auto, using(crate::proofs::WalkedMarks::values_more))]
 fn add_values<'a>(
     alloc: Global,
     search: &Search<'a>,
@@ -329,7 +329,7 @@ fn is_same(one: bool, other: bool) -> bool
 }
 
 /// The form of the declarations by `let` that a node is.
-#[tactic(auto, using(crate::proofs::Walk::let_of, crate::proofs::Walk::no_let))]
+#[tactic(auto, using(crate::proofs::WalkedMarks::let_of, crate::proofs::WalkedMarks::no_let))]
 fn let_form(search: &Search, node: &Node) -> Option<MarkForm>
     ensures { option_map form_in result ≡ found.let_form search.now (kind_of node.now) (number_in node.now) (parts_in node.now) }
 {
@@ -351,7 +351,7 @@ fn let_form(search: &Search, node: &Node) -> Option<MarkForm>
 }
 
 /// Whether the node is an assignment by `=` to a name, which is no use of that.
-#[tactic(auto, using(crate::proofs::Walk::gives_by_kind, crate::proofs::Walk::gives_none))]
+#[tactic(auto, using(crate::proofs::WalkedMarks::gives_by_kind, crate::proofs::WalkedMarks::gives_none))]
 fn gives_name(node: &Node) -> bool
     ensures { result ≡ gives_name (kind_of node.now) (parts_in node.now) }
 {
