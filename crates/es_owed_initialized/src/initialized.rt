@@ -1,6 +1,6 @@
 // Each generated name is given what it stands for, once and in its place.
 
-ghost use Rattle.std.specs.Prelude.{◌≡◌, IfOk};
+ghost use Rattle.std.specs.Prelude.{◌≡◌, ◌&&◌, ◌||◌, IfOk};
 ghost use Rattle.std.specs.Option.{option_to_list};
 ghost use Rattle.es_base.specs.Preorder.{preorder};
 ghost use Rattle.es_binding_faults.specs.Seen.{seen};
@@ -53,7 +53,7 @@ fn all_stand(
     members: &[PrivateMember],
     entries: &[LedgerEntry],
 ) -> Result<bool, AllocError>
-    requires of_lowered { references_of names.entry.references.now ≡ resolve names.entry.lowered.now.program.now }
+    requires of_lowered { references_of names.references.now ≡ resolve names.lowered.now.program.now }
     requires of_source { private_members_of members.now ≡ privates.private_members source.now.program.now }
     ensures { IfOk result (λ holds. holds ≡ spec.initializations_stand names.entry.first names.entry.ledger.now source.now.program.now names.entry.lowered.now.program.now entries.now) }
 {
@@ -73,7 +73,7 @@ fn entry_stands(
     members: &[PrivateMember],
     entry: &LedgerEntry,
 ) -> Result<bool, AllocError>
-    requires of_lowered { references_of names.entry.references.now ≡ resolve names.entry.lowered.now.program.now }
+    requires of_lowered { references_of names.references.now ≡ resolve names.lowered.now.program.now }
     requires of_source { private_members_of members.now ≡ privates.private_members source.now.program.now }
     ensures { IfOk result (λ holds. holds ≡ spec.initialization_stands entry.now.kind source.now.program.now names.entry.lowered.now.program.now (spec.initializations names.entry.first names.entry.ledger.now names.entry.lowered.now.program.now entry.now.name entry.now.kind (preorder names.entry.lowered.now.program.now))) }
 {

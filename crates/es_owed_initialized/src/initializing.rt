@@ -53,7 +53,7 @@ pub fn initializations(
     name: &str,
     kind: GeneratedKind,
 ) -> Result<Vec<Initialization>, AllocError>
-    requires { references_of names.entry.references.now ≡ resolve names.entry.lowered.now.program.now }
+    requires { references_of names.references.now ≡ resolve names.lowered.now.program.now }
     ensures { IfOk result (λ r. pairs_of r.items ≡ spec.initializations names.entry.first names.entry.ledger.now names.entry.lowered.now.program.now (chars name.now) kind (seen names.entry.lowered.now.nodes.items)) }
 {
     let mut found = Vec::new(alloc);
@@ -81,7 +81,7 @@ fn initialization_at(
     kind: GeneratedKind,
     node: &Node,
 ) -> Result<Option<Initialization>, AllocError>
-    requires { references_of names.entry.references.now ≡ resolve names.entry.lowered.now.program.now }
+    requires { references_of names.references.now ≡ resolve names.lowered.now.program.now }
     ensures { IfOk result (λ r. found r ≡ spec.initialization_at names.entry.first names.entry.ledger.now names.entry.lowered.now.program.now (chars name.now) kind (kind_of node.now) (number_in node.now) (parts_in node.now)) }
 {
     match node.kind() {
@@ -158,7 +158,7 @@ fn given(
     node: &Node,
     value: &Node,
 ) -> Result<Option<Initialization>, AllocError>
-    requires { references_of names.entry.references.now ≡ resolve names.entry.lowered.now.program.now }
+    requires { references_of names.references.now ≡ resolve names.lowered.now.program.now }
     ensures { IfOk result (λ r. found r ≡ cond is_given ((number_in node.now, spec.is_initial names.entry.first names.entry.ledger.now names.entry.lowered.now.program.now (number_in node.now) kind (child value.now)) ∷ []) []) }
 {
     if is_given {
@@ -195,7 +195,7 @@ fn is_initial(
     kind: GeneratedKind,
     value: &Node,
 ) -> Result<bool, AllocError>
-    requires { references_of names.entry.references.now ≡ resolve names.entry.lowered.now.program.now }
+    requires { references_of names.references.now ≡ resolve names.lowered.now.program.now }
     ensures { IfOk result (λ r. r ≡ spec.is_initial names.entry.first names.entry.ledger.now names.entry.lowered.now.program.now number kind (child value.now)) }
 {
     match kind {
@@ -229,7 +229,7 @@ fn is_class_value(
     class: u32,
     value: &Node,
 ) -> Result<bool, AllocError>
-    requires { references_of names.entry.references.now ≡ resolve names.entry.lowered.now.program.now }
+    requires { references_of names.references.now ≡ resolve names.lowered.now.program.now }
     ensures { IfOk result (λ r. r ≡ spec.is_class_value names.entry.first names.entry.ledger.now names.entry.lowered.now.program.now number class (child value.now)) }
 {
     if is_class_itself(class, value) {

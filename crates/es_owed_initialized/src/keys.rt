@@ -90,7 +90,7 @@ fn keys_before(
     names: Generated,
     keys: &[KeyTemporary],
 ) -> Result<bool, AllocError>
-    requires { references_of names.entry.references.now ≡ resolve names.entry.lowered.now.program.now }
+    requires { references_of names.references.now ≡ resolve names.lowered.now.program.now }
     ensures { IfOk result (λ holds. holds ≡ spec.keys_before names.entry.first names.entry.ledger.now names.entry.lowered.now.program.now (keys_of keys.now)) }
 {
     for key in keys {
@@ -102,7 +102,7 @@ fn keys_before(
 }
 
 fn is_before(alloc: Global, names: Generated, key: KeyTemporary) -> Result<bool, AllocError>
-    requires { references_of names.entry.references.now ≡ resolve names.entry.lowered.now.program.now }
+    requires { references_of names.references.now ≡ resolve names.lowered.now.program.now }
     ensures { IfOk result (λ holds. holds ≡ spec.any_before (spec.initializations names.entry.first names.entry.ledger.now names.entry.lowered.now.program.now (chars key.entry.name.now) GeneratedKind.Temp (preorder names.entry.lowered.now.program.now)) key.entry.class (preorder names.entry.lowered.now.program.now)) }
 {
     let found = initializations(alloc, names, key.name, GeneratedKind::Temp)?;

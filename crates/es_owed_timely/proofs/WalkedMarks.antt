@@ -2,6 +2,7 @@
 use Rattle.std.proofs.Common.{◌≡◌, refl, sym, ap, ◌∙◌, ℕ, zero, suc, ◌+◌, ◌<◌, List, [], ◌∷◌, ◌++◌, append-nil, length, drop, get_or, nat_eq, bytes_eq, codes, Bool, true, false, cond, ◌&&◌, Option, Some, None, arith}
 use Rattle.std.proofs.Math.Bool.{and-false}
 use Rattle.std.proofs.lemmas.List.{at_drop_more}
+use Rattle.std.specs.Prelude.{not}
 use Rattle.es_base.specs.Tree.{Tree, Part, Parts, Node, end, more, child, list}
 use Rattle.es_base.specs.declared.kind.Kind.{Kind}
 use Rattle.es_node.specs.View.{kind_of, number_in, part_of, parts_in, parts_of}
@@ -85,6 +86,22 @@ module _ (s : Search) where
   pub keys_more : (x : Around) (t : Tree) (es : Parts) → key_marks s x (more (child t) es) ≡ key_mark s x t ++ key_marks s x es
   keys_more x (Node kind m span semantic_id end) es = refl
   keys_more x (Node kind m span semantic_id (more k ps)) es = refl
+
+  flipped : (b : Bool) (ms : List Mark) → cond b ms [] ≡ cond (not b) [] ms
+  flipped true ms = refl
+  flipped false ms = refl
+
+  pub key_first : (x : Around) (t : Tree) (k : Part) (ps : Parts) → parts_in t ≡ more k ps → key_mark s x t ≡ cond (not (is_element (kind_of t))) [] (marks_at s (around_at s x t 0) None k)
+  key_first x (Node kind m span semantic_id qs) k ps is =
+      ap (λ (rs : Parts). key_mark s x (Node kind m span semantic_id rs)) is
+      ∙ flipped (is_element kind) (marks_at s (around_at s x (Node kind m span semantic_id (more k ps)) 0) None k)
+      ∙ ap (λ (rs : Parts). cond (not (is_element kind)) [] (marks_at s (around_at s x (Node kind m span semantic_id rs) 0) None k)) (sym is)
+
+  pub key_none : (x : Around) (t : Tree) → parts_in t ≡ end → key_mark s x t ≡ []
+  key_none x (Node kind m span semantic_id qs) is = ap (λ (rs : Parts). key_mark s x (Node kind m span semantic_id rs)) is
+
+  pub value_node : (runs : Bool) (x : Around) (t : Tree) → value_mark s runs x t ≡ cond (is_same runs (runs_with_class (child t))) (cond (is_element (kind_of t)) (marks_from s (around_at s x t) false None 1 (parts_from 1 (parts_in t))) (marks_from s (around_at s x t) false None 0 (parts_in t))) []
+  value_node runs x (Node kind m span semantic_id ps) = refl
 
   nothing : (a b : Bool) (ms : List Mark) → cond a (cond b [] []) [] ++ ms ≡ ms
   nothing true true ms = refl

@@ -260,6 +260,7 @@ fn add_keys<'a>(
 }
 
 #[cycle(marks)]
+#[tactic(auto, using(crate::proofs::WalkedMarks::key_first, crate::proofs::WalkedMarks::key_none, es_node::proofs::Below::nodes_in))]
 fn add_key<'a>(
     alloc: Global,
     search: &Search<'a>,
@@ -299,7 +300,7 @@ fn add_values<'a>(
 }
 
 #[cycle(marks)]
-#[tactic(auto, using(es_node::proofs::Below::nodes_in))]
+#[tactic(auto, using(crate::proofs::WalkedMarks::value_node, es_node::proofs::Below::nodes_in))]
 fn add_value<'a>(
     alloc: Global,
     search: &Search<'a>,
