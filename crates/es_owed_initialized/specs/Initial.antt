@@ -8,6 +8,6 @@ pair_of i = (i.number, i.is_right)
 abbrev pub pairs_of : List Initialization → List (ℕ × Bool)
 pairs_of is = map pair_of is
 
-abbrev pub found : Option Initialization → List (ℕ × Bool)
-found None = []
-found (Some i) = pair_of i ∷ []
+abbrev pub pairs_in : Option Initialization → List (ℕ × Bool)
+pairs_in None = []
+pairs_in (Some i) = pair_of i ∷ []

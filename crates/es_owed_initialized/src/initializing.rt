@@ -5,7 +5,7 @@ ghost use Rattle.std.specs.Str.{chars};
 ghost use Rattle.es_base.specs.Tree.{child, nullable};
 ghost use Rattle.es_binding_faults.specs.Seen.{seen};
 ghost use Rattle.es_node.specs.View.{kind_of, number_in, parts_in};
-ghost use Rattle.es_owed_initialized.specs.Initial.{found, pair_of, pairs_of};
+ghost use Rattle.es_owed_initialized.specs.Initial.{pair_of, pairs_in, pairs_of};
 ghost use Rattle.es_references.specs.References.{references_of};
 ghost use Rattle.es_lowered.specs.Lowered as spec;
 ghost use Rattle.es_steps.specs.References.{resolve};
@@ -64,7 +64,7 @@ pub fn initializations(
 }
 
 fn add_some(one: Option<Initialization>, found: &mut Vec<Initialization>) -> Result<(), AllocError>
-    ensures { OnOk result (pairs_of found.new.items ≡ pairs_of found.old.items ++ found one) }
+    ensures { OnOk result (pairs_of found.new.items ≡ pairs_of found.old.items ++ pairs_in one) }
 {
     if let Some(one) = one {
         found.push(one)?;
@@ -82,7 +82,7 @@ fn initialization_at(
     node: &Node,
 ) -> Result<Option<Initialization>, AllocError>
     requires { references_of names.references.now ≡ resolve names.lowered.now.program.now }
-    ensures { IfOk result (λ r. found r ≡ spec.initialization_at names.entry.first names.entry.ledger.now names.entry.lowered.now.program.now (chars name.now) kind (kind_of node.now) (number_in node.now) (parts_in node.now)) }
+    ensures { IfOk result (λ r. pairs_in r ≡ spec.initialization_at names.entry.first names.entry.ledger.now names.entry.lowered.now.program.now (chars name.now) kind (kind_of node.now) (number_in node.now) (parts_in node.now)) }
 {
     match node.kind() {
         // _m = function () {}
@@ -137,7 +137,7 @@ fn is_spelled(name: &str, node: Option<&Node>) -> bool
 
 /// A node that declares a name, if it does.
 fn declared(node: &Node, is_declared: bool, is_right: bool) -> Option<Initialization>
-    ensures { found result ≡ cond is_declared ((number_in node.now, is_right) ∷ []) [] }
+    ensures { pairs_in result ≡ cond is_declared ((number_in node.now, is_right) ∷ []) [] }
 {
     if is_declared {
         Some(Initialization {
@@ -159,7 +159,7 @@ fn given(
     value: &Node,
 ) -> Result<Option<Initialization>, AllocError>
     requires { references_of names.references.now ≡ resolve names.lowered.now.program.now }
-    ensures { IfOk result (λ r. found r ≡ cond is_given ((number_in node.now, spec.is_initial names.entry.first names.entry.ledger.now names.entry.lowered.now.program.now (number_in node.now) kind (child value.now)) ∷ []) []) }
+    ensures { IfOk result (λ r. pairs_in r ≡ cond is_given ((number_in node.now, spec.is_initial names.entry.first names.entry.ledger.now names.entry.lowered.now.program.now (number_in node.now) kind (child value.now)) ∷ []) []) }
 {
     if is_given {
         let number = node.node_id().0;

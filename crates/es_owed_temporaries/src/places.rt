@@ -36,11 +36,7 @@ pub struct Terms<'a> {
 
 /// The old functions, classes and declaring identifiers of a program, but those functions, each with its place. Fails on
 /// allocation failure alone.
-pub fn all_places(
-    alloc: Global,
-    terms: &Terms,
-    program: &Node,
-) -> Result<Vec<Placed>, AllocError>
+pub fn all_places(alloc: Global, terms: &Terms, program: &Node) -> Result<Vec<Placed>, AllocError>
     ensures { IfOk result (λ r. placed_all r.items ≡ spec.all_places terms.now.first terms.now.ledger.now terms.now.private_functions.now program.now) }
 {
     let mut places = Vec::new(alloc);

@@ -60,8 +60,10 @@ fn is_steady_entry(
     let gifts = chosen(alloc, Use::Gives, name, touches)?;
     let reads = chosen(alloc, Use::Reads, name, touches)?;
     let gifts = gifts.as_slice();
-    Ok(is_steady_name(places, members, entry.kind, gifts, reads.as_slice())
-        && is_near(declarations.as_slice(), gifts))
+    Ok(
+        is_steady_name(places, members, entry.kind, gifts, reads.as_slice())
+            && is_near(declarations.as_slice(), gifts),
+    )
 }
 
 // ---- those of one name
@@ -201,7 +203,7 @@ fn is_steady_name(
     match kind {
         GeneratedKind::Temp => is_steady(gifts, reads),
         GeneratedKind::Param => is_at_call(gifts, reads),
-        GeneratedKind::Closure => is_given_with(gifts, reads) && !reads.is_empty(),
+        GeneratedKind::Closure => is_given_with(gifts, reads) && !is_none(reads),
         GeneratedKind::SuperFn(class) => all_construct_with(places, class.0, gifts),
         _ => all_stand_with(places, class_before(kind, members), gifts),
     }
@@ -216,7 +218,7 @@ fn is_steady(gifts: &[Touch], reads: &[Touch]) -> bool
         [first, others @ ..] => {
             all_at_place(first.place, others)
                 && (all_at_place(first.place, reads)
-                    || (others.is_empty() && all_in_declaration(first.declaration, reads)))
+                    || (is_none(others) && all_in_declaration(first.declaration, reads)))
         }
     }
 }
@@ -230,6 +232,12 @@ fn is_at_call(gifts: &[Touch], reads: &[Touch]) -> bool
         [first] => all_at_place(first.place, reads) && is_at_most_one(reads),
         _ => false,
     }
+}
+
+fn is_none(touches: &[Touch]) -> bool
+    ensures { result ≡ spec.is_none (touches_all touches.now) }
+{
+    matches!(touches, [])
 }
 
 fn is_at_most_one(touches: &[Touch]) -> bool

@@ -67,7 +67,11 @@ pub fn surroundings_in(
     let place = place_in(first, around, node, i);
     Surroundings {
         place,
-        hoisted: if takes_vars(node.kind()) { place } else { around.hoisted },
+        hoisted: if takes_vars(node.kind()) {
+            place
+        } else {
+            around.hoisted
+        },
         in_var: in_var_at(around.in_var, node),
         class: if is_class(node.kind()) && i == 2 {
             node.node_id().0
@@ -103,7 +107,11 @@ fn place_in_other(first: u32, around: Surroundings, node: &Node, i: usize) -> u3
     let number = node.node_id().0;
     if is_function(kind) || is_arrow(kind) {
         let place = function_place(is_new(first, number), around, number);
-        parameters_place(is_parameters_part(kind, i), items_at(node.parts(), i), place)
+        parameters_place(
+            is_parameters_part(kind, i),
+            items_at(node.parts(), i),
+            place,
+        )
     } else if is_loop(kind) {
         loop_place(node, i, around.place)
     } else {
@@ -119,13 +127,7 @@ fn function_place(is_new: bool, around: Surroundings, number: u32) -> u32
 {
     match around.constructs {
         Some(class) => class,
-        None => {
-            if is_new {
-                around.place
-            } else {
-                number
-            }
-        }
+        None => { if is_new { around.place } else { number } }
     }
 }
 
@@ -143,7 +145,7 @@ fn is_parameters_part(kind: Kind, i: usize) -> bool
 
 /// Where parameters stand, if these are: those that are not all identifiers have an environment of their own (10.2.11).
 fn parameters_place(here: bool, parameters: Items, place: u32) -> u32
-    ensures { result ≡ spec.parameters_place here (items_of parameters) place }
+    ensures { result ≡ spec.parameters_place here (items_of parameters.entry) place }
 {
     if here && has_pattern(parameters) {
         first_number(parameters, place)
@@ -153,18 +155,38 @@ fn parameters_place(here: bool, parameters: Items, place: u32) -> u32
 }
 
 fn first_number(parameters: Items, place: u32) -> u32
-    ensures { result ≡ spec.first_number (items_of parameters) place }
+    ensures { result ≡ spec.first_number (items_of parameters.entry) place }
 {
     match parameters {
-        Items::Nodes([first, ..]) => first.node_id().0,
-        Items::Holes([Some(first), ..]) => first.node_id().0,
+        Items::None => place,
+        Items::Nodes(nodes) => first_of(nodes, place),
+        Items::Holes(nodes) => first_or_hole(nodes, place),
+    }
+}
+
+#[tactic(auto, using(es_owed::proofs::Nodes::number_of_node))]
+fn first_of(parameters: &[Node], place: u32) -> u32
+    ensures { result ≡ spec.first_number (trees parameters.now) place }
+{
+    match parameters {
+        [first, ..] => first.node_id().0,
+        [] => place,
+    }
+}
+
+#[tactic(auto, using(es_owed::proofs::Nodes::number_of_node))]
+fn first_or_hole(parameters: &[Option<Node>], place: u32) -> u32
+    ensures { result ≡ spec.first_number (nullable_trees parameters.now) place }
+{
+    match parameters {
+        [Some(first), ..] => first.node_id().0,
         _ => place,
     }
 }
 
 /// Whether a parameter is neither an identifier nor a rest with one.
 fn has_pattern(parameters: Items) -> bool
-    ensures { result ≡ parts.has_pattern (items_of parameters) }
+    ensures { result ≡ parts.has_pattern (items_of parameters.entry) }
 {
     match parameters {
         Items::None => false,

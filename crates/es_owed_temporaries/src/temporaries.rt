@@ -32,7 +32,13 @@ pub fn temporaries_steady(
     };
     let places = all_places(alloc, &terms, lowered.program)?;
     let touches = all_touches(alloc, first, ledger, lowered.program)?;
-    if !all_steady(alloc, places.as_slice(), members, ledger, touches.as_slice())? {
+    if !all_steady(
+        alloc,
+        places.as_slice(),
+        members,
+        ledger,
+        touches.as_slice(),
+    )? {
         return Ok(false);
     }
     all_apart(alloc, lowered.nodes.as_slice(), ledger, ledger)

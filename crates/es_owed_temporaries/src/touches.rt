@@ -91,7 +91,16 @@ fn add_touches<'a>(
 {
     add_touch(spot, gives, node, touches)?;
     let members = members(node.kind());
-    add_touches_in(first, ledger, spot, node, is_bare(node), members, node.parts(), touches)
+    add_touches_in(
+        first,
+        ledger,
+        spot,
+        node,
+        is_bare(node),
+        members,
+        node.parts(),
+        touches,
+    )
 }
 
 /// Adds those of the parts of a node, which have these members; a bare declarator gives its name no value. Fails on allocation

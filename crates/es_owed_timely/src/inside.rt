@@ -54,15 +54,12 @@ pub fn around_in<'r, 'a>(
 
 // ---- parts that may run or not, or again
 
-fn held_inside<'r>(
-    first: u32,
-    around: &'r Around<'r, '_>,
-    node: &Node,
-    i: usize,
-) -> HeldParts<'r>
+fn held_inside<'r>(first: u32, around: &'r Around<'r, '_>, node: &Node, i: usize) -> HeldParts<'r>
     ensures { held_in result ≡ cond (spec.is_held (kind_of node.now) (parts_in node.now) i || (spec.is_held_arrow first (around_here around.now) (kind_of node.now) (number_in node.now) || spec.is_instance_value (kind_of node.now) (parts_in node.now) i)) ((number_in node.now, i) ∷ held_in around.now.held) (held_in around.now.held) }
 {
-    if is_held(node, i) || is_held_arrow(first, around.is_called, node) || is_instance_value(node, i)
+    if is_held(node, i)
+        || is_held_arrow(first, around.is_called, node)
+        || is_instance_value(node, i)
     {
         HeldParts::Inside {
             part: HeldPart {

@@ -1,14 +1,11 @@
 // Which marks are asked for, and those that a node has by itself.
 
-ghost use Rattle.std.specs.Prelude.{◌≡◌, ◌++◌, ◌∷◌, [], Some, None, option_map, IfOk, OnOk};
+ghost use Rattle.std.specs.Prelude.{◌≡◌, ◌++◌, ◌∷◌, [], option_map, OnOk};
 ghost use Rattle.std.specs.Option.{option_to_list};
 ghost use Rattle.std.specs.Str.{chars};
 ghost use Rattle.es_base.specs.declared.kind.Kind.{Kind};
-ghost use Rattle.es_base.specs.Tree.{nullable};
 ghost use Rattle.es_node.specs.View.{kind_of, number_in, parts_in, parts_of};
 ghost use Rattle.es_steps.specs.Parts.{at};
-ghost use Rattle.es_lowered.specs.ClassNames as class_names;
-ghost use Rattle.es_lowered.specs.Definitions.{spelling};
 ghost use Rattle.es_lowered.specs.Timely as spec;
 ghost use Rattle.es_owed_timely.specs.Around.{around_here};
 ghost use Rattle.es_owed_timely.specs.Marks.{form_in, marks_of};
@@ -147,9 +144,9 @@ fn add_use<'a>(
 {
     let name = string_at(node.parts(), 0);
     let kind = generated_as(name, search.ledger);
-    let around = use_around(kind, around);
+    let here = use_around(kind, around);
     let number = Some(node.node_id().0);
-    add_mark(alloc, search, &around, use_form(kind), name, number, marks)
+    add_mark(alloc, search, &here, use_form(kind), name, number, marks)
 }
 
 /// How a name of this kind is used.
@@ -223,10 +220,17 @@ fn add_needed<'a>(
 ) -> Result<(), AllocError>
     ensures { OnOk result (marks_of marks.new.items ≡ marks_of marks.old.items ++ spec.uses_of (around_here around.now) (spec.needed_names class (private_members_of search.now.members.now) search.now.ledger.now)) }
 {
-    let around = called_around(around);
+    let called = called_around(around);
     for entry in search.ledger {
         if is_needed_by(class, search.members, entry.kind) {
-            push_mark(alloc, &around, MarkForm::Needs, entry.name.as_str(), None, marks)?;
+            push_mark(
+                alloc,
+                &called,
+                MarkForm::Needs,
+                entry.name.as_str(),
+                None,
+                marks,
+            )?;
         }
     }
     Ok(())
@@ -259,7 +263,7 @@ fn is_of_class(class: u32, key: u32, members: &[PrivateMember]) -> bool
 
 /// Adds the marks that a node has behind those of its parts, which stands in a declaration by `let` of this form, if in one.
 /// Fails on allocation failure alone.
-#[tactic(auto, using(crate::proofs::OwnMarks::behind_assignment, crate::proofs::OwnMarks::behind_declarator, crate::proofs::OwnMarks::behind_class, crate::proofs::OwnMarks::behind_class_expression, crate::proofs::OwnMarks::behind_none))]
+#[tactic(auto, using(crate::proofs::OwnMarks::behind_assignment, crate::proofs::OwnMarks::behind_declarator, crate::proofs::OwnMarks::behind_class, crate::proofs::OwnMarks::behind_class_expression, crate::proofs::OwnMarks::behind_none, es_seen_names::proofs::Strings::no_characters))]
 pub fn add_marks_behind<'a>(
     alloc: Global,
     search: &Search<'a>,
@@ -306,7 +310,15 @@ pub fn add_initialized<'a>(
 ) -> Result<(), AllocError>
     ensures { OnOk result (marks_of marks.new.items ≡ marks_of marks.old.items ++ found.mark search.now (around_here around.now) spec.initializes (chars name.now) (option_to_list node)) }
 {
-    add_mark(alloc, search, around, MarkForm::Initializes, name, node, marks)
+    add_mark(
+        alloc,
+        search,
+        around,
+        MarkForm::Initializes,
+        name,
+        node,
+        marks,
+    )
 }
 
 /// Adds the mark of a declarator that declares by `let`. Fails on allocation failure alone.

@@ -35,6 +35,13 @@ pub fn names_timely(
         leading: leading.as_slice(),
     };
     let mut marks = Vec::new(alloc);
-    add_marks(alloc, &search, &Around::nowhere(), None, lowered.program, &mut marks)?;
+    add_marks(
+        alloc,
+        &search,
+        &Around::nowhere(),
+        None,
+        lowered.program,
+        &mut marks,
+    )?;
     Ok(in_time(ledger, marks.as_slice()))
 }

@@ -79,7 +79,7 @@ fn add_marks_inside<'a>(
 /// Adds the marks of the parts of a call: an arrow that is called where it stands is behind the arguments. Fails on
 /// allocation failure alone.
 #[cycle(marks)]
-#[tactic(auto, using(crate::proofs::WalkedMarks::called_arrow, crate::proofs::WalkedMarks::called_other))]
+#[tactic(auto, using(crate::proofs::WalkedMarks::called_arrow, crate::proofs::WalkedMarks::called_other, es_node::proofs::Below::nodes_in))]
 fn add_marks_of_call<'a>(
     alloc: Global,
     search: &Search<'a>,
@@ -120,7 +120,9 @@ fn add_marks_from<'a>(
 {
     for i in from..parts.len() {
         let is_given = i == 1 && gives;
-        add_marks_of_part(alloc, search, &*around, in_let, is_given, node, i, &parts[i], marks)?;
+        add_marks_of_part(
+            alloc, search, &*around, in_let, is_given, node, i, &parts[i], marks,
+        )?;
     }
     Ok(())
 }
@@ -273,7 +275,9 @@ fn add_key<'a>(
     match element.parts() {
         [key, ..] => {
             let is_no_key = !is_element(element.kind());
-            add_marks_of_part(alloc, search, around, None, is_no_key, element, 0, key, marks)
+            add_marks_of_part(
+                alloc, search, around, None, is_no_key, element, 0, key, marks,
+            )
         }
         [] => Ok(()),
     }

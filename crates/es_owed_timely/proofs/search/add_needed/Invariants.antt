@@ -8,5 +8,5 @@ use Rattle.es_owed_timely.proofs.search.add_needed.Given as goal
 
 abbrev pub invariant-loop-entry : goal.invariant-loop-entry
 invariant-loop-entry l =
-    let of = λ (es : List LedgerEntry). uses_of (around_here l.fn.around) (needed_names l.class (private_members_of l.search.members.now) es) in
+    let of = λ (es : List LedgerEntry). uses_of (around_here l.around) (needed_names l.class (private_members_of l.search.members.now) es) in
     marks_of l.marks.items ++ of (drop l.entry-index l.search.ledger.now) ≡ marks_of l.fn.marks.items ++ of l.search.ledger.now
