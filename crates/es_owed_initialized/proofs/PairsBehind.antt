@@ -3,10 +3,10 @@ use Rattle.std.proofs.Common.{◌≡◌, refl, sym, ap, ◌∙◌, ℕ, List, []
 use Rattle.std.proofs.Math.Bool.{or_assoc, or-false, and-false}
 use Rattle.std.specs.Option.{option_to_list}
 use Rattle.std.specs.Prelude.{nat_eq}
-use Rattle.es_base.specs.Tree.{Tree, Part, Parts, Node, end, more, child, absent}
+use Rattle.es_base.specs.Tree.{Tree, Part, Parts, Node, end, more, child, absent, trees}
 use Rattle.es_base.specs.declared.kind.Kind.{Kind}
 use Rattle.es_node.specs.View.{kind_of, number_in, parts_in}
-use Rattle.es_owed_initialized.specs.Behind.{is_assignment, is_the, pairs_from, pairs_with}
+use Rattle.es_owed_initialized.specs.Behind.{any_list, in_list, is_assignment, is_the, pairs_from, pairs_with}
 use Rattle.es_steps.specs.KeptNodes.{declared_classes, statement_list}
 use Rattle.es_lowered.specs.Lowered.{all_behind, assignment_number, class_number_in, has_pair, paired, pairs_behind}
 
@@ -14,21 +14,29 @@ append : (m n : ℕ) (xs ys : List (ℕ × ℕ)) → has_pair m n (xs ++ ys) ≡
 append m n [] ys = refl
 append m n (x ∷ xs) ys = ap (λ b. (nat_eq m x.0 && nat_eq n x.1) || b) (append m n xs ys) ∙ sym (or_assoc (nat_eq m x.0 && nat_eq n x.1) (has_pair m n xs) (has_pair m n ys))
 
-pub more_lists : (m n : ℕ) (t : Tree) (ts : List Tree) → has_pair m n (all_behind (t ∷ ts)) ≡ (has_pair m n (pairs_behind (statement_list (kind_of t) (parts_in t))) || has_pair m n (all_behind ts))
+more_lists : (m n : ℕ) (t : Tree) (ts : List Tree) → has_pair m n (all_behind (t ∷ ts)) ≡ (has_pair m n (pairs_behind (statement_list (kind_of t) (parts_in t))) || has_pair m n (all_behind ts))
 more_lists m n (Node kind k span semantic_id ps) ts = append m n (pairs_behind (statement_list kind ps)) (all_behind ts)
 
 -- ---- of a list
 
-pub next_pair : (m n : ℕ) (before : Option Tree) (t : Tree) (ps : Parts) → has_pair m n (pairs_from before (more (child t) ps)) ≡ (has_pair m n (pairs_with before t) || has_pair m n (pairs_from (Some t) ps))
+next_pair : (m n : ℕ) (before : Option Tree) (t : Tree) (ps : Parts) → has_pair m n (pairs_from before (more (child t) ps)) ≡ (has_pair m n (pairs_with before t) || has_pair m n (pairs_from (Some t) ps))
 next_pair m n None t ps = refl
 next_pair m n (Some p) t ps = append m n (paired (assignment_number (child t)) (class_number_in (child p))) (pairs_behind (more (child t) ps))
 
-pub first_pair : (ps : Parts) → pairs_from None ps ≡ pairs_behind ps
-first_pair ps = refl
-
-pub last_pair : (before : Option Tree) → pairs_from before end ≡ []
+last_pair : (before : Option Tree) → pairs_from before end ≡ []
 last_pair None = refl
 last_pair (Some p) = refl
+
+from_before : (m n : ℕ) (before : Option Tree) (ts : List Tree) → in_list m n before ts ≡ has_pair m n (pairs_from before (trees ts))
+from_before m n before [] = sym (ap (λ (ps : List (ℕ × ℕ)). has_pair m n ps) (last_pair before))
+from_before m n before (t ∷ ts) = ap (λ (b : Bool). has_pair m n (pairs_with before t) || b) (from_before m n (Some t) ts) ∙ sym (next_pair m n before t (trees ts))
+
+pub whole_list : (m n : ℕ) (ts : List Tree) → in_list m n None ts ≡ has_pair m n (pairs_behind (trees ts))
+whole_list m n ts = from_before m n None ts
+
+pub all_lists : (m n : ℕ) (ts : List Tree) → any_list m n ts ≡ has_pair m n (all_behind ts)
+all_lists m n [] = refl
+all_lists m n (t ∷ ts) = ap (λ (b : Bool). has_pair m n (pairs_behind (statement_list (kind_of t) (parts_in t))) || b) (all_lists m n ts) ∙ sym (more_lists m n t ts)
 
 class_numbers : (t : Tree) → class_number_in (child t) ≡ declared_classes (child t)
 class_numbers (Node Kind.ClassDeclaration n span semantic_id ps) = refl

@@ -2,11 +2,12 @@
 
 ghost use Rattle.std.specs.Prelude.{◌≡◌, None, option_map};
 ghost use Rattle.std.specs.Option.{option_to_list};
-ghost use Rattle.es_base.specs.Tree.{child, trees};
+ghost use Rattle.es_base.specs.Tree.{child};
 ghost use Rattle.es_binding_faults.specs.Seen.{seen};
-ghost use Rattle.es_node.specs.View.{kind_of};
-ghost use Rattle.es_owed_initialized.specs.Behind.{is_assignment, is_the, pairs_with};
+ghost use Rattle.es_node.specs.View.{kind_of, parts_in};
+ghost use Rattle.es_owed_initialized.specs.Behind.{any_list, in_list, is_assignment, is_the, pairs_with};
 ghost use Rattle.es_owed.specs.Lists.{own_class};
+ghost use Rattle.es_steps.specs.KeptNodes as kept;
 ghost use Rattle.es_steps.specs.KeptNodes.{declared_classes};
 ghost use Rattle.es_lowered.specs.Lowered as spec;
 
@@ -18,21 +19,26 @@ use es_tree::statement::ExpressionStatementRef;
 
 /// Whether one of these nodes has a list of statements in which this assignment is the first statement behind the declaration
 /// of this class.
-#[tactic(auto, using(crate::proofs::PairsBehind::more_lists))]
 pub fn has_pair(assignment: u32, class: u32, nodes: &[&Node]) -> bool
-    ensures { result ≡ spec.has_pair assignment class (spec.all_behind (seen nodes.now)) }
+    ensures { result ≡ any_list assignment class (seen nodes.now) }
 {
     for node in nodes {
-        if has_pair_in(assignment, class, statement_list(node)) {
+        if has_pair_inside(assignment, class, node) {
             return true;
         }
     }
     false
 }
 
-#[tactic(auto, using(crate::proofs::PairsBehind::first_pair, crate::proofs::PairsBehind::next_pair, crate::proofs::PairsBehind::last_pair))]
+#[tactic(auto, using(crate::proofs::PairsBehind::whole_list))]
+fn has_pair_inside(assignment: u32, class: u32, node: &Node) -> bool
+    ensures { result ≡ spec.has_pair assignment class (spec.pairs_behind (kept.statement_list (kind_of node.now) (parts_in node.now))) }
+{
+    has_pair_in(assignment, class, statement_list(node))
+}
+
 fn has_pair_in(assignment: u32, class: u32, statements: &[Node]) -> bool
-    ensures { result ≡ spec.has_pair assignment class (spec.pairs_behind (trees statements.now)) }
+    ensures { result ≡ in_list assignment class None statements.now }
 {
     let mut before = None;
     for statement in statements {

@@ -222,6 +222,7 @@ fn is_initial(
 
 /// Whether the value is the class itself, or, in the statement behind its declaration, a name of it. Fails on allocation
 /// failure alone.
+#[tactic(auto, using(crate::proofs::PairsBehind::all_lists))]
 fn is_class_value(
     alloc: Global,
     names: Generated,
