@@ -203,7 +203,9 @@ fn is_steady_name(
     match kind {
         GeneratedKind::Temp => is_steady(gifts, reads),
         GeneratedKind::Param => is_at_call(gifts, reads),
-        GeneratedKind::Closure => is_given_with(gifts, reads) && !is_none(reads),
+        GeneratedKind::Closure => {
+            is_given_with(gifts, reads) && !is_none(reads) && is_at_most_one(reads)
+        }
         GeneratedKind::SuperFn(class) => all_construct_with(places, class.0, gifts),
         _ => all_stand_with(places, class_before(kind, members), gifts),
     }

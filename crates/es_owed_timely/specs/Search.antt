@@ -8,13 +8,12 @@ use Rattle.es_lowered.specs.Timely.{Around, Mark, MarkForm, is_named, is_of_clas
 use Rattle.es_seen_names.specs.PrivateMembers.{private_members_of}
 use Rattle.es_steps.specs.PrivateNames.{PrivateMember, member_at}
 use Rattle.es_steps.specs.Values.{String}
-use Rattle.es_owed_timely.specs.declared.search.Asked as asked
 use Rattle.es_owed_timely.specs.declared.search.Asked.{Asked}
 use Rattle.es_owed_timely.specs.declared.search.Search.{Search}
 
 abbrev pub asked_by : Asked → String → List ℕ → Bool
-asked_by (asked.Generated ledger) = is_named ledger.now
-asked_by (asked.Nodes numbers) = is_asked numbers.now
+asked_by (Asked.Generated ledger) = is_named ledger.now
+asked_by (Asked.Nodes numbers) = is_asked numbers.now
 
 abbrev pub one : Around → MarkForm → String → List ℕ → Mark
 one x form s ns = record { name = s; node = ns; form = form; around = x }
