@@ -1,8 +1,0 @@
-use Rattle.std.proofs.Common.{◌≡◌, [], take, drop}
-use Rattle.es_lowered.specs.Timely.{in_time}
-use Rattle.es_owed_timely.specs.InTime.{turned}
-use Rattle.es_owed_timely.specs.Marks.{marks_of}
-use Rattle.es_owed_timely.proofs.in_time.in_time.Given as goal
-
-abbrev pub invariant-loop-i : goal.invariant-loop-i
-invariant-loop-i l = in_time l.ledger (turned (marks_of (take l.i l.marks)) []) (marks_of (drop l.i l.marks)) ≡ in_time l.ledger [] (marks_of l.marks)
