@@ -1,9 +1,9 @@
 -- The forms that generated names are given, by the kind of a node.
-use Rattle.std.proofs.Common.{◌≡◌, refl, sym, ap, ◌∙◌, ℕ, List, [], ◌∷◌, Bool, true, false, cond, ◌&&◌, bytes_eq, codes, Option, Some, None}
+use Rattle.std.proofs.Common.{◌≡◌, refl, sym, ℕ, List, [], ◌∷◌, Bool, true, false, cond, ◌&&◌, bytes_eq, codes, Option, None}
 use Rattle.std.proofs.Math.Bool.{and_assoc, and-false}
 use Rattle.std.specs.Prelude.{is_some}
 use Rattle.es_base.specs.Numbered.{is_new}
-use Rattle.es_base.specs.Tree.{Tree, Part, Parts, Node, end, more, child, absent, list, string, trees, nullable}
+use Rattle.es_base.specs.Tree.{Tree, Parts, Node, end, more, child, absent, list, string, trees, nullable}
 use Rattle.es_base.specs.declared.kind.Kind.{Kind}
 use Rattle.es_node.specs.View.{kind_of}
 use Rattle.es_owed_initialized.specs.Forms.{has_none, is_babel_helpers, is_property_named, is_reference_named, only_tree}

@@ -1,8 +1,8 @@
 -- What gives names their values, by the kind of a node.
-use Rattle.std.proofs.Common.{◌≡◌, refl, ap, ◌∙◌, ℕ, List, [], ◌∷◌, ◌++◌, Bool, true, false, cond, ◌&&◌}
+use Rattle.std.proofs.Common.{◌≡◌, refl, ap, ◌∙◌, ℕ, List, [], ◌∷◌, ◌++◌, false, cond, ◌&&◌}
 use Rattle.std.proofs.Math.Bool.{and-true, and-false}
 use Rattle.std.specs.Prelude.{nat_eq}
-use Rattle.es_base.specs.Tree.{Tree, Part, Parts, Node, child, absent}
+use Rattle.es_base.specs.Tree.{Tree, Parts, Node, child, absent}
 use Rattle.es_base.specs.declared.kind.Kind.{Kind}
 use Rattle.es_base.specs.declared.ledger.GeneratedKind.{GeneratedKind}
 use Rattle.es_base.specs.declared.ledger.LedgerEntry.{LedgerEntry}

@@ -1,9 +1,9 @@
 -- Assignments behind declarations of classes, statement by statement.
-use Rattle.std.proofs.Common.{◌≡◌, refl, sym, ap, ◌∙◌, ℕ, List, [], ◌∷◌, ◌++◌, Bool, true, false, cond, ◌&&◌, ◌||◌, Option, Some, None}
+use Rattle.std.proofs.Common.{◌≡◌, refl, sym, ap, ◌∙◌, ℕ, List, [], ◌∷◌, ◌++◌, Bool, cond, ◌&&◌, ◌||◌, Option, Some, None}
 use Rattle.std.proofs.Math.Bool.{or_assoc, or-false, and-false}
 use Rattle.std.specs.Option.{option_to_list}
 use Rattle.std.specs.Prelude.{nat_eq}
-use Rattle.es_base.specs.Tree.{Tree, Part, Parts, Node, end, more, child, absent, trees}
+use Rattle.es_base.specs.Tree.{Tree, Parts, Node, end, more, child, trees}
 use Rattle.es_base.specs.declared.kind.Kind.{Kind}
 use Rattle.es_node.specs.View.{kind_of, number_in, parts_in}
 use Rattle.es_owed_initialized.specs.Behind.{any_list, in_list, is_assignment, is_the, pairs_from, pairs_with}

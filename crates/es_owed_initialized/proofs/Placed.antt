@@ -9,7 +9,7 @@ use Rattle.es_owed_initialized.specs.Placed.{is_one_before, stands}
 use Rattle.es_steps.specs.KeptNodes.{is_function_declaration}
 use Rattle.es_lowered.specs.Lowered.{belongs, initialization_stands, is_at_most_one, is_one_initialization, is_temp, needs_none}
 use Rattle.es_lowered.specs.Temporaries.{class_before}
-use Rattle.es_steps.specs.PrivateNames.{PrivateMember, private_members}
+use Rattle.es_steps.specs.PrivateNames.{private_members}
 
 one : (g : GeneratedKind) (p q : Tree) (is : List (ℕ × Bool)) → is_one_before (class_before g (private_members p)) (preorder p) (preorder q) is ≡ is_one_initialization g p q is
 one g p q [] = refl

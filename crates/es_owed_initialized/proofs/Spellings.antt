@@ -1,6 +1,6 @@
 -- The spelling of a node, by its kind.
 use Rattle.std.proofs.Common.{◌≡◌, refl, ap, []}
-use Rattle.es_base.specs.Tree.{Tree, Node, child, absent}
+use Rattle.es_base.specs.Tree.{Tree, Node, child}
 use Rattle.es_base.specs.declared.kind.Kind.{Kind}
 use Rattle.es_node.specs.View.{kind_of, parts_in}
 use Rattle.es_lowered.specs.Definitions.{spelling}

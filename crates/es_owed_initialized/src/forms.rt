@@ -2,7 +2,7 @@
 
 ghost use Rattle.std.specs.Prelude.{◌≡◌, codes, is_some, option_map};
 ghost use Rattle.std.specs.Str.{chars};
-ghost use Rattle.es_base.specs.Tree.{child, nullable};
+ghost use Rattle.es_base.specs.Tree.{child};
 ghost use Rattle.es_owed_initialized.specs.Forms.{has_none, is_babel_helpers, is_property_named, is_reference_named, only_tree};
 ghost use Rattle.es_lowered.specs.Definitions as definitions;
 ghost use Rattle.es_lowered.specs.HelperCalls as calls;

@@ -5,7 +5,7 @@ ghost use Rattle.std.specs.Str.{chars};
 ghost use Rattle.es_base.specs.Tree.{child, nullable};
 ghost use Rattle.es_binding_faults.specs.Seen.{seen};
 ghost use Rattle.es_node.specs.View.{kind_of, number_in, parts_in};
-ghost use Rattle.es_owed_initialized.specs.Initial.{pair_of, pairs_in, pairs_of};
+ghost use Rattle.es_owed_initialized.specs.Initial.{pairs_in, pairs_of};
 ghost use Rattle.es_references.specs.References.{references_of};
 ghost use Rattle.es_lowered.specs.Lowered as spec;
 ghost use Rattle.es_steps.specs.References.{resolve};
@@ -58,7 +58,10 @@ pub fn initializations(
 {
     let mut found = Vec::new(alloc);
     for node in names.lowered.nodes.as_slice() {
-        add_some(initialization_at(alloc, names, name, kind, node)?, &mut found)?;
+        add_some(
+            initialization_at(alloc, names, name, kind, node)?,
+            &mut found,
+        )?;
     }
     Ok(found)
 }

@@ -85,11 +85,7 @@ fn is_among_first(name: &str, keys: &[KeyTemporary]) -> bool
 }
 
 /// Whether each of these temporaries is given before its class. Fails on allocation failure alone.
-fn keys_before(
-    alloc: Global,
-    names: Generated,
-    keys: &[KeyTemporary],
-) -> Result<bool, AllocError>
+fn keys_before(alloc: Global, names: Generated, keys: &[KeyTemporary]) -> Result<bool, AllocError>
     requires { references_of names.references.now ≡ resolve names.lowered.now.program.now }
     ensures { IfOk result (λ holds. holds ≡ spec.keys_before names.entry.first names.entry.ledger.now names.entry.lowered.now.program.now (keys_of keys.now)) }
 {
