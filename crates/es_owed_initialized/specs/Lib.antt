@@ -1,0 +1,5 @@
+pub mod Behind
+pub mod Forms
+pub mod Initial
+pub mod Keys
+pub mod Placed

@@ -1,0 +1,104 @@
+// Classes with those that stand in them.
+
+ghost use Rattle.std.specs.Prelude.{◌≡◌, ◌++◌, ◌∷◌, ◌&&◌, [], cond, nat_eq, IfOk, OnOk};
+ghost use Rattle.std.specs.Option.{option_to_list};
+ghost use Rattle.es_base.specs.Preorder.{preorder_of};
+ghost use Rattle.es_binding_faults.specs.Seen.{seen};
+ghost use Rattle.es_node.specs.View.{kind_of, number_in, parts_in};
+ghost use Rattle.es_steps.specs.PrivateNames as names;
+ghost use Rattle.es_lowered.specs.ClassNames.{class_numbers};
+ghost use Rattle.es_lowered.specs.Lowered as spec;
+ghost use Rattle.es_lowered.specs.Temporaries.{nodes_of_class};
+
+use crate::kinds::is_class;
+use es_binding_faults::preorder::preorder;
+use es_node::node::Node;
+use std::alloc::{AllocError, Global};
+
+/// This class, if any, and those that stand in it among these nodes. Fails on allocation failure alone.
+pub fn with_inner(
+    alloc: Global,
+    nodes: &[&Node],
+    class: Option<u32>,
+) -> Result<Vec<u32>, AllocError>
+    ensures { IfOk result (λ r. r.items ≡ spec.with_inner (seen nodes.now) (option_to_list class)) }
+{
+    let mut classes = Vec::new(alloc);
+    if let Some(class) = class {
+        classes.push(class)?;
+        let inner = nodes_of_class(alloc, class, nodes)?;
+        add_classes(inner.as_slice(), &mut classes)?;
+    }
+    Ok(classes)
+}
+
+/// Adds the numbers of the classes among these nodes. Fails on allocation failure alone.
+#[tactic(auto, using(crate::proofs::InnerClasses::more_classes))]
+fn add_classes(nodes: &[&Node], classes: &mut Vec<u32>) -> Result<(), AllocError>
+    ensures { OnOk result (classes.new.items ≡ classes.old.items ++ class_numbers (seen nodes.now)) }
+{
+    for node in nodes {
+        add_class(node, classes)?;
+    }
+    Ok(())
+}
+
+fn add_class(node: &Node, classes: &mut Vec<u32>) -> Result<(), AllocError>
+    ensures { OnOk result (classes.new.items ≡ classes.old.items ++ cond (names.is_class (kind_of node.now)) (number_in node.now ∷ []) []) }
+{
+    if is_class(node.kind()) {
+        classes.push(node.node_id().0)?;
+    }
+    Ok(())
+}
+
+/// The nodes in the classes of this number. Fails on allocation failure alone.
+#[tactic(auto, using(crate::proofs::InnerClasses::more_nodes))]
+pub fn nodes_of_class<'a>(
+    alloc: Global,
+    class: u32,
+    nodes: &[&'a Node],
+) -> Result<Vec<&'a Node>, AllocError>
+    ensures { IfOk result (λ r. seen r.items ≡ nodes_of_class class (seen nodes.now)) }
+{
+    let mut inner = Vec::new(alloc);
+    for node in nodes {
+        add_if_of_class(alloc, class, node, &mut inner)?;
+    }
+    Ok(inner)
+}
+
+fn add_if_of_class<'a>(
+    alloc: Global,
+    class: u32,
+    node: &'a Node,
+    inner: &mut Vec<&'a Node>,
+) -> Result<(), AllocError>
+    ensures { OnOk result (seen inner.new.items ≡ seen inner.old.items ++ cond (names.is_class (kind_of node.now) && nat_eq class (number_in node.now)) (preorder_of (parts_in node.now)) []) }
+{
+    if is_class(node.kind()) && class == node.node_id().0 {
+        add_below(alloc, node, inner)?;
+    }
+    Ok(())
+}
+
+/// Adds the nodes below a node, in preorder. Fails on allocation failure alone.
+#[tactic(auto, using(crate::proofs::InnerClasses::below_node))]
+fn add_below<'a>(alloc: Global, node: &'a Node, nodes: &mut Vec<&'a Node>) -> Result<(), AllocError>
+    ensures { OnOk result (seen nodes.new.items ≡ seen nodes.old.items ++ preorder_of (parts_in node.now)) }
+{
+    let all = preorder(alloc, node)?;
+    match all.as_slice() {
+        [_, below @ ..] => add_all(below, nodes),
+        [] => Ok(()),
+    }
+}
+
+fn add_all<'a>(more: &[&'a Node], nodes: &mut Vec<&'a Node>) -> Result<(), AllocError>
+    ensures { OnOk result (seen nodes.new.items ≡ seen nodes.old.items ++ seen more.now) }
+{
+    for node in more {
+        nodes.push(*node)?;
+    }
+    Ok(())
+}
