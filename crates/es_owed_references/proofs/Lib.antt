@@ -1,3 +1,2 @@
 pub mod MovedNodes
 pub mod NameReads
-pub mod Spellings

@@ -4,4 +4,3 @@
 pub mod moved;
 pub mod own_names;
 pub mod reads;
-pub mod spelling;

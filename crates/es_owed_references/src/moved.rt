@@ -9,12 +9,12 @@ ghost use Rattle.es_lowered.specs.OwnNames as spec;
 ghost use Rattle.es_lowered.specs.Definitions as definitions;
 ghost use Rattle.es_steps.specs.Context.{is_generated};
 
-use crate::spelling::spelling_of;
 use es_base::kind::Kind;
 use es_base::ledger::LedgerEntry;
 use es_binding_faults::preorder::preorder;
 use es_generated::ledger::is_generated;
 use es_node::node::Node;
+use es_owed_initialized::spelling::spelling_of;
 use es_shapes::walk::is_any_function;
 use es_tree::expression::AssignmentExpressionRef;
 use es_tree::function::FunctionDeclarationRef;
