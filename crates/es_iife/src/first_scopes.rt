@@ -5,12 +5,12 @@ ghost use Rattle.es_base.specs.Carried.{scope_number};
 ghost use Rattle.es_base.specs.Tree.{trees, nullable, nullable_trees};
 ghost use Rattle.es_iife.specs.FirstScopes.{first_scopes, outside_scopes, own_scope, part_scopes, scopes_in};
 ghost use Rattle.es_node.specs.View.{kind_of, part_of, parts_of, semantic_id_in};
-ghost use Rattle.es_scopes.specs.NodeScopes.{has_scope};
 
 use es_base::ids::ScopeId;
 use es_base::kind::Kind;
 use es_base::list::List;
 use es_node::node::{Node, Part};
+use es_scopes_build::inside::has_scope;
 use std::alloc::{AllocError, Global};
 
 /// The scopes of a tree that stand in no other scope of it, in preorder: of `() => () => 1` that of the outer arrow.
@@ -44,28 +44,6 @@ fn own_scope(node: &Node) -> Option<ScopeId>
         node.semantic_id().map(ScopeId)
     } else {
         None
-    }
-}
-
-/// Whether nodes of this kind have a scope, but for the block that is a function's body.
-fn has_scope(kind: Kind) -> bool
-    ensures { result ≡ has_scope kind }
-{
-    match kind {
-        Kind::Program
-        | Kind::FunctionDeclaration
-        | Kind::FunctionExpression
-        | Kind::ArrowFunctionExpression
-        | Kind::ClassDeclaration
-        | Kind::ClassExpression
-        | Kind::StaticBlock
-        | Kind::BlockStatement
-        | Kind::ForStatement
-        | Kind::ForInStatement
-        | Kind::ForOfStatement
-        | Kind::SwitchStatement
-        | Kind::CatchClause => true,
-        _ => false,
     }
 }
 

@@ -17,7 +17,7 @@ use es_scopes::surroundings::{Declarer, Declares, Surroundings};
 // ---- which nodes have a scope
 
 /// Whether nodes of this kind have a scope, but for the block that is a function's body.
-pub(crate) fn has_scope(kind: Kind) -> bool
+pub fn has_scope(kind: Kind) -> bool
     ensures { result ≡ has_scope kind }
 {
     matches!(
