@@ -272,6 +272,8 @@ NOT_MET = {
     'prototype_key_behind_an_error': CARRIERS,
     'computed_key_behind_an_error': CARRIERS,
     'awaiting_loop_out_of_its_function': CARRIERS,
+    'prototype_of_a_shorthand': CARRIERS,
+    'names_of_an_initialized_head': CARRIERS,
     'labelled_function_in_a_branch': CARRIERS,
     'body_in_a_block': CARRIERS,
     'question_on_a_static_field': CARRIERS,

@@ -254,6 +254,7 @@ pub mod NamedValue
 pub mod NamelessClassThatSuspends
 pub mod NamesOfAConstructor
 pub mod NamesOfAHeadBehindAnError
+pub mod NamesOfAnInitializedHead
 pub mod NestedClasses
 pub mod NewImport
 pub mod NewLabelBehindAnError
@@ -303,6 +304,7 @@ pub mod PrivateNameTwice
 pub mod PropertyWithTheNumberOfABlock
 pub mod PrototypeByExchangedNamesBehindAnError
 pub mod PrototypeKeyBehindAnError
+pub mod PrototypeOfAShorthand
 pub mod PrototypesBehindAnError
 pub mod PrototypesExchangedBehindAnError
 pub mod QuestionForAGeneratedElement

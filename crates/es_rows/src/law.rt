@@ -357,6 +357,7 @@ ghost use Rattle.es_rows.specs.witnesses.NamedValue.{source_named_value, output_
 ghost use Rattle.es_rows.specs.witnesses.NamelessClassThatSuspends.{source_nameless_class_that_suspends, output_nameless_class_that_suspends, generated_nameless_class_that_suspends, options_nameless_class_that_suspends};
 ghost use Rattle.es_rows.specs.witnesses.NamesOfAConstructor.{source_names_of_a_constructor, output_names_of_a_constructor, generated_names_of_a_constructor, options_names_of_a_constructor};
 ghost use Rattle.es_rows.specs.witnesses.NamesOfAHeadBehindAnError.{source_names_of_a_head_behind_an_error, output_names_of_a_head_behind_an_error, generated_names_of_a_head_behind_an_error, options_names_of_a_head_behind_an_error};
+ghost use Rattle.es_rows.specs.witnesses.NamesOfAnInitializedHead.{source_names_of_an_initialized_head, output_names_of_an_initialized_head, generated_names_of_an_initialized_head, options_names_of_an_initialized_head};
 ghost use Rattle.es_rows.specs.witnesses.NewImport.{source_new_import, output_new_import, generated_new_import, options_new_import};
 ghost use Rattle.es_rows.specs.witnesses.NewLabelBehindAnError.{source_new_label_behind_an_error, output_new_label_behind_an_error, generated_new_label_behind_an_error, options_new_label_behind_an_error};
 ghost use Rattle.es_rows.specs.witnesses.NewTargetOfAProgram.{source_new_target_of_a_program, output_new_target_of_a_program, generated_new_target_of_a_program, options_new_target_of_a_program};
@@ -405,6 +406,7 @@ ghost use Rattle.es_rows.specs.witnesses.PrivateNameTwice.{source_private_name_t
 ghost use Rattle.es_rows.specs.witnesses.PropertyWithTheNumberOfABlock.{source_property_with_the_number_of_a_block, output_property_with_the_number_of_a_block, generated_property_with_the_number_of_a_block, options_property_with_the_number_of_a_block};
 ghost use Rattle.es_rows.specs.witnesses.PrototypeByExchangedNamesBehindAnError.{source_prototype_by_exchanged_names_behind_an_error, output_prototype_by_exchanged_names_behind_an_error, generated_prototype_by_exchanged_names_behind_an_error, options_prototype_by_exchanged_names_behind_an_error};
 ghost use Rattle.es_rows.specs.witnesses.PrototypeKeyBehindAnError.{source_prototype_key_behind_an_error, output_prototype_key_behind_an_error, generated_prototype_key_behind_an_error, options_prototype_key_behind_an_error};
+ghost use Rattle.es_rows.specs.witnesses.PrototypeOfAShorthand.{source_prototype_of_a_shorthand, output_prototype_of_a_shorthand, generated_prototype_of_a_shorthand, options_prototype_of_a_shorthand};
 ghost use Rattle.es_rows.specs.witnesses.PrototypesBehindAnError.{source_prototypes_behind_an_error, output_prototypes_behind_an_error, generated_prototypes_behind_an_error, options_prototypes_behind_an_error};
 ghost use Rattle.es_rows.specs.witnesses.PrototypesExchangedBehindAnError.{source_prototypes_exchanged_behind_an_error, output_prototypes_exchanged_behind_an_error, generated_prototypes_exchanged_behind_an_error, options_prototypes_exchanged_behind_an_error};
 ghost use Rattle.es_rows.specs.witnesses.QuestionForAGeneratedElement.{source_question_for_a_generated_element, output_question_for_a_generated_element, generated_question_for_a_generated_element, options_question_for_a_generated_element};
@@ -924,6 +926,7 @@ pub fn clauses_are_not_met()
     ensures name_twice { names_declared (nodes source_name_twice) generated_name_twice output_name_twice ≡ false }
     ensures name_without_a_sign { names_declared (nodes source_name_without_a_sign) generated_name_without_a_sign output_name_without_a_sign ≡ false }
     ensures names_of_a_head_behind_an_error { numbers_carried (nodes source_names_of_a_head_behind_an_error) source_names_of_a_head_behind_an_error output_names_of_a_head_behind_an_error ≡ false }
+    ensures names_of_an_initialized_head { numbers_carried (nodes source_names_of_an_initialized_head) source_names_of_an_initialized_head output_names_of_an_initialized_head ≡ false }
     ensures new_label_behind_an_error { numbers_carried (nodes source_new_label_behind_an_error) source_new_label_behind_an_error output_new_label_behind_an_error ≡ false }
     ensures new_target_outside { is_printable output_new_target_outside ≡ false }
     ensures nothing_declared_behind_a_bigint { stays_printable source_nothing_declared_behind_a_bigint output_nothing_declared_behind_a_bigint ≡ false }
@@ -946,6 +949,7 @@ pub fn clauses_are_not_met()
     ensures property_with_the_number_of_a_block { numbers_carried (nodes source_property_with_the_number_of_a_block) source_property_with_the_number_of_a_block output_property_with_the_number_of_a_block ≡ false }
     ensures prototype_by_exchanged_names_behind_an_error { numbers_carried (nodes source_prototype_by_exchanged_names_behind_an_error) source_prototype_by_exchanged_names_behind_an_error output_prototype_by_exchanged_names_behind_an_error ≡ false }
     ensures prototype_key_behind_an_error { numbers_carried (nodes source_prototype_key_behind_an_error) source_prototype_key_behind_an_error output_prototype_key_behind_an_error ≡ false }
+    ensures prototype_of_a_shorthand { numbers_carried (nodes source_prototype_of_a_shorthand) source_prototype_of_a_shorthand output_prototype_of_a_shorthand ≡ false }
     ensures prototypes_behind_an_error { numbers_carried (nodes source_prototypes_behind_an_error) source_prototypes_behind_an_error output_prototypes_behind_an_error ≡ false }
     ensures prototypes_exchanged_behind_an_error { numbers_carried (nodes source_prototypes_exchanged_behind_an_error) source_prototypes_exchanged_behind_an_error output_prototypes_exchanged_behind_an_error ≡ false }
     ensures question_on_a_static_field { numbers_carried (nodes source_question_on_a_static_field) source_question_on_a_static_field output_question_on_a_static_field ≡ false }

@@ -424,6 +424,9 @@ returns-clause-name_without_a_sign c = refl
 pub returns-clause-names_of_a_head_behind_an_error : goal.returns-clause-names_of_a_head_behind_an_error
 returns-clause-names_of_a_head_behind_an_error c = refl
 
+pub returns-clause-names_of_an_initialized_head : goal.returns-clause-names_of_an_initialized_head
+returns-clause-names_of_an_initialized_head c = refl
+
 pub returns-clause-new_label_behind_an_error : goal.returns-clause-new_label_behind_an_error
 returns-clause-new_label_behind_an_error c = refl
 
@@ -489,6 +492,9 @@ returns-clause-prototype_by_exchanged_names_behind_an_error c = refl
 
 pub returns-clause-prototype_key_behind_an_error : goal.returns-clause-prototype_key_behind_an_error
 returns-clause-prototype_key_behind_an_error c = refl
+
+pub returns-clause-prototype_of_a_shorthand : goal.returns-clause-prototype_of_a_shorthand
+returns-clause-prototype_of_a_shorthand c = refl
 
 pub returns-clause-prototypes_behind_an_error : goal.returns-clause-prototypes_behind_an_error
 returns-clause-prototypes_behind_an_error c = refl
