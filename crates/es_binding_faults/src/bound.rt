@@ -22,7 +22,7 @@ pub struct Declared<'a> {
 }
 
 /// Whether what stands at this place declares.
-fn is_binding_place(place: Place) -> bool
+pub fn is_binding_place(place: Place) -> bool
     ensures { result ≡ is_binding_place place }
 {
     matches!(
@@ -37,7 +37,7 @@ fn is_binding_place(place: Place) -> bool
 }
 
 /// Whether a member of this sort declares.
-fn binds(sort: Sort) -> bool
+pub fn binds(sort: Sort) -> bool
     ensures { result ≡ binds sort }
 {
     match sort {

@@ -1,2 +1,3 @@
 pub mod Keys
+pub mod NumericKeys
 pub mod PropertyForms

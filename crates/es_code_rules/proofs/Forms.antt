@@ -27,7 +27,7 @@ pub private_in_form : (opens : Opens) (m : ℕ) (asks : PrivateTest) (o : Code) 
 unfolding form_at value_at
 private_in_form opens m asks o s = refl
 
-pub key_of_form : (opens : Opens) (e : Code) (s : State) → form_at opens (of.key_of e) s ≡ (and_then (value_at opens e) (λ v. gives (KeyOf v))) s
+pub key_of_form : (opens : Opens) (e : Code) (s : State) → form_at opens (of.key_of e) s ≡ (and_then (value_at opens e) (λ v. gives (KeyOf (as_key v)))) s
 unfolding form_at value_at
 key_of_form opens e s = refl
 

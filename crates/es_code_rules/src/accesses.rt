@@ -121,7 +121,7 @@ impl<'a, F: Fn(Global, &Opening, &mut State, &Code) -> Result<Value, Fault>> Wit
         ensures { Returns (λ v. v) result state.new (form_at (opens_of self.now.definitions.now self.now.opening.now) (of.key_of (code_of expression.now)) (state_of state.old)) }
     {
         let value = self.evaluate(state, expression.get())?;
-        match value.into_key() {
+        match value.as_key().into_key() {
             Some(key) => Ok(key),
             None => Err(Fault::TooDeep),
         }

@@ -91,7 +91,7 @@ fn add_key_details(
 }
 
 /// Adds what a key says that stands at a member and is not computed. Fails on allocation failure alone.
-fn add_details_of_key(
+pub fn add_details_of_key(
     alloc: Global,
     key: &Member,
     sets_prototype: bool,

@@ -355,7 +355,7 @@ module _ (opens : Opened → Evaluation) (opens_d : Opened → Step Value) (open
         (follows_outside (settle all_of) (settled all_direct) (follows_settle all_of all_direct (all_follows [] h (λ vs. ev_keys opens es (λ ks. bind (of.declared_first declared n) (λ u. bind (ev_statics opens n ks es) (λ w. of.gives (ClassOf n))))) (λ vs. and_then (keys opens_d [] es) (λ ks. and_then (direct.declared_first declared n) (λ u. and_then (statics opens_d n ks es) (λ w. direct.gives (ClassOf n))))) (λ vs. keys_follow [] es (λ ks. bind (of.declared_first declared n) (λ u. bind (ev_statics opens n ks es) (λ w. of.gives (ClassOf n)))) (λ ks. and_then (direct.declared_first declared n) (λ u. and_then (statics opens_d n ks es) (λ w. direct.gives (ClassOf n)))) (λ ks. follows_bind (of.declared_first declared n) (direct.declared_first declared n) (λ u. bind (ev_statics opens n ks es) (λ w. of.gives (ClassOf n))) (λ u. and_then (statics opens_d n ks es) (λ w. direct.gives (ClassOf n))) (declared_follows declared n) (λ u. follows_bind (ev_statics opens n ks es) (statics opens_d n ks es) (λ w. of.gives (ClassOf n)) (λ w. direct.gives (ClassOf n)) (statics_follow n ks es) (λ w. follows_gives (ClassOf n))))))))
     follows (from_call e) = follows_by (ev opens e) (settled (form opens_d e)) (settled (settled (form opens_d e))) (λ s. settled_again s.has_thrown (form opens_d e (entered s))) (follows e)
     follows (from_member e) = follows_by (ev opens e) (settled (form opens_d e)) (settled (settled (form opens_d e))) (λ s. settled_again s.has_thrown (form opens_d e (entered s))) (follows e)
-    follows (key_of e) = follows_settle (bind (ev opens e) (λ v. of.gives (KeyOf v))) (and_then (settled (form opens_d e)) (λ v. direct.gives (KeyOf v))) (follows_bind (ev opens e) (settled (form opens_d e)) (λ v. of.gives (KeyOf v)) (λ v. direct.gives (KeyOf v)) (follows e) (λ v. follows_gives (KeyOf v)))
+    follows (key_of e) = follows_settle (bind (ev opens e) (λ v. of.gives (KeyOf (as_key v)))) (and_then (settled (form opens_d e)) (λ v. direct.gives (KeyOf (as_key v)))) (follows_bind (ev opens e) (settled (form opens_d e)) (λ v. of.gives (KeyOf (as_key v))) (λ v. direct.gives (KeyOf (as_key v))) (follows e) (λ v. follows_gives (KeyOf (as_key v))))
     follows throw = follows_as (settle (of.event Throw Undefined)) (of.event Throw Undefined) (settled (direct.throws)) (λ env. refl) (follows_settle (of.event Throw Undefined) (direct.throws) (follows_throw))
     follows (define m o k e) = follows_settle (bind (ev opens k) (λ a. bind (ev opens e) (λ v. of.event (Define o (as_key a) v) (ResultOf m)))) (and_then (settled (form opens_d k)) (λ a. and_then (settled (form opens_d e)) (λ v. emit (single (Define o (as_key a) v)) (ResultOf m)))) (follows_bind (ev opens k) (settled (form opens_d k)) (λ a. bind (ev opens e) (λ v. of.event (Define o (as_key a) v) (ResultOf m))) (λ a. and_then (settled (form opens_d e)) (λ v. emit (single (Define o (as_key a) v)) (ResultOf m))) (follows k) (λ a. follows_bind (ev opens e) (settled (form opens_d e)) (λ v. of.event (Define o (as_key a) v) (ResultOf m)) (λ v. emit (single (Define o (as_key a) v)) (ResultOf m)) (follows e) (λ v. follows_event (Define o (as_key a) v) (ResultOf m) (single (Define o (as_key a) v)) refl refl)))
     follows (private_initialize m d o e) = follows_settle (bind (ev opens e) (λ v. of.event (PrivateInitialize d o v) (ResultOf m))) (and_then (settled (form opens_d e)) (λ v. emit (single (PrivateInitialize d o v)) (ResultOf m))) (follows_bind (ev opens e) (settled (form opens_d e)) (λ v. of.event (PrivateInitialize d o v) (ResultOf m)) (λ v. emit (single (PrivateInitialize d o v)) (ResultOf m)) (follows e) (λ v. follows_event (PrivateInitialize d o v) (ResultOf m) (single (PrivateInitialize d o v)) refl refl))

@@ -310,7 +310,7 @@ module _ (opens : Opened → Step Value) where
     form (generated_element x e) = no_meaning
     form (from_call e) = settled (form e)
     form (from_member e) = settled (form e)
-    form (key_of e) = and_then (settled (form e)) (λ v. gives (KeyOf v))
+    form (key_of e) = and_then (settled (form e)) (λ v. gives (KeyOf (as_key v)))
     form (helper h) = no_meaning
     form (helper_call m h es) = no_meaning
     form throw = throws

@@ -6,7 +6,7 @@ use Rattle.es_base.specs.Preorder.{number_of}
 use Rattle.es_base.specs.Tree.{Tree, Part, Parts, Node, end, more, child, list}
 use Rattle.es_base.specs.declared.kind.Kind.{Kind}
 use Rattle.es_lowered.specs.Bound.{BoundPlace, is_bound, is_nested_item, depends_on_function, body_around, has_body, place_inside, bound_to, bound_node, bound_block, bound_nodes, bound_in, bound_at, bound_of, all_bound, bound_stay}
-use Rattle.es_steps.specs.KeptNodes.{function_around, pair_stands, all_pairs_stand}
+use Rattle.es_steps.specs.KeptNodes.{pair_stands, all_pairs_stand}
 use Rattle.es_steps.proofs.KeptNodesMapped.{function_around-mapped}
 use Rattle.es_steps.proofs.Mapped.{Renames, mapped, mapped_part, mapped_parts}
 use Rattle.es_steps.specs.Parts.{at}

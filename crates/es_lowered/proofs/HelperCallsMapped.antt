@@ -36,13 +36,15 @@ module _ (f : ℕ → ℕ) where
   is_number_key-mapped (child (Node Kind.Literal m span semantic_id (more (literal (literal_value.BigInt s)) end))) = refl
   is_number_key-mapped p = refl
 
-  is_number_at-mapped : (ps : Parts) → is_number_key (at 0 (mapped_parts f ps)) ≡ is_number_key (at 0 ps)
+  pub is_number_at-mapped : (ps : Parts) → is_number_key (at 0 (mapped_parts f ps)) ≡ is_number_key (at 0 ps)
   is_number_at-mapped ps = ap is_number_key (at-mapped f 0 ps) ∙ is_number_key-mapped (at 0 ps)
 
   computed_key-mapped : (t : Tree) → computed_key (mapped f t) ≡ map f (computed_key t)
   computed_key-mapped (Node Kind.PropertyDefinition m span semantic_id ps) =
       rw (is_true_at-mapped f 2 ps, is_number_at-mapped ps) (key_number-mapped (is_true (at 2 ps) || is_number_key (at 0 ps)) ps)
   computed_key-mapped (Node Kind.MethodDefinition m span semantic_id ps) = rw (is_true_at-mapped f 3 ps) (key_number-mapped (is_true (at 3 ps)) ps)
+  computed_key-mapped (Node Kind.Property m span semantic_id ps) =
+      rw (is_true_at-mapped f 5 ps, is_number_at-mapped ps) (key_number-mapped (is_true (at 5 ps) || is_number_key (at 0 ps)) ps)
   computed_key-mapped t = refl
 
   computed_keys-mapped : (ts : List Tree) → computed_keys (map (mapped f) ts) ≡ map f (computed_keys ts)

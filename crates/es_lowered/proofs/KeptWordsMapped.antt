@@ -1,9 +1,10 @@
 -- What a node says by itself does not depend on numbers.
-use Rattle.std.specs.Prelude.{◌≡◌, ℕ, zero, suc, ◌&&◌, Option, Some, None}
+use Rattle.std.specs.Prelude.{◌≡◌, ℕ, suc, Bool, ◌&&◌, ◌||◌}
 use Rattle.std.proofs.Common.{refl, ap, ap₂, ◌∙◌}
-use Rattle.es_base.specs.Tree.{Tree, Part, Parts, Node, end, more, child, absent, list, string, no_string, boolean, literal}
+use Rattle.es_base.specs.Tree.{Tree, Part, Parts, Node, end, more, child, list}
 use Rattle.es_base.specs.declared.kind.Kind.{Kind}
-use Rattle.es_lowered.specs.KeptWords.{is_this_name, same_name, same_word, same_words, same_words_but, free_part, same_words_by, keeps_computed, keeps_words}
+use Rattle.es_lowered.specs.KeptWords.{is_this_name, same_name, same_word, same_words, is_free, keeps_computed, keeps_words}
+use Rattle.es_lowered.proofs.HelperCallsMapped.{is_number_at-mapped}
 use Rattle.es_steps.specs.Parts.{at, string_of}
 use Rattle.es_steps.specs.Values.{String}
 use Rattle.es_steps.proofs.Mapped.{mapped, mapped_part, mapped_parts}
@@ -27,28 +28,16 @@ module _ (f : ℕ → ℕ) where
   same_word-mapped p (list qs) = refl
   same_word-mapped p q = refl
 
-  same_words-mapped : (ps qs : Parts) → same_words (mapped_parts f ps) (mapped_parts f qs) ≡ same_words ps qs
-  same_words-mapped end end = refl
-  same_words-mapped (more p ps) (more q qs) = ap₂ (λ a b. a && b) (same_word-mapped p q) (same_words-mapped ps qs)
-  same_words-mapped end (more q qs) = refl
-  same_words-mapped (more p ps) end = refl
-
-  same_words_but-mapped : (i : ℕ) (ps qs : Parts) → same_words_but i (mapped_parts f ps) (mapped_parts f qs) ≡ same_words_but i ps qs
-  same_words_but-mapped i end end = refl
-  same_words_but-mapped zero (more p ps) (more q qs) = same_words-mapped ps qs
-  same_words_but-mapped (suc i) (more p ps) (more q qs) = ap₂ (λ a b. a && b) (same_word-mapped p q) (same_words_but-mapped i ps qs)
-  same_words_but-mapped zero end (more q qs) = refl
-  same_words_but-mapped (suc i) end (more q qs) = refl
-  same_words_but-mapped zero (more p ps) end = refl
-  same_words_but-mapped (suc i) (more p ps) end = refl
-
-  by-mapped : (i : Option ℕ) (ps qs : Parts) → same_words_by i (mapped_parts f ps) (mapped_parts f qs) ≡ same_words_by i ps qs
-  by-mapped None ps qs = same_words-mapped ps qs
-  by-mapped (Some i) ps qs = same_words_but-mapped i ps qs
+  same_words-mapped : (free : ℕ → Bool) (ps qs : Parts) → same_words free (mapped_parts f ps) (mapped_parts f qs) ≡ same_words free ps qs
+  same_words-mapped free end end = refl
+  same_words-mapped free (more p ps) (more q qs) = ap₂ (λ a b. (free 0 || a) && b) (same_word-mapped p q) (same_words-mapped (λ i. free (suc i)) ps qs)
+  same_words-mapped free end (more q qs) = refl
+  same_words-mapped free (more p ps) end = refl
 
   keeps_computed-mapped : (kind : Kind) (ps qs : Parts) → keeps_computed kind (mapped_parts f ps) (mapped_parts f qs) ≡ keeps_computed kind ps qs
   keeps_computed-mapped Kind.PropertyDefinition ps qs = rw (is_true_at-mapped f 2 ps, is_true_at-mapped f 2 qs) refl
+  keeps_computed-mapped Kind.Property ps qs = rw (is_true_at-mapped f 5 ps, is_true_at-mapped f 5 qs, is_number_at-mapped f ps) refl
   keeps_computed-mapped kind ps qs = refl
 
   pub keeps_words-mapped : (kind : Kind) (ps qs : Parts) → keeps_words kind (mapped_parts f ps) (mapped_parts f qs) ≡ keeps_words kind ps qs
-  keeps_words-mapped kind ps qs = ap₂ (λ a b. a && b) (by-mapped (free_part kind) ps qs) (keeps_computed-mapped kind ps qs)
+  keeps_words-mapped kind ps qs = ap₂ (λ a b. a && b) (same_words-mapped (is_free kind) ps qs) (keeps_computed-mapped kind ps qs)

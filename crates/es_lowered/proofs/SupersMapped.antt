@@ -6,7 +6,7 @@ use Rattle.es_base.specs.declared.kind.Kind.{Kind}
 use Rattle.es_lowered.specs.Supers.{SuperPlace, no_place, in_no_method, in_method, in_class, is_stray_super, super_inside, has_stray_super, stray_super_at, stray_super_in, stray_super_of, supers_stay}
 use Rattle.es_steps.specs.Context.{is_constructor}
 use Rattle.es_steps.specs.Parts.{at}
-use Rattle.es_steps.specs.Printable.{is_accessor, is_super_part}
+use Rattle.es_steps.specs.Printable.{is_accessor}
 use Rattle.es_steps.proofs.Mapped.{mapped, mapped_part, mapped_parts}
 use Rattle.es_steps.proofs.PrintableMapped.{is_super_part-mapped}
 use Rattle.es_steps.proofs.PartsMapped.{at-mapped, string_at-mapped, is_true_at-mapped, is_present_at-mapped}

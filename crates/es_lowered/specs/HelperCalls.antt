@@ -21,8 +21,8 @@ abbrev pub is_helper_callee : ℕ → String → Part → Bool
 is_helper_callee first h (child (Node Kind.MemberExpression m span semantic_id (more (child (Node Kind.IdentifierReference b bspan b_semantic_id (more (string s) end))) (more (child (Node Kind.IdentifierName k kspan k_semantic_id (more (string t) end))) rest)))) = is_new first b && (bytes_eq s (codes "babelHelpers") && bytes_eq h t)
 is_helper_callee first h p = false
 
--- ---- the computed keys of the source, and the numbers that are keys of fields, which get a temporary where a function or a class is
--- named by them
+-- ---- the computed keys of the source, and the numbers that are keys of fields and properties, which get a temporary where a
+-- function or a class is named by them
 
 abbrev pub part_number : Part → List ℕ
 part_number (child t) = number_of t ∷ []
@@ -36,6 +36,7 @@ is_number_key p = false
 abbrev pub computed_key : Tree → List ℕ
 computed_key (Node Kind.PropertyDefinition m span semantic_id ps) = cond (is_true (at 2 ps) || is_number_key (at 0 ps)) (part_number (at 0 ps)) []
 computed_key (Node Kind.MethodDefinition m span semantic_id ps) = cond (is_true (at 3 ps)) (part_number (at 0 ps)) []
+computed_key (Node Kind.Property m span semantic_id ps) = cond (is_true (at 5 ps) || is_number_key (at 0 ps)) (part_number (at 0 ps)) []
 computed_key t = []
 
 abbrev pub computed_keys : List Tree → List ℕ

@@ -1,8 +1,9 @@
 -- What a node says by itself stays: its strings and flags, and which of its parts are there. So what no step looks at, as what is
 -- behind an access that always throws, is read by an engine as it was. (Our own.)
-use Rattle.std.specs.Prelude.{ℕ, zero, suc, Bool, true, false, not, ◌&&◌, ◌||◌, bytes_eq, Option, Some, None}
+use Rattle.std.specs.Prelude.{ℕ, suc, Bool, true, false, not, ◌&&◌, ◌||◌, nat_eq, bytes_eq}
 use Rattle.es_base.specs.Tree.{Tree, Part, Parts, Node, end, more, child, absent, list, string, no_string, boolean, literal}
 use Rattle.es_base.specs.declared.kind.Kind.{Kind}
+use Rattle.es_lowered.specs.HelperCalls.{is_number_key}
 use Rattle.es_steps.specs.Parts.{at, is_true, string_of}
 use Rattle.es_steps.specs.SameValues.{same_boolean}
 use Rattle.es_steps.specs.Values.{String}
@@ -27,44 +28,35 @@ same_word (boolean b) (boolean c) = same_boolean b c
 same_word (literal v) (literal w) = true
 same_word p q = false
 
-abbrev pub same_words : Parts → Parts → Bool
-same_words end end = true
-same_words (more p ps) (more q qs) = same_word p q && same_words ps qs
-same_words ps qs = false
-
--- all but the i-th
-abbrev pub same_words_but : ℕ → Parts → Parts → Bool
-same_words_but i end end = true
-same_words_but zero (more p ps) (more q qs) = same_words ps qs
-same_words_but (suc i) (more p ps) (more q qs) = same_word p q && same_words_but i ps qs
-same_words_but i ps qs = false
+-- of all parts but those that are free
+abbrev pub same_words : (ℕ → Bool) → Parts → Parts → Bool
+same_words is_free end end = true
+same_words is_free (more p ps) (more q qs) = (is_free 0 || same_word p q) && same_words (λ i. is_free (suc i)) ps qs
+same_words is_free ps qs = false
 
 -- what a lowering changes: a name, which `carries` and `homes` tell of; the name of a class; `?.`; the operator of an assignment;
--- `{ a }`; whether the key of a field is computed; what an export declares
-abbrev pub free_part : Kind → Option ℕ
-free_part Kind.IdentifierReference = Some 0
-free_part Kind.BindingIdentifier = Some 0
-free_part Kind.ClassDeclaration = Some 0
-free_part Kind.ClassExpression = Some 0
-free_part Kind.CallExpression = Some 2
-free_part Kind.MemberExpression = Some 3
-free_part Kind.PrivateField = Some 3
-free_part Kind.AssignmentExpression = Some 0
-free_part Kind.Property = Some 4
-free_part Kind.BindingProperty = Some 4
-free_part Kind.AssignmentTargetProperty = Some 4
-free_part Kind.PropertyDefinition = Some 2
-free_part Kind.ExportNamedDeclaration = Some 0
-free_part kind = None
+-- `{ a }`; whether the key of a field or a property is computed; what an export declares
+abbrev pub is_free : Kind → ℕ → Bool
+is_free Kind.IdentifierReference i = nat_eq i 0
+is_free Kind.BindingIdentifier i = nat_eq i 0
+is_free Kind.ClassDeclaration i = nat_eq i 0
+is_free Kind.ClassExpression i = nat_eq i 0
+is_free Kind.CallExpression i = nat_eq i 2
+is_free Kind.MemberExpression i = nat_eq i 3
+is_free Kind.PrivateField i = nat_eq i 3
+is_free Kind.AssignmentExpression i = nat_eq i 0
+is_free Kind.Property i = nat_eq i 4 || nat_eq i 5
+is_free Kind.BindingProperty i = nat_eq i 4
+is_free Kind.AssignmentTargetProperty i = nat_eq i 4
+is_free Kind.PropertyDefinition i = nat_eq i 2
+is_free Kind.ExportNamedDeclaration i = nat_eq i 0
+is_free kind i = false
 
-abbrev pub same_words_by : Option ℕ → Parts → Parts → Bool
-same_words_by None ps qs = same_words ps qs
-same_words_by (Some i) ps qs = same_words_but i ps qs
-
--- the key of a field, a number, may become a computed one
+-- the key of a field may become a computed one, and that of a property, if it is a number
 abbrev pub keeps_computed : Kind → Parts → Parts → Bool
 keeps_computed Kind.PropertyDefinition ps qs = not (is_true (at 2 ps)) || is_true (at 2 qs)
+keeps_computed Kind.Property ps qs = same_boolean (is_true (at 5 ps)) (is_true (at 5 qs)) || (is_number_key (at 0 ps) && is_true (at 5 qs))
 keeps_computed kind ps qs = true
 
 abbrev pub keeps_words : Kind → Parts → Parts → Bool
-keeps_words kind ps qs = same_words_by (free_part kind) ps qs && keeps_computed kind ps qs
+keeps_words kind ps qs = same_words (is_free kind) ps qs && keeps_computed kind ps qs

@@ -262,7 +262,7 @@ fn home_in(around: Around, node: &Node, i: usize) -> Around
 
 /// The function or static block around the i-th part of a node with this one around it.
 #[tactic(auto, using(crate::proofs::HomesKept::no_function))]
-fn function_around(home: u32, node: &Node, i: usize) -> u32
+pub fn function_around(home: u32, node: &Node, i: usize) -> u32
     ensures { result ≡ function_around home (kind_of node.now) (number_in node.now) i }
 {
     match node.kind() {
@@ -286,7 +286,7 @@ fn is_own_name_part(kind: Kind, i: usize) -> bool
 
 /// Whether the i-th part of the node is the function of a constructor.
 #[tactic(auto, using(crate::proofs::HomesKept::no_method))]
-fn is_constructor_part(node: &Node, i: usize) -> bool
+pub fn is_constructor_part(node: &Node, i: usize) -> bool
     ensures { result ≡ is_constructor_part (kind_of node.now) (parts_in node.now) i }
 {
     match node.kind() {

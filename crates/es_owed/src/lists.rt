@@ -141,7 +141,7 @@ fn stays_in_list(statement: &Node) -> bool
 
 /// The class that a statement declares.
 #[tactic(auto, using(crate::proofs::StayingLists::declared_named, crate::proofs::StayingLists::declared_default, crate::proofs::StayingLists::declared_own))]
-fn declared_class(statement: &Node) -> Option<u32>
+pub fn declared_class(statement: &Node) -> Option<u32>
     ensures { option_to_list result ≡ declared_classes (child statement.now) }
 {
     match statement.kind() {
@@ -162,7 +162,7 @@ fn declared_class(statement: &Node) -> Option<u32>
 
 /// The number of a class declaration.
 #[tactic(auto, using(crate::proofs::StayingLists::own_other))]
-fn own_class(node: &Node) -> Option<u32>
+pub fn own_class(node: &Node) -> Option<u32>
     ensures { option_to_list result ≡ own_class node.now }
 {
     match node.kind() {

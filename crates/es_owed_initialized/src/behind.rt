@@ -6,15 +6,14 @@ ghost use Rattle.es_base.specs.Tree.{child};
 ghost use Rattle.es_binding_faults.specs.Seen.{seen};
 ghost use Rattle.es_node.specs.View.{kind_of, parts_in};
 ghost use Rattle.es_owed_initialized.specs.Behind.{any_list, in_list, is_assignment, is_the, pairs_with};
-ghost use Rattle.es_owed.specs.Lists.{own_class};
 ghost use Rattle.es_steps.specs.KeptNodes as kept;
 ghost use Rattle.es_steps.specs.KeptNodes.{declared_classes};
 ghost use Rattle.es_lowered.specs.Lowered as spec;
 
 use es_base::kind::Kind;
 use es_node::node::Node;
+use es_owed::lists::declared_class;
 use es_owed::statements::statement_list;
-use es_tree::module::{ExportDefaultDeclarationRef, ExportNamedDeclarationRef};
 use es_tree::statement::ExpressionStatementRef;
 
 /// Whether one of these nodes has a list of statements in which this assignment is the first statement behind the declaration
@@ -96,39 +95,4 @@ fn is_assignment(node: &Node) -> bool
     ensures { result ≡ is_assignment (kind_of node.now) }
 {
     matches!(node.kind(), Kind::AssignmentExpression)
-}
-
-// ---- classes
-
-/// The class that a statement declares.
-#[tactic(auto, using(es_owed::proofs::StayingLists::declared_named, es_owed::proofs::StayingLists::declared_default, es_owed::proofs::StayingLists::declared_own))]
-fn declared_class(statement: &Node) -> Option<u32>
-    ensures { option_to_list result ≡ declared_classes (child statement.now) }
-{
-    match statement.kind() {
-        // export class A {}
-        Kind::ExportNamedDeclaration => {
-            match ExportNamedDeclarationRef::from_node(statement).declaration {
-                Some(declaration) => class_itself(declaration),
-                None => None,
-            }
-        }
-        // export default class {}
-        Kind::ExportDefaultDeclaration => {
-            class_itself(ExportDefaultDeclarationRef::from_node(statement).declaration)
-        }
-        _ => class_itself(statement),
-    }
-}
-
-/// The number of a class declaration.
-#[tactic(auto, using(es_owed::proofs::StayingLists::own_other))]
-fn class_itself(node: &Node) -> Option<u32>
-    ensures { option_to_list result ≡ own_class node.now }
-{
-    match node.kind() {
-        // class A {}
-        Kind::ClassDeclaration => Some(node.node_id().0),
-        _ => None,
-    }
 }

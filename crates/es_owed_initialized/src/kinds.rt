@@ -33,16 +33,3 @@ pub fn is_arrow(kind: Kind) -> bool
 {
     matches!(kind, Kind::ArrowFunctionExpression)
 }
-
-pub fn is_loop(kind: Kind) -> bool
-    ensures { result ≡ repeated.is_loop kind }
-{
-    matches!(
-        kind,
-        Kind::WhileStatement
-            | Kind::DoWhileStatement
-            | Kind::ForStatement
-            | Kind::ForInStatement
-            | Kind::ForOfStatement
-    )
-}

@@ -286,13 +286,11 @@ no_open_end (Node kind m span semantic_id ps) a b c d e f g = refl
 
 -- ---- declarations
 
-pub no_declaration_form : (kind : Kind) (ps : Parts) → (kind ≡ Kind.VariableDeclaration → ⊥) → (kind ≡ Kind.FunctionDeclaration → ⊥) → (kind ≡ Kind.ClassDeclaration → ⊥) → (kind ≡ Kind.ExportNamedDeclaration → ⊥) → (kind ≡ Kind.ImportDeclaration → ⊥) → (is_declaration_form kind && is_bad_form kind ps) ≡ false
-no_declaration_form Kind.VariableDeclaration ps a b c d e = absurd (a refl)
-no_declaration_form Kind.FunctionDeclaration ps a b c d e = absurd (b refl)
-no_declaration_form Kind.ClassDeclaration ps a b c d e = absurd (c refl)
-no_declaration_form Kind.ExportNamedDeclaration ps a b c d e = absurd (d refl)
-no_declaration_form Kind.ImportDeclaration ps a b c d e = absurd (e refl)
-no_declaration_form kind ps a b c d e = refl
+pub no_declaration_form : (kind : Kind) (ps : Parts) → (kind ≡ Kind.VariableDeclaration → ⊥) → (kind ≡ Kind.ExportNamedDeclaration → ⊥) → (kind ≡ Kind.ImportDeclaration → ⊥) → (is_declaration_form kind && is_bad_form kind ps) ≡ false
+no_declaration_form Kind.VariableDeclaration ps a b c = absurd (a refl)
+no_declaration_form Kind.ExportNamedDeclaration ps a b c = absurd (b refl)
+no_declaration_form Kind.ImportDeclaration ps a b c = absurd (c refl)
+no_declaration_form kind ps a b c = refl
 
 pub no_named_declaration : (kind : Kind) (ps : Parts) → (kind ≡ Kind.FunctionDeclaration → ⊥) → (kind ≡ Kind.ClassDeclaration → ⊥) → is_declaration_without_name kind ps ≡ false
 no_named_declaration Kind.FunctionDeclaration ps a b = absurd (a refl)

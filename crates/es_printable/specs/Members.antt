@@ -49,8 +49,6 @@ is_element_form kind = false
 -- declarations, imports and exports
 abbrev pub is_declaration_form : Kind → Bool
 is_declaration_form Kind.VariableDeclaration = true
-is_declaration_form Kind.FunctionDeclaration = true
-is_declaration_form Kind.ClassDeclaration = true
 is_declaration_form Kind.ExportNamedDeclaration = true
 is_declaration_form Kind.ImportDeclaration = true
 is_declaration_form kind = false

@@ -29,8 +29,6 @@ pub fn is_bad_declaration(node: &Node) -> bool
                 .declarations
                 .is_empty()
         }
-        Kind::FunctionDeclaration => FunctionDeclarationRef::from_node(node).id.is_none(),
-        Kind::ClassDeclaration => ClassDeclarationRef::from_node(node).id.is_none(),
         // export { a } from 'm';
         Kind::ExportNamedDeclaration => {
             let export = ExportNamedDeclarationRef::from_node(node);

@@ -18,11 +18,9 @@ use es_node::node::Node;
 pub fn is_bad_in(in_default: bool, in_module: bool, node: &Node) -> bool
     ensures { result ≡ spec.is_bad_in in_default in_module (kind_of node.now) (parts_in node.now) }
 {
-    if is_declaration_without_name(node) {
-        !in_default
-    } else {
-        is_bad_node(node) || (is_module_item(node.kind()) && !in_module)
-    }
+    is_bad_node(node)
+        || ((is_declaration_without_name(node) && !in_default)
+            || (is_module_item(node.kind()) && !in_module))
 }
 
 /// Whether the node cannot be printed anywhere.

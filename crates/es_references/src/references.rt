@@ -261,7 +261,7 @@ pub fn names_seen<'a>(alloc: Global, around: Parent<'a>, i: usize) -> Result<Fra
 }
 
 /// Whether a member of this sort is assigned to.
-fn is_target(sort: Sort) -> bool
+pub fn is_target(sort: Sort) -> bool
     ensures { result ≡ spec.is_target sort }
 {
     match sort {

@@ -8,7 +8,7 @@ use Rattle.es_steps.specs.Code.{Code, Codes, Target, FunctionForm, CalledBodyOf,
 use Rattle.es_steps.specs.GeneratedForms.{is_named, weak_map, static_field, private_function, loose_key, class_named, is_class_named, is_brand, known_object, is_string, home_of, single_property, writable_value, array_elements, read_private, set_private, is_method_kind, is_getter_kind, is_setter_kind, asserted, initialized_on, brand_on, define_on, super_get, super_set, is_number_literal, is_constant, is_quiet_key, helper_code, is_helper_object, helper_or_none, helper_or, branded_field, own_field, setter_on, field_setter, setter_of_pair, setter_of, underscore_of, same_number, loose_member, is_same_key, kept_name, generated_member, parameter_names, opened_body, no_spread, is_plain_arrow, arrow_call, is_pick, with_key, picked, new_function_call, getter_call, received_call, getter_or_received, is_super_itself, super_function_call, called_with, bound_to, has_field, has_brand, loose_initialized, object_call, member_call, new_member_call, initializers_behind, passes_all, super_call_in, super_method_call, helper_call_call, generated_call, is_class_test, generated_binary, is_undefined_test, is_new_collection, only_if, is_loose_key_call, field_object, given_function, given, is_own_class, private_assignment, generated_assignment}
 use Rattle.es_steps.specs.Helpers.{Helper, DefineProperty, ClassPrivateFieldInitSpec, ClassPrivateMethodInitSpec, ClassPrivateFieldGet2, ClassPrivateFieldSet2, AssertClassBrand, ToSetter, CheckInRHS, ReadOnlyError, WriteOnlyError, SuperPropGet, SuperPropSet, ClassPrivateFieldLooseBase, SetFunctionName, ToPropertyKey, helper_named}
 use Rattle.es_steps.specs.PrivateNames.{PrivateMember, PrivateReference, member_at, reference_of}
-use Rattle.es_steps.specs.Expressions.{operation_of, the_code, value_code, literal_code, is_arguments, arguments_of, name_or_arguments, spelling_of, key_code, super_member_at, checked_object, member_on, member_code, is_made_private, names_class, private_on, private_field_of, test_in, private_in_of, target_of, is_logical, without_sign, assignment_code, void_code, deleted, delete_code, unary_operation, unary_code, quiet_logical, spliced, deleted_as, ended_alone, chain_or, callee_of, checked_callee, call_code, tag_of}
+use Rattle.es_steps.specs.Expressions.{operation_of, the_code, value_code, literal_code, is_arguments, arguments_of, name_or_arguments, spelling_of, key_code, super_member_at, checked_object, member_on, member_code, is_made_private, names_class, private_on, private_field_of, test_in, private_in_of, target_of, is_logical, without_sign, assignment_code, void_code, deleted, delete_code, unary_operation, unary_code, quiet_logical, spliced, deleted_as, ended_alone, chain_or, callee_of, checked_callee, call_code, tag_of, is_numeric}
 use Rattle.es_steps.specs.Statements.{is_other_directive, declarator_of, function_or_new, function_code, hoisted_function, declared_function, around_plain, value_or_undefined, private_element, field_of, is_constructor_key, method_or_constructor, is_declared_as, method_of}
 use Rattle.es_steps.specs.Scopes.{Declaration}
 use Rattle.es_steps.specs.Context.{Context, NameKind, Fixed, Changing, Generated, StaticMethod, MeansClass, name_kind, new_here, is_constructor, is_generated_private}
@@ -491,7 +491,7 @@ module _ (c : Context) where
   code_of-closed Kind.ChainExpression m ps h = closed_code (at 0 ps) h
   code_of-closed Kind.CallExpression m ps h = call_code-closed m ps
   code_of-closed Kind.ConditionalExpression m ps h = either (is_undefined_test c (the_code (at 0 ps))) (chain_or c m (the_code (at 0 ps)) (the_code (at 1 ps)) (the_code (at 2 ps)) _) _ (chain_or-closed m (the_code (at 0 ps)) (the_code (at 1 ps)) (the_code (at 2 ps)) _ h refl) refl
-  code_of-closed Kind.Property m ps h = either (flag_of (at 5 ps)) _ _ refl refl
+  code_of-closed Kind.Property m ps h = either (flag_of (at 5 ps) || is_numeric (the_code (at 0 ps))) _ _ refl refl
   code_of-closed Kind.YieldExpression m ps h = either c.in_new_function no_rule _ refl refl
   code_of-closed Kind.AwaitExpression m ps h = either c.in_new_function no_rule _ refl refl
   code_of-closed Kind.BindingIdentifier m ps h = refl

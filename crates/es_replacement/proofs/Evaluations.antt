@@ -5,7 +5,7 @@ use Rattle.es_steps.specs.Code.{Code, Codes, Target, Callee, Opened, Initializer
 use Rattle.es_steps.specs.Entries.{without}
 use Rattle.es_steps.specs.Evaluation.{Environment, Run, Evaluation, gives, event, go_on, bind, held, new_or_former, nullable_gives, has_receiver, receiver_in, has_instance_methods, declared_first, default_key, private_key, Ready, ready_member, ready_private, ready_setter, ready_pattern, read_ready, write_ready, ev_behind, ev, ev_target, ev_taken, ev_take, ev_callee, ev_again, ev_all, ev_converted, ev_held, ev_keys, ev_key, ev_statics, ev_static, ev_fields, ev_field, ev_initializers}
 use Rattle.es_steps.specs.Events.{OfKind, Take, Index, RightOf, Default, Part, Operate, Short, SuperCall, SuperCallWithAll, AddBrand}
-use Rattle.es_steps.specs.Values.{String, Value, Undefined, ClassOf, ThisOf, ResultOf, KeyOf}
+use Rattle.es_steps.specs.Values.{String, Value, Undefined, ClassOf, ThisOf, ResultOf, KeyOf, as_key}
 use Rattle.es_replacement.proofs.Environments.{left, right, untrue}
 use Rattle.es_replacement.proofs.Steps.{no_meaning-replaced, gives-replaced, event-replaced, bind-replaced, settle-replaced, held-replaced, quiet-replaced, stays-replaced, gives_class-replaced, gives_this-replaced, outside-replaced, read_given-replaced, read_name-replaced, stands_for-replaced, element_holds-replaced, write_name-replaced, read_private-replaced, write_private-replaced, initialized-replaced, nullable_gives-replaced, template-replaced, bind_parameters-replaced, tested-replaced, brand_first-replaced, declared_first-replaced}
 use Rattle.es_replacement.specs.Holes.{filled, filled_target, filled_callee, filled_all, is_hole, none_is_hole, admits, admits_target, admits_callee, admits_all}
@@ -123,7 +123,7 @@ module _ (names : List String) where
         ev-replaced (generated_element s e) p = no_meaning-replaced names
         ev-replaced (from_call e) p = ev-replaced e p
         ev-replaced (from_member e) p = ev-replaced e p
-        ev-replaced (key_of e) p = settle-replaced names (bind-replaced names _ _ (ev-replaced e p) (λ v. gives-replaced names (KeyOf v)))
+        ev-replaced (key_of e) p = settle-replaced names (bind-replaced names _ _ (ev-replaced e p) (λ v. gives-replaced names (KeyOf (as_key v))))
         ev-replaced (helper h) p = no_meaning-replaced names
         ev-replaced (helper_call m h es) p = no_meaning-replaced names
         ev-replaced throw p = event-replaced names _ _

@@ -1,17 +1,17 @@
 -- Expressions whose parts have holes are read as with what stands in them.
-use Rattle.std.specs.Prelude.{◌≡◌, ℕ, [], ◌∷◌, ◌++◌, Bool, true, false, cond, ◌&&◌, codes, bytes_eq, Option, Some, None, refl}
+use Rattle.std.specs.Prelude.{◌≡◌, ℕ, [], ◌∷◌, ◌++◌, Bool, true, false, cond, ◌&&◌, codes, bytes_eq, Option, Some, None, refl, ◌||◌}
 use Rattle.es_base.specs.declared.kind.Kind.{Kind}
 use Rattle.es_base.specs.declared.ledger.GeneratedKind.{GeneratedKind}
 use Rattle.es_base.specs.declared.literal.LiteralValue.{LiteralValue}
 use Rattle.es_base.specs.declared.literal.LiteralValue.TheVariants as literal_value
-use Rattle.es_steps.specs.Code.{initializers, super_member, member, Code, Codes, Target, Callee, no_rule, value, spelled, private_name, name, super, private_member, private_in, compound, logical, logical_assign, call, tag, template_string, template, operation, piece, chain, tested, private_value, on_chain, behind_test, done, and, from_call, from_member, bound, with_receiver}
+use Rattle.es_steps.specs.Code.{initializers, super_member, member, Code, Codes, Target, Callee, no_rule, value, spelled, private_name, name, super, private_member, private_in, compound, logical, logical_assign, call, tag, template_string, template, operation, piece, chain, tested, private_value, on_chain, behind_test, done, and, from_call, from_member, bound, with_receiver, key_of}
 use Rattle.es_steps.specs.Context.{Context, NameKind, Changing, Generated, name_kind, new_here}
 use Rattle.es_steps.specs.Events.{Operand, Spelled, Flag, OfKind}
-use Rattle.es_steps.specs.Expressions.{operation_of, the_code, value_code, literal_code, is_arguments, arguments_of, name_or_arguments, name_code, cooked_of, template_string_code, template_strings, template_code, spelling_of, meta_code, key_code, super_member_at, checked_object, member_on, member_code, is_made_private, names_class, private_on, private_field_of, private_field_code, test_in, private_in_of, private_in_code, target_of, is_logical, without_sign, assignment_code, update_code, void_code, deleted, delete_code, is_free_name, is_any_name, unary_operation, unary_code, binary_code, quiet_logical, logical_code, chain_code, ended_alone, callee_of, checked_callee, call_code, new_code, tag_of, tag_code, is_prototype, key_details, property_code}
+use Rattle.es_steps.specs.Expressions.{operation_of, the_code, value_code, literal_code, is_arguments, arguments_of, name_or_arguments, name_code, cooked_of, template_string_code, template_strings, template_code, spelling_of, meta_code, key_code, super_member_at, checked_object, member_on, member_code, is_made_private, names_class, private_on, private_field_of, private_field_code, test_in, private_in_of, private_in_code, target_of, is_logical, without_sign, assignment_code, update_code, void_code, deleted, delete_code, is_free_name, is_any_name, unary_operation, unary_code, binary_code, quiet_logical, logical_code, chain_code, ended_alone, callee_of, checked_callee, call_code, new_code, tag_of, tag_code, is_prototype, key_details, property_code, is_numeric}
 use Rattle.es_steps.specs.GeneratedForms.{generated_member, generated_call, generated_assignment, class_named}
 use Rattle.es_steps.specs.Members.{Member, Members, code, string, literal, at, codes_of, word_of, flag_of}
 use Rattle.es_steps.specs.PrivateNames.{PrivateReference}
-use Rattle.es_steps.specs.Values.{String, StringOf, Value, ConstantOf, ResultOf, ThisOf, ClassOf, ArgumentsOf, Free, Home}
+use Rattle.es_steps.specs.Values.{String, StringOf, Value, ConstantOf, ResultOf, ThisOf, ClassOf, ArgumentsOf, Free, Home, NumberOf, BigIntOf}
 use Rattle.std.proofs.Common.{◌∙◌, ap, ap₂, sym}
 use Rattle.es_replacement.proofs.Environments.{right}
 use Rattle.es_replacement.proofs.FormsFilled.{code-cond, cond-code, class_named-filled, helper_member-filled, generated_member-filled, generated_call-filled, generated_binary-filled, generated_assignment-filled}
@@ -255,10 +255,20 @@ module _ (first : ℕ) (fill : ℕ → Code) (unasked : (n : ℕ) → is_unasked
   key_details-filled (initializers n) ps = key_details-unasked (fill n) (filled_members fill ps) (unasked n)
   key_details-filled k ps = refl
 
+  is_numeric-unasked : (k : Code) → is_unasked first k ≡ true → is_numeric k ≡ false
+  is_numeric-unasked (value v) h = absurd (cc)
+  is_numeric-unasked k h = refl
+
+  is_numeric-filled : (k : Code) → is_numeric (filled fill k) ≡ is_numeric k
+  is_numeric-filled (value (ConstantOf (NumberOf raw))) = refl
+  is_numeric-filled (value (ConstantOf (BigIntOf s))) = refl
+  is_numeric-filled (initializers n) = is_numeric-unasked (fill n) (unasked n)
+  is_numeric-filled k = refl
+
   pub property_code-filled : (ps : Members) → property_code (filled_members fill ps) ≡ filled fill (property_code ps)
   property_code-filled ps =
-      rw (the_code_at-filled fill 0 ps, the_code_at-filled fill 1 ps, word_at-filled fill 2 ps, flag_at-filled fill 3 ps, flag_at-filled fill 5 ps, key_details-filled (the_code (at 0 ps)) ps)
-      (cond-code first fill unasked (flag_of (at 5 ps)) (piece (Operand ∷ Operand ∷ Spelled (word_of (at 2 ps)) ∷ Flag (flag_of (at 3 ps)) ∷ []) (and (the_code (at 0 ps)) (and (the_code (at 1 ps)) done))) (piece (key_details (the_code (at 0 ps)) ps ++ Operand ∷ Spelled (word_of (at 2 ps)) ∷ Flag (flag_of (at 3 ps)) ∷ []) (and (the_code (at 1 ps)) done)))
+      rw (the_code_at-filled fill 0 ps, the_code_at-filled fill 1 ps, word_at-filled fill 2 ps, flag_at-filled fill 3 ps, flag_at-filled fill 5 ps, key_details-filled (the_code (at 0 ps)) ps, is_numeric-filled (the_code (at 0 ps)))
+      (cond-code first fill unasked (flag_of (at 5 ps) || is_numeric (the_code (at 0 ps))) (piece (Operand ∷ Operand ∷ Spelled (word_of (at 2 ps)) ∷ Flag (flag_of (at 3 ps)) ∷ []) (and (key_of (the_code (at 0 ps))) (and (the_code (at 1 ps)) done))) (piece (key_details (the_code (at 0 ps)) ps ++ Operand ∷ Spelled (word_of (at 2 ps)) ∷ Flag (flag_of (at 3 ps)) ∷ []) (and (the_code (at 1 ps)) done)))
 
 module _ (c : Context) (fill : ℕ → Code) (unasked : (n : ℕ) → is_unasked c.first_new (fill n) ≡ true) where
   -- ---- names

@@ -3,7 +3,7 @@ use Rattle.std.specs.Prelude.{◌≡◌, ℕ, List, [], ◌∷◌, Bool, true, f
 use Rattle.es_base.specs.Numbered.{is_new}
 use Rattle.es_base.specs.declared.kind.Kind.{Kind}
 use Rattle.es_base.specs.declared.ledger.GeneratedKind.{GeneratedKind}
-use Rattle.es_steps.specs.Code.{initializers, Code, Codes, Target, FunctionForm, CalledBodyOf, no_rule, value, spelled, binding, name, super, member, private_member, assign, construct, super_call, super_call_with_all, sequence, operation, steps, new_function, new_return, from_call, from_member, helper, helper_call, throw, private_initialize, bound, setter, private_value, call_arrow, to_name, to_private, done, and}
+use Rattle.es_steps.specs.Code.{initializers, Code, Codes, Target, FunctionForm, CalledBodyOf, no_rule, value, spelled, binding, name, super, member, private_member, assign, construct, super_call, super_call_with_all, sequence, operation, steps, new_function, new_return, from_call, from_member, helper, helper_call, throw, private_initialize, bound, setter, private_value, call_arrow, to_name, to_private, done, and, key_of}
 use Rattle.es_steps.specs.Context.{Context, Changing, Generated, StaticMethod}
 use Rattle.es_steps.specs.Events.{Operand, Spelled, Flag, Key, Opens, Closes, OfKind}
 use Rattle.es_steps.specs.GeneratedForms.{is_named, weak_map, static_field, private_function, loose_key, class_named, is_number, is_class_named, is_brand, known_object, is_string, home_of, is_plain_property, single_property, is_writable_form, writable_value, only_operands, array_elements, is_spread, read_private, set_private, is_method_kind, is_getter_kind, is_setter_kind, asserted, initialized_on, brand_on, define_on, super_get, super_set, is_number_literal, is_constant, is_quiet_key, helper_code, is_helper_object, helper_or_none, helper_or, helper_member, branded_field, own_field, setter_on, field_setter, setter_of_pair, setter_of, underscore_of, same_number, loose_member, is_same_key, kept_name, generated_member, with_name, parameter_names, value_or_undefined, ended, opened_body, no_spread, is_plain_arrow, arrow_call, is_pick, with_key, picked, new_function_call, getter_call, received_call, getter_or_received, is_super_itself, super_function_call, called_with, bound_to, has_field, has_brand, loose_initialized, object_call, member_call, new_member_call, initializers_behind, passes_all, super_call_in, super_method_call, helper_call_call, generated_call, is_class_test, generated_binary, is_null, is_undefined, is_new_collection, only_if, is_loose_key_call, field_object, given_function, given, is_own_class, private_assignment, generated_assignment}
@@ -12,7 +12,7 @@ use Rattle.es_steps.specs.PrivateNames.{PrivateMember, PrivateReference, referen
 use Rattle.es_steps.specs.Values.{String, StringOf, BooleanOf, Value, ConstantOf, ClassOf, ResultOf, Free, Home}
 use Rattle.std.proofs.Common.{◌∙◌, ap, sym}
 use Rattle.es_replacement.specs.Holes.{filled, filled_all, filled_target}
-use Rattle.es_replacement.proofs.Unasked.{filled_two, fill-cond, class_named-unasked, known_object-unasked, is_string-unasked, home_of-unasked, is_spread-unasked, brand_on-unasked, is_number_literal-unasked, is_constant-unasked, is_quiet_key-unasked, is_named-unasked, helper_or-unasked, same_key_left-unasked, same_key_name-unasked, same_key_private-unasked, parameter_names-unasked, ended-unasked, ended_ahead-unasked, opened_body-unasked, has_field-unasked, has_brand-unasked, passes_all-unasked, is_null-unasked, is_undefined-unasked, is_loose_key_call-unasked, given_function-unasked, setter_on-unasked, getter_call-unasked, pick_first-unasked, pick_second-unasked, pick_body-unasked, pick_object-unasked, pick_key-unasked, writable_first-unasked, getter_more-unasked, spread-unasked, super_function_call-unasked, private_assignment-unasked, weak_map-unasked, static_field-unasked, private_function-unasked, loose_key-unasked, single_property-unasked, writable_value-unasked, array_elements-unasked, is_helper_object-unasked, underscore_of-unasked, loose_member-unasked, setter_of-unasked, member_call-unasked, called_with-unasked, is_new_collection-unasked, generated_binary-unasked}
+use Rattle.es_replacement.proofs.Unasked.{filled_two, fill-cond, class_named-unasked, known_object-unasked, is_string-unasked, home_of-unasked, is_spread-unasked, brand_on-unasked, is_number_literal-unasked, is_constant-unasked, is_quiet_key-unasked, is_named-unasked, helper_or-unasked, same_key_left-unasked, same_key_name-unasked, same_key_private-unasked, parameter_names-unasked, ended-unasked, ended_ahead-unasked, opened_body-unasked, has_field-unasked, has_brand-unasked, passes_all-unasked, is_null-unasked, is_undefined-unasked, is_loose_key_call-unasked, given_function-unasked, setter_on-unasked, getter_call-unasked, pick_first-unasked, pick_second-unasked, pick_body-unasked, pick_object-unasked, pick_key-unasked, writable_first-unasked, getter_more-unasked, spread-unasked, super_function_call-unasked, private_assignment-unasked, weak_map-unasked, static_field-unasked, private_function-unasked, loose_key-unasked, single_property-unasked, single_first-unasked, writable_value-unasked, array_elements-unasked, is_helper_object-unasked, underscore_of-unasked, loose_member-unasked, setter_of-unasked, member_call-unasked, called_with-unasked, is_new_collection-unasked, generated_binary-unasked}
 use Rattle.es_replacement.specs.Unasked.{is_unasked, ends_open}
 
 module _ (first : ℕ) (fill : ℕ → Code) (unasked : (n : ℕ) → is_unasked first (fill n) ≡ true) where
@@ -326,7 +326,8 @@ module _ (c : Context) (fill : ℕ → Code) (unasked : (n : ℕ) → is_unasked
 
   single_property-filled : (q : Code) → single_property c (filled fill q) ≡ option_map (filled_two fill) (single_property c q)
   single_property-filled (operation m (OfKind Kind.ObjectExpression (Opens ∷ Key k ∷ Operand ∷ Spelled kind ∷ Flag is_method ∷ Closes ∷ [])) (and v done) done) = fill-cond (option_map (filled_two fill)) (is_new c.first_new m && is_plain_property kind is_method) (Some (value (ConstantOf k), v)) None refl refl
-  single_property-filled (operation m (OfKind Kind.ObjectExpression (Opens ∷ Operand ∷ Operand ∷ Spelled kind ∷ Flag is_method ∷ Closes ∷ [])) (and k (and v done)) done) = fill-cond (option_map (filled_two fill)) (is_new c.first_new m && is_plain_property kind is_method) (Some (k, v)) None refl refl
+  single_property-filled (operation m (OfKind Kind.ObjectExpression (Opens ∷ Operand ∷ Operand ∷ Spelled kind ∷ Flag is_method ∷ Closes ∷ [])) (and (key_of k) (and v done)) done) = fill-cond (option_map (filled_two fill)) (is_new c.first_new m && is_plain_property kind is_method) (Some (k, v)) None refl refl
+  single_property-filled (operation m (OfKind Kind.ObjectExpression (Opens ∷ Operand ∷ Operand ∷ Spelled kind ∷ Flag is_method ∷ Closes ∷ [])) (and (initializers n) es) held) = rw (single_first-unasked c m kind is_method (fill n) (filled_all fill es) (filled_all fill held) (unasked n)) refl
   single_property-filled (initializers n) = rw (single_property-unasked c (fill n) (unasked n)) refl
   single_property-filled q = refl
 

@@ -2,7 +2,7 @@
 use Rattle.std.specs.Prelude.{◌≡◌, ℕ, List, [], ◌∷◌, Bool, true, false, cond, ◌&&◌, codes, Option, Some, None, refl}
 use Rattle.es_base.specs.declared.kind.Kind.{Kind}
 use Rattle.es_base.specs.declared.ledger.GeneratedKind.{GeneratedKind}
-use Rattle.es_steps.specs.Code.{Code, Codes, no_rule, value, spelled, binding, name, member, private_member, assign, construct, super_call, operation, steps, function, new_function, new_return, class_code, from_call, helper, helper_call, bound, setter, private_value, to_private, done, and}
+use Rattle.es_steps.specs.Code.{Code, Codes, no_rule, value, spelled, binding, name, member, private_member, assign, construct, super_call, operation, steps, function, new_function, new_return, class_code, from_call, helper, helper_call, bound, setter, private_value, to_private, done, and, key_of}
 use Rattle.es_steps.specs.Context.{Context, Fixed, Changing, MeansClass, Generated, StaticMethod}
 use Rattle.es_steps.specs.Events.{Detail, Operand, Spelled, Flag, Key, Opens, Closes, OfKind}
 use Rattle.es_steps.specs.GeneratedForms.{is_named, weak_map, static_field, private_function, loose_key, class_named, known_object, is_string, home_of, single_property, writable_value, array_elements, is_spread, is_setter_kind, brand_on, is_number_literal, is_constant, is_quiet_key, is_helper_object, helper_or, setter_on, setter_of, underscore_of, loose_member, is_same_key, parameter_names, ended, opened_body, is_pick, getter_call, received_call, super_function_call, called_with, has_field, has_brand, member_call, passes_all, generated_binary, is_null, is_undefined, is_new_collection, is_loose_key_call, given_function, private_assignment}
@@ -212,6 +212,10 @@ module _ (c : Context) where
   pub single_property-unasked : (q : Code) → is_unasked c.first_new q ≡ true → single_property c q ≡ None
   single_property-unasked (operation m (OfKind Kind.ObjectExpression ds) es held) h = absurd (cc)
   single_property-unasked q h = refl
+
+  pub single_first-unasked : (m : ℕ) (kind : String) (is_method : Bool) (q : Code) (es held : Codes) → is_unasked c.first_new q ≡ true → single_property c (operation m (OfKind Kind.ObjectExpression (Opens ∷ Operand ∷ Operand ∷ Spelled kind ∷ Flag is_method ∷ Closes ∷ [])) (and q es) held) ≡ None
+  single_first-unasked m kind is_method (key_of e) es held h = absurd (cc)
+  single_first-unasked m kind is_method q es held h = refl
 
   pub writable_value-unasked : (q : Code) → is_unasked c.first_new q ≡ true → writable_value c q ≡ None
   writable_value-unasked (operation m (OfKind Kind.ObjectExpression ds) es held) h = absurd (cc)

@@ -2,7 +2,7 @@
 use Rattle.std.specs.Prelude.{ℕ, Bool, true, false, cond, not, ◌&&◌, ◌||◌, codes, bytes_eq, Option, Some, None}
 use Rattle.es_base.specs.Numbered.{is_new}
 use Rattle.es_base.specs.declared.kind.Kind.{Kind}
-use Rattle.es_steps.specs.Code.{Code, Codes, value, spelled, private_name, binding, rest, name, super, member, super_call, template_string, template, operation, piece, logical, construct, chain, tested, pattern, takes, steps, function, new_function, new_return, class_code, from_call, from_member, helper, helper_call, bound, private_value, initializers, done, and}
+use Rattle.es_steps.specs.Code.{Code, Codes, value, spelled, private_name, binding, rest, name, super, member, super_call, template_string, template, operation, piece, logical, construct, chain, tested, pattern, takes, steps, function, new_function, new_return, class_code, from_call, from_member, helper, helper_call, bound, private_value, initializers, done, and, key_of}
 use Rattle.es_steps.specs.Events.{OfKind, Delete}
 use Rattle.es_steps.specs.Expressions.{the_code}
 use Rattle.es_steps.specs.GeneratedForms.{is_null, is_undefined, is_null_test}
@@ -40,6 +40,7 @@ is_unasked first (new_function f form ps body) = false
 is_unasked first (new_return es) = false
 is_unasked first (class_code n declared h es) = false
 is_unasked first (from_call (value v)) = false
+is_unasked first (key_of e) = false
 is_unasked first (helper h) = false
 is_unasked first (helper_call m h es) = false
 is_unasked first (bound f o) = false

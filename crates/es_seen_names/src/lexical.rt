@@ -25,7 +25,7 @@ use std::alloc::{AllocError, Global};
 // ---- declarators
 
 /// Whether a variable declaration is one by `let`.
-fn is_let(parts: &[Part]) -> bool
+pub fn is_let(parts: &[Part]) -> bool
     requires { have_shapes (members_of Kind.VariableDeclaration) parts.now ≡ true }
     ensures { result ≡ spec.is_let (parts_of parts.now) }
 {

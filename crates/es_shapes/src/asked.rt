@@ -36,7 +36,7 @@ pub fn leaves_out_fields(options: &Options) -> bool
 }
 
 /// Whether public fields are set and not defined.
-fn sets_fields(options: &Options) -> bool
+pub fn sets_fields(options: &Options) -> bool
     ensures { result ≡ sets_fields options.now }
 {
     lowers_fields(options)

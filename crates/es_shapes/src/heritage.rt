@@ -57,7 +57,7 @@ fn is_hoisted_key<F: NameFacts>(facts: &F, element: &Node) -> bool
 /// Whether the key is evaluated once and kept: all but literals, templates without expressions and bound
 /// names that are not written (oxc's `key_needs_temp_var`). A regular expression, which is an object that is made, is kept.
 #[tactic(auto, using(crate::proofs::Heritages::literal_needs, crate::proofs::Heritages::name_needs, crate::proofs::Heritages::other_needs))]
-fn needs_temporary<F: NameFacts>(facts: &F, key: Option<&Node>) -> bool
+pub fn needs_temporary<F: NameFacts>(facts: &F, key: Option<&Node>) -> bool
     ensures { result ≡ needs_temporary (written (F.program facts.now)) (resolve (F.program facts.now)) (nullable (option_map (λ x. x.now) key.entry)) }
 {
     let Some(key) = key else { return true };

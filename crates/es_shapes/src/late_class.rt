@@ -69,7 +69,7 @@ pub fn initializes_with_pattern(kinds: ElementKinds, elements: &[Node]) -> bool
 }
 
 /// The function of the constructor among the elements of a class.
-fn constructor_among(elements: &[Node]) -> Option<&Node>
+pub fn constructor_among(elements: &[Node]) -> Option<&Node>
     ensures { nullable (option_map (λ x. x.now) result) ≡ constructor_function (trees elements.now) }
 {
     for element in elements {
@@ -111,7 +111,8 @@ fn has_pattern_parameter(function: Option<&Node>) -> bool
     }
 }
 
-fn has_pattern(parameters: &Part) -> bool
+/// Whether one of the parameters is neither an identifier nor a rest with one.
+pub fn has_pattern(parameters: &Part) -> bool
     ensures { result ≡ has_pattern (items (part_of parameters.now)) }
 {
     match parameters {

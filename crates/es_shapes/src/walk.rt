@@ -56,9 +56,10 @@ fn any_of<T: NodeTest>(test: &T, part: &Part) -> bool
     }
 }
 
+/// Whether one of the nodes, or a node in one, passes the test.
 #[cycle(walk)]
 #[tactic(auto, using(crate::proofs::AnyNode::any_more))]
-fn any_of_list<T: NodeTest>(test: &T, nodes: &[Node]) -> bool
+pub fn any_of_list<T: NodeTest>(test: &T, nodes: &[Node]) -> bool
     ensures { result ≡ list_any (T.passes test.now) (preorder_of (trees nodes.now)) }
 {
     for node in nodes {

@@ -205,6 +205,9 @@ module _ (f : ℕ → ℕ) where
   defined-follows : (o k v w : Value) → Follows f (event (Event.Define o (as_key k) v) w) (event (Event.Define (mapped_value f o) (as_key (mapped_value f k)) (mapped_value f v)) (mapped_value f w))
   defined-follows o k v w = rw (as_key-mapped k) (event-follows (Event.Define o (as_key k) v) w)
 
+  pub converted-follows : (v : Value) → Follows f (gives (KeyOf (as_key v))) (gives (KeyOf (as_key (mapped_value f v))))
+  converted-follows v = rw (as_key-mapped v) (gives-follows (KeyOf (as_key v)))
+
   set-follows : (o k v w : Value) → Follows f (event (Event.Set o (as_key k) v) w) (event (Event.Set (mapped_value f o) (as_key (mapped_value f k)) (mapped_value f v)) (mapped_value f w))
   set-follows o k v w = rw (as_key-mapped k) (event-follows (Event.Set o (as_key k) v) w)
 
@@ -422,7 +425,7 @@ module _ {first : ℕ} {f : ℕ → ℕ} (r : Renames first f) where
       ev-follows (generated_element s e) = no_meaning-follows f
       ev-follows (from_call e) = ev-follows e
       ev-follows (from_member e) = ev-follows e
-      ev-follows (key_of e) = settle-follows f (bind-follows f _ _ (ev-follows e) (λ v. gives-follows f (KeyOf v)))
+      ev-follows (key_of e) = settle-follows f (bind-follows f _ _ (ev-follows e) (converted-follows f))
       ev-follows (helper h) = no_meaning-follows f
       ev-follows (helper_call m h es) = no_meaning-follows f
       ev-follows throw = event-follows f _ _

@@ -1,20 +1,20 @@
 -- The codes of expressions follow a change of numbers.
-use Rattle.std.specs.Prelude.{not, ◌≡◌, ℕ, [], ◌∷◌, ◌++◌, Bool, true, false, cond, ◌&&◌, codes, bytes_eq, Option, Some, None}
+use Rattle.std.specs.Prelude.{not, ◌≡◌, ℕ, [], ◌∷◌, ◌++◌, Bool, true, false, cond, ◌&&◌, codes, bytes_eq, Option, Some, None, ◌||◌}
 use Rattle.std.proofs.Common.{refl, ap, ap₂, ◌∙◌}
 use Rattle.es_base.specs.Numbered.{is_new}
 use Rattle.es_base.specs.declared.kind.Kind.{Kind}
 use Rattle.es_base.specs.declared.literal.LiteralValue.{LiteralValue}
 use Rattle.es_base.specs.declared.literal.LiteralValue.TheVariants as literal_value
 use Rattle.es_base.specs.declared.ledger.GeneratedKind.{GeneratedKind}
-use Rattle.es_steps.specs.Code.{Code, Codes, Target, Callee, no_rule, value, spelled, private_name, name, super, member, private_member, super_member, private_in, compound, logical, logical_assign, call, tag, template_string, template, operation, piece, chain, tested, private_value, on_chain, behind_test, done, and, from_call, from_member, bound, with_receiver}
+use Rattle.es_steps.specs.Code.{Code, Codes, Target, Callee, no_rule, value, spelled, private_name, name, super, member, private_member, super_member, private_in, compound, logical, logical_assign, call, tag, template_string, template, operation, piece, chain, tested, private_value, on_chain, behind_test, done, and, from_call, from_member, bound, with_receiver, key_of}
 use Rattle.es_steps.specs.Context.{Context, NameKind, Changing, Generated, StaticMethod, name_kind, new_here}
 use Rattle.es_steps.specs.Events.{Operand, Spelled, Flag, OfKind, Delete}
-use Rattle.es_steps.specs.Expressions.{operation_of, the_code, value_code, literal_code, is_arguments, static_method, arguments_of, name_or_arguments, name_code, private_name_code, cooked_of, template_string_code, template_strings, template_code, spelling_of, meta_code, key_code, super_member_at, checked_object, member_on, member_code, is_made_private, names_class, private_on, private_field_of, private_field_code, static_test, test_in, private_in_of, private_in_code, target_of, is_logical, without_sign, assignment_code, update_code, void_code, deleted, delete_code, is_free_name, is_any_name, unary_operation, unary_code, binary_code, quiet_logical, logical_code, chain_code, spliced, deleted_as, ended_alone, chain_or, conditional_code, callee_of, checked_callee, call_code, new_code, tag_of, tag_code, is_prototype, key_details, property_code}
+use Rattle.es_steps.specs.Expressions.{operation_of, the_code, value_code, literal_code, is_arguments, static_method, arguments_of, name_or_arguments, name_code, private_name_code, cooked_of, template_string_code, template_strings, template_code, spelling_of, meta_code, key_code, super_member_at, checked_object, member_on, member_code, is_made_private, names_class, private_on, private_field_of, private_field_code, static_test, test_in, private_in_of, private_in_code, target_of, is_logical, without_sign, assignment_code, update_code, void_code, deleted, delete_code, is_free_name, is_any_name, unary_operation, unary_code, binary_code, quiet_logical, logical_code, chain_code, spliced, deleted_as, ended_alone, chain_or, conditional_code, callee_of, checked_callee, call_code, new_code, tag_of, tag_code, is_prototype, key_details, property_code, is_numeric}
 use Rattle.es_steps.specs.GeneratedForms.{generated_member, generated_call, generated_assignment, is_undefined_test, class_named, is_method_kind}
 use Rattle.es_steps.specs.Members.{Member, Members, code, string, literal, at, codes_of, word_of, flag_of, details}
 use Rattle.es_steps.specs.Options.{lowers_fields}
 use Rattle.es_steps.specs.PrivateNames.{PrivateMember, PrivateReference, test_of, member_at}
-use Rattle.es_steps.specs.Values.{String, StringOf, BooleanOf, Value, ConstantOf, Undefined, ResultOf, ThisOf, ClassOf, ArgumentsOf, Free, Home}
+use Rattle.es_steps.specs.Values.{String, StringOf, BooleanOf, Value, ConstantOf, Undefined, ResultOf, ThisOf, ClassOf, ArgumentsOf, Free, Home, NumberOf, BigIntOf}
 use Rattle.es_steps.proofs.ContextMapped.{name_kind-mapped, new_here-mapped, is_generated_private-mapped}
 use Rattle.es_steps.proofs.FormsMapped.{code-cond, cond-code, here, class_named-mapped, tested_object-mapped, again_of-mapped, helper_member-mapped, generated_member-mapped, generated_call-mapped, generated_binary-mapped, is_undefined_test-mapped, generated_assignment-mapped}
 use Rattle.es_steps.proofs.Mapped.{Renames, mapped_option, mapped_name_kind, mapped_private, mapped_private_reference, mapped_test, mapped_value, mapped_home, mapped_context, mapped_code, mapped_codes, mapped_callee, mapped_target, mapped_member, mapped_members}
@@ -199,10 +199,15 @@ module _ (f : ℕ → ℕ) where
   key_details-mapped (value (ConstantOf k)) ps = refl
   key_details-mapped k ps = refl
 
+  is_numeric-mapped : (k : Code) → is_numeric (mapped_code f k) ≡ is_numeric k
+  is_numeric-mapped (value (ConstantOf (NumberOf raw))) = refl
+  is_numeric-mapped (value (ConstantOf (BigIntOf s))) = refl
+  is_numeric-mapped k = refl
+
   pub property_code-mapped : (ps : Members) → property_code (mapped_members f ps) ≡ mapped_code f (property_code ps)
   property_code-mapped ps =
-      rw (the_code_at-mapped 0 ps, the_code_at-mapped 1 ps, word_at-mapped f 2 ps, flag_at-mapped f 3 ps, flag_at-mapped f 5 ps, key_details-mapped (the_code (at 0 ps)) ps)
-      (cond-code f (flag_of (at 5 ps)) (piece (Operand ∷ Operand ∷ Spelled (word_of (at 2 ps)) ∷ Flag (flag_of (at 3 ps)) ∷ []) (and (the_code (at 0 ps)) (and (the_code (at 1 ps)) done))) (piece (key_details (the_code (at 0 ps)) ps ++ Operand ∷ Spelled (word_of (at 2 ps)) ∷ Flag (flag_of (at 3 ps)) ∷ []) (and (the_code (at 1 ps)) done)))
+      rw (the_code_at-mapped 0 ps, the_code_at-mapped 1 ps, word_at-mapped f 2 ps, flag_at-mapped f 3 ps, flag_at-mapped f 5 ps, key_details-mapped (the_code (at 0 ps)) ps, is_numeric-mapped (the_code (at 0 ps)))
+      (cond-code f (flag_of (at 5 ps) || is_numeric (the_code (at 0 ps))) (piece (Operand ∷ Operand ∷ Spelled (word_of (at 2 ps)) ∷ Flag (flag_of (at 3 ps)) ∷ []) (and (key_of (the_code (at 0 ps))) (and (the_code (at 1 ps)) done))) (piece (key_details (the_code (at 0 ps)) ps ++ Operand ∷ Spelled (word_of (at 2 ps)) ∷ Flag (flag_of (at 3 ps)) ∷ []) (and (the_code (at 1 ps)) done)))
 
 module _ {first : ℕ} {f : ℕ → ℕ} (r : Renames first f) (c : Context) (e : c.first_new ≡ first) where
   abbrev there : Context

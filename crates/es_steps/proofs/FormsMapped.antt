@@ -4,7 +4,7 @@ use Rattle.std.proofs.Common.{refl, ap, ◌∙◌}
 use Rattle.es_base.specs.Numbered.{is_new}
 use Rattle.es_base.specs.declared.kind.Kind.{Kind}
 use Rattle.es_base.specs.declared.ledger.GeneratedKind.{GeneratedKind}
-use Rattle.es_steps.specs.Code.{Code, Opened, Codes, Target, FunctionForm, InitializersOf, CalledBodyOf, no_rule, value, spelled, binding, name, super, member, private_member, assign, construct, super_call, super_call_with_all, sequence, logical, operation, steps, function, new_function, new_return, class_code, from_call, from_member, helper, helper_call, throw, private_initialize, bound, setter, private_value, call_arrow, to_name, to_private, done, and}
+use Rattle.es_steps.specs.Code.{Code, Opened, Codes, Target, FunctionForm, InitializersOf, CalledBodyOf, no_rule, value, spelled, binding, name, super, member, private_member, assign, construct, super_call, super_call_with_all, sequence, logical, operation, steps, function, new_function, new_return, class_code, from_call, from_member, helper, helper_call, throw, private_initialize, bound, setter, private_value, call_arrow, to_name, to_private, done, and, key_of}
 use Rattle.es_steps.specs.Context.{Context, Changing, MeansClass, Generated, StaticMethod}
 use Rattle.es_steps.specs.Events.{Operand, Spelled, Flag, Key, Opens, Closes, OfKind}
 use Rattle.es_steps.specs.GeneratedForms.{if_kept, is_named, if_member, is_instance_field, is_static_field, is_function_member, weak_map, static_field, private_function, loose_key, class_named, is_number, is_class_named, is_brand, class_value, known_object, class_home, prototype_home, is_string, home_of, is_plain_property, single_property, is_writable_form, writable_value, only_operands, array_elements, is_spread, read_private, set_private, is_method_kind, is_getter_kind, is_setter_kind, asserted, initialized_on, brand_on, define_on, super_get, super_set, is_number_literal, is_constant, is_quiet_key, with_key, helper_code, is_helper_object, helper_or_none, helper_or, helper_member, branded_field, own_field, setter_on, field_setter, setter_of_pair, setter_of, underscore_of, same_number, loose_member, is_same_key, kept_name, generated_member, with_name, parameter_names, value_or_undefined, ended, opened_body, no_spread, is_plain_arrow, arrow_call, is_pick, picked, new_function_call, getter_call, received_call, getter_or_received, is_super_itself, super_function_call, called_with, bound_to, has_field, has_brand, loose_initialized, object_call, member_call, new_member_call, runs_initializers, initializers_behind, passes_all, super_call_in, super_method_call, helper_call_call, generated_call, is_class_test, generated_binary, is_null, is_undefined, is_comparison, is_null_test, is_void_test, is_undefined_test, left_of, tested_object, again_of, is_new_collection, only_if, is_loose_key_call, field_object, given_function, given, is_own_class, private_assignment, generated_assignment}
@@ -366,7 +366,7 @@ module _ {first : ℕ} {f : ℕ → ℕ} (r : Renames first f) (c : Context) (e 
 
   single_property-mapped : (q : Code) → single_property there (mapped_code f q) ≡ mapped_option (mapped_two f) (single_property c q)
   single_property-mapped (operation m (OfKind Kind.ObjectExpression (Opens ∷ Key k ∷ Operand ∷ Spelled kind ∷ Flag is_method ∷ Closes ∷ [])) (and v done) done) = rw (here m) (cond-mapped (mapped_option (mapped_two f)) (is_new c.first_new m && is_plain_property kind is_method) (Some (value (ConstantOf k), v)) None refl refl)
-  single_property-mapped (operation m (OfKind Kind.ObjectExpression (Opens ∷ Operand ∷ Operand ∷ Spelled kind ∷ Flag is_method ∷ Closes ∷ [])) (and k (and v done)) done) = rw (here m) (cond-mapped (mapped_option (mapped_two f)) (is_new c.first_new m && is_plain_property kind is_method) (Some (k, v)) None refl refl)
+  single_property-mapped (operation m (OfKind Kind.ObjectExpression (Opens ∷ Operand ∷ Operand ∷ Spelled kind ∷ Flag is_method ∷ Closes ∷ [])) (and (key_of k) (and v done)) done) = rw (here m) (cond-mapped (mapped_option (mapped_two f)) (is_new c.first_new m && is_plain_property kind is_method) (Some (k, v)) None refl refl)
   single_property-mapped q = refl
 
   writable_value-mapped : (q : Code) → writable_value there (mapped_code f q) ≡ mapped_option (mapped_code f) (writable_value c q)

@@ -274,8 +274,6 @@ module _ (f : ℕ → ℕ) where
   is_bad_form-mapped Kind.RestElement ps = default_at-mapped ps
   is_bad_form-mapped Kind.AssignmentTargetRest ps = default_at-mapped ps
   is_bad_form-mapped Kind.CatchClause ps = default_at-mapped ps
-  is_bad_form-mapped Kind.FunctionDeclaration ps = without_name-mapped ps
-  is_bad_form-mapped Kind.ClassDeclaration ps = without_name-mapped ps
   is_bad_form-mapped Kind.ExportNamedDeclaration ps = rw (is_present_at-mapped f 0 ps, is_present_at-mapped f 2 ps, items_at-mapped f 1 ps, count-mapped (items (at 1 ps)), has_string_name-mapped (items (at 1 ps))) refl
   is_bad_form-mapped Kind.ImportDeclaration ps = rw (items_at-mapped f 0 ps) (ap not (are_specifiers-mapped (items (at 0 ps))))
   is_bad_form-mapped Kind.IfStatement ps = is_bad_if-mapped ps

@@ -375,7 +375,7 @@ module _ (opens : Opened → Evaluation) where
     ev (generated_element s e) = no_meaning
     ev (from_call e) = ev e
     ev (from_member e) = ev e
-    ev (key_of e) = settle (bind (ev e) (λ v. gives (KeyOf v)))
+    ev (key_of e) = settle (bind (ev e) (λ v. gives (KeyOf (as_key v))))
     ev (helper h) = no_meaning
     ev (helper_call m h es) = no_meaning
     ev throw = event Throw Undefined

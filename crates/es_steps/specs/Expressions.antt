@@ -4,7 +4,7 @@ use Rattle.es_base.specs.declared.kind.Kind.{Kind}
 use Rattle.es_base.specs.declared.ledger.GeneratedKind.{GeneratedKind}
 use Rattle.es_base.specs.declared.literal.LiteralValue.{LiteralValue}
 use Rattle.es_base.specs.declared.literal.LiteralValue.TheVariants as literal_value
-use Rattle.es_steps.specs.Code.{Code, Codes, Target, Callee, TemplateString, no_rule, value, spelled, private_name, binding, name, super, member, private_member, super_member, private_in, compound, logical, logical_assign, update, call, tag, construct, template_string, template, operation, piece, chain, short, tested, pattern, from_call, from_member, bound, setter, private_value, to_name, to_member, to_private, to_super, to_setter, no_target, plain, on_member, on_private, on_super, with_receiver, checked, on_chain, behind_test, done, and}
+use Rattle.es_steps.specs.Code.{Code, Codes, Target, Callee, TemplateString, no_rule, value, spelled, private_name, binding, name, super, member, private_member, super_member, private_in, compound, logical, logical_assign, update, call, tag, construct, template_string, template, operation, piece, chain, short, tested, pattern, from_call, from_member, bound, setter, private_value, to_name, to_member, to_private, to_super, to_setter, no_target, plain, on_member, on_private, on_super, with_receiver, checked, on_chain, behind_test, done, and, key_of}
 use Rattle.es_steps.specs.Context.{Context, NameKind, Changing, Generated, StaticMethod, name_kind, new_here, is_generated_private}
 use Rattle.es_steps.specs.Events.{Detail, Operand, Spelled, Flag, Key, Prototype, OfKind, Delete}
 use Rattle.es_steps.specs.GeneratedForms.{helper_member, generated_member, generated_call, generated_binary, generated_assignment, is_undefined_test, again_of, tested_object, class_named, is_method_kind}
@@ -329,9 +329,15 @@ key_details (value (ConstantOf (StringOf s))) ps = cond (is_prototype s ps) Prot
 key_details (value (ConstantOf k)) ps = Key k ∷ []
 key_details c ps = []
 
--- a property of an object: a key that is computed and the value are operands
+-- a number as a key is read as one that is computed: it may be kept, too, where a function or a class is named by it
+abbrev pub is_numeric : Code → Bool
+is_numeric (value (ConstantOf (NumberOf raw))) = true
+is_numeric (value (ConstantOf (BigIntOf s))) = true
+is_numeric k = false
+
+-- a property of an object: a key that is computed, which is converted where it stands (13.2.5.5), and the value are operands
 abbrev pub property_code : Members → Code
 property_code ps =
     let k : Code = the_code (at 0 ps) in
     let form : List Detail = Operand ∷ Spelled (word_of (at 2 ps)) ∷ Flag (flag_of (at 3 ps)) ∷ [] in
-    cond (flag_of (at 5 ps)) (piece (Operand ∷ form) (and k (and (the_code (at 1 ps)) done))) (piece (key_details k ps ++ form) (and (the_code (at 1 ps)) done))
+    cond (flag_of (at 5 ps) || is_numeric k) (piece (Operand ∷ form) (and (key_of k) (and (the_code (at 1 ps)) done))) (piece (key_details k ps ++ form) (and (the_code (at 1 ps)) done))

@@ -105,7 +105,7 @@ is_plain_property kind is_method = bytes_eq kind (codes "init") && not is_method
 
 abbrev pub single_property : Context → Code → Option (Code × Code)
 single_property c (operation m (OfKind Kind.ObjectExpression (Opens ∷ Key k ∷ Operand ∷ Spelled kind ∷ Flag is_method ∷ Closes ∷ [])) (and v done) done) = cond (new_here c m && is_plain_property kind is_method) (Some (value (ConstantOf k), v)) None
-single_property c (operation m (OfKind Kind.ObjectExpression (Opens ∷ Operand ∷ Operand ∷ Spelled kind ∷ Flag is_method ∷ Closes ∷ [])) (and k (and v done)) done) = cond (new_here c m && is_plain_property kind is_method) (Some (k, v)) None
+single_property c (operation m (OfKind Kind.ObjectExpression (Opens ∷ Operand ∷ Operand ∷ Spelled kind ∷ Flag is_method ∷ Closes ∷ [])) (and (key_of k) (and v done)) done) = cond (new_here c m && is_plain_property kind is_method) (Some (k, v)) None
 single_property c e = None
 
 abbrev pub is_writable_form : String → String → Bool → String → String → Bool → Bool

@@ -447,8 +447,6 @@ is_bad_form Kind.AssignmentTargetWithDefault ps = is_kind_of is_default (at 0 ps
 is_bad_form Kind.RestElement ps = is_kind_of is_default (at 0 ps)
 is_bad_form Kind.AssignmentTargetRest ps = is_kind_of is_default (at 0 ps)
 is_bad_form Kind.CatchClause ps = is_kind_of is_default (at 0 ps)
-is_bad_form Kind.FunctionDeclaration ps = not (is_present (at 0 ps))
-is_bad_form Kind.ClassDeclaration ps = not (is_present (at 0 ps))
 is_bad_form Kind.ExportNamedDeclaration ps = (is_present (at 0 ps) && (is_present (at 2 ps) || nat_le 1 (count (items (at 1 ps))))) || (not (is_present (at 2 ps)) && has_string_name (items (at 1 ps)))
 is_bad_form Kind.ImportDeclaration ps = not (are_specifiers (items (at 0 ps)))
 is_bad_form Kind.IfStatement ps = is_bad_if ps
@@ -496,7 +494,7 @@ is_declaration_without_name Kind.ClassDeclaration ps = not (is_present (at 0 ps)
 is_declaration_without_name kind ps = false
 
 abbrev pub is_bad_in : Bool → Bool → Kind → Parts → Bool
-is_bad_in in_default in_module kind ps = cond (is_declaration_without_name kind ps) (not in_default) (is_bad_node kind ps || (is_module_item kind && not in_module))
+is_bad_in in_default in_module kind ps = is_bad_node kind ps || ((is_declaration_without_name kind ps && not in_default) || (is_module_item kind && not in_module))
 
 abbrev mutual
   pub has_bad : Bool → Bool → Tree → Bool

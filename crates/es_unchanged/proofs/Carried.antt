@@ -7,11 +7,13 @@ use Rattle.es_base.specs.Tree.{Tree, Part, Parts, Node, end, more, child, absent
 use Rattle.es_base.specs.declared.kind.Kind.{Kind}
 use Rattle.es_left.proofs.Booleans.{both}
 use Rattle.es_lowered.specs.Carriers.{OddForm, calls_eval, calls_private, deletes_private, deletes_name, takes_odd_parameters, declares_oddly, gives_value, has_odd_body, gives_prototype, is_shorthand, exports_oddly, no_odd_form, odd_form, keeps_form, is_call_of, may_question, has_question, carries, stands_for_node, is_carried}
-use Rattle.es_lowered.specs.KeptWords.{same_name, same_word, same_words, same_words_but, free_part, same_words_by, keeps_computed, keeps_words}
+use Rattle.es_lowered.specs.HelperCalls.{is_number_key}
+use Rattle.es_lowered.specs.KeptWords.{same_name, same_word, same_words, is_free, keeps_computed, keeps_words}
 use Rattle.es_steps.proofs.Reflexive.{number-same, string-same}
 use Rattle.es_steps.specs.Parts.{at, is_true, string_of}
 use Rattle.es_steps.specs.References.{is_reference}
 use Rattle.es_steps.specs.SameTrees.{kind_number}
+use Rattle.es_steps.specs.SameValues.{same_boolean}
 use Rattle.es_unchanged.proofs.Standing.{In, here, later, or_left, or_right}
 
 stays : (form : OddForm) → keeps_form form form ≡ true
@@ -42,18 +44,9 @@ word-same (boolean true) = refl
 word-same (boolean false) = refl
 word-same (literal v) = refl
 
-words-same : (ps : Parts) → same_words ps ps ≡ true
-words-same end = refl
-words-same (more p ps) = both (word-same p) (words-same ps)
-
-others-same : (i : ℕ) (ps : Parts) → same_words_but i ps ps ≡ true
-others-same i end = refl
-others-same zero (more p ps) = words-same ps
-others-same (suc i) (more p ps) = both (word-same p) (others-same i ps)
-
-by-same : (i : Option ℕ) (ps : Parts) → same_words_by i ps ps ≡ true
-by-same None ps = words-same ps
-by-same (Some i) ps = others-same i ps
+words-same : (free : ℕ → Bool) (ps : Parts) → same_words free ps ps ≡ true
+words-same free end = refl
+words-same free (more p ps) = both (or_right (free 0) (same_word p p) (word-same p)) (words-same (λ i. free (suc i)) ps)
 
 asked : (b c : Bool) → (b || (not b || c)) ≡ true
 asked true c = refl
@@ -75,11 +68,16 @@ computed-same Kind.PropertyDefinition ps = either (is_true (at 2 ps))
     either : (b : Bool) → (not b || b) ≡ true
     either true = refl
     either false = refl
+computed-same Kind.Property ps = or_left (same_boolean (is_true (at 5 ps)) (is_true (at 5 ps))) (is_number_key (at 0 ps) && is_true (at 5 ps)) (itself (is_true (at 5 ps)))
+  where
+    itself : (b : Bool) → same_boolean b b ≡ true
+    itself true = refl
+    itself false = refl
 computed-same kind ps = refl
 
 carries-itself : (kind : Kind) (ps : Parts) → carries kind ps kind ps ≡ true
 carries-itself Kind.IdentifierReference ps = rw (string-same (string_of (at 0 ps))) refl
-carries-itself kind ps = rw (number-same (kind_number kind), by-same (free_part kind) ps, computed-same kind ps) (both (stays (odd_form kind ps)) (asked-or-not kind ps))
+carries-itself kind ps = rw (number-same (kind_number kind), words-same (is_free kind) ps, computed-same kind ps) (both (stays (odd_form kind ps)) (asked-or-not kind ps))
 
 stands-for : (kind : Kind) (n : ℕ) (span : Option (ℕ × ℕ)) (semantic_id : Option ℕ) (ps : Parts) (us : List Tree) → In (Node kind n span semantic_id ps) us → stands_for_node kind n ps us ≡ true
 stands-for kind n span semantic_id ps [] i = elim i [ ]

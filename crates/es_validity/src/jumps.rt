@@ -106,7 +106,7 @@ fn is_looping(node: &Node) -> bool
 }
 
 /// Whether it is a loop.
-fn is_loop(kind: Kind) -> bool
+pub fn is_loop(kind: Kind) -> bool
     ensures { result ≡ repeated.is_loop kind }
 {
     matches!(
