@@ -65,6 +65,8 @@ pub mod ClassNamedArguments
 pub mod ClassNamedAwait
 pub mod ClassNamedAwaitInAnAsyncFunction
 pub mod ClassNamedBehindItsBlock
+pub mod ClassNamedByAKeyOfAnObject
+pub mod ClassNamedByANumberOfAnObject
 pub mod ClassNamedEval
 pub mod ClassNamedInFrontOfAnother
 pub mod ClassNamedInFrontOfIt
@@ -101,6 +103,7 @@ pub mod ConversionInAKey
 pub mod ConversionInFrontOfAKey
 pub mod ConversionInFrontOfANamedClass
 pub mod ConversionOfAClassThatAKeyNames
+pub mod ConversionOfAKeyOfAnObjectLeftOut
 pub mod ConversionOfANameOfThatSpelling
 pub mod ConversionOfANameWithTheNumberOfAKey
 pub mod ConversionOfASequenceWithTheNumberOfAKey
@@ -348,6 +351,7 @@ pub mod StaticKeyReadLate
 pub mod StaticPrivateMethodOfAnotherClass
 pub mod StaticPrivateMethodThatReadsAField
 pub mod StrictArrow
+pub mod StrictDefaultExportWithAPattern
 pub mod StrictFunctionOfAMethod
 pub mod StrictRest
 pub mod StringInParentheses

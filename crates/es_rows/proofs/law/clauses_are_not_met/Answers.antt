@@ -184,6 +184,9 @@ returns-clause-conversion_in_front_of_a_named_class c = refl
 pub returns-clause-conversion_of_a_class_that_a_key_names : goal.returns-clause-conversion_of_a_class_that_a_key_names
 returns-clause-conversion_of_a_class_that_a_key_names c = refl
 
+pub returns-clause-conversion_of_a_key_of_an_object_left_out : goal.returns-clause-conversion_of_a_key_of_an_object_left_out
+returns-clause-conversion_of_a_key_of_an_object_left_out c = refl
+
 pub returns-clause-conversion_of_a_name_of_that_spelling : goal.returns-clause-conversion_of_a_name_of_that_spelling
 returns-clause-conversion_of_a_name_of_that_spelling c = refl
 
@@ -528,6 +531,9 @@ returns-clause-shorthand_of_an_operator c = refl
 
 pub returns-clause-strict_arrow : goal.returns-clause-strict_arrow
 returns-clause-strict_arrow c = refl
+
+pub returns-clause-strict_default_export_with_a_pattern : goal.returns-clause-strict_default_export_with_a_pattern
+returns-clause-strict_default_export_with_a_pattern c = refl
 
 pub returns-clause-strict_rest : goal.returns-clause-strict_rest
 returns-clause-strict_rest c = refl

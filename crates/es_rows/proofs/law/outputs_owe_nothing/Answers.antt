@@ -14,6 +14,12 @@ returns-clause-block_of_an_arrow c = (refl, refl, lowered refl, refl)
 pub returns-clause-class_named_await : goal.returns-clause-class_named_await
 returns-clause-class_named_await c = (refl, refl, lowered refl, refl)
 
+pub returns-clause-class_named_by_a_key_of_an_object : goal.returns-clause-class_named_by_a_key_of_an_object
+returns-clause-class_named_by_a_key_of_an_object c = (refl, refl, lowered refl, refl)
+
+pub returns-clause-class_named_by_a_number_of_an_object : goal.returns-clause-class_named_by_a_number_of_an_object
+returns-clause-class_named_by_a_number_of_an_object c = (refl, refl, lowered refl, refl)
+
 pub returns-clause-class_that_suspends : goal.returns-clause-class_that_suspends
 returns-clause-class_that_suspends c = (refl, refl, lowered refl, refl)
 
