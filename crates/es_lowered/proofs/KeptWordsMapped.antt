@@ -3,12 +3,12 @@ use Rattle.std.specs.Prelude.{◌≡◌, ℕ, suc, Bool, ◌&&◌, ◌||◌}
 use Rattle.std.proofs.Common.{refl, ap, ap₂, ◌∙◌}
 use Rattle.es_base.specs.Tree.{Tree, Part, Parts, Node, end, more, child, list}
 use Rattle.es_base.specs.declared.kind.Kind.{Kind}
-use Rattle.es_lowered.specs.KeptWords.{is_this_name, same_name, same_word, same_words, is_free, keeps_computed, keeps_words}
+use Rattle.es_lowered.specs.KeptWords.{is_this_name, same_name, same_word, same_words, is_free, keeps_computed, keeps_value, keeps_words}
 use Rattle.es_lowered.proofs.HelperCallsMapped.{is_number_at-mapped}
 use Rattle.es_steps.specs.Parts.{at, string_of}
 use Rattle.es_steps.specs.Values.{String}
 use Rattle.es_steps.proofs.Mapped.{mapped, mapped_part, mapped_parts}
-use Rattle.es_steps.proofs.PartsMapped.{is_true_at-mapped, string_at-mapped}
+use Rattle.es_steps.proofs.PartsMapped.{at-mapped, is_present_at-mapped, is_true_at-mapped, string_at-mapped}
 
 module _ (f : ℕ → ℕ) where
   is_this_name-mapped : (s : String) (t : Tree) → is_this_name s (mapped f t) ≡ is_this_name s t
@@ -39,5 +39,9 @@ module _ (f : ℕ → ℕ) where
   keeps_computed-mapped Kind.Property ps qs = rw (is_true_at-mapped f 5 ps, is_true_at-mapped f 5 qs, is_number_at-mapped f ps) refl
   keeps_computed-mapped kind ps qs = refl
 
+  keeps_value-mapped : (kind : Kind) (ps qs : Parts) → keeps_value kind (mapped_parts f ps) (mapped_parts f qs) ≡ keeps_value kind ps qs
+  keeps_value-mapped Kind.PropertyDefinition ps qs = rw (is_present_at-mapped f 1 ps, at-mapped f 1 ps, at-mapped f 1 qs, same_word-mapped (at 1 ps) (at 1 qs), is_true_at-mapped f 3 ps) refl
+  keeps_value-mapped kind ps qs = refl
+
   pub keeps_words-mapped : (kind : Kind) (ps qs : Parts) → keeps_words kind (mapped_parts f ps) (mapped_parts f qs) ≡ keeps_words kind ps qs
-  keeps_words-mapped kind ps qs = ap₂ (λ a b. a && b) (same_words-mapped (is_free kind) ps qs) (keeps_computed-mapped kind ps qs)
+  keeps_words-mapped kind ps qs = rw (same_words-mapped (is_free kind) ps qs, keeps_computed-mapped kind ps qs, keeps_value-mapped kind ps qs) refl

@@ -4,7 +4,7 @@ use Rattle.std.specs.Prelude.{ℕ, suc, Bool, true, false, not, ◌&&◌, ◌||�
 use Rattle.es_base.specs.Tree.{Tree, Part, Parts, Node, end, more, child, absent, list, string, no_string, boolean, literal}
 use Rattle.es_base.specs.declared.kind.Kind.{Kind}
 use Rattle.es_lowered.specs.HelperCalls.{is_number_key}
-use Rattle.es_steps.specs.Parts.{at, is_true, string_of}
+use Rattle.es_steps.specs.Parts.{at, is_true, is_present, string_of}
 use Rattle.es_steps.specs.SameValues.{same_boolean}
 use Rattle.es_steps.specs.Values.{String}
 
@@ -35,7 +35,7 @@ same_words is_free (more p ps) (more q qs) = (is_free 0 || same_word p q) && sam
 same_words is_free ps qs = false
 
 -- what a lowering changes: a name, which `carries` and `homes` tell of; the name of a class; `?.`; the operator of an assignment;
--- `{ a }`; whether the key of a field or a property is computed; what an export declares
+-- `{ a }`; whether the key of a field or a property is computed; the value of a static field without one; what an export declares
 abbrev pub is_free : Kind → ℕ → Bool
 is_free Kind.IdentifierReference i = nat_eq i 0
 is_free Kind.BindingIdentifier i = nat_eq i 0
@@ -48,7 +48,7 @@ is_free Kind.AssignmentExpression i = nat_eq i 0
 is_free Kind.Property i = nat_eq i 4 || nat_eq i 5
 is_free Kind.BindingProperty i = nat_eq i 4
 is_free Kind.AssignmentTargetProperty i = nat_eq i 4
-is_free Kind.PropertyDefinition i = nat_eq i 2
+is_free Kind.PropertyDefinition i = nat_eq i 1 || nat_eq i 2
 is_free Kind.ExportNamedDeclaration i = nat_eq i 0
 is_free kind i = false
 
@@ -58,5 +58,10 @@ keeps_computed Kind.PropertyDefinition ps qs = not (is_true (at 2 ps)) || is_tru
 keeps_computed Kind.Property ps qs = same_boolean (is_true (at 5 ps)) (is_true (at 5 qs)) || (is_number_key (at 0 ps) && is_true (at 5 qs))
 keeps_computed kind ps qs = true
 
+-- a static field that had no value may get one, as where static blocks run in it
+abbrev pub keeps_value : Kind → Parts → Parts → Bool
+keeps_value Kind.PropertyDefinition ps qs = same_word (at 1 ps) (at 1 qs) || (is_true (at 3 ps) && not (is_present (at 1 ps)))
+keeps_value kind ps qs = true
+
 abbrev pub keeps_words : Kind → Parts → Parts → Bool
-keeps_words kind ps qs = same_words (is_free kind) ps qs && keeps_computed kind ps qs
+keeps_words kind ps qs = same_words (is_free kind) ps qs && (keeps_computed kind ps qs && keeps_value kind ps qs)

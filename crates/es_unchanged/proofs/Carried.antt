@@ -1,5 +1,5 @@
 -- A node that stands in the source stands for itself.
-use Rattle.std.specs.Prelude.{◌≡◌, ℕ, zero, suc, List, [], ◌∷◌, Bool, true, false, not, ◌&&◌, ◌||◌, nat_eq, Option, Some, None}
+use Rattle.std.specs.Prelude.{◌≡◌, ℕ, suc, List, [], ◌∷◌, Bool, true, false, not, ◌&&◌, ◌||◌, nat_eq, Option}
 use Rattle.std.proofs.Common.{refl}
 use Rattle.es_base.specs.Numbered.{is_new}
 use Rattle.es_base.specs.Preorder.{number_of}
@@ -8,9 +8,9 @@ use Rattle.es_base.specs.declared.kind.Kind.{Kind}
 use Rattle.es_left.proofs.Booleans.{both}
 use Rattle.es_lowered.specs.Carriers.{OddForm, calls_eval, calls_private, deletes_private, deletes_name, takes_odd_parameters, declares_oddly, gives_value, has_odd_body, gives_prototype, is_shorthand, exports_oddly, no_odd_form, odd_form, keeps_form, is_call_of, may_question, has_question, carries, stands_for_node, is_carried}
 use Rattle.es_lowered.specs.HelperCalls.{is_number_key}
-use Rattle.es_lowered.specs.KeptWords.{same_name, same_word, same_words, is_free, keeps_computed, keeps_words}
+use Rattle.es_lowered.specs.KeptWords.{same_name, same_word, same_words, is_free, keeps_computed, keeps_value, keeps_words}
 use Rattle.es_steps.proofs.Reflexive.{number-same, string-same}
-use Rattle.es_steps.specs.Parts.{at, is_true, string_of}
+use Rattle.es_steps.specs.Parts.{at, is_true, is_present, string_of}
 use Rattle.es_steps.specs.References.{is_reference}
 use Rattle.es_steps.specs.SameTrees.{kind_number}
 use Rattle.es_steps.specs.SameValues.{same_boolean}
@@ -75,9 +75,13 @@ computed-same Kind.Property ps = or_left (same_boolean (is_true (at 5 ps)) (is_t
     itself false = refl
 computed-same kind ps = refl
 
+value-same : (kind : Kind) (ps : Parts) → keeps_value kind ps ps ≡ true
+value-same Kind.PropertyDefinition ps = or_left (same_word (at 1 ps) (at 1 ps)) (is_true (at 3 ps) && not (is_present (at 1 ps))) (word-same (at 1 ps))
+value-same kind ps = refl
+
 carries-itself : (kind : Kind) (ps : Parts) → carries kind ps kind ps ≡ true
 carries-itself Kind.IdentifierReference ps = rw (string-same (string_of (at 0 ps))) refl
-carries-itself kind ps = rw (number-same (kind_number kind), words-same (is_free kind) ps, computed-same kind ps) (both (stays (odd_form kind ps)) (asked-or-not kind ps))
+carries-itself kind ps = rw (number-same (kind_number kind), words-same (is_free kind) ps, computed-same kind ps, value-same kind ps) (both (stays (odd_form kind ps)) (asked-or-not kind ps))
 
 stands-for : (kind : Kind) (n : ℕ) (span : Option (ℕ × ℕ)) (semantic_id : Option ℕ) (ps : Parts) (us : List Tree) → In (Node kind n span semantic_id ps) us → stands_for_node kind n ps us ≡ true
 stands-for kind n span semantic_id ps [] i = elim i [ ]
