@@ -1,5 +1,5 @@
 -- A code in a list is smaller than the list.
-use Rattle.std.proofs.Common.{◌≡◌, ℕ, zero, suc, ◌+◌, ◌<◌, List, [], ◌∷◌, length, get_or, arith}
+use Rattle.std.proofs.Common.{ℕ, zero, suc, ◌<◌, List, [], ◌∷◌, length, get_or, arith}
 use Rattle.es_codes.specs.CodeView.{code_of, codes_of}
 use Rattle.es_codes.specs.declared.code.Code.{Code}
 use Rattle.es_opening.specs.Size.{size, sizes}

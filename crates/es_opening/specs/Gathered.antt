@@ -1,5 +1,5 @@
 -- The codes in a code that assign or define, in order.
-use Rattle.std.specs.Prelude.{List, [], ◌∷◌, map}
+use Rattle.std.specs.Prelude.{List, [], ◌∷◌, ◌++◌, map}
 use Rattle.std.proofs.Common.{Bor}
 use Rattle.es_codes.specs.CodeView.{code_of}
 use Rattle.es_codes.specs.declared.code.Code as declared
@@ -20,6 +20,11 @@ callee_gathered f = gather_callee single f
 
 abbrev pub all_gathered : Codes → List Code
 all_gathered cs = gather_all single cs
+
+-- what these codes add
+abbrev pub added_by : {A : Type 0} → (Code → List A) → List Code → List A
+added_by own [] = []
+added_by own (c ∷ cs) = own c ++ added_by own cs
 
 -- what code refers to, as definitions see it
 abbrev pub codes_seen : List (Bor declared.Code) → List Code

@@ -21,13 +21,17 @@ pub fn gather<'a>(code: &'a Code, codes: &mut Vec<&'a Code>) -> Result<(), Alloc
         Code::LogicalAssign { to, right, .. } => gather_assigned(code, to, right, codes),
         Code::Update { to, .. } => gather_updated(code, to, codes),
         Code::Class {
-            heritage, elements, ..
+            heritage,
+            elements,
+            ..
         } => gather_class(code, heritage, elements, codes),
         Code::PrivateMethod { function, .. } => gather_owner(code, function, codes),
         Code::GiveFunction { function, .. } => gather_owner(code, function, codes),
         Code::GeneratedElement { right, .. } => gather_owner(code, right, codes),
         Code::CallArrow {
-            body, arguments, ..
+            body,
+            arguments,
+            ..
         } => gather_arrow(code, body, arguments, codes),
         Code::Rest { to } => gather_target(to, codes),
         Code::Pattern { to, .. } => gather_target(to, codes),
@@ -53,13 +57,19 @@ pub fn gather<'a>(code: &'a Code, codes: &mut Vec<&'a Code>) -> Result<(), Alloc
         Code::Setter { object, .. } => gather(object.get(), codes),
         Code::GiveClass { expression, .. } => gather(expression.get(), codes),
         Code::Call {
-            callee, arguments, ..
+            callee,
+            arguments,
+            ..
         } => gather_call(callee, arguments, codes),
         Code::Tag {
-            callee, arguments, ..
+            callee,
+            arguments,
+            ..
         } => gather_call(callee, arguments, codes),
         Code::Construct {
-            callee, arguments, ..
+            callee,
+            arguments,
+            ..
         } => gather_construct(callee, arguments, codes),
         Code::SuperCall { arguments, .. } => gather_all(arguments.as_slice(), codes),
         Code::Sequence { all } => gather_all(all.as_slice(), codes),
@@ -77,10 +87,14 @@ pub fn gather<'a>(code: &'a Code, codes: &mut Vec<&'a Code>) -> Result<(), Alloc
         } => gather_tested(object, again, rest, codes),
         Code::Takes { key, to, .. } => gather_takes(key, to, codes),
         Code::Function {
-            parameters, body, ..
+            parameters,
+            body,
+            ..
         } => gather_function(parameters, body, codes),
         Code::NewFunction {
-            parameters, body, ..
+            parameters,
+            body,
+            ..
         } => gather_function(parameters, body, codes),
         Code::Nothing => Ok(()),
         Code::NoRule => Ok(()),

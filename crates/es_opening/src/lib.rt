@@ -2,4 +2,5 @@
 //! where it stands.
 #![tactic(auto)]
 
+pub mod assigned;
 pub mod gather;
