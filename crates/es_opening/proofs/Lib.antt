@@ -1,0 +1,4 @@
+pub mod Added
+pub mod Appended
+pub mod AssignedForms
+pub mod Sizes
