@@ -828,6 +828,9 @@ const witnesses = [
   clause('conversion_of_a_key_of_an_object_left_out', 'a key of an object that is converted twice, where it is and where it names the value', { options: ['--static-block'], source: '({ [k()]: class { static { f(1); } } });',
     output: 'var _staticBlock; let _key; ({ [_key = B.toPropertyKey(k())]: (((_name, _object) => _object[_name])(_key, { [_key]: class { static #_ = _staticBlock = () => (f(1), this); } }), _staticBlock()) });' }, q => { const p = found(q, n => n.type === 'Property'); const c = p.key.right; p.key.right = c.arguments[0]; }),
   clause('strict_default_export_with_a_pattern', 'a directive in a default export without a name whose parameter is a pattern', { options: ['--static-block'], type: 'module', source: 'export default function ([a]) { class A { static { f(1); } } }', output: 'export default function ([a]) { class A { static #_ = f(1); } }', numbers: { 9: 999, 10: 999 } }, q => { found(q, n => n.type === 'FunctionDeclaration').body.body.unshift(statement(q, '"use strict";')); }, [{ name: '_', kind: 'Private', number: 6 }]),
+  right('static_field_that_takes_a_block', 'a static field without a value, which gets one where a static block runs', { options: ['--static-block'], source: 'class A { static { f(1); } static x; }', output: 'class A { static x = (f(1), void 0); }' }, q => {}, []),
+  right('template_that_is_copied', 'a template without expressions as a key that is read and written', { options: ['--class-properties'], source: 'class A extends P { static x = super[`k`] += 1; }',
+    output: 'var _A; class A extends P {} _A = A; B.defineProperty(A, "x", B.superPropSet(_A, `k`, B.superPropGet(_A, `k`, _A) + 1, _A, 1));' }, q => {}),
 ];
 
 // a row that `match.js` has no reading of; `numbers` are those that differ from the place in preorder

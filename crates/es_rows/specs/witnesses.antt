@@ -346,6 +346,7 @@ pub mod StatementsOfACaseExchanged
 pub mod StaticConstructor
 pub mod StaticFieldBeforeItsClass
 pub mod StaticFieldDropped
+pub mod StaticFieldThatTakesABlock
 pub mod StaticGetterOrMethod
 pub mod StaticKeyReadLate
 pub mod StaticPrivateMethodOfAnotherClass
@@ -372,6 +373,7 @@ pub mod SuspendingConstructor
 pub mod TagOfAPrivateElement
 pub mod TailOfATemplate
 pub mod TemplateKey
+pub mod TemplateThatIsCopied
 pub mod TemporaryGivenAgain
 pub mod TemporaryGivenAgainInABranch
 pub mod TemporaryGivenAgainInALoop

@@ -62,6 +62,9 @@ returns-clause-regular_expression_as_a_key c = (refl, refl, lowered refl, refl)
 pub returns-clause-regular_expression_as_a_static_key : goal.returns-clause-regular_expression_as_a_static_key
 returns-clause-regular_expression_as_a_static_key c = (refl, refl, lowered refl, refl)
 
+pub returns-clause-static_field_that_takes_a_block : goal.returns-clause-static_field_that_takes_a_block
+returns-clause-static_field_that_takes_a_block c = (refl, refl, lowered refl, refl)
+
 pub returns-clause-static_private_method_that_reads_a_field : goal.returns-clause-static_private_method_that_reads_a_field
 returns-clause-static_private_method_that_reads_a_field c = (refl, refl, lowered refl, refl)
 
@@ -70,6 +73,9 @@ returns-clause-strict_function_of_a_method c = (refl, refl, lowered refl, refl)
 
 pub returns-clause-string_in_parentheses : goal.returns-clause-string_in_parentheses
 returns-clause-string_in_parentheses c = (refl, refl, lowered refl, refl)
+
+pub returns-clause-template_that_is_copied : goal.returns-clause-template_that_is_copied
+returns-clause-template_that_is_copied c = (refl, refl, lowered refl, refl)
 
 pub returns-clause-tested_name_of_a_class : goal.returns-clause-tested_name_of_a_class
 returns-clause-tested_name_of_a_class c = (refl, refl, lowered refl, refl)
