@@ -1,0 +1,3 @@
+mod CodeForms
+mod Listing
+mod Written

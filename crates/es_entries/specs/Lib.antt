@@ -1,0 +1,4 @@
+pub mod Constructors
+pub mod Lists
+pub mod Methods
+pub mod Parameters

@@ -1,0 +1,8 @@
+//! What entries of functions and classes are made of: parameters, constructors, methods, lists with their values.
+#![tactic(auto)]
+
+pub mod constructor;
+pub mod form;
+pub mod listed;
+pub mod method;
+pub mod parameter;
