@@ -1,0 +1,2 @@
+pub mod AroundParts
+pub mod ListHeads

@@ -1,0 +1,5 @@
+pub mod PlacesAround
+pub mod PlacesByKind
+pub mod PrivateReads
+pub mod SteadyKinds
+pub mod TouchesAround
