@@ -96,7 +96,8 @@ fn is_written_literal(is_new: bool, source: &Written, node: &Node) -> bool
 {
     let value = LiteralRef::from_node(node).value;
     if is_new {
-        is_plain(value) || (is_literal_among(node.parts(), source.indexed.nodes) && !is_not_copied(value))
+        is_plain(value)
+            || (is_literal_among(node.parts(), source.indexed.nodes) && !is_not_copied(value))
     } else {
         source.stands_equal(node)
     }
