@@ -1,5 +1,5 @@
-// A node that one sort of node alone may hold stays in the node that it is in, and what a function's words let it be, as
-// `yield` and `await`, in the body of its function.
+// A node that one sort of node alone may hold stays in the node that it is in; what depends on its function, as `yield` and
+// `await`, stays in the body of that; and the body of a function stays one.
 
 ghost use Rattle.std.specs.Prelude.{◌≡◌, ◌++◌, [], ◌∷◌, cond, IfOk, OnOk};
 ghost use Rattle.es_base.specs.Tree.{nullable, nullable_trees, trees};

@@ -84,7 +84,9 @@ pub fn depends_on_function(kind: Kind, parts: &[Part]) -> bool
     match kind {
         // let: a;
         Kind::LabeledStatement => is_word_elsewhere(name_at(parts, 0)),
+        // await a
         Kind::AwaitExpression => true,
+        // yield a
         Kind::YieldExpression => true,
         // for await (a of b) {}
         Kind::ForOfStatement => is_true_at(parts, 3),
@@ -131,6 +133,7 @@ pub fn parameters_around(in_parameters: bool, kind: Kind, i: usize) -> bool
     match kind {
         // function f(a) {}
         Kind::FunctionDeclaration => i == 1,
+        // (function (a) {})
         Kind::FunctionExpression => i == 1,
         // (a) => a
         Kind::ArrowFunctionExpression => i == 0,

@@ -119,6 +119,7 @@ pub fn named_by(kind: Kind) -> bool
     )
 }
 
+/// Whether it is a reference, as `a`.
 pub fn is_reference(kind: Kind) -> bool
     ensures { result ≡ is_reference kind }
 {
