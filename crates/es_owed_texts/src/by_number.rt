@@ -2,7 +2,7 @@
 
 ghost use Rattle.std.specs.Prelude.{◌≡◌, ℕ, [], Some, cond, nat_eq, option_map, OnOk};
 ghost use Rattle.es_node.specs.View.{number_in};
-ghost use Rattle.es_owed_texts.specs.Written.{node_of};
+ghost use Rattle.es_owed_texts.specs.Indexed.{node_of};
 
 use es_node::node::Node;
 use indexmap::IndexMap;

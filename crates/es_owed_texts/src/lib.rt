@@ -4,6 +4,7 @@
 
 pub mod by_number;
 pub mod characters;
+pub mod indexed;
 pub mod literals;
 pub mod texts;
 pub mod written;

@@ -42,7 +42,7 @@ pub fn texts_stay(
 }
 
 fn all_have_their_texts(first: u32, source: &Written, nodes: &[&Node]) -> bool
-    ensures { result ≡ all_have_their_texts first (seen source.now.nodes.now) (seen nodes.now) }
+    ensures { result ≡ all_have_their_texts first (seen source.now.indexed.nodes.now) (seen nodes.now) }
 {
     for node in nodes {
         if !has_its_text(first, source, node) {
@@ -55,7 +55,7 @@ fn all_have_their_texts(first: u32, source: &Written, nodes: &[&Node]) -> bool
 /// Whether the node is written as it was, or as a new one may be.
 #[tactic(auto, using(crate::proofs::WrittenNodes::literal_text, crate::proofs::WrittenNodes::template_text, crate::proofs::WrittenNodes::statement_text, crate::proofs::WrittenNodes::private_text, crate::proofs::WrittenNodes::other_text))]
 fn has_its_text(first: u32, source: &Written, node: &Node) -> bool
-    ensures { result ≡ has_its_text first (seen source.now.nodes.now) node.now }
+    ensures { result ≡ has_its_text first (seen source.now.indexed.nodes.now) node.now }
 {
     let is_new = is_new(first, node.node_id().0);
     match node.kind() {
@@ -64,7 +64,7 @@ fn has_its_text(first: u32, source: &Written, node: &Node) -> bool
         // `a`
         Kind::TemplateElement => {
             if is_new {
-                is_string_among(node.parts(), source.nodes)
+                is_string_among(node.parts(), source.indexed.nodes)
             } else {
                 source.stands_equal(node)
             }
@@ -92,11 +92,12 @@ fn has_its_text(first: u32, source: &Written, node: &Node) -> bool
 #[tactic(auto, using(crate::proofs::WrittenNodes::written_node))]
 fn is_written_literal(is_new: bool, source: &Written, node: &Node) -> bool
     requires { kind_of node.now ≡ Kind.Literal }
-    ensures { result ≡ is_written_literal is_new (seen source.now.nodes.now) node.now }
+    ensures { result ≡ is_written_literal is_new (seen source.now.indexed.nodes.now) node.now }
 {
     let value = LiteralRef::from_node(node).value;
     if is_new {
-        is_plain(value) || (is_literal_among(node.parts(), source.nodes) && !is_not_copied(value))
+        is_plain(value)
+            || (is_literal_among(node.parts(), source.indexed.nodes) && !is_not_copied(value))
     } else {
         source.stands_equal(node)
     }
@@ -114,14 +115,14 @@ fn is_directive(statement: &Node) -> bool
 
 /// Whether a new name has the characters that it may have, the first where a name may begin with it.
 fn is_new_name(source: &Written, name: &str) -> bool
-    ensures { result ≡ is_new_name (seen source.now.nodes.now) (chars name.now) }
+    ensures { result ≡ is_new_name (seen source.now.indexed.nodes.now) (chars name.now) }
 {
     are_characters(source, name) && is_beginning(source, name)
 }
 
 /// Whether a new name begins with a character of ASCII, or as a name of the source.
 fn is_beginning(source: &Written, name: &str) -> bool
-    ensures { result ≡ is_beginning (seen source.now.nodes.now) (chars name.now) }
+    ensures { result ≡ is_beginning (seen source.now.indexed.nodes.now) (chars name.now) }
 {
     match split_first(name) {
         Some((first, _)) => first <= '\u{7f}' || source.beginnings.has(first),
@@ -131,7 +132,7 @@ fn is_beginning(source: &Written, name: &str) -> bool
 
 /// Whether the characters of a new name are of ASCII, or stand in names of the source.
 fn are_characters(source: &Written, name: &str) -> bool
-    ensures { result ≡ are_characters (seen source.now.nodes.now) (chars name.now) }
+    ensures { result ≡ are_characters (seen source.now.indexed.nodes.now) (chars name.now) }
 {
     let mut rest = name;
     while let Some((first, behind)) = split_first(rest) {

@@ -1,6 +1,6 @@
 use Rattle.std.proofs.Common.{◌∙◌, ap, cond, nat_eq, Some}
 use Rattle.es_node.specs.View.{number_in}
-use Rattle.es_owed_texts.specs.Written.{node_of}
+use Rattle.es_owed_texts.specs.Indexed.{node_of}
 use Rattle.es_owed_texts.proofs.Lookups.{inserted, viewed}
 use Rattle.es_owed_texts.proofs.by_number.ByNumber.add.Goals as goal
 

@@ -1,7 +1,7 @@
 use Rattle.std.proofs.Common.{◌∙◌, ap, Bor}
 use Rattle.std.specs.Prelude.{option_map}
 use Rattle.es_base.specs.Tree.{Tree}
-use Rattle.es_owed_texts.specs.Written.{node_of}
+use Rattle.es_owed_texts.specs.Indexed.{node_of}
 use Rattle.es_owed_texts.proofs.Lookups.{looked_up}
 use Rattle.es_owed_texts.proofs.by_number.ByNumber.get.Goals as goal
 

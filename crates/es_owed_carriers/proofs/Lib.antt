@@ -1,0 +1,7 @@
+pub mod BoundKinds
+pub mod BoundNodes
+pub mod CarriedNodes
+pub mod KeptParts
+pub mod OddForms
+pub mod PairSets
+pub mod Optional
