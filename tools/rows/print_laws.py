@@ -108,6 +108,7 @@ NOT_MET = {
     'directive_behind_a_name': PRINTABLE,
     'strict_default_export_with_a_pattern': PRINTED,
     'conversion_of_a_key_of_an_object_left_out': CALLS,
+    'conversion_of_arguments_elsewhere': CALLS,
     'strict_rest': PRINTABLE,
     'name_without_a_sign': NAMED,
     'conversion_of_no_key': CALLS,
@@ -310,7 +311,7 @@ SHAPES = {'regular_expression_before_a_heritage': ('1 ∷ []', '[]'), 'changing_
 # outputs that mean what their sources mean
 RIGHT = ('private_name_beside_a_name', 'branch_of_a_key', 'class_in_a_case', 'key_of_a_binding_for_a_name', 'function_named_by_an_element')
 # outputs that owe nothing either
-OWING_NOTHING = ('number_as_a_key', 'static_field_that_takes_a_block', 'template_that_is_copied', 'class_named_by_a_key_of_an_object', 'class_named_by_a_number_of_an_object', 'class_with_the_name_of_a_prototype', 'tested_name_of_a_class', 'block_of_a_binding', 'own_name_that_nothing_means', 'strict_function_of_a_method', 'block_of_an_arrow', 'class_named_await', 'class_that_suspends', 'classes_that_suspend', 'nameless_class_that_suspends', 'string_in_parentheses', 'directive_with_an_escape', 'hexadecimal_bigint', 'let_in_front_of_a_function', 'private_method_that_reads_a_field', 'private_method_that_reads_itself', 'static_private_method_that_reads_a_field', 'map_in_front_of_a_key_that_asks', 'arrow_that_names_await', 'regular_expression_as_a_key', 'regular_expression_as_a_static_key')
+OWING_NOTHING = ('number_as_a_key', 'method_around_a_class_without_elements', 'static_field_that_takes_a_block', 'template_that_is_copied', 'class_named_by_a_key_of_an_object', 'class_named_by_a_number_of_an_object', 'class_with_the_name_of_a_prototype', 'tested_name_of_a_class', 'block_of_a_binding', 'own_name_that_nothing_means', 'strict_function_of_a_method', 'block_of_an_arrow', 'class_named_await', 'class_that_suspends', 'classes_that_suspend', 'nameless_class_that_suspends', 'string_in_parentheses', 'directive_with_an_escape', 'hexadecimal_bigint', 'let_in_front_of_a_function', 'private_method_that_reads_a_field', 'private_method_that_reads_itself', 'static_private_method_that_reads_a_field', 'map_in_front_of_a_key_that_asks', 'arrow_that_names_await', 'regular_expression_as_a_key', 'regular_expression_as_a_static_key')
 # wrong outputs that have a meaning, and those of programs whose parameters come before their fields
 OTHER = ('branch_of_a_key_of_another', 'elements_dropped', 'static_field_dropped', 'block_dropped', 'block_behind_a_kept_field', 'read_moved', 'import_read_early', 'statements_of_a_case_exchanged', 'statement_of_another_case', 'arrow_moved_into_parameters', 'functions_of_a_block_exchanged', 'default_function_expression', 'let_out_of_a_head', 'class_of_a_head', 'class_of_a_right_side', 'conversions_of_a_template', 'let_beside_a_caught_name', 'arguments_of_a_function_around', 'question_for_another_field', 'regular_expression_of_another_argument', 'regular_expressions_exchanged')
 AFTER = ('field_behind_parameters_dropped', 'field_behind_parameters_doubled', 'fields_behind_parameters_exchanged', 'another_literal_behind_parameters')

@@ -831,6 +831,9 @@ const witnesses = [
   right('static_field_that_takes_a_block', 'a static field without a value, which gets one where a static block runs', { options: ['--static-block'], source: 'class A { static { f(1); } static x; }', output: 'class A { static x = (f(1), void 0); }' }, q => {}, []),
   right('template_that_is_copied', 'a template without expressions as a key that is read and written', { options: ['--class-properties'], source: 'class A extends P { static x = super[`k`] += 1; }',
     output: 'var _A; class A extends P {} _A = A; B.defineProperty(A, "x", B.superPropSet(_A, `k`, B.superPropGet(_A, `k`, _A) + 1, _A, 1));' }, q => {}),
+  clause('conversion_of_arguments_elsewhere', 'a conversion of the `arguments` of another method, with the number of a key that is `arguments`', { options: ['--static-block'], source: 'class A { static { f(1); } m() { g({ [arguments]: 1 }); } n() {} }', output: 'class A { static #_ = f(1); m() { g({ [arguments]: 1 }); } n() {} }', numbers: { 4: 999, 5: 999 } },
+    q => { const key = found(q, n => n.type === 'Property').key, s = statement(q, 'B.toPropertyKey(arguments);'), fresher = s.expression.arguments[0]; [key.num, fresher.num] = [fresher.num, key.num]; methodOf(q, 'n').push(s); }, [{ name: '_', kind: 'Private', number: 1 }]),
+  right('method_around_a_class_without_elements', 'a private method that holds a class of which no element is left', { options: ['--class-properties'], source: 'class O { static #m() { class Q { static w = 1; } } static n() { O.#m(); } }', output: 'class O { static n() { _m.call(O); } } function _m() { class Q {} B.defineProperty(Q, "w", 1); }' }, q => {}),
 ];
 
 // a row that `match.js` has no reading of; `numbers` are those that differ from the place in preorder

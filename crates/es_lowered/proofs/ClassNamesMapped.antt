@@ -241,7 +241,7 @@ module _ {first : ℕ} {f : ℕ → ℕ} (r : Renames first f) where
 
   functions_outside-mapped : (ledger : List LedgerEntry) (q : Tree) (n : ℕ) → functions_outside (mapped_ledger f ledger) (mapped f q) (f n) ≡ map (mapped_function f) (functions_outside ledger q n)
   functions_outside-mapped ledger q n =
-      rw (preorder-mapped f q, numbers_inside-mapped n (preorder q), moved_functions-mapped f ledger (preorder q)) (outside_class-mapped (numbers_inside n (preorder q)) (moved_functions ledger (preorder q)))
+      rw (preorder-mapped f q, numbers_inside-mapped n (preorder q), moved_functions-mapped f ledger (preorder q)) (outside_class-mapped (n ∷ numbers_inside n (preorder q)) (moved_functions ledger (preorder q)))
 
   asked_references-mapped : (ledger : List LedgerEntry) (q : Tree) (n : ℕ) (fs : List MovedFunction) (names : List ℕ) → asked_references (mapped_ledger f ledger) (mapped f q) (f n) (map (mapped_function f) fs) (map f names) ≡ map f (asked_references ledger q n fs names)
   asked_references-mapped ledger q n fs names =

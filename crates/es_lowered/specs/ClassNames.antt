@@ -114,7 +114,7 @@ abbrev pub any_among : List ℕ → List ℕ → Bool
 any_among ns [] = false
 any_among ns (m ∷ ms) = has_number m ns || any_among ns ms
 
--- those outside of the class
+-- those outside of the class, of which none holds it
 abbrev pub outside_class : List ℕ → List MovedFunction → List MovedFunction
 outside_class inside [] = []
 outside_class inside (f ∷ fs) = cond (any_among inside f.numbers) [] (f ∷ []) ++ outside_class inside fs
@@ -204,7 +204,7 @@ asked_names first ledger p q n =
     without (kept_places first n p q names (free_naming (class_runs n (preorder q)) n (preorder p) (preorder q) names)) (naming n ledger (resolve q) (class_identifiers first n (preorder q)) (preorder q))
 
 abbrev pub functions_outside : List LedgerEntry → Tree → ℕ → List MovedFunction
-functions_outside ledger q n = outside_class (numbers_inside n (preorder q)) (moved_functions ledger (preorder q))
+functions_outside ledger q n = outside_class (n ∷ numbers_inside n (preorder q)) (moved_functions ledger (preorder q))
 
 -- with those to functions that read them, but what stands in such a function, or in an element of the class
 abbrev pub asked_references : List LedgerEntry → Tree → ℕ → List MovedFunction → List ℕ → List ℕ

@@ -1,12 +1,13 @@
 -- What nodes say by themselves, part by part.
 use Rattle.std.proofs.Common.{◌≡◌, refl, sym, ap, ◌∙◌, ℕ, suc, ◌+◌, List, [], ◌∷◌, length, Bool, true, false, ◌&&◌, ◌||◌, arith}
-use Rattle.std.specs.Prelude.{bytes_eq}
+use Rattle.std.specs.Prelude.{bytes_eq, not}
 use Rattle.es_base.specs.Tree.{Tree, Part, Parts, Node, end, more, child, absent, list, string, no_string, boolean, literal}
 use Rattle.es_base.specs.declared.kind.Kind.{Kind}
 use Rattle.es_lowered.specs.HelperCalls.{is_number_key}
-use Rattle.es_lowered.specs.KeptWords.{is_free, is_this_name, keeps_computed, same_name, same_word, same_words}
+use Rattle.es_lowered.specs.KeptWords.{is_free, is_this_name, keeps_computed, keeps_value, same_name, same_word, same_words}
 use Rattle.es_node.specs.View.{kind_of, part_of, parts_of}
 use Rattle.es_node.specs.declared.node.Part as code
+use Rattle.es_steps.specs.Parts.{is_present}
 use Rattle.es_steps.specs.Printable.{name_of_part}
 use Rattle.es_steps.specs.SameTrees.{same_part}
 use Rattle.es_owed_carriers.specs.Words.{words_from}
@@ -119,3 +120,15 @@ no_computed_key kind ps qs a b = refl
 pub no_literal : (t : Tree) → (kind_of t ≡ Kind.Literal → ⊥) → is_number_key (child t) ≡ false
 no_literal (Node Kind.Literal m span semantic_id ps) other = absurd (other refl)
 no_literal (Node kind m span semantic_id ps) other = refl
+
+pub no_field : (kind : Kind) (ps qs : Parts) → (kind ≡ Kind.PropertyDefinition → ⊥) → keeps_value kind ps qs ≡ true
+no_field Kind.PropertyDefinition ps qs a = absurd (a refl)
+no_field kind ps qs a = refl
+
+pub word_of_nothing : (p : Part) → same_word absent p ≡ not (is_present p)
+word_of_nothing absent = refl
+word_of_nothing p = refl
+
+pub word_is_nothing : (p : Part) → same_word p absent ≡ not (is_present p)
+word_is_nothing absent = refl
+word_is_nothing p = refl

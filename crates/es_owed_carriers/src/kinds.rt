@@ -40,6 +40,8 @@ pub fn is_made(kind: Kind) -> bool
         | Kind::MemberExpression
         | Kind::ObjectExpression
         | Kind::PrivateField
+        | Kind::TemplateElement
+        | Kind::TemplateLiteral
         | Kind::ThisExpression => true,
         // operations
         Kind::AssignmentExpression

@@ -1,13 +1,13 @@
 // What a node says by itself stays: its strings and flags, and which of its parts are there.
 
-ghost use Rattle.std.specs.Prelude.{◌≡◌, ◌||◌, ◌&&◌, []};
+ghost use Rattle.std.specs.Prelude.{◌≡◌, ◌||◌, ◌&&◌, not, []};
 ghost use Rattle.std.specs.Str.{chars};
 ghost use Rattle.es_base.specs.Tree.{child, list, trees};
 ghost use Rattle.es_lowered.specs.HelperCalls.{is_number_key};
 ghost use Rattle.es_lowered.specs.KeptWords as spec;
-ghost use Rattle.es_lowered.specs.KeptWords.{is_this_name, keeps_computed, same_name, same_word};
+ghost use Rattle.es_lowered.specs.KeptWords.{is_this_name, keeps_computed, keeps_value, same_name, same_word};
 ghost use Rattle.es_node.specs.View.{part_of, parts_of};
-ghost use Rattle.es_steps.specs.Parts.{at, is_true};
+ghost use Rattle.es_steps.specs.Parts.{at, is_present, is_true};
 ghost use Rattle.es_steps.specs.SameValues.{same_boolean};
 ghost use Rattle.es_owed_carriers.specs.Words.{words_from};
 
@@ -17,7 +17,7 @@ use es_base::strings::is_word;
 use es_binding_faults::hoisted::part_at;
 use es_node::node::{Node, Part};
 use es_owed::same::same_part;
-use es_seen_names::parts::is_true_at;
+use es_seen_names::parts::{is_present_at, is_true_at};
 use es_tree::literal::LiteralRef;
 use es_validity::names::name_of;
 
@@ -26,7 +26,8 @@ use es_validity::names::name_of;
 pub fn keeps_words(kind: Kind, parts: &[Part], others: &[Part]) -> bool
     ensures { result ≡ spec.keeps_words kind (parts_of parts.now) (parts_of others.now) }
 {
-    same_words(kind, parts, others) && keeps_computed(kind, parts, others)
+    same_words(kind, parts, others)
+        && (keeps_computed(kind, parts, others) && keeps_value(kind, parts, others))
 }
 
 /// Whether a lowering changes the i-th part of a node of this kind.
@@ -41,8 +42,10 @@ fn is_free(kind: Kind, i: usize) -> bool
         | Kind::ClassExpression
         | Kind::AssignmentExpression
         | Kind::ExportNamedDeclaration => i == 0,
-        // a?.(), and whether the key is computed in [a] = 1;
-        Kind::CallExpression | Kind::PropertyDefinition => i == 2,
+        // a?.()
+        Kind::CallExpression => i == 2,
+        // static a; and whether the key is computed in [a] = 1;
+        Kind::PropertyDefinition => i == 1 || i == 2,
         // a?.b, a?.#b
         Kind::MemberExpression | Kind::PrivateField => i == 3,
         // { a }, { [a]: 1 }
@@ -193,5 +196,40 @@ fn is_number(node: &Node) -> bool
             _ => false,
         },
         _ => false,
+    }
+}
+
+// ---- values of fields
+
+/// Whether the value of a field stands where it stood, or that of a static field that had none.
+#[tactic(auto, using(crate::proofs::KeptParts::no_field))]
+fn keeps_value(kind: Kind, parts: &[Part], others: &[Part]) -> bool
+    ensures { result ≡ keeps_value kind (parts_of parts.now) (parts_of others.now) }
+{
+    match kind {
+        // static a;
+        Kind::PropertyDefinition => is_value_kept(parts, others),
+        _ => true,
+    }
+}
+
+fn is_value_kept(parts: &[Part], others: &[Part]) -> bool
+    ensures { result ≡ (same_word (at 1 (parts_of parts.now)) (at 1 (parts_of others.now))
+        || (is_true (at 3 (parts_of parts.now)) && not (is_present (at 1 (parts_of parts.now))))) }
+{
+    has_same_word(parts, others, 1) || (is_true_at(parts, 3) && !is_present_at(parts, 1))
+}
+
+/// Whether the parts at this place say the same.
+#[tactic(auto, using(crate::proofs::KeptParts::word_of_nothing, crate::proofs::KeptParts::word_is_nothing))]
+fn has_same_word(parts: &[Part], others: &[Part], i: usize) -> bool
+    ensures { result ≡ same_word (at i (parts_of parts.now)) (at i (parts_of others.now)) }
+{
+    match part_at(parts, i) {
+        Some(part) => match part_at(others, i) {
+            Some(other) => same_word(part, other),
+            None => !is_present_at(parts, i),
+        },
+        None => !is_present_at(others, i),
     }
 }

@@ -107,6 +107,7 @@ pub mod ConversionOfAKeyOfAnObjectLeftOut
 pub mod ConversionOfANameOfThatSpelling
 pub mod ConversionOfANameWithTheNumberOfAKey
 pub mod ConversionOfASequenceWithTheNumberOfAKey
+pub mod ConversionOfArgumentsElsewhere
 pub mod ConversionOfNoKey
 pub mod ConversionOfThisWithTheNumberOfAKey
 pub mod ConversionWithTheNumberOfAKey
@@ -239,6 +240,7 @@ pub mod MapOutsideOfAPrivateMethod
 pub mod MapWithoutClassProperties
 pub mod MapsInLooseMode
 pub mod MemberOfAnObject
+pub mod MethodAroundAClassWithoutElements
 pub mod MethodAssignedInAnotherFunction
 pub mod MethodGivenBehindItsCalls
 pub mod MethodOutsideOfACalledFunction

@@ -196,6 +196,9 @@ returns-clause-conversion_of_a_name_with_the_number_of_a_key c = refl
 pub returns-clause-conversion_of_a_sequence_with_the_number_of_a_key : goal.returns-clause-conversion_of_a_sequence_with_the_number_of_a_key
 returns-clause-conversion_of_a_sequence_with_the_number_of_a_key c = refl
 
+pub returns-clause-conversion_of_arguments_elsewhere : goal.returns-clause-conversion_of_arguments_elsewhere
+returns-clause-conversion_of_arguments_elsewhere c = refl
+
 pub returns-clause-conversion_of_no_key : goal.returns-clause-conversion_of_no_key
 returns-clause-conversion_of_no_key c = refl
 

@@ -41,6 +41,9 @@ returns-clause-let_in_front_of_a_function c = (refl, refl, lowered refl, refl)
 pub returns-clause-map_in_front_of_a_key_that_asks : goal.returns-clause-map_in_front_of_a_key_that_asks
 returns-clause-map_in_front_of_a_key_that_asks c = (refl, refl, lowered refl, refl)
 
+pub returns-clause-method_around_a_class_without_elements : goal.returns-clause-method_around_a_class_without_elements
+returns-clause-method_around_a_class_without_elements c = (refl, refl, lowered refl, refl)
+
 pub returns-clause-nameless_class_that_suspends : goal.returns-clause-nameless_class_that_suspends
 returns-clause-nameless_class_that_suspends c = (refl, refl, lowered refl, refl)
 
