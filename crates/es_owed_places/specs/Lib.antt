@@ -1,0 +1,4 @@
+pub mod InnerNames
+pub mod Placed
+pub mod StrayNames
+pub mod SuperPlaces
