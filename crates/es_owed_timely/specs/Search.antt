@@ -1,0 +1,41 @@
+-- The marks that code looks for, as definitions have them.
+use Rattle.std.specs.Prelude.{ℕ, List, Bool, Option}
+use Rattle.es_base.specs.Tree.{Part, Parts}
+use Rattle.es_base.specs.declared.kind.Kind.{Kind}
+use Rattle.es_lowered.specs.ClassNames.{is_asked}
+use Rattle.es_lowered.specs.Timely as spec
+use Rattle.es_lowered.specs.Timely.{Around, Mark, MarkForm, is_named, is_of_class}
+use Rattle.es_seen_names.specs.PrivateMembers.{private_members_of}
+use Rattle.es_steps.specs.PrivateNames.{PrivateMember, member_at}
+use Rattle.es_steps.specs.Values.{String}
+use Rattle.es_owed_timely.specs.declared.search.Asked.{Asked}
+use Rattle.es_owed_timely.specs.declared.search.Search.{Search}
+
+abbrev pub asked_by : Asked → String → List ℕ → Bool
+asked_by (Asked.Generated ledger) = is_named ledger.now
+asked_by (Asked.Nodes numbers) = is_asked numbers.now
+
+abbrev pub one : Around → MarkForm → String → List ℕ → Mark
+one x form s ns = record { name = s; node = ns; form = form; around = x }
+
+abbrev pub called_around : Around → Around
+called_around x = record x { later = x.called }
+
+abbrev pub has_member : ℕ → ℕ → List PrivateMember → Bool
+has_member n d members = is_of_class n (member_at d members)
+
+module _ (s : Search) where
+  abbrev pub mark : Around → MarkForm → String → List ℕ → List Mark
+  mark = spec.mark s.first s.ledger.now (private_members_of s.members.now) (asked_by s.asked) s.leading.now
+
+  abbrev pub declared_mark : Around → Option MarkForm → Part → List Mark
+  declared_mark = spec.declared_mark s.first s.ledger.now (private_members_of s.members.now) (asked_by s.asked) s.leading.now
+
+  abbrev pub initialized_mark : Around → Part → Part → List Mark
+  initialized_mark = spec.initialized_mark s.first s.ledger.now (private_members_of s.members.now) (asked_by s.asked) s.leading.now
+
+  abbrev pub marks_before : Around → Kind → ℕ → Parts → List Mark
+  marks_before = spec.marks_before s.first s.ledger.now (private_members_of s.members.now) (asked_by s.asked) s.leading.now
+
+  abbrev pub marks_behind : Around → Option MarkForm → Kind → ℕ → Parts → List Mark
+  marks_behind = spec.marks_behind s.first s.ledger.now (private_members_of s.members.now) (asked_by s.asked) s.leading.now
