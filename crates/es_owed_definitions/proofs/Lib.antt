@@ -1,0 +1,7 @@
+pub mod Calls
+pub mod DefinitionForms
+pub mod FieldFits
+pub mod FieldKeys
+pub mod FieldValues
+pub mod FoundDefinitions
+pub mod SuperForms

@@ -1,0 +1,6 @@
+pub mod Callees
+pub mod Fields
+pub mod Keys
+pub mod Supers
+pub mod Values
+pub mod Views
