@@ -1,0 +1,5 @@
+pub mod ChainForms
+pub mod DeleteForms
+pub mod OperandForms
+pub mod QuietForms
+pub mod UnaryMembers

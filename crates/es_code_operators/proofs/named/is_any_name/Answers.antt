@@ -1,0 +1,6 @@
+use Rattle.std.proofs.Common.{sym}
+use Rattle.es_code_operators.proofs.OperandForms.{a_name}
+use Rattle.es_code_operators.proofs.named.is_any_name.Goals as goal
+
+pub returns-in-Name : goal.returns-in-Name
+returns-in-Name c = sym (a_name c.args.code.now c.in-Name.node c.in-Name.spelling c.in-Name.kind c.in-Name.is)

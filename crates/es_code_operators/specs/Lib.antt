@@ -1,0 +1,4 @@
+pub mod Chained
+pub mod Deleting
+pub mod Operands
+pub mod Quiet
