@@ -167,8 +167,9 @@ is_without_name x (child (Node Kind.ClassExpression m span semantic_id ps)) = no
 is_without_name x (child (Node Kind.ThisExpression m span semantic_id ps)) = none_is_name x.keys x.tested
 is_without_name x p = false
 
--- `this`, and a sequence, may be another value
+-- `this`, `new.target` and a sequence may be another value
 abbrev pub may_be_another : Kind → Bool
+may_be_another Kind.MetaProperty = true
 may_be_another Kind.ThisExpression = true
 may_be_another Kind.SequenceExpression = true
 may_be_another kind = false

@@ -324,7 +324,7 @@ pub record MeetsClauses (first : ℕ) (o : Options) (ledger : List LedgerEntry) 
   pub homes : homes_kept first o p q ≡ true
   pub definitions : definitions_stand first o ledger (private_members p) p q ≡ true
   pub elements : elements_kept o (preorder p) (preorder q) ≡ true
-  pub calls : helper_calls_fit first ledger (keys_that_stay first p q) q ≡ true
+  pub calls : helper_calls_fit first ledger (keys_that_stay first ledger p q) q ≡ true
   pub printable : stays_printable p q ≡ true
 
 -- what a lowered program owes
