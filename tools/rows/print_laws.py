@@ -78,7 +78,7 @@ for function in SAYS:
 LISTS = 'lists_kept options_{n} source_{n} output_{n}'
 DEFINED = 'definitions_stand (nodes source_{n}) options_{n} generated_{n} (private_members source_{n}) source_{n} output_{n}'
 TIMELY = 'names_timely (nodes source_{n}) generated_{n} (private_members source_{n}) output_{n}'
-CALLS = 'helper_calls_fit (nodes source_{n}) generated_{n} (keys_that_stay (nodes source_{n}) source_{n} output_{n}) output_{n}'
+CALLS = 'helper_calls_fit (nodes source_{n}) generated_{n} (keys_that_stay (nodes source_{n}) generated_{n} source_{n} output_{n}) output_{n}'
 HOMES = 'homes_kept (nodes source_{n}) options_{n} source_{n} output_{n}'
 PRINTABLE = 'is_printable output_{n}'
 PRINTED = 'stays_printable source_{n} output_{n}'
@@ -109,6 +109,8 @@ NOT_MET = {
     'strict_default_export_with_a_pattern': PRINTED,
     'conversion_of_a_key_of_an_object_left_out': CALLS,
     'conversion_of_arguments_elsewhere': CALLS,
+    'conversion_of_another_new_target': CALLS,
+    'conversion_of_a_class_for_this': CALLS,
     'strict_rest': PRINTABLE,
     'name_without_a_sign': NAMED,
     'conversion_of_no_key': CALLS,

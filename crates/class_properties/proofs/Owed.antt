@@ -147,7 +147,7 @@ module _ (asked : Options) where
           homes = rest.homes;
           definitions = definitions-fit asked first (private_members t) t p e;
           elements = rest.elements;
-          calls = rest.calls (keys_that_stay first t q);
+          calls = rest.calls (keys_that_stay first [] t q);
           printable = lowered-stays_printable first t p;
         };
       }

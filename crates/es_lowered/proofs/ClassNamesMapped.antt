@@ -145,7 +145,7 @@ module _ {first : ℕ} {f : ℕ → ℕ} (r : Renames first f) where
       (ap (λ ns. common ns (map f names)) (head_numbers-mapped n ps) ∙ common-mapped (head_numbers n ps) names)
       ∙ common-mapped (cond runs (head_numbers n qs) names) (common (head_numbers n ps) names))
 
-  naming_in-mapped : (n : ℕ) (ledger : List LedgerEntry) (p : Tree) → naming (f n) (mapped_ledger f ledger) (resolve (mapped f p)) (class_identifiers first (f n) (preorder (mapped f p))) (preorder (mapped f p)) ≡ map f (naming n ledger (resolve p) (class_identifiers first n (preorder p)) (preorder p))
+  pub naming_in-mapped : (n : ℕ) (ledger : List LedgerEntry) (p : Tree) → naming (f n) (mapped_ledger f ledger) (resolve (mapped f p)) (class_identifiers first (f n) (preorder (mapped f p))) (preorder (mapped f p)) ≡ map f (naming n ledger (resolve p) (class_identifiers first n (preorder p)) (preorder p))
   naming_in-mapped n ledger p =
       rw (preorder-mapped f p, resolve-mapped f p, class_identifiers-mapped r n (preorder p)) (naming-mapped n ledger (resolve p) (class_identifiers first n (preorder p)) (preorder p))
 

@@ -117,10 +117,10 @@ module _ (first : ℕ) (o : Options) where
   temporaries-unchanging : Unchanging first (λ l p q. temporaries_steady first l (private_members p) q)
   temporaries-unchanging f r l p q = ap (λ ms. temporaries_steady first (mapped_ledger f l) ms (mapped f q)) (private_members-mapped f p) ∙ temporaries_steady-mapped r l (private_members p) q
 
-  calls-unchanging : Unchanging first (λ l p q. helper_calls_fit first l (keys_that_stay first p q) q)
+  calls-unchanging : Unchanging first (λ l p q. helper_calls_fit first l (keys_that_stay first l p q) q)
   calls-unchanging f r l p q =
-      ap (λ ks. helper_calls_fit first (mapped_ledger f l) ks (mapped f q)) (keys_that_stay-mapped r p q)
-      ∙ helper_calls_fit-mapped r l (keys_that_stay first p q) q
+      ap (λ ks. helper_calls_fit first (mapped_ledger f l) ks (mapped f q)) (keys_that_stay-mapped r l p q)
+      ∙ helper_calls_fit-mapped r l (keys_that_stay first l p q) q
 
   printable-unchanging : Unchanging first (λ l p q. stays_printable p q)
   printable-unchanging f r l p q = stays_printable-mapped r p q
@@ -148,7 +148,7 @@ clauses_law first o ledger p q once old generated met = record {
     homes = kept first ledger p q once old generated (λ l p q. homes_kept first o p q) (λ f r l p q. homes_kept-mapped r o p q) met.homes;
     definitions = kept first ledger p q once old generated (λ l p q. definitions_stand first o l (private_members p) p q) (definitions-unchanging first o) met.definitions;
     elements = kept first ledger p q once old generated (λ l p q. elements_kept o (preorder p) (preorder q)) (elements-unchanging first o) met.elements;
-    calls = kept first ledger p q once old generated (λ l p q. helper_calls_fit first l (keys_that_stay first p q) q) (calls-unchanging first o) met.calls;
+    calls = kept first ledger p q once old generated (λ l p q. helper_calls_fit first l (keys_that_stay first l p q) q) (calls-unchanging first o) met.calls;
     printable = kept first ledger p q once old generated (λ l p q. stays_printable p q) (printable-unchanging first o) met.printable;
   };
 }

@@ -59,7 +59,7 @@ clauses o ledger p q =
     ∷ homes_kept (nodes p) o p q
     ∷ definitions_stand (nodes p) o ledger (private_members p) p q
     ∷ elements_kept o (preorder p) (preorder q)
-    ∷ helper_calls_fit (nodes p) ledger (keys_that_stay (nodes p) p q) q
+    ∷ helper_calls_fit (nodes p) ledger (keys_that_stay (nodes p) ledger p q) q
     ∷ stays_printable p q
     ∷ []
 

@@ -102,11 +102,13 @@ pub mod ConstructorOfAnotherKey
 pub mod ConversionInAKey
 pub mod ConversionInFrontOfAKey
 pub mod ConversionInFrontOfANamedClass
+pub mod ConversionOfAClassForThis
 pub mod ConversionOfAClassThatAKeyNames
 pub mod ConversionOfAKeyOfAnObjectLeftOut
 pub mod ConversionOfANameOfThatSpelling
 pub mod ConversionOfANameWithTheNumberOfAKey
 pub mod ConversionOfASequenceWithTheNumberOfAKey
+pub mod ConversionOfAnotherNewTarget
 pub mod ConversionOfArgumentsElsewhere
 pub mod ConversionOfNoKey
 pub mod ConversionOfThisWithTheNumberOfAKey

@@ -585,7 +585,7 @@ unchanged-owes o t e h left =
         homes = home-same (nodes t) (lowered_blocks o t) (all_homes t);
         definitions = definitions-stand o t turn.below h;
         elements = elements-stand o (preorder t) (preorder t) h (λ u i. i) turn.once;
-        calls = both (calls-fit (nodes t) (keys_that_stay (nodes t) t t) none_around t turn.below) (none-kept (nodes t) (keys_that_stay (nodes t) t t) t turn.below);
+        calls = both (calls-fit (nodes t) (keys_that_stay (nodes t) [] t t) none_around t turn.below) (none-kept (nodes t) (keys_that_stay (nodes t) [] t t) t turn.below);
         printable = both (same_or (is_printable t)) (all-among (bare_strings (preorder t)));
       };
     }

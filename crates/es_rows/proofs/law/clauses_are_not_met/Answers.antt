@@ -181,6 +181,9 @@ returns-clause-conversion_in_front_of_a_key c = refl
 pub returns-clause-conversion_in_front_of_a_named_class : goal.returns-clause-conversion_in_front_of_a_named_class
 returns-clause-conversion_in_front_of_a_named_class c = refl
 
+pub returns-clause-conversion_of_a_class_for_this : goal.returns-clause-conversion_of_a_class_for_this
+returns-clause-conversion_of_a_class_for_this c = refl
+
 pub returns-clause-conversion_of_a_class_that_a_key_names : goal.returns-clause-conversion_of_a_class_that_a_key_names
 returns-clause-conversion_of_a_class_that_a_key_names c = refl
 
@@ -195,6 +198,9 @@ returns-clause-conversion_of_a_name_with_the_number_of_a_key c = refl
 
 pub returns-clause-conversion_of_a_sequence_with_the_number_of_a_key : goal.returns-clause-conversion_of_a_sequence_with_the_number_of_a_key
 returns-clause-conversion_of_a_sequence_with_the_number_of_a_key c = refl
+
+pub returns-clause-conversion_of_another_new_target : goal.returns-clause-conversion_of_another_new_target
+returns-clause-conversion_of_another_new_target c = refl
 
 pub returns-clause-conversion_of_arguments_elsewhere : goal.returns-clause-conversion_of_arguments_elsewhere
 returns-clause-conversion_of_arguments_elsewhere c = refl
