@@ -90,6 +90,7 @@ STRICT = 'none_becomes_strict (nodes source_{n}) source_{n} output_{n}'
 TEXTS = 'texts_stay (nodes source_{n}) source_{n} output_{n}'
 OWN_NAMES = 'own_names_stay generated_{n} source_{n} output_{n}'
 CARRIERS = 'numbers_carried (nodes source_{n}) source_{n} output_{n}'
+READY = 'elements_ready (nodes source_{n}) generated_{n} (preorder output_{n})'
 REFERENCES = 'references_stay (nodes source_{n}) generated_{n} source_{n} output_{n}'
 NOT_MET = {
     'temporary_given_again': STEADY,
@@ -305,6 +306,22 @@ NOT_MET = {
     'call_of_a_private_element': CARRIERS,
     'tag_of_a_private_element': CARRIERS,
     'delete_of_a_name_behind_a_throw': CARRIERS,
+    'conversion_of_a_call_for_an_assignment': CALLS,
+    'conversion_of_a_call_for_a_read_that_throws': CALLS,
+    'key_kept_beside_a_conversion': CALLS,
+    'key_kept_by_a_logical_assignment': CALLS,
+    'key_kept_by_an_assigned_function': CALLS,
+    'name_given_behind_a_call': CALLS,
+    'test_of_a_member_of_the_source': CALLS,
+    'conversion_of_a_private_element': CALLS,
+    'super_addition_that_becomes_strict': CARRIERS,
+    'super_update_that_becomes_strict': CARRIERS,
+    'super_logical_assignment_that_becomes_strict': CARRIERS,
+    'private_element_read_by_a_field': READY,
+    'private_element_read_by_a_constructor': READY,
+    'second_private_element_read_by_a_field': READY,
+    'class_updated_by_a_temporary': REFERENCES,
+    'class_updated_by_a_temporary_beside_a_field': REFERENCES,
 }
 # of those that the clause on definitions finds: whose meaning is that of the source
 MEANT = ('call_in_a_super_function_that_nothing_calls', 'super_function_of_a_static_block', 'map_without_class_properties', 'super_function_without_fields')
@@ -313,7 +330,7 @@ SHAPES = {'regular_expression_before_a_heritage': ('1 ∷ []', '[]'), 'changing_
 # outputs that mean what their sources mean
 RIGHT = ('private_name_beside_a_name', 'branch_of_a_key', 'class_in_a_case', 'key_of_a_binding_for_a_name', 'function_named_by_an_element')
 # outputs that owe nothing either
-OWING_NOTHING = ('number_as_a_key', 'method_around_a_class_without_elements', 'static_field_that_takes_a_block', 'template_that_is_copied', 'class_named_by_a_key_of_an_object', 'class_named_by_a_number_of_an_object', 'class_with_the_name_of_a_prototype', 'tested_name_of_a_class', 'block_of_a_binding', 'own_name_that_nothing_means', 'strict_function_of_a_method', 'block_of_an_arrow', 'class_named_await', 'class_that_suspends', 'classes_that_suspend', 'nameless_class_that_suspends', 'string_in_parentheses', 'directive_with_an_escape', 'hexadecimal_bigint', 'let_in_front_of_a_function', 'private_method_that_reads_a_field', 'private_method_that_reads_itself', 'static_private_method_that_reads_a_field', 'map_in_front_of_a_key_that_asks', 'arrow_that_names_await', 'regular_expression_as_a_key', 'regular_expression_as_a_static_key')
+OWING_NOTHING = ('number_as_a_key', 'method_around_a_class_without_elements', 'static_field_that_takes_a_block', 'template_that_is_copied', 'class_named_by_a_key_of_an_object', 'class_named_by_a_number_of_an_object', 'class_with_the_name_of_a_prototype', 'tested_name_of_a_class', 'block_of_a_binding', 'own_name_that_nothing_means', 'strict_function_of_a_method', 'block_of_an_arrow', 'class_named_await', 'class_that_suspends', 'classes_that_suspend', 'nameless_class_that_suspends', 'string_in_parentheses', 'directive_with_an_escape', 'hexadecimal_bigint', 'let_in_front_of_a_function', 'private_method_that_reads_a_field', 'private_method_that_reads_itself', 'static_private_method_that_reads_a_field', 'map_in_front_of_a_key_that_asks', 'arrow_that_names_await', 'regular_expression_as_a_key', 'regular_expression_as_a_static_key', 'tests_of_two_keys', 'class_in_a_closure', 'block_that_names_another_class', 'private_field_of_a_named_class', 'class_in_a_super_function', 'private_method_of_a_class_in_a_branch', 'super_function_in_front_of_a_map', 'private_method_behind_a_class', 'converted_assignment', 'converted_sequence', 'argument_behind_a_throw')
 # wrong outputs that have a meaning, and those of programs whose parameters come before their fields
 OTHER = ('branch_of_a_key_of_another', 'elements_dropped', 'static_field_dropped', 'block_dropped', 'block_behind_a_kept_field', 'read_moved', 'import_read_early', 'statements_of_a_case_exchanged', 'statement_of_another_case', 'arrow_moved_into_parameters', 'functions_of_a_block_exchanged', 'default_function_expression', 'let_out_of_a_head', 'class_of_a_head', 'class_of_a_right_side', 'conversions_of_a_template', 'let_beside_a_caught_name', 'arguments_of_a_function_around', 'question_for_another_field', 'regular_expression_of_another_argument', 'regular_expressions_exchanged')
 AFTER = ('field_behind_parameters_dropped', 'field_behind_parameters_doubled', 'fields_behind_parameters_exchanged', 'another_literal_behind_parameters')
@@ -353,7 +370,7 @@ def listed(function, says, clauses, proof):
     answers(function, [(n, proof) for n, t in clauses])
 
 
-listed('programs_are_told_apart', 'Pairs of programs that share their numbers and behave differently have meanings that differ.', pairs, '(refl, refl, refl)')
+listed('programs_are_told_apart', 'Pairs of programs that share their numbers and behave differently, or differ in what stands behind a throw, have meanings that differ.', pairs, '(refl, refl, refl)')
 listed('wrong_outputs_are_told_apart', 'Wrong outputs of worked rows do not mean what their sources mean.', wrong, 'refl')
 listed('wrong_outputs_mean_another_program', 'Wrong outputs of worked rows that have a meaning, which is not that of their sources.', other, '(refl, refl)')
 listed('wrong_outputs_behind_parameters_are_told_apart', 'Wrong outputs of a program whose parameters come before its fields do not mean what it then means.', after, '(refl, refl)')
@@ -369,6 +386,7 @@ ghost use Rattle.std.specs.Prelude.{◌≡◌, [], ◌∷◌, false};
 ghost use Rattle.es_rows.specs.Owed.{Kept, KeptAfter, Owed, TellsApart, Refused, MeansOther, RefusedAfter, Means, HaveShapes};
 ghost use Rattle.es_lowered.specs.Carriers.{numbers_carried};
 ghost use Rattle.es_lowered.specs.Definitions.{definitions_stand};
+ghost use Rattle.es_lowered.specs.Elements.{elements_ready};
 ghost use Rattle.es_base.specs.Conforms.{conforms};
 ghost use Rattle.es_base.specs.Preorder.{nodes, preorder};
 ghost use Rattle.es_base.specs.declared.table.Place.{Place};

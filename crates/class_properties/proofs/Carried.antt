@@ -61,9 +61,9 @@ module _ (first : ℕ) (ps : List Tree) where
       let named = old name (later here) in
       let inner = old _ (later (later here)) in
       let inside : Parts = more (list (lowered_elements n es)) end in
-      both (carried-alike first ps Kind.ClassDeclaration m span semantic_id _ (more (child name) (more absent (more (child (Node Kind.ClassBody j bspan b_semantic_id inside)) end))) refl refl refl refl class.0 class.1)
+      both (carried-alike first ps Kind.ClassDeclaration m span semantic_id _ (more (child name) (more absent (more (child (Node Kind.ClassBody j bspan b_semantic_id inside)) end))) refl refl refl refl refl class.0 class.1)
       (both (carried first ps name named.0 named.1)
-      (both (carried-alike first ps Kind.ClassBody j bspan b_semantic_id _ inside refl refl refl refl inner.0 inner.1)
+      (both (carried-alike first ps Kind.ClassBody j bspan b_semantic_id _ inside refl refl refl refl refl inner.0 inner.1)
       (carried-append first ps ((made ++ []) ++ []) rest
       (carried-append first ps (made ++ []) [] (carried-append first ps made [] (elements-carried es he (λ t k. old t (later (later (later (in-left t ((preorder_of es ++ []) ++ []) (preorder_of cs) (in-left t (preorder_of es ++ []) [] (in-left t (preorder_of es) [] k))))))) n l) refl) refl)
       (classes-carried cs h (λ t k. old t (later (later (later (in-right t ((preorder_of es ++ []) ++ []) (preorder_of cs) k))))) next (omega (arith, l))))))
@@ -71,7 +71,7 @@ module _ (first : ℕ) (ps : List Tree) where
   program-carried : (k : ℕ) (t : Tree) → IsProgram t → OldAmong first (preorder t) ps → first ≤ k → all_carried first ps (preorder (lowered_from k t)) ≡ true
   program-carried k t (a_program m span semantic_id s all h) old l =
       let program = old _ here in
-      both (carried-alike first ps Kind.Program m span semantic_id _ (more (string s) (more (list (lowered_statements k all)) end)) refl refl (rw (string-same s) refl) refl program.0 program.1)
+      both (carried-alike first ps Kind.Program m span semantic_id _ (more (string s) (more (list (lowered_statements k all)) end)) refl refl (rw (string-same s) refl) refl refl program.0 program.1)
       (carried-append first ps (preorder_of (lowered_statements k all)) [] (classes-carried all h (λ u i. old u (later (in-left u (preorder_of all) [] i))) k l) refl)
 
 -- ---- no node is bound to the one around it

@@ -12,6 +12,8 @@ use Rattle.es_left.proofs.Booleans.{none_of}
 use Rattle.es_lowered.specs.Lowered.{is_new_const, all_accounted}
 use Rattle.es_steps.specs.LoweredClasses.{is_lowered_kind, kind_of, none_lowered}
 use Rattle.es_steps.specs.Options.{both_lowered}
+use Rattle.es_base.specs.declared.ledger.LedgerEntry.{LedgerEntry}
+use Rattle.es_lowered.specs.ClassNames.{MovedFunction}
 use Rattle.es_lowered.specs.OwnNames.{loses_name, none_loses_name, reads_itself, none_reads_itself}
 use Rattle.es_steps.specs.References.{Reference}
 use Rattle.es_steps.specs.Scopes.{is_binding_identifier, is_class_expression}
@@ -138,11 +140,11 @@ laid-named {ts = t ∷ ts} ps rs (kept a b s rest) = rw (not-expression ps rs t 
 laid-named {ts = t ∷ ts} ps rs (generated e s rest) = rw (not-expression ps rs t (stays-neither (kind_of t) (and_parts (stays (kind_of t)) (not (declares_names (kind_of t))) s).0).0) (laid-named ps rs rest)
 
 -- no variable is declared
-not-declarator : (moved ps : List Tree) (rs : List Reference) (t : Tree) → declares_variables (kind_of t) ≡ false → reads_itself moved ps rs t ≡ false
-not-declarator moved ps rs (Node Kind.VariableDeclarator m span semantic_id qs) e = absurd (true≢false e)
-not-declarator moved ps rs t e = refl
+not-declarator : (ledger : List LedgerEntry) (fs : List MovedFunction) (ps qs : List Tree) (rs : List Reference) (t : Tree) → declares_variables (kind_of t) ≡ false → reads_itself ledger fs ps qs rs t ≡ false
+not-declarator ledger fs ps qs rs (Node Kind.VariableDeclarator m span semantic_id parts) e = absurd (true≢false e)
+not-declarator ledger fs ps qs rs t e = refl
 
-pub laid-unread : {first hi m lo n : ℕ} {ts : List Tree} (moved ps : List Tree) (rs : List Reference) → Laid first hi m lo n ts → none_reads_itself moved ps rs ts ≡ true
-laid-unread moved ps rs (none lh e) = refl
-laid-unread {ts = t ∷ ts} moved ps rs (kept a b s rest) = rw (not-declarator moved ps rs t (stays-neither (kind_of t) s).1) (laid-unread moved ps rs rest)
-laid-unread {ts = t ∷ ts} moved ps rs (generated e s rest) = rw (not-declarator moved ps rs t (stays-neither (kind_of t) (and_parts (stays (kind_of t)) (not (declares_names (kind_of t))) s).0).1) (laid-unread moved ps rs rest)
+pub laid-unread : {first hi m lo n : ℕ} {ts : List Tree} (ledger : List LedgerEntry) (fs : List MovedFunction) (ps qs : List Tree) (rs : List Reference) → Laid first hi m lo n ts → none_reads_itself ledger fs ps qs rs ts ≡ true
+laid-unread ledger fs ps qs rs (none lh e) = refl
+laid-unread {ts = t ∷ ts} ledger fs ps qs rs (kept a b s rest) = rw (not-declarator ledger fs ps qs rs t (stays-neither (kind_of t) s).1) (laid-unread ledger fs ps qs rs rest)
+laid-unread {ts = t ∷ ts} ledger fs ps qs rs (generated e s rest) = rw (not-declarator ledger fs ps qs rs t (stays-neither (kind_of t) (and_parts (stays (kind_of t)) (not (declares_names (kind_of t))) s).0).1) (laid-unread ledger fs ps qs rs rest)

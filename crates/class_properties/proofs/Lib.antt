@@ -16,6 +16,7 @@ pub mod OfKinds
 pub mod Owed
 pub mod Printed
 pub mod ReadReferences
+pub mod Ready
 pub mod Remaining
 pub mod Renumbered
 pub mod Same

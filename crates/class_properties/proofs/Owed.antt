@@ -14,7 +14,7 @@ use Rattle.es_steps.specs.Generated.{constructor_at, define_at, void_at}
 use Rattle.es_steps.specs.declared.options.Options.{Options}
 use Rattle.es_lowered.specs.OwnNames.{own_name_numbers}
 use Rattle.es_steps.specs.PrivateNames.{private_members}
-use Rattle.es_lowered.specs.OwnNames.{all_moved}
+use Rattle.es_lowered.specs.ClassNames.{moved_functions}
 use Rattle.es_steps.specs.References.{resolve}
 use Rattle.class_properties.proofs.ReadReferences.{references-stay}
 use Rattle.es_steps.specs.Strict.{none_becomes_strict}
@@ -28,6 +28,7 @@ use Rattle.class_properties.proofs.Numbered.{definitions_from, fields_size, lowe
 use Rattle.class_properties.proofs.Numbered as numbered
 use Rattle.class_properties.proofs.Renumbered.{lowered-numbered}
 use Rattle.class_properties.proofs.Printed.{lowered-stays_printable}
+use Rattle.class_properties.proofs.Ready.{program-ready}
 use Rattle.class_properties.proofs.Remaining.{Remains, remains}
 use Rattle.class_properties.proofs.Strictness.{no-directive, no-lowered_directive, program-strict}
 use Rattle.class_properties.proofs.Carried.{numbers-carried}
@@ -131,12 +132,12 @@ module _ (asked : Options) where
           left = laid-left (defining asked) laid;
           declared = refl;
           accounted = laid-accounted (own_name_numbers t (resolve q) (preorder q)) laid;
-          names = both (laid-named (preorder t) (resolve q) laid) (laid-unread (all_moved [] (preorder q)) (preorder t) (resolve q) laid);
+          names = both (laid-named (preorder t) (resolve q) laid) (laid-unread [] (moved_functions [] (preorder q)) (preorder t) (preorder q) (resolve q) laid);
           references = references-stay first first t p f;
           strict = numbered-strict t p e;
           texts = texts-stay t p e;
           initialized = refl;
-          timely = names-timely first (private_members t) q;
+          timely = both (names-timely first (private_members t) q) (program-ready first first t p);
           temporaries = refl;
           keys = rw (temporaries-none first (defining asked) (private_members t) q (preorder q)) refl;
           carriers = numbers-carried t p e;

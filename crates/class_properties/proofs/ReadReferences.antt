@@ -20,11 +20,11 @@ use Rattle.class_properties.proofs.FreeNames.{classes-timely}
 use Rattle.class_properties.proofs.Numbered.{definitions_from, lowered_statements, lowered_from}
 use Rattle.class_properties.proofs.Shaped.{no_value, a_literal, a_reference, a_key, a_field, AreFields, a_body, a_name, a_class, AreClasses, IsProgram, a_program}
 
-unwriting : (targets old : List ℕ) (rs : List Reference) → writing_numbers rs ≡ [] → writes_fit [] targets old rs ≡ true
-unwriting targets old [] e = refl
-unwriting targets old (r ∷ rs) e = by_first r.writes refl e (unwriting targets old rs)
+unwriting : (first : ℕ) (targets old : List ℕ) (rs : List Reference) → writing_numbers rs ≡ [] → writes_fit first [] targets old rs ≡ true
+unwriting first targets old [] e = refl
+unwriting first targets old (r ∷ rs) e = by_first r.writes refl e (unwriting first targets old rs)
   where
-    by_first : (b : Bool) → r.writes ≡ b → cond b (r.number ∷ []) [] ++ writing_numbers rs ≡ [] → (writing_numbers rs ≡ [] → writes_fit [] targets old rs ≡ true) → writes_fit [] targets old (r ∷ rs) ≡ true
+    by_first : (b : Bool) → r.writes ≡ b → cond b (r.number ∷ []) [] ++ writing_numbers rs ≡ [] → (writing_numbers rs ≡ [] → writes_fit first [] targets old rs ≡ true) → writes_fit first [] targets old (r ∷ rs) ≡ true
     by_first true w h rest = cc
     by_first false w h rest = rw w (rest h)
 
@@ -94,4 +94,4 @@ stay-without false c e = rw e refl
 
 pub references-stay : (first k : ℕ) (t : Tree) → IsProgram t → is_first_form t [] ≡ true → references_stay first [] t (lowered_from k t) ≡ true
 references-stay first k t p f =
-    rw (classes-timely first k t p f, stay-without (has_stray_super no_place t) (has_stray_super no_place (lowered_from k t)) (program-without k t p), stay-without (has_stray_name [] t) (has_stray_name [] (lowered_from k t)) (program-named k t p), tree-none first (λ m s. gives_inside s (preorder t)) (λ m s. inside-none t p s) false [] (lowered_from k t), unwriting (plain_targets (preorder (lowered_from k t))) (writing_numbers (resolve t)) (resolve (lowered_from k t)) (writing-none k t p)) refl
+    rw (classes-timely first k t p f, stay-without (has_stray_super no_place t) (has_stray_super no_place (lowered_from k t)) (program-without k t p), stay-without (has_stray_name [] t) (has_stray_name [] (lowered_from k t)) (program-named k t p), tree-none first (λ m s. gives_inside s (preorder t)) (λ m s. inside-none t p s) false [] (lowered_from k t), unwriting first (plain_targets (preorder (lowered_from k t))) (writing_numbers (resolve t)) (resolve (lowered_from k t)) (writing-none k t p)) refl

@@ -17,11 +17,16 @@ abbrev pub is_value : Code → Bool
 is_value (value v) = true
 is_value e = false
 
--- a generated call that gives a value
-abbrev pub gives_value : Code → Bool
-gives_value (from_call e) = is_value e
-gives_value e = false
+abbrev pub is_new_result : Context → Option ℕ → Bool
+is_new_result c None = false
+is_new_result c (Some j) = new_here c j
+
+-- a generated call that gives a value, or another new test
+abbrev pub is_done_quietly : Context → Code → Bool
+is_done_quietly c (from_call e) = is_value e
+is_done_quietly c (value v) = is_new_result c (result_of v)
+is_done_quietly c e = false
 
 abbrev pub is_quiet : Context → ℕ → String → Option ℕ → Bool → Bool
-is_quiet c m operator None gives = false
-is_quiet c m operator (Some k) gives = gives && (new_here c m && (new_here c k && bytes_eq operator (codes "&&")))
+is_quiet c m operator None done = false
+is_quiet c m operator (Some k) done = done && (new_here c m && (new_here c k && bytes_eq operator (codes "&&")))

@@ -8,7 +8,7 @@ ghost use Rattle.es_steps.specs.Expressions as spec;
 ghost use Rattle.es_steps.specs.Members as members;
 ghost use Rattle.es_code_members.specs.MembersView.{member_of};
 ghost use Rattle.es_code_reading.specs.Contexts.{context_of};
-ghost use Rattle.es_code_operators.specs.Quiet.{is_value, gives_value, is_quiet, result_number, result_of};
+ghost use Rattle.es_code_operators.specs.Quiet.{is_done_quietly, is_new_result, is_quiet, is_value, result_number, result_of};
 
 use es_base::strings::spells;
 use es_code_members::member::{Member, copy_word, take_code, word_of};
@@ -65,33 +65,43 @@ fn is_value(code: &Code) -> bool
     matches!(code, Code::Value { .. })
 }
 
-#[tactic(auto, using(crate::proofs::QuietForms::a_call, crate::proofs::QuietForms::no_call))]
-fn gives_value_of(code: &Code) -> bool
-    ensures { result ≡ gives_value (code_of code.now) }
+fn is_new_result(c: &Context, value: &Value) -> bool
+    ensures { result ≡ is_new_result (context_of c.now) (result_of value.now) }
+{
+    match result_of(value) {
+        Some(node) => is_new(c.terms.first_new, node),
+        None => false,
+    }
+}
+
+#[tactic(auto, using(crate::proofs::QuietForms::a_call, crate::proofs::QuietForms::a_test, crate::proofs::QuietForms::no_call))]
+fn is_code_done_quietly(c: &Context, code: &Code) -> bool
+    ensures { result ≡ is_done_quietly (context_of c.now) (code_of code.now) }
 {
     match code {
         Code::FromCall { expression } => is_value(expression.get()),
+        Code::Value { value } => is_new_result(c, value),
         _ => false,
     }
 }
 
-/// Whether what stands at a member is a generated call that gives a value.
-fn gives_value(member: &Member) -> bool
-    ensures { result ≡ gives_value (spec.the_code (member_of member.now)) }
+/// Whether what stands at a member is a generated call that gives a value, or a new test.
+fn is_done_quietly(c: &Context, member: &Member) -> bool
+    ensures { result ≡ is_done_quietly (context_of c.now) (spec.the_code (member_of member.now)) }
 {
     match member {
-        Member::Code(code) => gives_value_of(code),
+        Member::Code(code) => is_code_done_quietly(c, code),
         _ => false,
     }
 }
 
 /// Whether it is a new test of a new value, and what is done then has no event: that a generated key is not `"name"`.
 fn is_quiet(c: &Context, node: u32, operator: &str, left: &Member, right: &Member) -> bool
-    ensures { result ≡ is_quiet (context_of c.now) node (chars operator.now) (result_number (spec.the_code (member_of left.now))) (gives_value (spec.the_code (member_of right.now))) }
+    ensures { result ≡ is_quiet (context_of c.now) node (chars operator.now) (result_number (spec.the_code (member_of left.now))) (is_done_quietly (context_of c.now) (spec.the_code (member_of right.now))) }
 {
     match result_number(left) {
         Some(tested) => {
-            gives_value(right)
+            is_done_quietly(c, right)
                 && is_new(c.terms.first_new, node)
                 && is_new(c.terms.first_new, tested)
                 && spells(operator, "&&")

@@ -1,5 +1,5 @@
 -- What a temporary holds.
-use Rattle.std.proofs.Common.{◌≡◌, refl, sym, ap, ◌∙◌, ℕ, List, ◌∷◌, Bool, true, false, ◌||◌, cond, Option, Some}
+use Rattle.std.proofs.Common.{◌≡◌, refl, ap, ◌∙◌, ℕ, List, ◌∷◌, true, false, cond, Option, Some}
 use Rattle.std.specs.Prelude.{bytes_eq, codes}
 use Rattle.std.proofs.lemmas.Slice.Eq.{bytes_eq-Decides}
 use Rattle.es_base.specs.Tree.{Tree, more, child, string, end}
@@ -11,7 +11,7 @@ use Rattle.es_expression.specs.Identifier.{identifier_reference}
 use Rattle.es_steps.specs.Code.{Code, Opened, assign, to_name}
 use Rattle.es_steps.specs.Context.{Context, Generated, found_kind, generated_as, generated_or, inside}
 use Rattle.es_steps.specs.Evaluation.{Environment, Evaluation, Run, bind, ev, gives, given_as, go_on, is_binding_value, no_meaning, ready_name, run_behind, settle_run, stands_for, write_ready}
-use Rattle.es_steps.specs.Events.{Events, none, then, is_throw, throws, behind}
+use Rattle.es_steps.specs.Events.{Events, none, then, throws, behind}
 use Rattle.es_steps.specs.Expressions.{name_or_arguments, target_of}
 use Rattle.es_steps.specs.GeneratedForms.{generated_assignment}
 use Rattle.es_steps.specs.Reading.{read}
@@ -19,15 +19,9 @@ use Rattle.es_steps.specs.References.{declared}
 use Rattle.es_steps.specs.Values.{Value, KeyOf, ResultOf, Undefined}
 use Rattle.es_common.specs.Law.{in_right}
 
-or_false : (a b : Bool) → (a || b) ≡ false → (a ≡ false) × (b ≡ false)
-or_false true b h = cc
-or_false false b h = (refl, h)
-
-pub behind-none : (l : Events) → throws l ≡ false → behind l none ≡ l
-behind-none none h = refl
-behind-none (then e es) h =
-    let both = or_false (is_throw e) (throws es) h in
-    ap (λ b. then e (cond b none (behind es none))) both.0 ∙ ap (then e) (behind-none es both.1)
+pub behind-none : (l : Events) → behind l none ≡ l
+behind-none none = refl
+behind-none (then e es) = ap (then e) (behind-none es)
 
 held_as : (m : ℕ) (s : List ℕ) (v : Value) (env : Environment) → is_binding_value v ≡ false → given_as m s v env ≡ stands_for s v env
 held_as m s (KeyOf v) env h = ap (λ b. stands_for s (cond b (ResultOf m) (KeyOf v)) env) h
@@ -51,5 +45,5 @@ pub assign_held : (opens : Opened → Evaluation) (b : ℕ) (name : List ℕ) (e
 assign_held opens b name e env r runs quiet free =
     ap (λ o. settle_run (go_on o (λ v. bind (write_ready (ready_name b name (Generated GeneratedKind.Temp)) v) (λ w. gives v)))) runs
     ∙ ap (λ o. settle_run (run_behind r.events (go_on o (λ w. gives r.value)))) (held_as b name r.value r.after free)
-    ∙ ap (λ l. settle_run (Some (record { events = l; value = r.value; after = (name, r.value) ∷ r.after }))) (behind-none r.events quiet)
+    ∙ ap (λ l. settle_run (Some (record { events = l; value = r.value; after = (name, r.value) ∷ r.after }))) (behind-none r.events)
     ∙ ap (λ q. Some (record { events = r.events; value = cond q Undefined r.value; after = (name, r.value) ∷ r.after })) quiet

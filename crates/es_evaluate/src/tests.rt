@@ -72,7 +72,6 @@ fn start(alloc: Global) -> State {
     State {
         names: Vec::new(alloc),
         tokens: Vec::new(alloc),
-        is_silent: false,
         has_thrown: false,
     }
 }

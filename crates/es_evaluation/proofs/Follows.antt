@@ -45,65 +45,21 @@ mutual
   flat-append none ts = refl
   flat-append (then e es) ts = flat_event-append e (flat es ts) ∙ ap (λ (us : List Token). flat_event e [] ++ us) (flat-append es ts) ∙ sym (append_assoc (flat_event e []) (flat es []) ts) ∙ ap (λ (us : List Token). us ++ ts) (sym (flat_event-append e (flat es [])))
 
--- nothing stands behind a throw
-abbrev pub Clean : Events → Type 0
-Clean l = behind l none ≡ l
+-- one list behind another
+pub flat-behind : (l m : Events) (ts : List Token) → flat (behind l m) ts ≡ flat l (flat m ts)
+flat-behind none m ts = refl
+flat-behind (then e es) m ts = ap (flat_event e) (flat-behind es m ts)
 
-abbrev rest_of : Events → Events
-rest_of none = none
-rest_of (then e es) = es
+tokens-behind : (l m : Events) → tokens (behind l m) ≡ tokens l ++ tokens m
+tokens-behind l m = flat-behind l m [] ∙ flat-append l (tokens m)
 
-clean_rest : (b : Bool) (e : Event) (es : Events) → is_throw e ≡ b → Clean (then e es) → b ≡ false → Clean es
-clean_rest b e es h clean calm = sym (ap (λ (x : Bool). cond x none (behind es none)) (h ∙ calm)) ∙ ap rest_of clean
+or_assoc : (a b c : Bool) → ((a || b) || c) ≡ (a || (b || c))
+or_assoc true b c = refl
+or_assoc false b c = refl
 
-no_rest : (e : Event) (es : Events) → is_throw e ≡ true → Clean (then e es) → es ≡ none
-no_rest e es h clean = sym (ap rest_of clean) ∙ ap (λ (x : Bool). cond x none (behind es none)) h
-
-left_false : (a b : Bool) → (a || b) ≡ false → a ≡ false
-left_false true b h = absurd (cc)
-left_false false b h = refl
-
-right_true : (a b : Bool) → a ≡ false → (a || b) ≡ true → b ≡ true
-right_true a b calm h = ap (λ (x : Bool). x || b) (sym calm) ∙ h
-
-right_false : (a b : Bool) → (a || b) ≡ false → b ≡ false
-right_false true b h = absurd (cc)
-right_false false b h = h
-
-cut : (b : Bool) (l m : Events) → cond b none (behind (cond b none l) m) ≡ cond b none (behind l m)
-cut true l m = refl
-cut false l m = refl
-
-pub behind-assoc : (l m n : Events) → behind (behind l m) n ≡ behind l (behind m n)
-behind-assoc none m n = refl
-behind-assoc (then e es) m n = ap (then e) (cut (is_throw e) (behind es m) n ∙ ap (cond (is_throw e) none) (behind-assoc es m n))
-
-pub clean-behind : (l m : Events) → Clean m → Clean (behind l m)
-clean-behind l m h = behind-assoc l m none ∙ ap (behind l) h
-
--- behind a throw nothing is added
-thrown_by : (b : Bool) (e : Event) (es m : Events) → is_throw e ≡ b → Clean (then e es) → of_events.throws (then e es) ≡ true → ((b ≡ false) → behind es m ≡ es) → behind (then e es) m ≡ then e es
-thrown_by true e es m is clean h ih = ap (then e) (ap (λ (x : Bool). cond x none (behind es m)) is ∙ sym (no_rest e es is clean))
-thrown_by false e es m is clean h ih = ap (then e) (ap (λ (x : Bool). cond x none (behind es m)) is ∙ ih refl)
-
-pub behind-thrown : (l m : Events) → Clean l → of_events.throws l ≡ true → behind l m ≡ l
-behind-thrown none m clean h = absurd (cc)
-behind-thrown (then e es) m clean h = thrown_by (is_throw e) e es m refl clean h (λ calm. behind-thrown es m (clean_rest (is_throw e) e es refl clean calm) (right_true (is_throw e) (of_events.throws es) calm h))
-
--- else one list stands behind the other
-pub flat-behind : (l m : Events) (ts : List Token) → of_events.throws l ≡ false → flat (behind l m) ts ≡ flat l (flat m ts)
-flat-behind none m ts h = refl
-flat-behind (then e es) m ts h =
-    let calm : is_throw e ≡ false = left_false (is_throw e) (of_events.throws es) h in
-    ap (λ (x : Bool). flat_event e (flat (cond x none (behind es m)) ts)) calm ∙ ap (flat_event e) (flat-behind es m ts (right_false (is_throw e) (of_events.throws es) h))
-
-throws_by : (b : Bool) (e : Event) (es m : Events) → is_throw e ≡ b → of_events.throws (behind es m) ≡ (of_events.throws es || of_events.throws m) → of_events.throws (behind (then e es) m) ≡ (of_events.throws (then e es) || of_events.throws m)
-throws_by true e es m is ih = rw is refl
-throws_by false e es m is ih = rw is ih
-
-pub throws-behind : (l m : Events) → of_events.throws (behind l m) ≡ (of_events.throws l || of_events.throws m)
+throws-behind : (l m : Events) → of_events.throws (behind l m) ≡ (of_events.throws l || of_events.throws m)
 throws-behind none m = refl
-throws-behind (then e es) m = throws_by (is_throw e) e es m refl (throws-behind es m)
+throws-behind (then e es) m = ap (λ (x : Bool). is_throw e || x) (throws-behind es m) ∙ sym (or_assoc (is_throw e) (of_events.throws es) (of_events.throws m))
 
 -- ---- equal evaluations
 
@@ -115,47 +71,30 @@ follows_by a d c e f = record { same = λ s. e s ∙ f.same s; fine = f.fine }
 
 -- ---- one behind another
 
-abbrev made : Environment → List Token → Bool → Bool → State
-made n ts a c = record { names = n; tokens = ts; is_silent = a; has_thrown = c }
+abbrev made : Environment → List Token → Bool → State
+made n ts c = record { names = n; tokens = ts; has_thrown = c }
 
 -- states are the same where their parts are
-pub states : {n m : Environment} {ts us : List Token} {a b c d : Bool} → n ≡ m → ts ≡ us → a ≡ b → c ≡ d → made n ts a c ≡ made m us b d
-states p q r s = rw (p, q, r, s) refl
-
-or_assoc : (a b c : Bool) → ((a || b) || c) ≡ (a || (b || c))
-or_assoc true b c = refl
-or_assoc false b c = refl
+states : {n m : Environment} {ts us : List Token} {c d : Bool} → n ≡ m → ts ≡ us → c ≡ d → made n ts c ≡ made m us d
+states p q r = rw (p, q, r) refl
 
 both_throw : (b : Bool) (l m : Events) → ((b || of_events.throws l) || of_events.throws m) ≡ (b || of_events.throws (behind l m))
 both_throw b l m = or_assoc b (of_events.throws l) (of_events.throws m) ∙ ap (λ (x : Bool). b || x) (sym (throws-behind l m))
 
--- the tokens of one list behind those of another
-abbrev added : Bool → List Token → Events → List Token
-added silent ts l = cond silent ts (ts ++ tokens l)
+both_add : (ts : List Token) (l m : Events) → (ts ++ tokens l) ++ tokens m ≡ ts ++ tokens (behind l m)
+both_add ts l m = append_assoc ts (tokens l) (tokens m) ∙ ap (λ (us : List Token). ts ++ us) (sym (tokens-behind l m))
 
-tokens_by : (silent thrown b : Bool) (ts : List Token) (l m : Events) → b ≡ silent → of_events.throws l ≡ thrown → Clean l → added (b || of_events.throws l) (added b ts l) m ≡ added b ts (behind l m)
-tokens_by true thrown b ts l m is was clean = rw is refl
-tokens_by false true b ts l m is was clean = rw (is, was) (ap (λ (x : Events). ts ++ tokens x) (sym (behind-thrown l m clean was)))
-tokens_by false false b ts l m is was clean = rw (is, was) (append_assoc ts (tokens l) (tokens m) ∙ ap (λ (us : List Token). ts ++ us) (sym (flat-append l (tokens m)) ∙ sym (flat-behind l m [] was)))
+onto_twice : (s : State) (r : Run) (o : Option Run) → onto (behind_state s r) o ≡ onto s (run_behind r.events o)
+onto_twice s r None = refl
+onto_twice s r (Some q) = ap (λ (t : State). Some (q.value, t)) (states refl (both_add s.tokens r.events q.events) (both_throw s.has_thrown r.events q.events))
 
-state_by : (silent thrown : Bool) (s : State) (r q : Run) → s.is_silent ≡ silent → of_events.throws r.events ≡ thrown → Clean r.events →
-    behind_state (behind_state s r) q ≡ behind_state s (record { events = behind r.events q.events; value = q.value; after = q.after })
-state_by silent thrown s r q is was clean = states refl (tokens_by silent thrown s.is_silent s.tokens r.events q.events is was clean) (both_throw s.is_silent r.events q.events) (both_throw s.has_thrown r.events q.events)
-
-state_behind : (s : State) (r q : Run) → Clean r.events → behind_state (behind_state s r) q ≡ behind_state s (record { events = behind r.events q.events; value = q.value; after = q.after })
-state_behind s r q clean = state_by s.is_silent (of_events.throws r.events) s r q refl refl clean
-
-onto_twice : (s : State) (r : Run) (o : Option Run) → Clean r.events → onto (behind_state s r) o ≡ onto s (run_behind r.events o)
-onto_twice s r None clean = refl
-onto_twice s r (Some q) clean = ap (λ (t : State). Some (q.value, t)) (state_behind s r q clean)
-
-pub bind_at : (s : State) (o : Option Run) (f : Value → Evaluation) (g : Value → Step Value) → IsFine s.names o → ((v : Value) → Follows (f v) (g v)) → next (onto s o) g ≡ onto s (go_on o f)
-bind_at s None f g fine h = refl
-bind_at s (Some r) f g fine h = (h r.value).same (behind_state s r) ∙ onto_twice s r (f r.value r.after) fine.clean
+pub bind_at : (s : State) (o : Option Run) (f : Value → Evaluation) (g : Value → Step Value) → ((v : Value) → Follows (f v) (g v)) → next (onto s o) g ≡ onto s (go_on o f)
+bind_at s None f g h = refl
+bind_at s (Some r) f g h = (h r.value).same (behind_state s r) ∙ onto_twice s r (f r.value r.after)
 
 fine_run : (env : Environment) (r : Run) (o : Option Run) → Fine env r → IsFine r.after o → IsFine env (run_behind r.events o)
 fine_run env r None f g = tt
-fine_run env r (Some q) f g = record { clean = clean-behind r.events q.events g.clean; more = g.more ++ f.more; grows = g.grows ∙ ap (λ (x : Environment). g.more ++ x) f.grows ∙ sym (append_assoc g.more f.more env) }
+fine_run env r (Some q) f g = record { more = g.more ++ f.more; grows = g.grows ∙ ap (λ (x : Environment). g.more ++ x) f.grows ∙ sym (append_assoc g.more f.more env) }
 
 pub fine_on : (env : Environment) (o : Option Run) (f : Value → Evaluation) → IsFine env o → ((v : Value) (e : Environment) → IsFine e (f v e)) → IsFine env (go_on o f)
 fine_on env None f h k = tt
@@ -163,7 +102,7 @@ fine_on env (Some r) f h k = fine_run env r (f r.value r.after) h (k r.value r.a
 
 pub follows_bind : (a : Evaluation) (d : Step Value) (f : Value → Evaluation) (g : Value → Step Value) → Follows a d → ((v : Value) → Follows (f v) (g v)) → Follows (bind a f) (and_then d g)
 follows_bind a d f g h k = record {
-  same = λ s. ap (λ (o : Option (Value × State)). next o g) (h.same s) ∙ bind_at s (a s.names) f g (h.fine s.names) k;
+  same = λ s. ap (λ (o : Option (Value × State)). next o g) (h.same s) ∙ bind_at s (a s.names) f g k;
   fine = λ env. fine_on env (a env) f (h.fine env) (λ v e. (k v).fine e);
 }
 
@@ -173,15 +112,11 @@ or_false : (b : Bool) → (b || false) ≡ b
 or_false true = refl
 or_false false = refl
 
-same_tokens : (silent : Bool) (ts : List Token) → cond silent ts (ts ++ []) ≡ ts
-same_tokens true ts = refl
-same_tokens false ts = append-nil ts
-
 nothing_added : (s : State) (v : Value) → behind_state s (record { events = none; value = v; after = s.names }) ≡ s
-nothing_added s v = rw (same_tokens s.is_silent s.tokens, or_false s.is_silent, or_false s.has_thrown) refl
+nothing_added s v = states refl (append-nil s.tokens) (or_false s.has_thrown)
 
 here : (env : Environment) (v : Value) → Fine env (record { events = none; value = v; after = env })
-here env v = record { clean = refl; more = []; grows = refl }
+here env v = record { more = []; grows = refl }
 
 pub follows_none : Follows of.no_meaning direct.no_meaning
 follows_none = record { same = λ s. refl; fine = λ env. tt }
@@ -189,17 +124,13 @@ follows_none = record { same = λ s. refl; fine = λ env. tt }
 pub follows_gives : (v : Value) → Follows (of.gives v) (direct.gives v)
 follows_gives v = record { same = λ s. ap (λ (t : State). Some (v, t)) (sym (nothing_added s v)); fine = λ env. here env v }
 
-one_clean : (b : Bool) (e : Event) → is_throw e ≡ b → Clean (then e none)
-one_clean true e h = ap (λ (x : Bool). then e (cond x none none)) h
-one_clean false e h = ap (λ (x : Bool). then e (cond x none none)) h
-
 one_added : (s : State) (e : Event) (v : Value) (t : Token) → is_throw e ≡ false → flat_event e [] ≡ t ∷ [] → behind_state s (record { events = then e none; value = v; after = s.names }) ≡ with_token t s
-one_added s e v t quiet is = rw (quiet, is, or_false s.is_silent, or_false s.has_thrown) refl
+one_added s e v t quiet is = rw (quiet, is, or_false s.has_thrown) refl
 
 pub follows_event : (e : Event) (v : Value) (t : Token) → is_throw e ≡ false → flat_event e [] ≡ t ∷ [] → Follows (of.event e v) (emit t v)
 follows_event e v t quiet is = record {
   same = λ s. ap (λ (x : State). Some (v, x)) (sym (one_added s e v t quiet is));
-  fine = λ env. record { clean = one_clean (is_throw e) e refl; more = []; grows = refl };
+  fine = λ env. record { more = []; grows = refl };
 }
 
 or_true : (b : Bool) → (b || true) ≡ true
@@ -208,8 +139,8 @@ or_true false = refl
 
 pub follows_throw : Follows (of.event Throw Undefined) direct.throws
 follows_throw = record {
-  same = λ s. rw (or_true s.is_silent, or_true s.has_thrown) refl;
-  fine = λ env. record { clean = refl; more = []; grows = refl };
+  same = λ s. rw (or_true s.has_thrown) refl;
+  fine = λ env. record { more = []; grows = refl };
 }
 
 -- ---- a list that throws has no value
@@ -220,7 +151,7 @@ settle_at s (Some r) = refl
 
 fine_settle : (env : Environment) (o : Option Run) → IsFine env o → IsFine env (settle_run o)
 fine_settle env None h = tt
-fine_settle env (Some r) h = record { clean = h.clean; more = h.more; grows = h.grows }
+fine_settle env (Some r) h = record { more = h.more; grows = h.grows }
 
 pub follows_settle : (a : Evaluation) (d : Step Value) → Follows a d → Follows (settle a) (settled d)
 follows_settle a d h = record {
@@ -256,7 +187,6 @@ outside_at s (Some r) = refl
 fine_outside : (env : Environment) (o : Option Run) → IsFine env o → IsFine env (of.outside_run env o)
 fine_outside env None h = tt
 fine_outside env (Some r) h = record {
-  clean = h.clean;
   more = of.without_private (length h.more) h.more;
   grows = ap (λ (after : Environment). of.without_private (of.added after env) after) h.grows ∙ ap (λ n. of.without_private n (h.more ++ env)) (added_front h.more env) ∙ without_front h.more env;
 }
@@ -285,14 +215,13 @@ kept_all more env =
     let n : length (more ++ env) - length env ≡ length more = length_front more env in
     rw n (drop_front more env)
 
-held_tokens : (silent : Bool) (ts : List Token) (l : Events) (end : Token) → pushed silent (added silent (pushed silent ts begin) l) end ≡ cond silent ts (ts ++ begin ∷ flat l (end ∷ []))
-held_tokens true ts l end = refl
-held_tokens false ts l end =
+held_tokens : (ts : List Token) (l : Events) (end : Token) → pushed (pushed ts begin ++ tokens l) end ≡ ts ++ begin ∷ flat l (end ∷ [])
+held_tokens ts l end =
     append_assoc (ts ++ begin ∷ []) (tokens l) (end ∷ []) ∙ append_assoc ts (begin ∷ []) (tokens l ++ end ∷ []) ∙ ap (λ (us : List Token). ts ++ begin ∷ us) (sym (flat-append l (end ∷ [])))
 
 pub held_state : (m : ℕ) (p : Place) (test : Option Value) (s : State) (r : Run) → Fine s.names r →
     closed s (behind_state (opened s) r) (ends m p test (value_behind r.events r.value)) ≡ behind_state s (record { events = then (Held m p test r.events (value_behind r.events r.value)) none; value = ResultOf m; after = s.names })
-held_state m p test s r f = states (ap (kept (length s.names)) f.grows ∙ kept_all f.more s.names) (held_tokens s.is_silent s.tokens r.events (ends m p test (value_behind r.events r.value))) (sym (or_false s.is_silent)) (sym (or_false s.has_thrown))
+held_state m p test s r f = states (ap (kept (length s.names)) f.grows ∙ kept_all f.more s.names) (held_tokens s.tokens r.events (ends m p test (value_behind r.events r.value))) (sym (or_false s.has_thrown))
 
 held_at : (m : ℕ) (p : Place) (test : Option Value) (s : State) (o : Option Run) → IsFine s.names o → close m p test s (onto (opened s) o) ≡ onto s (of.held_run m p test s.names o)
 held_at m p test s None f = refl
@@ -300,7 +229,7 @@ held_at m p test s (Some r) f = ap (λ (t : State). Some (ResultOf m, t)) (held_
 
 pub fine_held : (m : ℕ) (p : Place) (test : Option Value) (env : Environment) (o : Option Run) → IsFine env o → IsFine env (of.held_run m p test env o)
 fine_held m p test env None h = tt
-fine_held m p test env (Some r) h = record { clean = refl; more = []; grows = refl }
+fine_held m p test env (Some r) h = record { more = []; grows = refl }
 
 pub follows_held : (m : ℕ) (p : Place) (test : Option Value) (a : Evaluation) (d : Step Value) → Follows a d → Follows (of.held m p test a) (direct.held m p test d)
 follows_held m p test a d h = record {
@@ -314,7 +243,7 @@ quiet_at s (Some r) = ap (λ (t : State). Some (value_behind r.events r.value, t
 
 fine_quiet : (env : Environment) (o : Option Run) → IsFine env o → IsFine env (of.quiet_run env o)
 fine_quiet env None h = tt
-fine_quiet env (Some r) h = record { clean = refl; more = []; grows = refl }
+fine_quiet env (Some r) h = record { more = []; grows = refl }
 
 pub follows_quiet : (a : Evaluation) (d : Step Value) → Follows a d → Follows (of.quiet a) (direct.quiet d)
 follows_quiet a d h = record {
@@ -425,7 +354,7 @@ pub follows_given : (x : String) → Follows (of.read_given x) (direct.read_give
 follows_given x = record { same = λ s. found_at (of.found x s.names) s; fine = λ env. fine_found (of.found x env) env }
 
 name_added : (x : String) (v : Value) (s : State) → behind_state s (record { events = none; value = v; after = (x, v) ∷ s.names }) ≡ with_name x v s
-name_added x v s = rw (same_tokens s.is_silent s.tokens, or_false s.is_silent, or_false s.has_thrown) refl
+name_added x v s = states refl (append-nil s.tokens) (or_false s.has_thrown)
 
 pub follows_stands : (x : String) (v : Value) → Follows (of.stands_for x v) (direct.stands_for x v)
-follows_stands x v = record { same = λ s. ap (λ (t : State). Some (v, t)) (sym (name_added x v s)); fine = λ env. record { clean = refl; more = (x, v) ∷ []; grows = refl } }
+follows_stands x v = record { same = λ s. ap (λ (t : State). Some (v, t)) (sym (name_added x v s)); fine = λ env. record { more = (x, v) ∷ []; grows = refl } }

@@ -15,7 +15,7 @@ use Rattle.es_evaluation.proofs.Same.{follows, construction_follows}
 -- ---- what follows a settled step is settled
 
 abbrev start : Environment → State
-start env = record { names = env; tokens = []; is_silent = false; has_thrown = false }
+start env = record { names = env; tokens = []; has_thrown = false }
 
 abbrev value_in : Option (Value × State) → Value
 value_in None = Undefined

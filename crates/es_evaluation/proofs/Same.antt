@@ -282,7 +282,7 @@ ends_chain m s b f k (Some p) (Some r) y marks h fine first second =
     let receiver : option_map (unless_thrown p.1) p.0.1 ≡ receiver_in b y = receiver_same p.0.1 p.1 b s y marks second in
     let run : Run = record { events = then (Held m (Part 0) None r.events (value_behind r.events r.value)) none; value = ResultOf m; after = s.names } in
     let end : closed s p.1 (ends m (Part 0) None (unless_thrown p.1 p.0.0)) ≡ behind_state s run = ap₂ (λ (t : State) (v : Value). closed s t (ends m (Part 0) None (unless_thrown t v))) state given ∙ held_state m (Part 0) None s r fine in
-    ap₂ (λ (q : Option Value) (t : State). k (ResultOf m, q) t) receiver end ∙ bind_at s (Some run) (λ v. f v (receiver_in b y)) (λ v. k (v, receiver_in b y)) (fine_held m (Part 0) None s.names (Some r) fine) (λ v. h v (receiver_in b y))
+    ap₂ (λ (q : Option Value) (t : State). k (ResultOf m, q) t) receiver end ∙ bind_at s (Some run) (λ v. f v (receiver_in b y)) (λ v. k (v, receiver_in b y)) (λ v. h v (receiver_in b y))
 
 chain_fine : (m : ℕ) (env : Environment) (b : Bool) (f : Value → Option Value → Evaluation) (k : Value × Option Value → Step Value) (x y : Option Run) → ((v : Value) (q : Option Value) → Follows (f v q) (k (v, q))) → IsFine env x → IsFine env (go_on (of.held_run m (Part 0) None env x) (λ v. f v (receiver_in b y)))
 chain_fine m env b f k x y h fine = fine_on env (of.held_run m (Part 0) None env x) (λ v. f v (receiver_in b y)) (fine_held m (Part 0) None env x fine) (λ v e. (h v (receiver_in b y)).fine e)
@@ -328,10 +328,10 @@ module _ (opens : Opened → Evaluation) (opens_d : Opened → Step Value) (open
     follows (super_member m home k this) = follows_settle (bind (ev opens k) (λ b. of.event (SuperGet m home b this) (ResultOf m))) (and_then (settled (form opens_d k)) (λ b. emit (single (SuperGet m home b this)) (ResultOf m))) (follows_bind (ev opens k) (settled (form opens_d k)) (λ b. of.event (SuperGet m home b this) (ResultOf m)) (λ b. emit (single (SuperGet m home b this)) (ResultOf m)) (follows k) (λ b. follows_event (SuperGet m home b this) (ResultOf m) (single (SuperGet m home b this)) refl refl))
     follows (private_in m asks o) = follows_settle (bind (ev opens o) (λ a. of.event (PrivateIn m asks a) (ResultOf m))) (and_then (settled (form opens_d o)) (λ a. emit (single (PrivateIn m asks a)) (ResultOf m))) (follows_bind (ev opens o) (settled (form opens_d o)) (λ a. of.event (PrivateIn m asks a) (ResultOf m)) (λ a. emit (single (PrivateIn m asks a)) (ResultOf m)) (follows o) (λ a. follows_event (PrivateIn m asks a) (ResultOf m) (single (PrivateIn m asks a)) refl refl))
     follows (assign to e) = follows_settle (ev_target opens to (λ r. bind (ev opens e) (λ v. bind (write_ready r (v)) (λ w. of.gives (v))))) (and_then (operands opens_d to) (λ t. and_then (settled (form opens_d e)) (λ v. and_then (write opens_d to t (v)) (λ w. direct.gives (v))))) (target_follows to (λ r. bind (ev opens e) (λ v. bind (write_ready r (v)) (λ w. of.gives (v)))) (λ t. and_then (settled (form opens_d e)) (λ v. and_then (write opens_d to t (v)) (λ w. direct.gives (v)))) (λ t. follows_bind (ev opens e) (settled (form opens_d e)) (λ v. bind (write_ready (ready_of opens to t) (v)) (λ w. of.gives (v))) (λ v. and_then (write opens_d to t (v)) (λ w. direct.gives (v))) (follows e) (λ v. follows_bind (write_ready (ready_of opens to t) (v)) (write opens_d to t (v)) (λ w. of.gives (v)) (λ w. direct.gives (v)) (write_follows to t (v)) (λ w. follows_gives (v)))))
-    follows (compound m op to e) = follows_settle (ev_target opens to (λ r. bind (read_ready r) (λ a. bind (ev opens e) (λ b. bind (of.event (Operate m (binary op) (a ∷ b ∷ [])) (ResultOf m)) (λ v. bind (write_ready r (v)) (λ w. of.gives (v))))))) (and_then (operands opens_d to) (λ t. and_then (read opens_d to t) (λ a. and_then (settled (form opens_d e)) (λ b. and_then (emit (single (Operate m (binary op) (a ∷ b ∷ []))) (ResultOf m)) (λ v. and_then (write opens_d to t (v)) (λ w. direct.gives (v))))))) (target_follows to (λ r. bind (read_ready r) (λ a. bind (ev opens e) (λ b. bind (of.event (Operate m (binary op) (a ∷ b ∷ [])) (ResultOf m)) (λ v. bind (write_ready r (v)) (λ w. of.gives (v)))))) (λ t. and_then (read opens_d to t) (λ a. and_then (settled (form opens_d e)) (λ b. and_then (emit (single (Operate m (binary op) (a ∷ b ∷ []))) (ResultOf m)) (λ v. and_then (write opens_d to t (v)) (λ w. direct.gives (v)))))) (λ t. follows_bind (read_ready (ready_of opens to t)) (read opens_d to t) (λ a. bind (ev opens e) (λ b. bind (of.event (Operate m (binary op) (a ∷ b ∷ [])) (ResultOf m)) (λ v. bind (write_ready (ready_of opens to t) (v)) (λ w. of.gives (v))))) (λ a. and_then (settled (form opens_d e)) (λ b. and_then (emit (single (Operate m (binary op) (a ∷ b ∷ []))) (ResultOf m)) (λ v. and_then (write opens_d to t (v)) (λ w. direct.gives (v))))) (read_follows to t) (λ a. follows_bind (ev opens e) (settled (form opens_d e)) (λ b. bind (of.event (Operate m (binary op) (a ∷ b ∷ [])) (ResultOf m)) (λ v. bind (write_ready (ready_of opens to t) (v)) (λ w. of.gives (v)))) (λ b. and_then (emit (single (Operate m (binary op) (a ∷ b ∷ []))) (ResultOf m)) (λ v. and_then (write opens_d to t (v)) (λ w. direct.gives (v)))) (follows e) (λ b. follows_bind (of.event (Operate m (binary op) (a ∷ b ∷ [])) (ResultOf m)) (emit (single (Operate m (binary op) (a ∷ b ∷ []))) (ResultOf m)) (λ v. bind (write_ready (ready_of opens to t) (v)) (λ w. of.gives (v))) (λ v. and_then (write opens_d to t (v)) (λ w. direct.gives (v))) (follows_event (Operate m (binary op) (a ∷ b ∷ [])) (ResultOf m) (single (Operate m (binary op) (a ∷ b ∷ []))) refl refl) (λ v. follows_bind (write_ready (ready_of opens to t) (v)) (write opens_d to t (v)) (λ w. of.gives (v)) (λ w. direct.gives (v)) (write_follows to t (v)) (λ w. follows_gives (v)))))))
+    follows (compound m op to e) = follows_settle (ev_target opens to (λ r. bind (settle (bind (read_ready r) (λ a. bind (ev opens e) (λ b. of.event (Operate m (binary op) (a ∷ b ∷ [])) (ResultOf m))))) (λ v. bind (write_ready r v) (λ w. of.gives v)))) (and_then (operands opens_d to) (λ t. and_then (settled (and_then (read opens_d to t) (λ a. and_then (settled (form opens_d e)) (λ b. emit (single (Operate m (binary op) (a ∷ b ∷ []))) (ResultOf m))))) (λ v. and_then (write opens_d to t v) (λ w. direct.gives v)))) (target_follows to (λ r. bind (settle (bind (read_ready r) (λ a. bind (ev opens e) (λ b. of.event (Operate m (binary op) (a ∷ b ∷ [])) (ResultOf m))))) (λ v. bind (write_ready r v) (λ w. of.gives v))) (λ t. and_then (settled (and_then (read opens_d to t) (λ a. and_then (settled (form opens_d e)) (λ b. emit (single (Operate m (binary op) (a ∷ b ∷ []))) (ResultOf m))))) (λ v. and_then (write opens_d to t v) (λ w. direct.gives v))) (λ t. follows_bind (settle (bind (read_ready (ready_of opens to t)) (λ a. bind (ev opens e) (λ b. of.event (Operate m (binary op) (a ∷ b ∷ [])) (ResultOf m))))) (settled (and_then (read opens_d to t) (λ a. and_then (settled (form opens_d e)) (λ b. emit (single (Operate m (binary op) (a ∷ b ∷ []))) (ResultOf m))))) (λ v. bind (write_ready (ready_of opens to t) v) (λ w. of.gives v)) (λ v. and_then (write opens_d to t v) (λ w. direct.gives v)) (follows_settle (bind (read_ready (ready_of opens to t)) (λ a. bind (ev opens e) (λ b. of.event (Operate m (binary op) (a ∷ b ∷ [])) (ResultOf m)))) (and_then (read opens_d to t) (λ a. and_then (settled (form opens_d e)) (λ b. emit (single (Operate m (binary op) (a ∷ b ∷ []))) (ResultOf m)))) (follows_bind (read_ready (ready_of opens to t)) (read opens_d to t) (λ a. bind (ev opens e) (λ b. of.event (Operate m (binary op) (a ∷ b ∷ [])) (ResultOf m))) (λ a. and_then (settled (form opens_d e)) (λ b. emit (single (Operate m (binary op) (a ∷ b ∷ []))) (ResultOf m))) (read_follows to t) (λ a. follows_bind (ev opens e) (settled (form opens_d e)) (λ b. of.event (Operate m (binary op) (a ∷ b ∷ [])) (ResultOf m)) (λ b. emit (single (Operate m (binary op) (a ∷ b ∷ []))) (ResultOf m)) (follows e) (λ b. follows_event (Operate m (binary op) (a ∷ b ∷ [])) (ResultOf m) (single (Operate m (binary op) (a ∷ b ∷ []))) refl refl)))) (λ v. follows_bind (write_ready (ready_of opens to t) v) (write opens_d to t v) (λ w. of.gives v) (λ w. direct.gives v) (write_follows to t v) (λ w. follows_gives v))))
     follows (logical m op l r) = follows_settle (bind (ev opens l) (λ a. of.held m (RightOf op) (Some a) (ev opens r))) (and_then (settled (form opens_d l)) (λ a. direct.held m (RightOf op) (Some a) (settled (form opens_d r)))) (follows_bind (ev opens l) (settled (form opens_d l)) (λ a. of.held m (RightOf op) (Some a) (ev opens r)) (λ a. direct.held m (RightOf op) (Some a) (settled (form opens_d r))) (follows l) (λ a. follows_held m (RightOf op) (Some a) (ev opens r) (settled (form opens_d r)) (follows r)))
     follows (logical_assign m op to e) = follows_settle (ev_target opens to (λ r. bind (read_ready r) (λ a. of.held m (RightOf op) (Some a) (bind (ev opens e) (λ v. write_ready r (v)))))) (and_then (operands opens_d to) (λ t. and_then (read opens_d to t) (λ a. direct.held m (RightOf op) (Some a) (and_then (settled (form opens_d e)) (λ v. write opens_d to t (v)))))) (target_follows to (λ r. bind (read_ready r) (λ a. of.held m (RightOf op) (Some a) (bind (ev opens e) (λ v. write_ready r (v))))) (λ t. and_then (read opens_d to t) (λ a. direct.held m (RightOf op) (Some a) (and_then (settled (form opens_d e)) (λ v. write opens_d to t (v))))) (λ t. follows_bind (read_ready (ready_of opens to t)) (read opens_d to t) (λ a. of.held m (RightOf op) (Some a) (bind (ev opens e) (λ v. write_ready (ready_of opens to t) (v)))) (λ a. direct.held m (RightOf op) (Some a) (and_then (settled (form opens_d e)) (λ v. write opens_d to t (v)))) (read_follows to t) (λ a. follows_held m (RightOf op) (Some a) (bind (ev opens e) (λ v. write_ready (ready_of opens to t) (v))) (and_then (settled (form opens_d e)) (λ v. write opens_d to t (v))) (follows_bind (ev opens e) (settled (form opens_d e)) (λ v. write_ready (ready_of opens to t) (v)) (λ v. write opens_d to t (v)) (follows e) (λ v. write_follows to t (v))))))
-    follows (update m op prefix to) = follows_settle (ev_target opens to (λ r. bind (read_ready r) (λ a. bind (of.event (Update m op a) (ResultOf m)) (λ v. bind (write_ready r (v)) (λ w. of.gives (new_or_former prefix m)))))) (and_then (operands opens_d to) (λ t. and_then (read opens_d to t) (λ a. and_then (emit (single (Update m op a)) (ResultOf m)) (λ v. and_then (write opens_d to t (v)) (λ w. direct.gives (new_or_former prefix m)))))) (target_follows to (λ r. bind (read_ready r) (λ a. bind (of.event (Update m op a) (ResultOf m)) (λ v. bind (write_ready r (v)) (λ w. of.gives (new_or_former prefix m))))) (λ t. and_then (read opens_d to t) (λ a. and_then (emit (single (Update m op a)) (ResultOf m)) (λ v. and_then (write opens_d to t (v)) (λ w. direct.gives (new_or_former prefix m))))) (λ t. follows_bind (read_ready (ready_of opens to t)) (read opens_d to t) (λ a. bind (of.event (Update m op a) (ResultOf m)) (λ v. bind (write_ready (ready_of opens to t) (v)) (λ w. of.gives (new_or_former prefix m)))) (λ a. and_then (emit (single (Update m op a)) (ResultOf m)) (λ v. and_then (write opens_d to t (v)) (λ w. direct.gives (new_or_former prefix m)))) (read_follows to t) (λ a. follows_bind (of.event (Update m op a) (ResultOf m)) (emit (single (Update m op a)) (ResultOf m)) (λ v. bind (write_ready (ready_of opens to t) (v)) (λ w. of.gives (new_or_former prefix m))) (λ v. and_then (write opens_d to t (v)) (λ w. direct.gives (new_or_former prefix m))) (follows_event (Update m op a) (ResultOf m) (single (Update m op a)) refl refl) (λ v. follows_bind (write_ready (ready_of opens to t) (v)) (write opens_d to t (v)) (λ w. of.gives (new_or_former prefix m)) (λ w. direct.gives (new_or_former prefix m)) (write_follows to t (v)) (λ w. follows_gives (new_or_former prefix m))))))
+    follows (update m op prefix to) = follows_settle (ev_target opens to (λ r. bind (settle (bind (read_ready r) (λ a. of.event (Update m op a) (ResultOf m)))) (λ v. bind (write_ready r v) (λ w. of.gives (new_or_former prefix m))))) (and_then (operands opens_d to) (λ t. and_then (settled (and_then (read opens_d to t) (λ a. emit (single (Update m op a)) (ResultOf m)))) (λ v. and_then (write opens_d to t v) (λ w. direct.gives (new_or_former prefix m))))) (target_follows to (λ r. bind (settle (bind (read_ready r) (λ a. of.event (Update m op a) (ResultOf m)))) (λ v. bind (write_ready r v) (λ w. of.gives (new_or_former prefix m)))) (λ t. and_then (settled (and_then (read opens_d to t) (λ a. emit (single (Update m op a)) (ResultOf m)))) (λ v. and_then (write opens_d to t v) (λ w. direct.gives (new_or_former prefix m)))) (λ t. follows_bind (settle (bind (read_ready (ready_of opens to t)) (λ a. of.event (Update m op a) (ResultOf m)))) (settled (and_then (read opens_d to t) (λ a. emit (single (Update m op a)) (ResultOf m)))) (λ v. bind (write_ready (ready_of opens to t) v) (λ w. of.gives (new_or_former prefix m))) (λ v. and_then (write opens_d to t v) (λ w. direct.gives (new_or_former prefix m))) (follows_settle (bind (read_ready (ready_of opens to t)) (λ a. of.event (Update m op a) (ResultOf m))) (and_then (read opens_d to t) (λ a. emit (single (Update m op a)) (ResultOf m))) (follows_bind (read_ready (ready_of opens to t)) (read opens_d to t) (λ a. of.event (Update m op a) (ResultOf m)) (λ a. emit (single (Update m op a)) (ResultOf m)) (read_follows to t) (λ a. follows_event (Update m op a) (ResultOf m) (single (Update m op a)) refl refl))) (λ v. follows_bind (write_ready (ready_of opens to t) v) (write opens_d to t v) (λ w. of.gives (new_or_former prefix m)) (λ w. direct.gives (new_or_former prefix m)) (write_follows to t v) (λ w. follows_gives (new_or_former prefix m)))))
     follows (call m f es) = follows_settle (ev_callee opens f (λ v q. ev_all opens es (λ vs. of.event (Call m v q vs) (ResultOf m)))) (and_then (callee opens_d f) (λ c. and_then (all opens_d [] es) (λ vs. emit (single (Call m c.0 c.1 vs)) (ResultOf m)))) (callee_follows f (λ v q. ev_all opens es (λ vs. of.event (Call m v q vs) (ResultOf m))) (λ c. and_then (all opens_d [] es) (λ vs. emit (single (Call m c.0 c.1 vs)) (ResultOf m))) (λ v q. all_follows [] es (λ vs. of.event (Call m v q vs) (ResultOf m)) (λ vs. emit (single (Call m v q vs)) (ResultOf m)) (λ vs. follows_event (Call m v q vs) (ResultOf m) (single (Call m v q vs)) refl refl)))
     follows (tag m f ts es) = follows_settle (ev_callee opens f (λ v q. ev_all opens es (λ vs. of.event (Call m v q (tag_values ts vs)) (ResultOf m)))) (and_then (callee opens_d f) (λ c. and_then (all opens_d [] es) (λ vs. emit (single (Call m c.0 c.1 (tag_values ts vs))) (ResultOf m)))) (callee_follows f (λ v q. ev_all opens es (λ vs. of.event (Call m v q (tag_values ts vs)) (ResultOf m))) (λ c. and_then (all opens_d [] es) (λ vs. emit (single (Call m c.0 c.1 (tag_values ts vs))) (ResultOf m))) (λ v q. all_follows [] es (λ vs. of.event (Call m v q (tag_values ts vs)) (ResultOf m)) (λ vs. emit (single (Call m v q (tag_values ts vs))) (ResultOf m)) (λ vs. follows_event (Call m v q (tag_values ts vs)) (ResultOf m) (single (Call m v q (tag_values ts vs))) refl refl)))
     follows (construct m f es) = follows_settle (bind (ev opens f) (λ c. ev_all opens es (λ vs. of.event (Construct m c vs) (ResultOf m)))) (and_then (settled (form opens_d f)) (λ c. and_then (all opens_d [] es) (λ vs. emit (single (Construct m c vs)) (ResultOf m)))) (follows_bind (ev opens f) (settled (form opens_d f)) (λ c. ev_all opens es (λ vs. of.event (Construct m c vs) (ResultOf m))) (λ c. and_then (all opens_d [] es) (λ vs. emit (single (Construct m c vs)) (ResultOf m))) (follows f) (λ c. all_follows [] es (λ vs. of.event (Construct m c vs) (ResultOf m)) (λ vs. emit (single (Construct m c vs)) (ResultOf m)) (λ vs. follows_event (Construct m c vs) (ResultOf m) (single (Construct m c vs)) refl refl)))

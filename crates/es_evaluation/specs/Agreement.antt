@@ -1,7 +1,6 @@
 -- When an evaluation over a state is one of the definitions.
-use Rattle.std.specs.Prelude.{◌≡◌, ◌++◌, ◌||◌, cond, Option, Some, None}
+use Rattle.std.specs.Prelude.{◌≡◌, ◌++◌, ◌||◌, Option, Some, None}
 use Rattle.es_steps.specs.Evaluation.{Environment, Run, Evaluation}
-use Rattle.es_steps.specs.Events.{none, behind}
 use Rattle.es_steps.specs.Events as of_events
 use Rattle.es_steps.specs.Values.{Value}
 use Rattle.es_evaluation.specs.Flat.{tokens}
@@ -9,15 +8,14 @@ use Rattle.es_evaluation.specs.Direct.{State, Step}
 
 -- what a run adds to a state
 abbrev pub behind_state : State → Run → State
-behind_state s r = record { names = r.after; tokens = cond s.is_silent s.tokens (s.tokens ++ tokens r.events); is_silent = s.is_silent || of_events.throws r.events; has_thrown = s.has_thrown || of_events.throws r.events }
+behind_state s r = record { names = r.after; tokens = s.tokens ++ tokens r.events; has_thrown = s.has_thrown || of_events.throws r.events }
 
 abbrev pub onto : State → Option Run → Option (Value × State)
 onto s None = None
 onto s (Some r) = Some (r.value, behind_state s r)
 
--- what every evaluation of a code gives: nothing stands behind a throw, and names are only added
+-- what every evaluation of a code gives: names are only added
 pub record Fine (env : Environment) (r : Run) : Type 0 where
-  pub clean : behind r.events none ≡ r.events
   pub more : Environment
   pub grows : r.after ≡ more ++ env
 

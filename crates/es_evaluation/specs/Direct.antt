@@ -12,12 +12,10 @@ use Rattle.es_steps.specs.SameValues.{same_value}
 use Rattle.es_steps.specs.Values.{String, Value, ConstantOf, Undefined, BindingOf, FunctionOf, ClassOf, ThisOf, ResultOf, KeyOf, TagString, Bound, as_key, is_class_value}
 use Rattle.es_evaluation.specs.Flat.{Token, single, begin, ends}
 
--- The temporaries, the last given first; the tokens so far; whether a throw stands in this list, behind which tokens are
--- left out; whether one stands in this form.
+-- the temporaries, the last given first; the tokens so far; whether a throw stands in this form
 pub record State : Type 0 where
   pub names : Environment
   pub tokens : List Token
-  pub is_silent : Bool
   pub has_thrown : Bool
 
 -- what is evaluated from a state gives a value and a state, or has no meaning
@@ -39,12 +37,11 @@ next (Some p) f = f p.0 p.1
 abbrev pub and_then : {A B : Type 0} → Step A → (A → Step B) → Step B
 and_then a f s = next (a s) f
 
--- a token, unless a throw stands before it
-abbrev pub pushed : Bool → List Token → Token → List Token
-pushed silent ts t = cond silent ts (ts ++ t ∷ [])
+abbrev pub pushed : List Token → Token → List Token
+pushed ts t = ts ++ t ∷ []
 
 abbrev pub with_token : Token → State → State
-with_token t s = record { names = s.names; tokens = pushed s.is_silent s.tokens t; is_silent = s.is_silent; has_thrown = s.has_thrown }
+with_token t s = record { names = s.names; tokens = pushed s.tokens t; has_thrown = s.has_thrown }
 
 -- an event that does not throw, with its value
 abbrev pub emit : Token → Value → Step Value
@@ -52,7 +49,7 @@ emit t v s = Some (v, with_token t s)
 
 -- an access that always throws
 abbrev pub thrown : State → State
-thrown s = record { names = s.names; tokens = pushed s.is_silent s.tokens (single Throw); is_silent = true; has_thrown = true }
+thrown s = record { names = s.names; tokens = pushed s.tokens (single Throw); has_thrown = true }
 
 abbrev pub throws : Step Value
 throws s = Some (Undefined, thrown s)
@@ -62,10 +59,10 @@ abbrev pub unless_thrown : State → Value → Value
 unless_thrown s v = cond s.has_thrown Undefined v
 
 abbrev pub entered : State → State
-entered s = record { names = s.names; tokens = s.tokens; is_silent = s.is_silent; has_thrown = false }
+entered s = record { names = s.names; tokens = s.tokens; has_thrown = false }
 
 abbrev pub left : Bool → State → State
-left outer s = record { names = s.names; tokens = s.tokens; is_silent = s.is_silent; has_thrown = outer || s.has_thrown }
+left outer s = record { names = s.names; tokens = s.tokens; has_thrown = outer || s.has_thrown }
 
 abbrev pub settle_with : Bool → Option (Value × State) → Option (Value × State)
 settle_with outer None = None
@@ -76,7 +73,7 @@ settled a s = settle_with s.has_thrown (a (entered s))
 
 -- behind a class the private names that it added are forgotten
 abbrev pub without_own : Environment → State → State
-without_own names s = record { names = without_private (added s.names names) s.names; tokens = s.tokens; is_silent = s.is_silent; has_thrown = s.has_thrown }
+without_own names s = record { names = without_private (added s.names names) s.names; tokens = s.tokens; has_thrown = s.has_thrown }
 
 abbrev pub outside_with : Environment → Option (Value × State) → Option (Value × State)
 outside_with names None = None
@@ -92,11 +89,11 @@ abbrev pub kept : ℕ → Environment → Environment
 kept n names = drop (length names - n) names
 
 abbrev pub opened : State → State
-opened s = record { names = s.names; tokens = pushed s.is_silent s.tokens begin; is_silent = s.is_silent; has_thrown = false }
+opened s = record { names = s.names; tokens = pushed s.tokens begin; has_thrown = false }
 
 -- behind the part, which began in s and came to t
 abbrev pub closed : State → State → Token → State
-closed s t token = record { names = kept (length s.names) t.names; tokens = pushed s.is_silent t.tokens token; is_silent = s.is_silent; has_thrown = s.has_thrown }
+closed s t token = record { names = kept (length s.names) t.names; tokens = pushed t.tokens token; has_thrown = s.has_thrown }
 
 abbrev pub close : ℕ → Place → Option Value → State → Option (Value × State) → Option (Value × State)
 close m place test s None = None
@@ -116,7 +113,7 @@ held_callee m a s = close_callee m s (a (opened s))
 -- ---- the value alone
 
 abbrev pub apart : State → State
-apart s = record { names = s.names; tokens = []; is_silent = false; has_thrown = false }
+apart s = record { names = s.names; tokens = []; has_thrown = false }
 
 abbrev pub quiet_with : State → Option (Value × State) → Option (Value × State)
 quiet_with s None = None
@@ -176,7 +173,7 @@ read_name m x (Generated g) = read_generated g x
 read_name m x (StaticMethod d n) = emit (single (PrivateGet m d (ClassOf n))) (ResultOf m)
 
 abbrev pub with_name : String → Value → State → State
-with_name x v s = record { names = (x, v) ∷ s.names; tokens = s.tokens; is_silent = s.is_silent; has_thrown = s.has_thrown }
+with_name x v s = record { names = (x, v) ∷ s.names; tokens = s.tokens; has_thrown = s.has_thrown }
 
 abbrev pub stands_for : String → Value → Step Value
 stands_for x v s = Some (v, with_name x v s)
@@ -275,10 +272,10 @@ module _ (opens : Opened → Step Value) where
     form (super_member m home k this) = and_then (settled (form k)) (λ b. emit (single (SuperGet m home b this)) (ResultOf m))
     form (private_in m asks o) = and_then (settled (form o)) (λ a. emit (single (PrivateIn m asks a)) (ResultOf m))
     form (assign to e) = and_then (operands to) (λ t. and_then (settled (form e)) (λ v. and_then (write to t v) (λ w. gives v)))
-    form (compound m op to e) = and_then (operands to) (λ t. and_then (read to t) (λ a. and_then (settled (form e)) (λ b. and_then (emit (single (Operate m (binary op) (a ∷ b ∷ []))) (ResultOf m)) (λ v. and_then (write to t v) (λ w. gives v)))))
+    form (compound m op to e) = and_then (operands to) (λ t. and_then (settled (and_then (read to t) (λ a. and_then (settled (form e)) (λ b. emit (single (Operate m (binary op) (a ∷ b ∷ []))) (ResultOf m))))) (λ v. and_then (write to t v) (λ w. gives v)))
     form (logical m op l r) = and_then (settled (form l)) (λ a. held m (RightOf op) (Some a) (settled (form r)))
     form (logical_assign m op to e) = and_then (operands to) (λ t. and_then (read to t) (λ a. held m (RightOf op) (Some a) (and_then (settled (form e)) (λ v. write to t v))))
-    form (update m op prefix to) = and_then (operands to) (λ t. and_then (read to t) (λ a. and_then (emit (single (Update m op a)) (ResultOf m)) (λ v. and_then (write to t v) (λ w. gives (new_or_former prefix m)))))
+    form (update m op prefix to) = and_then (operands to) (λ t. and_then (settled (and_then (read to t) (λ a. emit (single (Update m op a)) (ResultOf m)))) (λ v. and_then (write to t v) (λ w. gives (new_or_former prefix m))))
     form (call m f es) = and_then (callee f) (λ c. and_then (all [] es) (λ vs. emit (single (Call m c.0 c.1 vs)) (ResultOf m)))
     form (tag m f ts es) = and_then (callee f) (λ c. and_then (all [] es) (λ vs. emit (single (Call m c.0 c.1 (tag_values ts vs))) (ResultOf m)))
     form (construct m f es) = and_then (settled (form f)) (λ c. and_then (all [] es) (λ vs. emit (single (Construct m c vs)) (ResultOf m)))

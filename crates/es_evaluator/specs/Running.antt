@@ -23,11 +23,11 @@ unfoldable pub names_of : List Named → Environment
 names_of ns = onto_names [] ns
 
 unfoldable pub state_of : State → direct.State
-state_of s = record { names = names_of s.names.items; tokens = tokens_of s.tokens.items; is_silent = s.is_silent; has_thrown = s.has_thrown }
+state_of s = record { names = names_of s.names.items; tokens = tokens_of s.tokens.items; has_thrown = s.has_thrown }
 
 -- behind a part, which began with so many names, and came to t
-abbrev pub closed_with : ℕ → Bool → Bool → direct.State → Token → direct.State
-closed_with count silent thrown t token = record { names = kept count t.names; tokens = pushed silent t.tokens token; is_silent = silent; has_thrown = thrown }
+abbrev pub closed_with : ℕ → Bool → direct.State → Token → direct.State
+closed_with count thrown t token = record { names = kept count t.names; tokens = pushed t.tokens token; has_thrown = thrown }
 
 -- A value, seen by view, and the state; no meaning where the step has none; nothing is said where memory ran out or a value
 -- was made a key too often.

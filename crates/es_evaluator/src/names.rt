@@ -32,7 +32,6 @@ pub fn throw(state: &mut State) -> Result<Value, Fault>
     ensures { Returns (λ v. v) result state.new (direct.throws (state_of state.old)) }
 {
     state.push(Token::Throw)?;
-    state.is_silent = true;
     state.has_thrown = true;
     Ok(Value::undefined())
 }

@@ -42,13 +42,11 @@ fn clone_names(alloc: Global, names: &[Named]) -> Result<Vec<Named>, AllocError>
     Ok(copy)
 }
 
-/// The temporaries, the last given last; the tokens of the list so far; whether a throw stands in this
-/// list, behind which tokens are left out; whether one stands in this form.
+/// The temporaries, the last given last; the tokens of the list so far; whether a throw stands in this form.
 #[derive(Drop)]
 pub struct State {
     pub names: Vec<Named>,
     pub tokens: Vec<Token>,
-    pub is_silent: bool,
     pub has_thrown: bool,
 }
 
@@ -71,20 +69,15 @@ pub enum Operands {
 #[derive(Clone, Copy)]
 pub struct Around {
     pub count: usize,
-    pub is_silent: bool,
     pub has_thrown: bool,
 }
 
 impl State {
-    /// Adds a token, unless a throw stands before it. Fails on allocation failure alone.
+    /// Adds a token. Fails on allocation failure alone.
     #[tactic(auto, using(crate::proofs::Given::tokens_of_push), unfolding(crate::specs::Running::state_of))]
     pub fn push(&mut self, token: Token) -> Result<(), AllocError>
         ensures { OnOk result (state_of self.new ≡ with_token (token_of token) (state_of self.old)) }
     {
-        if self.is_silent {
-            drop(token);
-            return Ok(());
-        }
         self.tokens.push(token)?;
         Ok(())
     }
@@ -133,13 +126,11 @@ impl State {
     #[tactic(auto, using(crate::proofs::Given::length_names_of, crate::proofs::Given::tokens_of_push), unfolding(crate::specs::Running::state_of))]
     pub fn open(&mut self) -> Result<Around, AllocError>
         ensures count { IfOk result (λ a. a.count ≡ length (state_of self.old).names) }
-        ensures is_silent { IfOk result (λ a. a.is_silent ≡ (state_of self.old).is_silent) }
         ensures has_thrown { IfOk result (λ a. a.has_thrown ≡ (state_of self.old).has_thrown) }
         ensures state { OnOk result (state_of self.new ≡ opened (state_of self.old)) }
     {
         let around = Around {
             count: self.names.len(),
-            is_silent: self.is_silent,
             has_thrown: self.has_thrown,
         };
         self.push(Token::Begin)?;
@@ -150,10 +141,9 @@ impl State {
     /// Ends a part with this token: the names that it added end with it. Fails on allocation failure alone.
     #[tactic(auto, using(crate::proofs::Given::names_of_take, crate::proofs::Given::tokens_of_push), unfolding(crate::specs::Running::state_of))]
     pub fn close(&mut self, around: Around, token: Token) -> Result<(), AllocError>
-        ensures { OnOk result (state_of self.new ≡ closed_with around.count around.is_silent around.has_thrown (state_of self.old) (token_of token)) }
+        ensures { OnOk result (state_of self.new ≡ closed_with around.count around.has_thrown (state_of self.old) (token_of token)) }
     {
         self.names.truncate(around.count);
-        self.is_silent = around.is_silent;
         self.has_thrown = around.has_thrown;
         self.push(token)
     }
@@ -178,7 +168,6 @@ impl State {
         Ok(State {
             names,
             tokens: Vec::new(alloc),
-            is_silent: false,
             has_thrown: false,
         })
     }

@@ -2,18 +2,19 @@
 use Rattle.std.specs.Prelude.{◌≡◌, ℕ, List, [], ◌∷◌, map, Bool, true, cond, not, bytes_eq, codes, ◌&&◌, ◌||◌}
 use Rattle.std.proofs.Common.{refl, ap, ap₂, ◌∙◌}
 use Rattle.es_base.specs.Conforms.{is_rest}
-use Rattle.es_base.specs.Preorder.{preorder}
+use Rattle.es_base.specs.Preorder.{preorder, number_of}
 use Rattle.es_base.specs.Tree.{Tree, Part, Parts, Node, end, more, child, absent, literal}
 use Rattle.es_base.specs.declared.kind.Kind.{Kind}
 use Rattle.es_base.specs.declared.literal.LiteralValue.TheVariants as literal_value
-use Rattle.es_lowered.specs.Carriers.{is_loose_base, form_of_callee, form_of_deleted, parameters_of, is_one_parameter, form_of_getter, form_of_accessor, is_proto, is_shorthand, gives_prototype, form_of_property, form_of_names, form_of_head, is_function_statement, is_labelled_function, ends_in_function, is_odd_branch, is_odd_body, odd_if, head_or, form_of_export, odd_form, is_call_of, may_question, has_question, carries, stands_for_node, is_carried, all_carried, numbers_carried}
+use Rattle.es_lowered.specs.Carriers.{is_loose_base, form_of_callee, form_of_deleted, parameters_of, is_one_parameter, form_of_getter, form_of_accessor, is_proto, is_shorthand, gives_prototype, form_of_property, form_of_names, form_of_head, is_function_statement, is_labelled_function, ends_in_function, is_odd_branch, is_odd_body, odd_if, head_or, form_of_export, odd_form, is_call_of, may_question, has_question, carries, stands_for_node, is_carried, all_carried, numbers_carried, is_super_member, is_lowered_target, assigns_super, same_node, keeps_target}
 use Rattle.es_lowered.proofs.BoundMapped.{bound_stay-mapped}
 use Rattle.es_lowered.proofs.KeptWordsMapped.{keeps_words-mapped}
 use Rattle.es_steps.specs.Parts.{at, items, string_of}
+use Rattle.es_steps.specs.SameTrees.{same_kind}
 use Rattle.es_steps.specs.Values.{String}
 use Rattle.es_steps.proofs.Mapped.{Renames, mapped, mapped_part, mapped_parts}
-use Rattle.es_steps.proofs.PrintableMapped.{name_of_part-mapped}
-use Rattle.es_steps.proofs.PartsMapped.{at-mapped, items_at-mapped, string_at-mapped, is_true_at-mapped, preorder-mapped}
+use Rattle.es_steps.proofs.PrintableMapped.{name_of_part-mapped, is_super_part-mapped}
+use Rattle.es_steps.proofs.PartsMapped.{at-mapped, items_at-mapped, string_at-mapped, is_true_at-mapped, preorder-mapped, number_of-mapped}
 
 module _ {first : ℕ} {f : ℕ → ℕ} (r : Renames first f) where
   is_loose_base-mapped : (p : Part) → is_loose_base (mapped_part f p) ≡ is_loose_base p
@@ -144,15 +145,44 @@ module _ {first : ℕ} {f : ℕ → ℕ} (r : Renames first f) where
   may_question-mapped Kind.CallExpression ps = ap not (is_true_at-mapped f 2 ps)
   may_question-mapped kind ps = refl
 
+  is_super_member-mapped : (p : Part) → is_super_member (mapped_part f p) ≡ is_super_member p
+  is_super_member-mapped (child (Node Kind.MemberExpression m span semantic_id ps)) = rw (at-mapped f 0 ps) (is_super_part-mapped f (at 0 ps))
+  is_super_member-mapped (child (Node kind m span semantic_id ps)) = refl
+  is_super_member-mapped p = refl
+
+  is_lowered_target-mapped : (p : Part) → is_lowered_target (mapped_part f p) ≡ is_lowered_target p
+  is_lowered_target-mapped (child (Node Kind.PrivateField m span semantic_id ps)) = refl
+  is_lowered_target-mapped p = is_super_member-mapped p
+
+  assigns_super-mapped : (kind : Kind) (ps : Parts) → assigns_super kind (mapped_parts f ps) ≡ assigns_super kind ps
+  assigns_super-mapped Kind.AssignmentExpression ps = ap is_super_member (at-mapped f 1 ps) ∙ is_super_member-mapped (at 1 ps)
+  assigns_super-mapped kind ps = refl
+
+  same_node-mapped : (p q : Part) → same_node (mapped_part f p) (mapped_part f q) ≡ same_node p q
+  same_node-mapped (child t) (child u) = rw (number_of-mapped f t, number_of-mapped f u) (r.apart (number_of t) (number_of u))
+  same_node-mapped (child t) q = refl
+  same_node-mapped p q = refl
+
+  target-mapped : (ps qs : Parts) → same_node (at 1 (mapped_parts f ps)) (at 1 (mapped_parts f qs)) ≡ same_node (at 1 ps) (at 1 qs)
+  target-mapped ps qs = ap₂ same_node (at-mapped f 1 ps) (at-mapped f 1 qs) ∙ same_node-mapped (at 1 ps) (at 1 qs)
+
+  lowered-mapped : (ps : Parts) → is_lowered_target (at 1 (mapped_parts f ps)) ≡ is_lowered_target (at 1 ps)
+  lowered-mapped ps = ap is_lowered_target (at-mapped f 1 ps) ∙ is_lowered_target-mapped (at 1 ps)
+
+  keeps_target-mapped : (kind : Kind) (ps : Parts) (other : Kind) (qs : Parts) → keeps_target kind (mapped_parts f ps) other (mapped_parts f qs) ≡ keeps_target kind ps other qs
+  keeps_target-mapped Kind.AssignmentExpression ps other qs = ap₂ (λ a b. a || (same_kind Kind.AssignmentExpression other && b)) (lowered-mapped ps) (target-mapped ps qs)
+  keeps_target-mapped Kind.UpdateExpression ps other qs = ap₂ (λ a b. a || b) (lowered-mapped ps) (target-mapped ps qs)
+  keeps_target-mapped kind ps other qs = refl
+
   carries-mapped : (kind : Kind) (ps : Parts) (other : Kind) (qs : Parts) → carries kind (mapped_parts f ps) other (mapped_parts f qs) ≡ carries kind ps other qs
-  carries-mapped kind ps other qs = rw (string_at-mapped f 0 ps, string_at-mapped f 0 qs, keeps_words-mapped f kind ps qs, odd_form-mapped kind ps, odd_form-mapped other qs, has_question-mapped kind ps, may_question-mapped other qs) refl
+  carries-mapped kind ps other qs = rw (string_at-mapped f 0 ps, string_at-mapped f 0 qs, keeps_words-mapped f kind ps qs, keeps_target-mapped kind ps other qs, odd_form-mapped kind ps, odd_form-mapped other qs, has_question-mapped kind ps, may_question-mapped other qs) refl
 
   stands_for_node-mapped : (kind : Kind) (n : ℕ) (qs : Parts) (ts : List Tree) → stands_for_node kind (f n) (mapped_parts f qs) (map (mapped f) ts) ≡ stands_for_node kind n qs ts
   stands_for_node-mapped kind n qs [] = refl
   stands_for_node-mapped kind n qs (Node other m span semantic_id ps ∷ ts) = ap₂ (λ a b. a || b) (ap₂ (λ a b. a && b) (r.apart n m) (carries-mapped other ps kind qs)) (stands_for_node-mapped kind n qs ts)
 
   is_carried-mapped : (ps : List Tree) (t : Tree) → is_carried first (map (mapped f) ps) (mapped f t) ≡ is_carried first ps t
-  is_carried-mapped ps (Node kind n span semantic_id qs) = rw (r.new n, odd_form-mapped kind qs, may_question-mapped kind qs, stands_for_node-mapped kind n qs ps) refl
+  is_carried-mapped ps (Node kind n span semantic_id qs) = rw (r.new n, assigns_super-mapped kind qs, odd_form-mapped kind qs, may_question-mapped kind qs, stands_for_node-mapped kind n qs ps) refl
 
   all_carried-mapped : (ps ts : List Tree) → all_carried first (map (mapped f) ps) (map (mapped f) ts) ≡ all_carried first ps ts
   all_carried-mapped ps [] = refl

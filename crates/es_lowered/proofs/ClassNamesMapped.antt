@@ -34,7 +34,7 @@ module _ (f : ℕ → ℕ) where
   numbers_of_tree-mapped : (t : Tree) → numbers_of (preorder (mapped f t)) ≡ map f (numbers_of (preorder t))
   numbers_of_tree-mapped t = ap numbers_of (preorder-mapped f t) ∙ numbers_of-mapped (preorder t)
 
-  numbers_of_part-mapped : (p : Part) → numbers_of (preorder_of_part (mapped_part f p)) ≡ map f (numbers_of (preorder_of_part p))
+  pub numbers_of_part-mapped : (p : Part) → numbers_of (preorder_of_part (mapped_part f p)) ≡ map f (numbers_of (preorder_of_part p))
   numbers_of_part-mapped p = ap numbers_of (preorder_of_part-mapped f p) ∙ numbers_of-mapped (preorder_of_part p)
 
   numbers_of_parts-mapped : (ps : Parts) → numbers_of (preorder_of (mapped_parts f ps)) ≡ map f (numbers_of (preorder_of ps))
@@ -58,7 +58,7 @@ module _ (f : ℕ → ℕ) where
   class_numbers-mapped [] = refl
   class_numbers-mapped (Node kind m span semantic_id ps ∷ ts) = append-mapped f _ _ (cond-mapped (map f) (is_class kind) (m ∷ []) [] refl refl) (class_numbers-mapped ts)
 
-  abbrev mapped_function : MovedFunction → MovedFunction
+  abbrev pub mapped_function : MovedFunction → MovedFunction
   mapped_function m = record { name = m.name; numbers = map f m.numbers }
 
   pub is_generated_at-mapped : (ledger : List LedgerEntry) (i : ℕ) (ps : Parts) → is_generated (spelling (at i (mapped_parts f ps))) (mapped_ledger f ledger) ≡ is_generated (spelling (at i ps)) ledger
@@ -92,7 +92,7 @@ module _ (f : ℕ → ℕ) where
   moved_at-mapped ledger (Node Kind.VariableDeclarator m span semantic_id ps) = rw (at-mapped f 1 ps) (moved_function-mapped ledger 0 ps (at 1 ps))
   moved_at-mapped ledger t = refl
 
-  moved_functions-mapped : (ledger : List LedgerEntry) (ts : List Tree) → moved_functions (mapped_ledger f ledger) (map (mapped f) ts) ≡ map mapped_function (moved_functions ledger ts)
+  pub moved_functions-mapped : (ledger : List LedgerEntry) (ts : List Tree) → moved_functions (mapped_ledger f ledger) (map (mapped f) ts) ≡ map mapped_function (moved_functions ledger ts)
   moved_functions-mapped ledger [] = refl
   moved_functions-mapped ledger (t ∷ ts) = append-mapped mapped_function _ _ (moved_at-mapped ledger t) (moved_functions-mapped ledger ts)
 
@@ -119,7 +119,7 @@ module _ {first : ℕ} {f : ℕ → ℕ} (r : Renames first f) where
   is_written_at-mapped m [] = refl
   is_written_at-mapped m (x ∷ rs) = ap₂ (λ a b. (a && x.writes) || b) (r.apart m x.number) (is_written_at-mapped m rs)
 
-  naming-mapped : (n : ℕ) (ledger : List LedgerEntry) (rs : List Reference) (ids : List ℕ) (ts : List Tree) → naming (f n) (mapped_ledger f ledger) (map (mapped_reference f) rs) (map f ids) (map (mapped f) ts) ≡ map f (naming n ledger rs ids ts)
+  pub naming-mapped : (n : ℕ) (ledger : List LedgerEntry) (rs : List Reference) (ids : List ℕ) (ts : List Tree) → naming (f n) (mapped_ledger f ledger) (map (mapped_reference f) rs) (map f ids) (map (mapped f) ts) ≡ map f (naming n ledger rs ids ts)
   naming-mapped n ledger rs ids [] = refl
   naming-mapped n ledger rs ids (t ∷ ts) =
       append-mapped f _ _
@@ -127,7 +127,7 @@ module _ {first : ℕ} {f : ℕ → ℕ} (r : Renames first f) where
       (cond-mapped (map f) (names_class n ledger rs ids (child t) && not (is_written_at (number_of t) rs)) (number_of t ∷ []) [] refl refl))
       (naming-mapped n ledger rs ids ts)
 
-  without-mapped : (ns ms : List ℕ) → without (map f ns) (map f ms) ≡ map f (without ns ms)
+  pub without-mapped : (ns ms : List ℕ) → without (map f ns) (map f ms) ≡ map f (without ns ms)
   without-mapped ns [] = refl
   without-mapped ns (m ∷ ms) = append-mapped f _ _ (rw (has_number-mapped r m ns) (cond-mapped (map f) (has_number m ns) [] (m ∷ []) refl refl)) (without-mapped ns ms)
 
@@ -149,11 +149,11 @@ module _ {first : ℕ} {f : ℕ → ℕ} (r : Renames first f) where
   naming_in-mapped n ledger p =
       rw (preorder-mapped f p, resolve-mapped f p, class_identifiers-mapped r n (preorder p)) (naming-mapped n ledger (resolve p) (class_identifiers first n (preorder p)) (preorder p))
 
-  any_among-mapped : (ns ms : List ℕ) → any_among (map f ns) (map f ms) ≡ any_among ns ms
+  pub any_among-mapped : (ns ms : List ℕ) → any_among (map f ns) (map f ms) ≡ any_among ns ms
   any_among-mapped ns [] = refl
   any_among-mapped ns (m ∷ ms) = ap₂ (λ a b. a || b) (has_number-mapped r m ns) (any_among-mapped ns ms)
 
-  outside_class-mapped : (inside : List ℕ) (fs : List MovedFunction) → outside_class (map f inside) (map (mapped_function f) fs) ≡ map (mapped_function f) (outside_class inside fs)
+  pub outside_class-mapped : (inside : List ℕ) (fs : List MovedFunction) → outside_class (map f inside) (map (mapped_function f) fs) ≡ map (mapped_function f) (outside_class inside fs)
   outside_class-mapped inside [] = refl
   outside_class-mapped inside (m ∷ fs) =
       append-mapped (mapped_function f) _ _ (rw (any_among-mapped inside m.numbers) (cond-mapped (map (mapped_function f)) (any_among inside m.numbers) [] (m ∷ []) refl refl)) (outside_class-mapped inside fs)
@@ -169,7 +169,7 @@ module _ {first : ℕ} {f : ℕ → ℕ} (r : Renames first f) where
       (rw (is_reference_to-mapped f ss t, number_of-mapped f t, is_written_at-mapped (number_of t) rs) (cond-mapped (map f) (is_reference_to ss t && not (is_written_at (number_of t) rs)) (number_of t ∷ []) [] refl refl))
       (reading-mapped ss rs ts)
 
-  reaching-mapped : (es : List LedgerEntry) (fs : List MovedFunction) (rs : List Reference) (ts : List Tree) (ns : List ℕ) → reaching (mapped_ledger f es) (map (mapped_function f) fs) (map (mapped_reference f) rs) (map (mapped f) ts) (map f ns) ≡ map f (reaching es fs rs ts ns)
+  pub reaching-mapped : (es : List LedgerEntry) (fs : List MovedFunction) (rs : List Reference) (ts : List Tree) (ns : List ℕ) → reaching (mapped_ledger f es) (map (mapped_function f) fs) (map (mapped_reference f) rs) (map (mapped f) ts) (map f ns) ≡ map f (reaching es fs rs ts ns)
   reaching-mapped [] fs rs ts ns = refl
   reaching-mapped (e ∷ es) fs rs ts ns =
       append-mapped f ns _ refl

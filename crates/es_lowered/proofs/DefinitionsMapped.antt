@@ -9,7 +9,7 @@ use Rattle.es_base.specs.declared.ledger.GeneratedKind.{GeneratedKind}
 use Rattle.es_base.specs.declared.ledger.LedgerEntry.{LedgerEntry}
 use Rattle.es_base.specs.declared.literal.LiteralValue.TheVariants as literal_value
 use Rattle.es_steps.specs.Context.{generated_as, is_function}
-use Rattle.es_lowered.specs.Definitions.{DefinedKey, BrandKey, PrivateKey, PublicKey, FieldDefinition, definition, spelling, helper_definition, property_value, writable_part, field_part, loose_by, object_definition, call_definition, static_by, static_definition, set_definition, is_assignment, is_super_of, given_to, given_part, definition_at, is_given_super, definitions_in, definitions_at, definitions_of, function_definitions, super_definitions, constructor_definitions, all_definitions, is_new_this, on_this, instance_definitions, identifier_in, is_class_number, declares_class, class_identifiers, is_class_temporary, is_bound_among, names_class, is_member_of, is_static_member, key_is_static, is_static_of, statics_of, static_definitions, is_member_name, is_temporary, is_member_key, referent_at, is_property_name, same_referent, is_name_part, Names, is_computed_key, is_key_of, key_fits, is_void_zero, nodes_in, number_stands, is_followed, value_fits, all_fit, is_brand_of, is_brand_key, branded_fit, is_instance_method, any_of, chosen, defined_fields, names_of, class_fits, classes_fit, definitions_stand, key_temporary, key_temporaries, class_temporaries, with_class, all_temporaries, element_numbers, body_numbers, elements_kept, is_super_name, any_reads, any_definition, is_construction, are_constructions, is_plain_super, super_stands, supers_stand, is_of_members, none_of_members}
+use Rattle.es_lowered.specs.Definitions.{old_ones, DefinedKey, BrandKey, PrivateKey, PublicKey, FieldDefinition, definition, spelling, helper_definition, property_value, writable_part, field_part, loose_by, object_definition, call_definition, static_by, static_definition, set_definition, is_assignment, is_super_of, given_to, given_part, definition_at, is_given_super, definitions_in, definitions_at, definitions_of, function_definitions, super_definitions, constructor_definitions, all_definitions, is_new_this, on_this, instance_definitions, identifier_in, is_class_number, declares_class, class_identifiers, is_class_temporary, is_bound_among, names_class, is_member_of, is_static_member, key_is_static, is_static_of, statics_of, static_definitions, is_member_name, is_temporary, is_member_key, referent_at, is_property_name, same_referent, is_name_part, Names, is_computed_key, is_key_of, key_fits, is_void_zero, nodes_in, number_stands, is_followed, value_fits, all_fit, is_brand_of, is_brand_key, branded_fit, is_instance_method, any_of, chosen, defined_fields, names_of, class_fits, classes_fit, definitions_stand, key_temporary, key_temporaries, class_temporaries, with_class, all_temporaries, element_numbers, body_numbers, elements_kept, is_super_name, any_reads, any_definition, is_construction, are_constructions, is_plain_super, super_stands, supers_stand, is_of_members, none_of_members}
 use Rattle.es_steps.specs.KeptNodes.{is_within}
 use Rattle.es_steps.specs.LoweredClasses.{Element, elements_of, is_left_out, is_lowered_element, constructor_in, referent_of}
 use Rattle.es_steps.specs.Options.{lowers_fields, sets_fields}
@@ -246,10 +246,14 @@ module _ {first : ℕ} {f : ℕ → ℕ} (r : Renames first f) where
   is_class_number-mapped n None = refl
   is_class_number-mapped n (Some k) = r.apart n k
 
+  old_ones-mapped : (ns : List ℕ) → old_ones first (map f ns) ≡ map f (old_ones first ns)
+  old_ones-mapped [] = refl
+  old_ones-mapped (n ∷ ns) = append-mapped f _ _ (rw (r.new n) (cond-mapped (map f) (is_new first n) [] (n ∷ []) refl refl)) (old_ones-mapped ns)
+
   declares_class-mapped : (n : ℕ) (kind : Kind) (m : ℕ) (ps : Parts) → declares_class first (f n) kind (f m) (mapped_parts f ps) ≡ map f (declares_class first n kind m ps)
   declares_class-mapped n Kind.ClassDeclaration m ps = rw (r.apart n m) (cond-mapped (map f) (nat_eq n m) (identifier_in (at 0 ps)) [] (identifier_at-mapped f ps) refl)
   declares_class-mapped n Kind.ClassExpression m ps = rw (r.apart n m) (cond-mapped (map f) (nat_eq n m) (identifier_in (at 0 ps)) [] (identifier_at-mapped f ps) refl)
-  declares_class-mapped n Kind.VariableDeclarator m ps = rw (r.new m, at-mapped f 1 ps, class_in-mapped f (at 1 ps), is_class_number-mapped n (class_in (at 1 ps))) (cond-mapped (map f) (is_new first m && is_class_number n (class_in (at 1 ps))) (identifier_in (at 0 ps)) [] (identifier_at-mapped f ps) refl)
+  declares_class-mapped n Kind.VariableDeclarator m ps = rw (r.new m, at-mapped f 1 ps, class_in-mapped f (at 1 ps), is_class_number-mapped n (class_in (at 1 ps))) (cond-mapped (map f) (is_new first m && is_class_number n (class_in (at 1 ps))) (old_ones first (identifier_in (at 0 ps))) [] (ap (old_ones first) (identifier_at-mapped f ps) ∙ old_ones-mapped (identifier_in (at 0 ps))) refl)
   declares_class-mapped n kind m ps = refl
 
   pub class_identifiers-mapped : (n : ℕ) (ts : List Tree) → class_identifiers first (f n) (map (mapped f) ts) ≡ map f (class_identifiers first n ts)
@@ -260,7 +264,7 @@ module _ {first : ℕ} {f : ℕ → ℕ} (r : Renames first f) where
   is_class_temporary-mapped n (Some (GeneratedKind.ClassTemp k)) = r.apart n k.0
   is_class_temporary-mapped n g = refl
 
-  is_bound_among-mapped : (bs : List ℕ) (to : Option Referent) → is_bound_among (map f bs) (mapped_option (mapped_referent f) to) ≡ is_bound_among bs to
+  pub is_bound_among-mapped : (bs : List ℕ) (to : Option Referent) → is_bound_among (map f bs) (mapped_option (mapped_referent f) to) ≡ is_bound_among bs to
   is_bound_among-mapped bs (Some (Bound b)) = has_number-mapped r b bs
   is_bound_among-mapped bs (Some (Free s)) = refl
   is_bound_among-mapped bs None = refl

@@ -38,10 +38,10 @@ module _ {first : ℕ} {f : ℕ → ℕ} (r : Renames first f) where
   writing_numbers-mapped [] = refl
   writing_numbers-mapped (x ∷ rs) = append-mapped f _ _ (cond-mapped (map f) x.writes (x.number ∷ []) [] refl refl) (writing_numbers-mapped rs)
 
-  write_fits-mapped : (ledger : List LedgerEntry) (targets old : List ℕ) (x : Reference) → write_fits (mapped_ledger f ledger) (map f targets) (map f old) (mapped_reference f x) ≡ write_fits ledger targets old x
-  write_fits-mapped ledger targets old x = rw (is_generated-mapped f x.spelling ledger, has_number-mapped r x.number targets, has_number-mapped r x.number old) refl
+  write_fits-mapped : (ledger : List LedgerEntry) (targets old : List ℕ) (x : Reference) → write_fits first (mapped_ledger f ledger) (map f targets) (map f old) (mapped_reference f x) ≡ write_fits first ledger targets old x
+  write_fits-mapped ledger targets old x = rw (is_generated-mapped f x.spelling ledger, r.new x.number, has_number-mapped r x.number targets, has_number-mapped r x.number old) refl
 
-  writes_fit-mapped : (ledger : List LedgerEntry) (targets old : List ℕ) (rs : List Reference) → writes_fit (mapped_ledger f ledger) (map f targets) (map f old) (map (mapped_reference f) rs) ≡ writes_fit ledger targets old rs
+  writes_fit-mapped : (ledger : List LedgerEntry) (targets old : List ℕ) (rs : List Reference) → writes_fit first (mapped_ledger f ledger) (map f targets) (map f old) (map (mapped_reference f) rs) ≡ writes_fit first ledger targets old rs
   writes_fit-mapped ledger targets old [] = refl
   writes_fit-mapped ledger targets old (x ∷ rs) = ap₂ (λ a b. a && b) (write_fits-mapped ledger targets old x) (writes_fit-mapped ledger targets old rs)
 

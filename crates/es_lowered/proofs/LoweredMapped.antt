@@ -1,15 +1,15 @@
 -- What a lowered program owes, under a change of numbers of both programs.
 use Rattle.std.specs.Prelude.{false, ◌≡◌, ℕ, List, [], ◌∷◌, map, Bool, not, ◌&&◌, ◌||◌, bytes_eq, nat_eq, codes, is_some}
 use Rattle.std.proofs.Common.{refl, ap, ap₂, ◌∙◌}
-use Rattle.es_base.specs.Preorder.{preorder, number_of}
+use Rattle.es_base.specs.Preorder.{preorder, number_of, preorder_of_part}
 use Rattle.es_base.specs.Tree.{Tree, Part, Parts, Node, end, more, child, list, string}
 use Rattle.es_base.specs.declared.kind.Kind.{Kind}
 use Rattle.es_base.specs.declared.ledger.GeneratedKind.{GeneratedKind}
 use Rattle.es_base.specs.declared.ledger.LedgerEntry.{LedgerEntry}
 use Rattle.es_lowered.specs.Definitions.{spelling, field_part, class_identifiers, all_different, is_among_first}
 use Rattle.es_steps.specs.KeptNodes.{statement_list, is_underscored}
-use Rattle.es_lowered.specs.Lowered.{declaring_number, declaring_numbers, is_bound_to, all_mean, is_one_new, private_key, private_keys, keys_of_body, keys_of_class, keys_in, is_one, declared_by_kind, same_space, is_named_again, same_subject, has_another_name, is_temp, is_at_most_one, names_declared, has_new_declarator, is_new_const, has_branded, belongs, is_accounted, all_accounted, declarations_accounted, spelled_as, is_new_of, is_key_call, is_function_part, class_number_in, assignment_number, paired, pairs_behind, all_behind, has_pair, is_class_itself, is_class_value, is_initial, is_class_kind, is_method_kind, initialization_at, initializations, comes_before, is_declared_function, all_before, needs_none, with_inner, is_one_initialization, initialization_stands, initializations_stand, any_before, keys_before, keys_stand}
-use Rattle.es_steps.specs.LoweredClasses.{none_lowered, nothing_left}
+use Rattle.es_lowered.specs.Lowered.{declaring_number, declaring_numbers, is_bound_to, all_mean, is_one_new, private_key, private_keys, keys_of_body, keys_of_class, keys_in, is_one, declared_by_kind, same_space, is_named_again, same_subject, has_another_name, is_temp, is_at_most_one, names_declared, has_new_declarator, is_new_const, has_branded, belongs, is_accounted, all_accounted, declarations_accounted, spelled_as, is_new_of, is_key_call, is_function_part, class_number_in, assignment_number, paired, pairs_behind, all_behind, has_pair, is_class_itself, is_class_value, is_initial, is_class_kind, is_method_kind, initialization_at, initializations, comes_before, is_declared_function, all_before, needs_none, with_inner, is_one_initialization, initialization_stands, initializations_stand, any_before, keys_before, keys_stand, private_numbers}
+use Rattle.es_steps.specs.LoweredClasses.{none_lowered, nothing_left, is_private_key}
 use Rattle.es_steps.specs.Options.{lowers_fields}
 use Rattle.es_lowered.specs.OwnNames.{own_name_numbers}
 use Rattle.es_steps.specs.Parts.{at, items, string_of, is_present}
@@ -17,9 +17,9 @@ use Rattle.es_steps.specs.GeneratedForms.{if_member, is_instance_field, is_stati
 use Rattle.es_steps.specs.PrivateNames.{PrivateMember, private_members, members_of_all, member_at, is_a_field}
 use Rattle.es_steps.specs.References.{Reference, resolve}
 use Rattle.es_steps.specs.Scopes.{is_binding_identifier}
-use Rattle.es_lowered.specs.ClassNames.{class_numbers}
+use Rattle.es_lowered.specs.ClassNames.{class_numbers, numbers_of, without}
 use Rattle.es_lowered.specs.Temporaries.{class_before, nodes_of_class}
-use Rattle.es_lowered.proofs.ClassNamesMapped.{class_numbers-mapped}
+use Rattle.es_lowered.proofs.ClassNamesMapped.{class_numbers-mapped, numbers_of_part-mapped, without-mapped}
 use Rattle.es_lowered.proofs.TemporariesMapped.{class_before-mapped, nodes_of_class-mapped}
 use Rattle.es_steps.specs.Values.{String, Referent, Bound, Free}
 use Rattle.es_steps.specs.declared.options.Options.{Options}
@@ -27,7 +27,7 @@ use Rattle.es_steps.proofs.ContextMapped.{is_generated-mapped}
 use Rattle.es_lowered.proofs.DefinitionsMapped.{mapped_temporary, spelling-mapped, field_part-mapped, class_identifiers-mapped, names_class-mapped}
 use Rattle.es_steps.proofs.FormsMapped.{if_member-mapped}
 use Rattle.es_lowered.proofs.HelperCallsMapped.{is_helper_callee-mapped}
-use Rattle.es_steps.proofs.KeptNodesMapped.{statement_list-mapped, is_function_declaration-mapped}
+use Rattle.es_steps.proofs.KeptNodesMapped.{statement_list-mapped, is_function_declaration-mapped, is_private_key-mapped}
 use Rattle.es_steps.proofs.Mapped.{Renames, mapped, mapped_part, mapped_parts, mapped_generated, mapped_ledger, mapped_ledger_entry, mapped_privates, mapped_private, mapped_pair, mapped_referent, mapped_reference}
 use Rattle.es_lowered.proofs.OwnNamesMapped.{own_name_numbers-mapped}
 use Rattle.es_steps.proofs.PartsMapped.{cond-mapped, append-mapped, is_some-mapped, at-mapped, items_at-mapped, string_at-mapped, is_present-mapped, is_present_at-mapped, number_of-mapped, preorder-mapped}
@@ -312,10 +312,18 @@ module _ {first : ℕ} {f : ℕ → ℕ} (r : Renames first f) where
   belongs-mapped members (GeneratedKind.LooseKey d) = member_there-mapped (λ x. is_a_field x.kind) d.0 members (λ x. refl)
   belongs-mapped members g = refl
 
+  private_numbers-mapped : (ts : List Tree) → private_numbers (map (mapped f) ts) ≡ map f (private_numbers ts)
+  private_numbers-mapped [] = refl
+  private_numbers-mapped (Node Kind.MethodDefinition m span semantic_id ps ∷ ts) =
+      append-mapped f _ _
+      (rw (at-mapped f 0 ps, is_private_key-mapped f (at 0 ps)) (cond-mapped (map f) (is_private_key (at 0 ps)) (numbers_of (preorder_of_part (at 1 ps))) [] (ap (λ p. numbers_of (preorder_of_part p)) (at-mapped f 1 ps) ∙ numbers_of_part-mapped f (at 1 ps)) refl))
+      (private_numbers-mapped ts)
+  private_numbers-mapped (t ∷ ts) = private_numbers-mapped ts
+
   with_inner-mapped : (ps : List Tree) (ns : List ℕ) → with_inner (map (mapped f) ps) (map f ns) ≡ map f (with_inner ps ns)
   with_inner-mapped ps [] = refl
   with_inner-mapped ps (n ∷ ns) =
-      ap (λ ks. f n ∷ ks) (append-mapped f _ _ (ap class_numbers (nodes_of_class-mapped r n ps) ∙ class_numbers-mapped f (nodes_of_class n ps)) (with_inner-mapped ps ns))
+      ap (λ ks. f n ∷ ks) (append-mapped f _ _ (ap₂ without (ap private_numbers (nodes_of_class-mapped r n ps) ∙ private_numbers-mapped (nodes_of_class n ps)) (ap class_numbers (nodes_of_class-mapped r n ps) ∙ class_numbers-mapped f (nodes_of_class n ps)) ∙ without-mapped r (private_numbers (nodes_of_class n ps)) (class_numbers (nodes_of_class n ps))) (with_inner-mapped ps ns))
 
   is_one_initialization-mapped : (g : GeneratedKind) (p q : Tree) (is : List (ℕ × Bool)) → is_one_initialization (mapped_generated f g) (mapped f p) (mapped f q) (map (mapped_initialization f) is) ≡ is_one_initialization g p q is
   is_one_initialization-mapped g p q [] = refl

@@ -1,21 +1,19 @@
 -- The own names of classes, under a change of numbers.
-use Rattle.std.specs.Prelude.{◌≡◌, ℕ, List, [], ◌∷◌, ◌++◌, map, Bool, cond, not, ◌&&◌, ◌||◌, nat_eq}
-use Rattle.std.proofs.Common.{refl, ap, ap₂, ◌∙◌}
+use Rattle.std.specs.Prelude.{◌≡◌, ℕ, List, [], ◌∷◌, map, Bool, not, ◌&&◌, ◌||◌, nat_eq}
+use Rattle.std.proofs.Common.{refl, ap₂}
 use Rattle.es_base.specs.Conforms.{is_among}
 use Rattle.es_base.specs.Preorder.{number_of, preorder, preorder_of_part}
-use Rattle.es_base.specs.Tree.{Tree, Part, Parts, Node, end, more, child, absent}
+use Rattle.es_base.specs.Tree.{Tree, Node, end, more, child, absent}
 use Rattle.es_base.specs.declared.kind.Kind.{Kind}
 use Rattle.es_base.specs.declared.ledger.LedgerEntry.{LedgerEntry}
-use Rattle.es_lowered.specs.Definitions.{spelling}
-use Rattle.es_steps.specs.Context.{is_generated}
-use Rattle.es_steps.specs.NameScopes.{is_any_function}
-use Rattle.es_lowered.proofs.ClassNamesMapped.{is_generated_at-mapped}
-use Rattle.es_lowered.specs.OwnNames.{is_bound_among, references_to, class_name_at, declares_class, are_none, own_name_number, own_name_numbers, identifier_at, identifiers_at, any_stands, loses_name, none_loses_name, class_identifier, class_identifiers, declares_by, any_declares, function_nodes, moved_nodes, all_moved, reads_itself, none_reads_itself, own_names_stay}
+use Rattle.es_lowered.proofs.ClassNamesMapped.{mapped_function, numbers_of_part-mapped, moved_functions-mapped, outside_class-mapped, reaching-mapped, any_among-mapped}
+use Rattle.es_lowered.specs.ClassNames.{MovedFunction, numbers_of, moved_functions, outside_class, reaching}
+use Rattle.es_lowered.specs.OwnNames.{is_bound_among, references_to, class_name_at, declares_class, are_none, own_name_number, own_name_numbers, identifier_at, identifiers_at, any_stands, loses_name, none_loses_name, class_identifier, class_identifiers, declares_by, any_declares, reads_itself, none_reads_itself, own_names_stay}
 use Rattle.es_steps.specs.Parts.{at, string_of}
 use Rattle.es_steps.specs.References.{Reference, resolve}
 use Rattle.es_steps.specs.Values.{String, Referent, Bound}
-use Rattle.es_steps.proofs.Mapped.{Renames, mapped, mapped_part, mapped_parts, mapped_referent, mapped_reference, mapped_ledger}
-use Rattle.es_steps.proofs.PartsMapped.{cond-mapped, append-mapped, at-mapped, string_at-mapped, number_of-mapped, preorder-mapped, preorder_of_part-mapped}
+use Rattle.es_steps.proofs.Mapped.{Renames, mapped, mapped_referent, mapped_reference, mapped_ledger}
+use Rattle.es_steps.proofs.PartsMapped.{cond-mapped, append-mapped, string_at-mapped, number_of-mapped, preorder-mapped, preorder_of_part-mapped}
 use Rattle.es_steps.proofs.ReferencesMapped.{resolve-mapped, has_number-mapped}
 
 are_none-mapped : (f : ℕ → ℕ) (ns : List ℕ) → are_none (map f ns) ≡ are_none ns
@@ -93,38 +91,20 @@ module _ {first : ℕ} {f : ℕ → ℕ} (r : Renames first f) where
   any_declares-mapped m b [] = refl
   any_declares-mapped m b (t ∷ ts) = ap₂ (λ x y. x || y) (declares_by-mapped m b t) (any_declares-mapped m b ts)
 
-  -- ---- functions of generated names
+  -- ---- what a declarator is initialized with
 
-  function_nodes-mapped : (p : Part) → function_nodes (mapped_part f p) ≡ map (mapped f) (function_nodes p)
-  function_nodes-mapped (child (Node kind m span semantic_id ps)) = cond-mapped (map (mapped f)) (is_any_function kind) (preorder (Node kind m span semantic_id ps)) [] (preorder-mapped f (Node kind m span semantic_id ps)) refl
-  function_nodes-mapped p = refl
+  reads_itself-mapped : (ledger : List LedgerEntry) (fs : List MovedFunction) (ps qs : List Tree) (rs : List Reference) (t : Tree) → reads_itself (mapped_ledger f ledger) (map (mapped_function f) fs) (map (mapped f) ps) (map (mapped f) qs) (map (mapped_reference f) rs) (mapped f t) ≡ reads_itself ledger fs ps qs rs t
+  reads_itself-mapped ledger fs ps qs rs (Node Kind.VariableDeclarator m span semantic_id (more (child (Node kind b bspan b_semantic_id bs)) (more e end))) =
+      let around : List MovedFunction = outside_class (m ∷ []) fs in
+      let read : List ℕ = references_to (b ∷ []) rs in
+      rw (any_declares-mapped m b ps, class_identifiers-mapped ps, has_number-mapped r b (class_identifiers ps), numbers_of_part-mapped f e, references_to-mapped (b ∷ []) rs, outside_class-mapped r (m ∷ []) fs, reaching-mapped r ledger around rs qs read, any_among-mapped r (numbers_of (preorder_of_part e)) (reaching ledger around rs qs read)) refl
+  reads_itself-mapped ledger fs ps qs rs t = refl
 
-  functions_at-mapped : (ledger : List LedgerEntry) (i j : ℕ) (ps : Parts) → cond (is_generated (spelling (at i (mapped_parts f ps))) (mapped_ledger f ledger)) (function_nodes (at j (mapped_parts f ps))) [] ≡ map (mapped f) (cond (is_generated (spelling (at i ps)) ledger) (function_nodes (at j ps)) [])
-  functions_at-mapped ledger i j ps =
-      rw (is_generated_at-mapped f ledger i ps) (cond-mapped (map (mapped f)) (is_generated (spelling (at i ps)) ledger) (function_nodes (at j ps)) [] (ap function_nodes (at-mapped f j ps) ∙ function_nodes-mapped (at j ps)) refl)
-
-  moved_nodes-mapped : (ledger : List LedgerEntry) (t : Tree) → moved_nodes (mapped_ledger f ledger) (mapped f t) ≡ map (mapped f) (moved_nodes ledger t)
-  moved_nodes-mapped ledger (Node Kind.FunctionDeclaration m span semantic_id ps) =
-      let t : Tree = Node Kind.FunctionDeclaration m span semantic_id ps in
-      rw (is_generated_at-mapped f ledger 0 ps) (cond-mapped (map (mapped f)) (is_generated (spelling (at 0 ps)) ledger) (preorder t) [] (preorder-mapped f t) refl)
-  moved_nodes-mapped ledger (Node Kind.AssignmentExpression m span semantic_id ps) = functions_at-mapped ledger 1 2 ps
-  moved_nodes-mapped ledger (Node Kind.VariableDeclarator m span semantic_id ps) = functions_at-mapped ledger 0 1 ps
-  moved_nodes-mapped ledger t = refl
-
-  all_moved-mapped : (ledger : List LedgerEntry) (ts : List Tree) → all_moved (mapped_ledger f ledger) (map (mapped f) ts) ≡ map (mapped f) (all_moved ledger ts)
-  all_moved-mapped ledger [] = refl
-  all_moved-mapped ledger (t ∷ ts) = append-mapped (mapped f) _ _ (moved_nodes-mapped ledger t) (all_moved-mapped ledger ts)
-
-  reads_itself-mapped : (moved ps : List Tree) (rs : List Reference) (t : Tree) → reads_itself (map (mapped f) moved) (map (mapped f) ps) (map (mapped_reference f) rs) (mapped f t) ≡ reads_itself moved ps rs t
-  reads_itself-mapped moved ps rs (Node Kind.VariableDeclarator m span semantic_id (more (child (Node kind b bspan b_semantic_id bs)) (more e end))) =
-      rw (any_declares-mapped m b ps, class_identifiers-mapped ps, has_number-mapped r b (class_identifiers ps), references_to-mapped (b ∷ []) rs, append-mapped (mapped f) (preorder_of_part e) moved (preorder_of_part-mapped f e) refl, any_stands-mapped (references_to (b ∷ []) rs) (preorder_of_part e ++ moved)) refl
-  reads_itself-mapped moved ps rs t = refl
-
-  none_reads_itself-mapped : (moved ps : List Tree) (rs : List Reference) (ts : List Tree) → none_reads_itself (map (mapped f) moved) (map (mapped f) ps) (map (mapped_reference f) rs) (map (mapped f) ts) ≡ none_reads_itself moved ps rs ts
-  none_reads_itself-mapped moved ps rs [] = refl
-  none_reads_itself-mapped moved ps rs (t ∷ ts) = ap₂ (λ a b. not a && b) (reads_itself-mapped moved ps rs t) (none_reads_itself-mapped moved ps rs ts)
+  none_reads_itself-mapped : (ledger : List LedgerEntry) (fs : List MovedFunction) (ps qs : List Tree) (rs : List Reference) (ts : List Tree) → none_reads_itself (mapped_ledger f ledger) (map (mapped_function f) fs) (map (mapped f) ps) (map (mapped f) qs) (map (mapped_reference f) rs) (map (mapped f) ts) ≡ none_reads_itself ledger fs ps qs rs ts
+  none_reads_itself-mapped ledger fs ps qs rs [] = refl
+  none_reads_itself-mapped ledger fs ps qs rs (t ∷ ts) = ap₂ (λ a b. not a && b) (reads_itself-mapped ledger fs ps qs rs t) (none_reads_itself-mapped ledger fs ps qs rs ts)
 
   pub own_names_stay-mapped : (ledger : List LedgerEntry) (p q : Tree) → own_names_stay (mapped_ledger f ledger) (mapped f p) (mapped f q) ≡ own_names_stay ledger p q
   own_names_stay-mapped ledger p q =
-      rw (preorder-mapped f p, resolve-mapped f q, preorder-mapped f q, all_moved-mapped ledger (preorder q))
-      (ap₂ (λ a b. a && b) (none_loses_name-mapped (preorder p) (resolve q) (preorder q)) (none_reads_itself-mapped (all_moved ledger (preorder q)) (preorder p) (resolve q) (preorder q)))
+      rw (preorder-mapped f p, resolve-mapped f q, preorder-mapped f q, moved_functions-mapped f ledger (preorder q))
+      (ap₂ (λ a b. a && b) (none_loses_name-mapped (preorder p) (resolve q) (preorder q)) (none_reads_itself-mapped ledger (moved_functions ledger (preorder q)) (preorder p) (preorder q) (resolve q) (preorder q)))

@@ -1,6 +1,7 @@
 -- That generated names stand in time does not depend on numbers.
 use Rattle.std.specs.Prelude.{◌≡◌, ℕ, suc, List, [], ◌∷◌, ◌++◌, map, Bool, true, false, cond, not, ◌&&◌, ◌||◌, nat_eq, bytes_eq, Option, Some, None}
 use Rattle.std.proofs.Common.{refl, ap, ap₂, ◌∙◌}
+use Rattle.es_base.specs.Conforms.{is_among}
 use Rattle.es_base.specs.Tree.{Tree, Part, Parts, Node, end, more, child, list, string}
 use Rattle.es_base.specs.declared.kind.Kind.{Kind}
 use Rattle.es_base.specs.declared.ledger.GeneratedKind.{GeneratedKind}
@@ -16,13 +17,13 @@ use Rattle.es_steps.proofs.KeptNodesMapped.{statement_list-mapped}
 use Rattle.es_steps.proofs.ReferencesMapped.{has_number-mapped}
 use Rattle.es_steps.specs.Parts.{at, items, string_of}
 use Rattle.es_steps.specs.PrivateNames.{PrivateMember, member_at, is_class, is_element}
-use Rattle.es_lowered.specs.Timely.{are_bare, runs_nothing, let_number, leading_in, whole_list, leading_lets, let_form, nowhere, is_named, is_same, MarkForm, initializes, hoists, needs, Around, Mark, is_held, is_held_arrow, is_instance_value, runs_later, around_in, mark, declared_mark, initialized_mark, marks_before, marks_behind, is_given, is_of_class, is_needed_by, needed_names, uses_of, is_called_arrow, marks, marks_in, marks_at, marks_of, key_marks, value_marks, is_hoisted, is_declared, is_around, is_called_early, is_later, gives_in_time, any_gives, is_declaration, is_dead, is_skipped_by, is_skipped, is_followed, is_use, comes_first, use_form, is_called_first, use_around, is_running, is_early_by, is_early, asks, in_time, names_timely}
+use Rattle.es_lowered.specs.Timely.{are_bare, runs_nothing, let_number, leading_in, whole_list, leading_lets, let_form, nowhere, is_named, is_same, MarkForm, initializes, hoists, needs, Around, Mark, is_held, is_held_arrow, is_instance_value, runs_later, around_in, mark, declared_mark, initialized_mark, marks_before, marks_behind, is_given, is_of_class, is_needed_by, needed_names, uses_of, is_called_arrow, marks, marks_in, marks_at, marks_of, key_marks, value_marks, is_hoisted, is_declared, is_around, is_called_early, is_later, gives_in_time, any_gives, is_declaration, is_dead, is_skipped_by, is_skipped, is_followed, is_use, comes_first, use_form, is_called_first, use_around, is_running, is_early_by, is_early, asks, in_time, names_timely, is_needed, uses, method_name, declared_methods, is_of_no_node, held_of, held_by, with_class, super_function, super_functions, is_given_with, with_super}
 use Rattle.es_steps.specs.Values.{String}
 use Rattle.es_steps.proofs.ContextMapped.{generated_as-mapped, is_generated-mapped}
 use Rattle.es_lowered.proofs.DefinitionsMapped.{spelling-mapped}
 use Rattle.es_lowered.proofs.HelperCallsMapped.{runs_with_class-mapped, body_runs-mapped}
 use Rattle.es_steps.proofs.Mapped.{Renames, mapped, mapped_part, mapped_parts, mapped_option, mapped_generated, mapped_ledger, mapped_privates, mapped_private}
-use Rattle.es_steps.proofs.PartsMapped.{cond-mapped, append-mapped, at-mapped, items_at-mapped, string_at-mapped, is_true_at-mapped, is_present_at-mapped, preorder-mapped}
+use Rattle.es_steps.proofs.PartsMapped.{cond-mapped, append-mapped, at-mapped, items_at-mapped, string_at-mapped, is_true_at-mapped, is_present_at-mapped, preorder-mapped, number_of-mapped}
 use Rattle.es_steps.proofs.PrivatesMapped.{member_at-mapped}
 
 module _ (f : ℕ → ℕ) where
@@ -348,9 +349,91 @@ module _ {first : ℕ} {f : ℕ → ℕ} (r : Renames first f) where
   is_named-mapped : (ledger : List LedgerEntry) (s : String) (ns : List ℕ) → is_named (mapped_ledger f ledger) s (map f ns) ≡ is_named ledger s ns
   is_named-mapped ledger s ns = is_generated-mapped f s ledger
 
+  -- ---- functions that are called by their class alone
+
+  method_name-mapped : (m : ℕ) (s : String) (g : Option GeneratedKind) → method_name (f m) s (mapped_option (mapped_generated f) g) ≡ map (mapped_running f) (method_name m s g)
+  method_name-mapped m s (Some (GeneratedKind.Method d)) = refl
+  method_name-mapped m s g = refl
+
+  declared_methods-mapped : (ledger : List LedgerEntry) (ts : List Tree) → declared_methods (mapped_ledger f ledger) (map (mapped f) ts) ≡ map (mapped_running f) (declared_methods ledger ts)
+  declared_methods-mapped ledger [] = refl
+  declared_methods-mapped ledger (Node Kind.FunctionDeclaration m span semantic_id ps ∷ ts) =
+      append-mapped (mapped_running f) _ _
+      (rw (spelling_at-mapped f 0 ps, generated_as-mapped f (spelling (at 0 ps)) ledger) (method_name-mapped m (spelling (at 0 ps)) (generated_as (spelling (at 0 ps)) ledger)))
+      (declared_methods-mapped ledger ts)
+  declared_methods-mapped ledger (t ∷ ts) = declared_methods-mapped ledger ts
+
+  is_of_no_node-mapped : (ns : List ℕ) → is_of_no_node (map f ns) ≡ is_of_no_node ns
+  is_of_no_node-mapped [] = refl
+  is_of_no_node-mapped (n ∷ ns) = refl
+
+  held_of-mapped : (s : String) (ms : List Mark) → held_of s (map (mapped_mark f) ms) ≡ map (mapped_held f) (held_of s ms)
+  held_of-mapped s [] = refl
+  held_of-mapped s (m ∷ ms) =
+      rw (is_of_no_node-mapped m.node) (cond-mapped (map (mapped_held f)) (bytes_eq s m.name && (is_needed m.form && is_of_no_node m.node)) m.around.held (held_of s ms) refl (held_of-mapped s ms))
+
+  held_by-mapped : (ms : List Mark) (later : List (ℕ × Bool)) (fs : List (ℕ × String)) → held_by (map (mapped_mark f) ms) (map (mapped_later f) later) (map (mapped_running f) fs) ≡ map (mapped_held f) (held_by ms later fs)
+  held_by-mapped ms later [] = refl
+  held_by-mapped ms later (g ∷ fs) =
+      append-mapped (mapped_held f) _ _
+      (rw (is_around-mapped g.0 later) (cond-mapped (map (mapped_held f)) (is_around g.0 later) (held_of g.1 ms) [] (held_of-mapped g.1 ms) refl))
+      (held_by-mapped ms later fs)
+
+  with_class-mapped : (fs : List (ℕ × String)) (ms : List Mark) (m : Mark) → with_class (map (mapped_running f) fs) (map (mapped_mark f) ms) (mapped_mark f m) ≡ mapped_mark f (with_class fs ms m)
+  with_class-mapped fs ms m =
+      ap (λ (hs : List (ℕ × ℕ)). record (mapped_mark f m) { around = record (mapped_around f m.around) { held = hs } })
+      (append-mapped (mapped_held f) (held_by ms m.around.later fs) m.around.held (held_by-mapped ms m.around.later fs) refl)
+
+  abbrev mapped_super : ℕ × ℕ → ℕ × ℕ
+  mapped_super p = (f p.0, f p.1)
+
+  super_function-mapped : (g : Option GeneratedKind) (p : Part) → super_function (mapped_option (mapped_generated f) g) (mapped_part f p) ≡ map mapped_super (super_function g p)
+  super_function-mapped (Some (GeneratedKind.SuperFn n)) (child t) = rw (number_of-mapped f t) refl
+  super_function-mapped (Some (GeneratedKind.SuperFn n)) p = refl
+  super_function-mapped g p = refl
+
+  super_functions-mapped : (ledger : List LedgerEntry) (ts : List Tree) → super_functions (mapped_ledger f ledger) (map (mapped f) ts) ≡ map mapped_super (super_functions ledger ts)
+  super_functions-mapped ledger [] = refl
+  super_functions-mapped ledger (Node Kind.VariableDeclarator m span semantic_id ps ∷ ts) =
+      append-mapped mapped_super _ _
+      (rw (spelling_at-mapped f 0 ps, generated_as-mapped f (spelling (at 0 ps)) ledger, at-mapped f 1 ps) (super_function-mapped (generated_as (spelling (at 0 ps)) ledger) (at 1 ps)))
+      (super_functions-mapped ledger ts)
+  super_functions-mapped ledger (Node Kind.AssignmentExpression m span semantic_id ps ∷ ts) =
+      append-mapped mapped_super _ _
+      (rw (spelling_at-mapped f 1 ps, generated_as-mapped f (spelling (at 1 ps)) ledger, at-mapped f 2 ps) (super_function-mapped (generated_as (spelling (at 1 ps)) ledger) (at 2 ps)))
+      (super_functions-mapped ledger ts)
+  super_functions-mapped ledger (t ∷ ts) = super_functions-mapped ledger ts
+
+  is_given_with-mapped : (ledger : List LedgerEntry) (members : List PrivateMember) (m : Mark) (gs : List (ℕ × ℕ)) → is_given_with (mapped_ledger f ledger) (mapped_privates f members) (mapped_mark f m) (map mapped_super gs) ≡ is_given_with ledger members m gs
+  is_given_with-mapped ledger members m [] = refl
+  is_given_with-mapped ledger members m (g ∷ gs) =
+      ap₂ (λ a b. a || b)
+      (ap₂ (λ a (ns : List String). a && is_among m.name ns) (is_around-mapped g.0 m.around.later) (needed_names-mapped g.1 members ledger))
+      (is_given_with-mapped ledger members m gs)
+
+  with_super-mapped : (ledger : List LedgerEntry) (members : List PrivateMember) (gs : List (ℕ × ℕ)) (m : Mark) → with_super (mapped_ledger f ledger) (mapped_privates f members) (map mapped_super gs) (mapped_mark f m) ≡ mapped_mark f (with_super ledger members gs m)
+  with_super-mapped ledger members gs m =
+      rw (is_given_with-mapped ledger members m gs) (cond-mapped (mapped_mark f) (is_needed m.form && is_given_with ledger members m gs) (record m { form = uses }) m refl refl)
+
+  all_given-mapped : (ledger : List LedgerEntry) (members : List PrivateMember) (fs : List (ℕ × String)) (gs : List (ℕ × ℕ)) (all ms : List Mark) → map (λ m. with_super (mapped_ledger f ledger) (mapped_privates f members) (map mapped_super gs) (with_class (map (mapped_running f) fs) (map (mapped_mark f) all) m)) (map (mapped_mark f) ms) ≡ map (mapped_mark f) (map (λ m. with_super ledger members gs (with_class fs all m)) ms)
+  all_given-mapped ledger members fs gs all [] = refl
+  all_given-mapped ledger members fs gs all (m ∷ ms) =
+      ap₂ (λ x (xs : List Mark). x ∷ xs)
+      (ap (with_super (mapped_ledger f ledger) (mapped_privates f members) (map mapped_super gs)) (with_class-mapped fs all m) ∙ with_super-mapped ledger members gs (with_class fs all m))
+      (all_given-mapped ledger members fs gs all ms)
+
   pub names_timely-mapped : (ledger : List LedgerEntry) (members : List PrivateMember) (q : Tree) → names_timely first (mapped_ledger f ledger) (mapped_privates f members) (mapped f q) ≡ names_timely first ledger members q
   names_timely-mapped ledger members q =
       let leading : List ℕ = leading_lets (preorder q) in
-      ap (λ hs. in_time (mapped_ledger f ledger) [] (marks first (mapped_ledger f ledger) (mapped_privates f members) (is_named (mapped_ledger f ledger)) hs nowhere None (mapped f q))) (ap leading_lets (preorder-mapped f q) ∙ leading_lets-mapped f (preorder q))
-      ∙ (ap (in_time (mapped_ledger f ledger) []) (marks-mapped ledger members (is_named (mapped_ledger f ledger)) (is_named ledger) (is_named-mapped ledger) leading nowhere None q)
-      ∙ in_time-mapped ledger [] (marks first ledger members (is_named ledger) leading nowhere None q))
+      let there : List LedgerEntry = mapped_ledger f ledger in
+      let others : List PrivateMember = mapped_privates f members in
+      let ms : List Mark = marks first ledger members (is_named ledger) leading nowhere None q in
+      let fs : List (ℕ × String) = declared_methods ledger (preorder q) in
+      let gs : List (ℕ × ℕ) = super_functions ledger (preorder q) in
+      ap (λ (ns : List Mark). in_time there [] (map (λ m. with_super there others (super_functions there (preorder (mapped f q))) (with_class (declared_methods there (preorder (mapped f q))) ns m)) ns))
+      (ap (λ hs. marks first there others (is_named there) hs nowhere None (mapped f q)) (ap leading_lets (preorder-mapped f q) ∙ leading_lets-mapped f (preorder q)) ∙ marks-mapped ledger members (is_named there) (is_named ledger) (is_named-mapped ledger) leading nowhere None q)
+      ∙ (ap₂ (λ xs ys. in_time there [] (map (λ m. with_super there others ys (with_class xs (map (mapped_mark f) ms) m)) (map (mapped_mark f) ms)))
+      (ap (declared_methods there) (preorder-mapped f q) ∙ declared_methods-mapped ledger (preorder q))
+      (ap (super_functions there) (preorder-mapped f q) ∙ super_functions-mapped ledger (preorder q))
+      ∙ (ap (in_time there []) (all_given-mapped ledger members fs gs ms ms)
+      ∙ in_time-mapped ledger [] (map (λ m. with_super ledger members gs (with_class fs ms m)) ms)))

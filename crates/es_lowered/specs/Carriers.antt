@@ -3,7 +3,7 @@
 use Rattle.std.specs.Prelude.{ℕ, List, [], ◌∷◌, Bool, true, false, cond, not, nat_eq, codes, bytes_eq, ◌&&◌, ◌||◌}
 use Rattle.es_base.specs.Conforms.{is_rest}
 use Rattle.es_base.specs.Numbered.{is_new}
-use Rattle.es_base.specs.Preorder.{preorder}
+use Rattle.es_base.specs.Preorder.{preorder, number_of}
 use Rattle.es_base.specs.Tree.{Tree, Part, Parts, Node, end, more, child, absent, literal}
 use Rattle.es_base.specs.declared.kind.Kind.{Kind}
 use Rattle.es_base.specs.declared.literal.LiteralValue.TheVariants as literal_value
@@ -11,7 +11,7 @@ use Rattle.es_lowered.specs.Bound.{bound_stay}
 use Rattle.es_lowered.specs.KeptWords.{keeps_words}
 use Rattle.es_steps.specs.KeptNodes.{is_underscored}
 use Rattle.es_steps.specs.Parts.{at, items, string_of, is_true}
-use Rattle.es_steps.specs.Printable.{name_of_part}
+use Rattle.es_steps.specs.Printable.{name_of_part, is_super_part}
 use Rattle.es_steps.specs.References.{is_reference}
 use Rattle.es_steps.specs.SameTrees.{same_kind}
 use Rattle.es_steps.specs.Values.{String}
@@ -256,8 +256,33 @@ has_question Kind.PrivateField ps = is_true (at 3 ps)
 has_question Kind.CallExpression ps = is_true (at 2 ps)
 has_question kind ps = false
 
+-- what writes anything but a private member or one of `super` is of its kind, and writes what it wrote: a write has no event of its
+-- number behind that of the operation, and could stand in other code, as in that of a class
+abbrev pub is_super_member : Part → Bool
+is_super_member (child (Node Kind.MemberExpression m span semantic_id ps)) = is_super_part (at 0 ps)
+is_super_member p = false
+
+abbrev pub is_lowered_target : Part → Bool
+is_lowered_target (child (Node Kind.PrivateField m span semantic_id ps)) = true
+is_lowered_target p = is_super_member p
+
+-- a lowering writes a member of `super` by a helper alone
+abbrev pub assigns_super : Kind → Parts → Bool
+assigns_super Kind.AssignmentExpression ps = is_super_member (at 1 ps)
+assigns_super kind ps = false
+
+abbrev pub same_node : Part → Part → Bool
+same_node (child t) (child u) = nat_eq (number_of t) (number_of u)
+same_node (child t) q = false
+same_node p q = true
+
+abbrev pub keeps_target : Kind → Parts → Kind → Parts → Bool
+keeps_target Kind.AssignmentExpression ps other qs = is_lowered_target (at 1 ps) || (same_kind Kind.AssignmentExpression other && same_node (at 1 ps) (at 1 qs))
+keeps_target Kind.UpdateExpression ps other qs = is_lowered_target (at 1 ps) || same_node (at 1 ps) (at 1 qs)
+keeps_target kind ps other qs = true
+
 abbrev pub carries : Kind → Parts → Kind → Parts → Bool
-carries kind ps other qs = cond (is_reference other) (has_its_name kind (string_of (at 0 ps)) (string_of (at 0 qs))) (((same_kind kind other && keeps_words kind ps qs) || becomes kind other) && (keeps_form (odd_form kind ps) (odd_form other qs) && (has_question kind ps || may_question other qs)))
+carries kind ps other qs = cond (is_reference other) (has_its_name kind (string_of (at 0 ps)) (string_of (at 0 qs))) (((same_kind kind other && keeps_words kind ps qs) || becomes kind other) && (keeps_target kind ps other qs && (keeps_form (odd_form kind ps) (odd_form other qs) && (has_question kind ps || may_question other qs))))
 
 abbrev pub stands_for_node : Kind → ℕ → Parts → List Tree → Bool
 stands_for_node kind n qs [] = false
@@ -265,7 +290,7 @@ stands_for_node kind n qs (Node other m span semantic_id ps ∷ ts) = (nat_eq n 
 
 -- ps are the nodes of the source
 abbrev pub is_carried : ℕ → List Tree → Tree → Bool
-is_carried first ps (Node kind n span semantic_id qs) = cond (is_new first n) (is_made kind && (keeps_form no_odd_form (odd_form kind qs) && may_question kind qs)) (stands_for_node kind n qs ps)
+is_carried first ps (Node kind n span semantic_id qs) = cond (is_new first n) ((is_made kind && not (assigns_super kind qs)) && (keeps_form no_odd_form (odd_form kind qs) && may_question kind qs)) (stands_for_node kind n qs ps)
 
 abbrev pub all_carried : ℕ → List Tree → List Tree → Bool
 all_carried first ps [] = true

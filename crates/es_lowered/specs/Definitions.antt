@@ -177,10 +177,15 @@ abbrev pub is_class_number : ℕ → Option ℕ → Bool
 is_class_number n None = false
 is_class_number n (Some k) = nat_eq n k
 
+-- a new `let` has the identifier of the class declaration that it stands for: one of another name may hold the class in its value
+abbrev pub old_ones : ℕ → List ℕ → List ℕ
+old_ones first [] = []
+old_ones first (n ∷ ns) = cond (is_new first n) [] (n ∷ []) ++ old_ones first ns
+
 abbrev pub declares_class : ℕ → ℕ → Kind → ℕ → Parts → List ℕ
 declares_class first n Kind.ClassDeclaration m ps = cond (nat_eq n m) (identifier_in (at 0 ps)) []
 declares_class first n Kind.ClassExpression m ps = cond (nat_eq n m) (identifier_in (at 0 ps)) []
-declares_class first n Kind.VariableDeclarator m ps = cond (is_new first m && is_class_number n (class_in (at 1 ps))) (identifier_in (at 0 ps)) []
+declares_class first n Kind.VariableDeclarator m ps = cond (is_new first m && is_class_number n (class_in (at 1 ps))) (old_ones first (identifier_in (at 0 ps))) []
 declares_class first n kind m ps = []
 
 abbrev pub class_identifiers : ℕ → ℕ → List Tree → List ℕ

@@ -1,5 +1,6 @@
 -- Names are read and written where they may be, and `super` stands where it may. (Our own.)
 use Rattle.std.specs.Prelude.{ℕ, List, [], ◌∷◌, ◌++◌, Bool, true, false, cond, not, ◌&&◌, ◌||◌, bytes_eq, codes}
+use Rattle.es_base.specs.Numbered.{is_new}
 use Rattle.es_base.specs.Preorder.{preorder}
 use Rattle.es_base.specs.Tree.{Tree, Node}
 use Rattle.es_base.specs.declared.kind.Kind.{Kind}
@@ -13,8 +14,8 @@ use Rattle.es_steps.specs.Context.{is_generated}
 use Rattle.es_steps.specs.Parts.{at, string_of}
 use Rattle.es_steps.specs.References.{Reference, resolve, has_number, gives_inside}
 
--- ---- a reference writes a generated name, or writes in the source, too; and a generated name is written by `=` or an update: what
--- a pattern writes comes before the end of the pattern (13.15.5.2)
+-- ---- a reference writes a generated name, or writes in the source, too; and a generated name is written by a new reference, by `=`
+-- or an update: what a pattern writes comes before the end of the pattern (13.15.5.2)
 
 abbrev pub plain_target : Tree → List ℕ
 plain_target (Node Kind.AssignmentExpression m span semantic_id ps) = cond (bytes_eq (string_of (at 0 ps)) (codes "=")) (part_number (at 1 ps)) []
@@ -29,12 +30,12 @@ abbrev pub writing_numbers : List Reference → List ℕ
 writing_numbers [] = []
 writing_numbers (r ∷ rs) = cond r.writes (r.number ∷ []) [] ++ writing_numbers rs
 
-abbrev pub write_fits : List LedgerEntry → List ℕ → List ℕ → Reference → Bool
-write_fits ledger targets old r = not r.writes || cond (is_generated r.spelling ledger) (has_number r.number targets) (has_number r.number old)
+abbrev pub write_fits : ℕ → List LedgerEntry → List ℕ → List ℕ → Reference → Bool
+write_fits first ledger targets old r = not r.writes || cond (is_generated r.spelling ledger) (is_new first r.number && has_number r.number targets) (has_number r.number old)
 
-abbrev pub writes_fit : List LedgerEntry → List ℕ → List ℕ → List Reference → Bool
-writes_fit ledger targets old [] = true
-writes_fit ledger targets old (r ∷ rs) = write_fits ledger targets old r && writes_fit ledger targets old rs
+abbrev pub writes_fit : ℕ → List LedgerEntry → List ℕ → List ℕ → List Reference → Bool
+writes_fit first ledger targets old [] = true
+writes_fit first ledger targets old (r ∷ rs) = write_fits first ledger targets old r && writes_fit first ledger targets old rs
 
 -- ---- the name of a function in a block is read in the functions of the source in which it was, constructors aside: in sloppy
 -- code it means a `var` of these (B.3.2)
@@ -46,4 +47,4 @@ abbrev pub inner_names_stay : ℕ → Tree → Tree → Bool
 inner_names_stay first p q = all_stand_where first (inner_references first (preorder p) q) (inner_references first (preorder p) p)
 
 abbrev pub references_stay : ℕ → List LedgerEntry → Tree → Tree → Bool
-references_stay first ledger p q = (classes_timely first ledger p q && (supers_stay p q && private_names_stay p q)) && (writes_fit ledger (plain_targets (preorder q)) (writing_numbers (resolve p)) (resolve q) && inner_names_stay first p q)
+references_stay first ledger p q = (classes_timely first ledger p q && (supers_stay p q && private_names_stay p q)) && (writes_fit first ledger (plain_targets (preorder q)) (writing_numbers (resolve p)) (resolve q) && inner_names_stay first p q)

@@ -3,21 +3,22 @@
 use Rattle.std.specs.Prelude.{◌≡◌, ℕ, List, [], ◌∷◌, ◌++◌, Bool, true, false, cond, not, ◌&&◌, ◌||◌, bytes_eq, nat_eq, codes, is_some}
 use Rattle.es_base.specs.Carried.{stripped}
 use Rattle.es_base.specs.Numbered.{IsNumbered, is_new}
-use Rattle.es_base.specs.Preorder.{preorder, number_of}
+use Rattle.es_base.specs.Preorder.{preorder, preorder_of_part, number_of}
 use Rattle.es_base.specs.Tree.{Tree, Part, Parts, Node, end, more, child, list, string}
 use Rattle.es_base.specs.declared.kind.Kind.{Kind}
 use Rattle.es_base.specs.declared.ledger.GeneratedKind.{GeneratedKind}
 use Rattle.es_base.specs.declared.ledger.LedgerEntry.{LedgerEntry}
 use Rattle.es_steps.specs.Context.{is_generated}
 use Rattle.es_lowered.specs.Carriers.{numbers_carried}
-use Rattle.es_lowered.specs.ClassNames.{class_numbers}
+use Rattle.es_lowered.specs.ClassNames.{class_numbers, numbers_of, without}
 use Rattle.es_lowered.specs.Definitions.{spelling, field_part, names_class, class_identifiers, definitions_stand, all_temporaries, all_different, elements_kept}
+use Rattle.es_lowered.specs.Elements.{elements_ready}
 use Rattle.es_steps.specs.GeneratedForms.{if_member, is_instance_field, is_static_field, is_function_member}
 use Rattle.es_lowered.specs.KeptKeys.{keys_that_stay}
 use Rattle.es_lowered.specs.HelperCalls.{is_helper_callee, helper_calls_fit}
 use Rattle.es_lowered.specs.KeptReferences.{references_stay}
 use Rattle.es_steps.specs.KeptNodes.{statement_list, is_function_declaration, is_underscored, nodes_kept, classes_kept, statements_kept, lists_kept, homes_kept}
-use Rattle.es_steps.specs.LoweredClasses.{has_lowered_class, nothing_left}
+use Rattle.es_steps.specs.LoweredClasses.{has_lowered_class, is_private_key, nothing_left}
 use Rattle.es_steps.specs.Options.{lowers_fields}
 use Rattle.es_lowered.specs.OwnNames.{own_name_numbers, own_names_stay}
 use Rattle.es_steps.specs.Parts.{at, items, string_of, is_present}
@@ -263,10 +264,16 @@ belongs members (GeneratedKind.Method d) = is_some (if_member is_function_member
 belongs members (GeneratedKind.LooseKey d) = is_some (if_member (λ x. is_a_field x.kind) (member_at d.0 members))
 belongs members g = true
 
+-- what stands in the functions of private methods, which run behind the class
+abbrev pub private_numbers : List Tree → List ℕ
+private_numbers [] = []
+private_numbers (Node Kind.MethodDefinition m span semantic_id ps ∷ ts) = cond (is_private_key (at 0 ps)) (numbers_of (preorder_of_part (at 1 ps))) [] ++ private_numbers ts
+private_numbers (t ∷ ts) = private_numbers ts
+
 -- classes with those that stand in them, whose methods may use what these need; ps are the nodes of the source
 abbrev pub with_inner : List Tree → List ℕ → List ℕ
 with_inner ps [] = []
-with_inner ps (n ∷ ns) = n ∷ (class_numbers (nodes_of_class n ps) ++ with_inner ps ns)
+with_inner ps (n ∷ ns) = n ∷ (without (private_numbers (nodes_of_class n ps)) (class_numbers (nodes_of_class n ps)) ++ with_inner ps ns)
 
 abbrev pub is_one_initialization : GeneratedKind → Tree → Tree → List (ℕ × Bool) → Bool
 is_one_initialization g p q (i ∷ []) = i.1 && (is_declared_function i.0 (preorder q) || all_before i.0 (with_inner (preorder p) (class_before g (private_members p))) (preorder q))
@@ -313,7 +320,7 @@ pub record MeetsClauses (first : ℕ) (o : Options) (ledger : List LedgerEntry) 
   pub strict : none_becomes_strict first p q ≡ true
   pub texts : texts_stay first p q ≡ true
   pub initialized : initializations_stand first ledger p q ledger ≡ true
-  pub timely : names_timely first ledger (private_members p) q ≡ true
+  pub timely : (names_timely first ledger (private_members p) q && elements_ready first ledger (preorder q)) ≡ true
   pub temporaries : temporaries_steady first ledger (private_members p) q ≡ true
   pub keys : keys_stand first o ledger (private_members p) q (all_temporaries first o ledger (private_members p) q (preorder q)) ≡ true
   pub carriers : numbers_carried first p q ≡ true

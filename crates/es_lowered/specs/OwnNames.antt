@@ -2,14 +2,12 @@
 use Rattle.std.specs.Prelude.{ℕ, List, [], ◌∷◌, ◌++◌, Bool, true, false, cond, not, ◌&&◌, ◌||◌, nat_eq}
 use Rattle.es_base.specs.Conforms.{is_among}
 use Rattle.es_base.specs.Preorder.{number_of, preorder, preorder_of_part}
-use Rattle.es_base.specs.Tree.{Tree, Part, Node, end, more, child, absent}
+use Rattle.es_base.specs.Tree.{Tree, Node, end, more, child, absent}
 use Rattle.es_base.specs.declared.kind.Kind.{Kind}
 use Rattle.es_base.specs.declared.ledger.LedgerEntry.{LedgerEntry}
-use Rattle.es_lowered.specs.Definitions.{spelling}
-use Rattle.es_steps.specs.Context.{is_generated}
+use Rattle.es_lowered.specs.ClassNames.{MovedFunction, numbers_of, any_among, moved_functions, outside_class, reaching}
 use Rattle.es_steps.specs.Parts.{at, string_of}
 use Rattle.es_steps.specs.References.{Reference, resolve, has_number}
-use Rattle.es_steps.specs.NameScopes.{is_any_function}
 use Rattle.es_steps.specs.Values.{String, Referent, Bound}
 
 abbrev pub is_bound_among : List ℕ → Referent → Bool
@@ -88,30 +86,17 @@ abbrev pub any_declares : ℕ → ℕ → List Tree → Bool
 any_declares m b [] = false
 any_declares m b (t ∷ ts) = declares_by m b t || any_declares m b ts
 
--- functions of generated names, which may stand outside of the class that calls them
-abbrev pub function_nodes : Part → List Tree
-function_nodes (child (Node kind m span semantic_id ps)) = cond (is_any_function kind) (preorder (Node kind m span semantic_id ps)) []
-function_nodes p = []
+-- ps are the nodes of the source, where no such declarator is; what is read by functions of generated names that are called there,
+-- which do not hold the declarator, counts
+module _ (ledger : List LedgerEntry) (fs : List MovedFunction) (ps qs : List Tree) (references : List Reference) where
+  abbrev pub reads_itself : Tree → Bool
+  reads_itself (Node Kind.VariableDeclarator m span semantic_id (more (child (Node kind b bspan b_semantic_id bs)) (more e end))) =
+      not (any_declares m b ps) && (has_number b (class_identifiers ps) && any_among (numbers_of (preorder_of_part e)) (reaching ledger (outside_class (m ∷ []) fs) references qs (references_to (b ∷ []) references)))
+  reads_itself t = false
 
-abbrev pub moved_nodes : List LedgerEntry → Tree → List Tree
-moved_nodes ledger (Node Kind.FunctionDeclaration m span semantic_id ps) = cond (is_generated (spelling (at 0 ps)) ledger) (preorder (Node Kind.FunctionDeclaration m span semantic_id ps)) []
-moved_nodes ledger (Node Kind.AssignmentExpression m span semantic_id ps) = cond (is_generated (spelling (at 1 ps)) ledger) (function_nodes (at 2 ps)) []
-moved_nodes ledger (Node Kind.VariableDeclarator m span semantic_id ps) = cond (is_generated (spelling (at 0 ps)) ledger) (function_nodes (at 1 ps)) []
-moved_nodes ledger t = []
-
-abbrev pub all_moved : List LedgerEntry → List Tree → List Tree
-all_moved ledger [] = []
-all_moved ledger (t ∷ ts) = moved_nodes ledger t ++ all_moved ledger ts
-
--- ps are the nodes of the source, where no such declarator is; moved are the nodes of functions of generated names
-abbrev pub reads_itself : List Tree → List Tree → List Reference → Tree → Bool
-reads_itself moved ps references (Node Kind.VariableDeclarator m span semantic_id (more (child (Node kind b bspan b_semantic_id bs)) (more e end))) =
-    not (any_declares m b ps) && (has_number b (class_identifiers ps) && any_stands (references_to (b ∷ []) references) (preorder_of_part e ++ moved))
-reads_itself moved ps references t = false
-
-abbrev pub none_reads_itself : List Tree → List Tree → List Reference → List Tree → Bool
-none_reads_itself moved ps references [] = true
-none_reads_itself moved ps references (t ∷ ts) = not (reads_itself moved ps references t) && none_reads_itself moved ps references ts
+  abbrev pub none_reads_itself : List Tree → Bool
+  none_reads_itself [] = true
+  none_reads_itself (t ∷ ts) = not (reads_itself t) && none_reads_itself ts
 
 abbrev pub own_names_stay : List LedgerEntry → Tree → Tree → Bool
-own_names_stay ledger p q = none_loses_name (preorder p) (resolve q) (preorder q) && none_reads_itself (all_moved ledger (preorder q)) (preorder p) (resolve q) (preorder q)
+own_names_stay ledger p q = none_loses_name (preorder p) (resolve q) (preorder q) && none_reads_itself ledger (moved_functions ledger (preorder q)) (preorder p) (preorder q) (resolve q) (preorder q)

@@ -1,8 +1,9 @@
 -- Generated names are declared and initialized in front of where they are used. (Our own. Temporaries and parameters are
 -- left to the environment of specs/Evaluation.antt.)
-use Rattle.std.specs.Prelude.{ℕ, suc, List, [], ◌∷◌, ◌++◌, Bool, true, false, cond, not, ◌&&◌, ◌||◌, nat_eq, nat_le, bytes_eq, codes, Option, Some, None}
+use Rattle.std.specs.Prelude.{ℕ, suc, List, [], ◌∷◌, ◌++◌, map, Bool, true, false, cond, not, ◌&&◌, ◌||◌, nat_eq, nat_le, bytes_eq, codes, Option, Some, None}
+use Rattle.es_base.specs.Conforms.{is_among}
 use Rattle.es_base.specs.Numbered.{is_new}
-use Rattle.es_base.specs.Preorder.{preorder}
+use Rattle.es_base.specs.Preorder.{preorder, number_of}
 use Rattle.es_base.specs.Tree.{Tree, Part, Parts, Node, end, more, child, list, string}
 use Rattle.es_base.specs.declared.kind.Kind.{Kind}
 use Rattle.es_base.specs.declared.ledger.GeneratedKind.{GeneratedKind}
@@ -355,5 +356,54 @@ nowhere = record { held = []; later = []; called = []; is_called = false; runnin
 abbrev pub is_named : List LedgerEntry → String → List ℕ → Bool
 is_named ledger s ns = is_generated s ledger
 
+-- ---- the function of a private method, which stands behind the statement of its class, is called by its class alone: what may run
+-- or not around the class is around what stands in it, too
+
+abbrev pub method_name : ℕ → String → Option GeneratedKind → List (ℕ × String)
+method_name m s (Some (GeneratedKind.Method d)) = (m, s) ∷ []
+method_name m s g = []
+
+abbrev pub declared_methods : List LedgerEntry → List Tree → List (ℕ × String)
+declared_methods ledger [] = []
+declared_methods ledger (Node Kind.FunctionDeclaration m span semantic_id ps ∷ ts) = method_name m (spelling (at 0 ps)) (generated_as (spelling (at 0 ps)) ledger) ++ declared_methods ledger ts
+declared_methods ledger (t ∷ ts) = declared_methods ledger ts
+
+abbrev pub is_of_no_node : List ℕ → Bool
+is_of_no_node [] = true
+is_of_no_node (n ∷ ns) = false
+
+-- around the class that needs this name
+abbrev pub held_of : String → List Mark → List (ℕ × ℕ)
+held_of s [] = []
+held_of s (m ∷ ms) = cond (bytes_eq s m.name && (is_needed m.form && is_of_no_node m.node)) m.around.held (held_of s ms)
+
+abbrev pub held_by : List Mark → List (ℕ × Bool) → List (ℕ × String) → List (ℕ × ℕ)
+held_by ms later [] = []
+held_by ms later (f ∷ fs) = cond (is_around f.0 later) (held_of f.1 ms) [] ++ held_by ms later fs
+
+abbrev pub with_class : List (ℕ × String) → List Mark → Mark → Mark
+with_class fs ms m = record m { around = record m.around { held = held_by ms m.around.later fs ++ m.around.held } }
+
+-- ---- a function for `super(..)` is called by the constructor of its class alone, in front of which stands what the class needs
+
+abbrev pub super_function : Option GeneratedKind → Part → List (ℕ × ℕ)
+super_function (Some (GeneratedKind.SuperFn n)) (child t) = (number_of t, n.0) ∷ []
+super_function g p = []
+
+abbrev pub super_functions : List LedgerEntry → List Tree → List (ℕ × ℕ)
+super_functions ledger [] = []
+super_functions ledger (Node Kind.VariableDeclarator m span semantic_id ps ∷ ts) = super_function (generated_as (spelling (at 0 ps)) ledger) (at 1 ps) ++ super_functions ledger ts
+super_functions ledger (Node Kind.AssignmentExpression m span semantic_id ps ∷ ts) = super_function (generated_as (spelling (at 1 ps)) ledger) (at 2 ps) ++ super_functions ledger ts
+super_functions ledger (t ∷ ts) = super_functions ledger ts
+
+abbrev pub is_given_with : List LedgerEntry → List PrivateMember → Mark → List (ℕ × ℕ) → Bool
+is_given_with ledger members m [] = false
+is_given_with ledger members m (f ∷ fs) = (is_around f.0 m.around.later && is_among m.name (needed_names f.1 members ledger)) || is_given_with ledger members m fs
+
+abbrev pub with_super : List LedgerEntry → List PrivateMember → List (ℕ × ℕ) → Mark → Mark
+with_super ledger members fs m = cond (is_needed m.form && is_given_with ledger members m fs) (record m { form = uses }) m
+
 abbrev pub names_timely : ℕ → List LedgerEntry → List PrivateMember → Tree → Bool
-names_timely first ledger members q = in_time ledger [] (marks first ledger members (is_named ledger) (leading_lets (preorder q)) nowhere None q)
+names_timely first ledger members q =
+    let ms : List Mark = marks first ledger members (is_named ledger) (leading_lets (preorder q)) nowhere None q in
+    in_time ledger [] (map (λ m. with_super ledger members (super_functions ledger (preorder q)) (with_class (declared_methods ledger (preorder q)) ms m)) ms)

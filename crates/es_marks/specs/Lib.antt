@@ -1,3 +1,4 @@
 pub mod Around
 pub mod InTime
 pub mod Marks
+pub mod MethodFunctions

@@ -42,7 +42,7 @@ fn stands_here(ledger: &[LedgerEntry], front: &[Mark], mark: &Mark, behind: &[Ma
 // ---- functions around
 
 /// Whether the function is one of these.
-fn is_around(function: u32, functions: &[LaterFunction]) -> bool
+pub fn is_around(function: u32, functions: &[LaterFunction]) -> bool
     ensures { result ≡ spec.is_around function (later_functions functions.now) }
 {
     for other in functions {

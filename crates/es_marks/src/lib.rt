@@ -4,3 +4,4 @@
 pub mod around;
 pub mod in_time;
 pub mod marks;
+pub mod method_functions;

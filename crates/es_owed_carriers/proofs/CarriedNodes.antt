@@ -2,7 +2,7 @@
 use Rattle.std.proofs.Common.{◌≡◌, refl, sym, ap, ◌∙◌, ℕ, List, [], ◌∷◌, cond, ◌&&◌, ◌||◌, nat_eq}
 use Rattle.es_base.specs.Numbered.{is_new}
 use Rattle.es_base.specs.Tree.{Tree, Node}
-use Rattle.es_lowered.specs.Carriers.{becomes, carries, has_its_name, has_question, is_carried, keeps_form, may_question, odd_form, stands_for_node}
+use Rattle.es_lowered.specs.Carriers.{becomes, carries, has_its_name, has_question, is_carried, keeps_form, keeps_target, may_question, odd_form, stands_for_node}
 use Rattle.es_lowered.specs.KeptWords.{keeps_words}
 use Rattle.es_node.specs.View.{kind_of, number_in, parts_in}
 use Rattle.es_steps.specs.Parts.{at, string_of}
@@ -26,5 +26,5 @@ pub stands_in : (t : Tree) (es : List (ℕ × Tree)) (us ps : List Tree) → any
     → (passes (carries_node t) (node_of (number_in t) es) || is_carried_among t us) ≡ stands_for_node (kind_of t) (number_in t) (parts_in t) ps
 stands_in t es us ps e = ap (λ b. passes (carries_node t) (node_of (number_in t) es) || b) (sym (among-number t us)) ∙ e ∙ stands-among t ps
 
-pub carries_by_node : (q p : Tree) → carries_node q p ≡ cond (is_reference (kind_of q)) (has_its_name (kind_of p) (string_of (at 0 (parts_in p))) (string_of (at 0 (parts_in q)))) (((same_kind (kind_of p) (kind_of q) && keeps_words (kind_of p) (parts_in p) (parts_in q)) || becomes (kind_of p) (kind_of q)) && (keeps_form (odd_form (kind_of p) (parts_in p)) (odd_form (kind_of q) (parts_in q)) && (has_question (kind_of p) (parts_in p) || may_question (kind_of q) (parts_in q))))
+pub carries_by_node : (q p : Tree) → carries_node q p ≡ cond (is_reference (kind_of q)) (has_its_name (kind_of p) (string_of (at 0 (parts_in p))) (string_of (at 0 (parts_in q)))) (((same_kind (kind_of p) (kind_of q) && keeps_words (kind_of p) (parts_in p) (parts_in q)) || becomes (kind_of p) (kind_of q)) && (keeps_target (kind_of p) (parts_in p) (kind_of q) (parts_in q) && (keeps_form (odd_form (kind_of p) (parts_in p)) (odd_form (kind_of q) (parts_in q)) && (has_question (kind_of p) (parts_in p) || may_question (kind_of q) (parts_in q)))))
 carries_by_node q p = refl

@@ -16,6 +16,7 @@ use crate::bound::bound_stay;
 use crate::forms::{OddForm, keeps_form, odd_form};
 use crate::kinds::{becomes, is_made, is_reference, named_by};
 use crate::questions::{has_question, may_question};
+use crate::targets::{assigns_super, keeps_target};
 use crate::words::keeps_words;
 use es_base::kind::Kind;
 use es_base::strings::is_word;
@@ -77,7 +78,8 @@ fn is_carried(first: u32, source: &Indexed, node: &Node) -> bool
 fn is_made_so(node: &Node) -> bool
     ensures { result ≡ is_made_so (kind_of node.now) (parts_in node.now) }
 {
-    is_made(node.kind()) && (keeps_form(OddForm::None, odd_form(node)) && may_question(node))
+    (is_made(node.kind()) && !assigns_super(node))
+        && (keeps_form(OddForm::None, odd_form(node)) && may_question(node))
 }
 
 // ---- nodes of the source
@@ -125,8 +127,9 @@ fn carries(node: &Node, other: &Node) -> bool
         )
     } else {
         is_kept_or_becomes(node, other)
-            && (keeps_form(odd_form(node), odd_form(other))
-                && (has_question(node) || may_question(other)))
+            && (keeps_target(node, other)
+                && (keeps_form(odd_form(node), odd_form(other))
+                    && (has_question(node) || may_question(other))))
     }
 }
 

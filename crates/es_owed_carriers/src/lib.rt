@@ -12,4 +12,5 @@ pub mod forms;
 pub mod kinds;
 pub mod pairs;
 pub mod questions;
+pub mod targets;
 pub mod words;

@@ -78,8 +78,8 @@ fn is_bound_among(identifiers: &[u32], reference: Reference) -> bool
 
 // ---- the identifiers that declare a class
 
-/// The identifiers that declare this class: its own, and that of a new declarator which it gives a value. Fails on allocation
-/// failure alone.
+/// The identifiers that declare this class: its own, and that of the source in a new declarator which it gives a value. Fails on
+/// allocation failure alone.
 #[tactic(auto, using(crate::proofs::ClassNames::more_identifiers))]
 pub fn class_identifiers(
     alloc: Global,
@@ -110,12 +110,11 @@ fn is_declaring(alloc: Global, first: u32, class: u32, node: &Node) -> Result<bo
         Kind::ClassExpression => Ok(class == node.node_id().0),
         // let A = class {};
         Kind::VariableDeclarator => {
-            if is_new(first, node.node_id().0) {
-                let given = class_at(alloc, node.parts(), 1)?;
-                Ok(is_class_number(class, given))
-            } else {
-                Ok(false)
+            if !is_new(first, node.node_id().0) {
+                return Ok(false);
             }
+            let given = class_at(alloc, node.parts(), 1)?;
+            Ok(is_class_number(class, given) && is_old_identifier(first, node.parts()))
         }
         _ => Ok(false),
     }
@@ -127,6 +126,17 @@ fn is_class_number(class: u32, number: Option<u32>) -> bool
     match number {
         Some(number) => class == number,
         None => false,
+    }
+}
+
+/// Whether the identifier that is the first of these parts is of the source.
+#[tactic(auto, using(crate::proofs::ClassNames::old_identifier))]
+fn is_old_identifier(first: u32, parts: &[Part]) -> bool
+    ensures { spec.old_ones first (spec.identifier_in (at 0 (parts_of parts.now))) ≡ cond result (spec.identifier_in (at 0 (parts_of parts.now))) [] }
+{
+    match part_at(parts, 0) {
+        Some(Part::Child(node)) => !is_new(first, node.node_id().0),
+        _ => false,
     }
 }
 

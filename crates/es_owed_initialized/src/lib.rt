@@ -10,4 +10,5 @@ pub mod inner;
 pub mod keys;
 pub mod kinds;
 pub mod members;
+pub mod numbers;
 pub mod spelling;

@@ -15,6 +15,7 @@ use es_base::ledger::LedgerEntry;
 use es_base::operator::AssignmentOperator;
 use es_binding_faults::numbers::Numbers;
 use es_generated::ledger::is_generated;
+use es_generated::numbers::is_new;
 use es_node::node::Node;
 use es_owed::listed::Listed;
 use es_references::references::{Reference, references};
@@ -22,20 +23,21 @@ use es_tree::expression::{AssignmentExpressionRef, UpdateExpressionRef};
 use std::alloc::{AllocError, Global};
 
 /// Whether each reference that writes in what a program was lowered to writes in the source too or, if its name was generated,
-/// is what an `=` or an update writes. Fails on allocation failure alone.
+/// is new and what an `=` or an update writes. Fails on allocation failure alone.
 #[tactic(auto, using(crate::proofs::WrittenNames::fit_alike))]
 pub fn writes_fit(
     alloc: Global,
+    first: u32,
     ledger: &[LedgerEntry],
     source: &Listed,
     lowered: &Listed,
 ) -> Result<bool, AllocError>
-    ensures { IfOk result (λ holds. holds ≡ spec.writes_fit ledger.now (spec.plain_targets (preorder lowered.now.program.now)) (spec.writing_numbers (resolve source.now.program.now)) (resolve lowered.now.program.now)) }
+    ensures { IfOk result (λ holds. holds ≡ spec.writes_fit first ledger.now (spec.plain_targets (preorder lowered.now.program.now)) (spec.writing_numbers (resolve source.now.program.now)) (resolve lowered.now.program.now)) }
 {
     let targets = plain_targets(alloc, lowered.nodes.as_slice())?;
     let writing = writing_in(alloc, source.program)?;
     let references = references(alloc, lowered.program)?;
-    Ok(all_fit(ledger, &targets, &writing, references.as_slice()))
+    Ok(all_fit(first, ledger, &targets, &writing, references.as_slice()))
 }
 
 // ---- what `=` and updates write
@@ -130,15 +132,16 @@ fn add_writing(reference: Reference, numbers: &mut Vec<NodeId>) -> Result<(), Al
 // ---- each write fits
 
 fn all_fit(
+    first: u32,
     ledger: &[LedgerEntry],
     targets: &Numbers,
     writing: &Numbers,
     references: &[Reference],
 ) -> bool
-    ensures { result ≡ spec.writes_fit ledger.now targets.now writing.now (references_of references.now) }
+    ensures { result ≡ spec.writes_fit first ledger.now targets.now writing.now (references_of references.now) }
 {
     for reference in references {
-        if !write_fits(ledger, targets, writing, *reference) {
+        if !write_fits(first, ledger, targets, writing, *reference) {
             return false;
         }
     }
@@ -146,17 +149,18 @@ fn all_fit(
 }
 
 fn write_fits(
+    first: u32,
     ledger: &[LedgerEntry],
     targets: &Numbers,
     writing: &Numbers,
     reference: Reference,
 ) -> bool
-    ensures { result ≡ spec.write_fits ledger.now targets.now writing.now (reference_of reference.entry) }
+    ensures { result ≡ spec.write_fits first ledger.now targets.now writing.now (reference_of reference.entry) }
 {
     if !reference.writes {
         true
     } else if is_generated(reference.name, ledger) {
-        targets.has(reference.node)
+        is_new(first, reference.node.0) && targets.has(reference.node)
     } else {
         writing.has(reference.node)
     }

@@ -1,2 +1,3 @@
-pub mod MovedNodes
+pub mod MovedFunctions
 pub mod NameReads
+pub mod Steps

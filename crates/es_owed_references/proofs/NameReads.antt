@@ -1,11 +1,12 @@
 -- Reads of the names of classes, by the kind of a node.
-use Rattle.std.proofs.Common.{◌≡◌, refl, sym, ap, ◌∙◌, ℕ, List, [], ◌∷◌, ◌++◌, Bool, true, false, cond, ◌&&◌, ◌||◌, Option}
-use Rattle.std.proofs.Math.Bool.{or_assoc}
+use Rattle.std.proofs.Common.{◌≡◌, refl, ap, ◌∙◌, ℕ, List, [], ◌∷◌, Bool, true, false, cond, ◌&&◌, ◌||◌, Option}
 use Rattle.std.specs.Prelude.{nat_eq}
 use Rattle.es_base.specs.Preorder.{number_of, preorder_of_part}
 use Rattle.es_base.specs.Tree.{Tree, Part, Parts, Node, end, more, child, absent}
 use Rattle.es_base.specs.declared.kind.Kind.{Kind}
+use Rattle.es_base.specs.declared.ledger.LedgerEntry.{LedgerEntry}
 use Rattle.es_node.specs.View.{kind_of}
+use Rattle.es_lowered.specs.ClassNames.{MovedFunction}
 use Rattle.es_lowered.specs.OwnNames.{any_stands, class_identifier, declares_by, identifier_at, identifiers_at, loses_name, reads_itself, references_to}
 use Rattle.es_owed_references.specs.OwnNameReads.{reads_by}
 use Rattle.es_steps.specs.References.{Reference, has_number}
@@ -15,10 +16,6 @@ use Rattle.es_steps.specs.References.{Reference, has_number}
 pub same_stand : (ns ks : List ℕ) (ts : List Tree) → ((n : ℕ) → has_number n ns ≡ has_number n ks) → any_stands ns ts ≡ any_stands ks ts
 same_stand ns ks [] same = refl
 same_stand ns ks (t ∷ ts) same = ap (λ b. b || any_stands ns ts) (same (number_of t)) ∙ ap (λ b. has_number (number_of t) ks || b) (same_stand ns ks ts same)
-
-pub stand_append : (ns : List ℕ) (ts us : List Tree) → any_stands ns (ts ++ us) ≡ (any_stands ns ts || any_stands ns us)
-stand_append ns [] us = refl
-stand_append ns (t ∷ ts) us = ap (λ b. has_number (number_of t) ns || b) (stand_append ns ts us) ∙ sym (or_assoc (has_number (number_of t) ns) (any_stands ns ts) (any_stands ns us))
 
 -- an identifier that no class declares
 pub undeclared : (a has c : Bool) → has ≡ false → (a && (has && c)) ≡ false
@@ -61,12 +58,13 @@ class_identifier_node m span semantic_id (Node kind b bspan b_semantic_id bs) ps
 
 -- ---- declarators
 
-pub no_declarator : (moved ps : List Tree) (rs : List Reference) (t : Tree) → (kind_of t ≡ Kind.VariableDeclarator → ⊥) → reads_itself moved ps rs t ≡ false
-no_declarator moved ps rs (Node Kind.VariableDeclarator m span semantic_id parts) other = absurd (other refl)
-no_declarator moved ps rs (Node kind m span semantic_id parts) other = refl
+module _ (ledger : List LedgerEntry) (fs : List MovedFunction) (ps qs : List Tree) (rs : List Reference) where
+  pub no_declarator : (t : Tree) → (kind_of t ≡ Kind.VariableDeclarator → ⊥) → reads_itself ledger fs ps qs rs t ≡ false
+  no_declarator (Node Kind.VariableDeclarator m span semantic_id parts) other = absurd (other refl)
+  no_declarator (Node kind m span semantic_id parts) other = refl
 
-pub declarator_node : (moved ps : List Tree) (rs : List Reference) (m : ℕ) (span : Option (ℕ × ℕ)) (semantic_id : Option ℕ) (t : Tree) (e : Part) → reads_itself moved ps rs (Node Kind.VariableDeclarator m span semantic_id (more (child t) (more e end))) ≡ reads_by moved ps rs m t e
-declarator_node moved ps rs m span semantic_id (Node kind b bspan b_semantic_id bs) e = refl
+  pub declarator_node : (m : ℕ) (span : Option (ℕ × ℕ)) (semantic_id : Option ℕ) (t : Tree) (e : Part) → reads_itself ledger fs ps qs rs (Node Kind.VariableDeclarator m span semantic_id (more (child t) (more e end))) ≡ reads_by ledger fs ps qs rs m t e
+  declarator_node m span semantic_id (Node kind b bspan b_semantic_id bs) e = refl
 
 pub declares_nothing : (m b : ℕ) (t : Tree) → (kind_of t ≡ Kind.VariableDeclarator → ⊥) → declares_by m b t ≡ false
 declares_nothing m b (Node Kind.VariableDeclarator n span semantic_id ps) other = absurd (other refl)

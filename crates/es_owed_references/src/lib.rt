@@ -2,5 +2,7 @@
 #![tactic(auto)]
 
 pub mod moved;
+pub mod numbers;
 pub mod own_names;
+pub mod reaching;
 pub mod reads;

@@ -1,19 +1,20 @@
-// The functions of generated names, which may stand outside of the class that calls them.
+// The functions of generated names by which they are called.
 
-ghost use Rattle.std.specs.Prelude.{◌≡◌, ◌++◌, [], cond, option_map, IfOk, OnOk};
+ghost use Rattle.std.specs.Prelude.{◌≡◌, ◌++◌, ◌∷◌, [], cond, option_map, IfOk, OnOk};
 ghost use Rattle.std.specs.Str.{chars};
-ghost use Rattle.es_base.specs.Preorder.{preorder};
 ghost use Rattle.es_base.specs.Tree.{child, nullable};
 ghost use Rattle.es_binding_faults.specs.Seen.{seen};
-ghost use Rattle.es_lowered.specs.OwnNames as spec;
-ghost use Rattle.es_lowered.specs.Definitions as definitions;
-ghost use Rattle.es_steps.specs.Context.{is_generated};
+ghost use Rattle.es_lowered.specs.ClassNames as spec;
+ghost use Rattle.es_owed_references.specs.Moved.{function_of, functions_of, names_of};
 
+use crate::numbers::any_among;
 use es_base::kind::Kind;
-use es_base::ledger::LedgerEntry;
-use es_binding_faults::preorder::preorder;
-use es_generated::ledger::is_generated;
+use es_base::ledger::{GeneratedKind, LedgerEntry};
+use es_binding_faults::numbers::Numbers;
+use es_generated::ledger::generated_as;
 use es_node::node::Node;
+use es_owed::numbers::numbers_below;
+use es_owed_initialized::numbers::add_numbers;
 use es_owed_initialized::spelling::spelling_of;
 use es_shapes::walk::is_any_function;
 use es_tree::expression::AssignmentExpressionRef;
@@ -21,105 +22,166 @@ use es_tree::function::FunctionDeclarationRef;
 use es_tree::statement::VariableDeclaratorRef;
 use std::alloc::{AllocError, Global};
 
-/// The nodes of functions that are declared by a generated name or given to one. Fails on allocation failure alone.
-pub fn all_moved<'a>(
+/// A function with the generated name by which it is called.
+#[derive(Debug, Drop)]
+pub struct MovedFunction<'a> {
+    pub name: &'a str,
+    /// Those of its nodes.
+    pub numbers: Vec<u32>,
+}
+
+/// The functions that are declared by such a name or given to one among these nodes. Fails on allocation failure alone.
+pub fn moved_functions<'a>(
     alloc: Global,
     ledger: &[LedgerEntry],
     nodes: &[&'a Node],
-) -> Result<Vec<&'a Node>, AllocError>
-    ensures { IfOk result (λ r. seen r.items ≡ spec.all_moved ledger.now (seen nodes.now)) }
+) -> Result<Vec<MovedFunction<'a>>, AllocError>
+    ensures { IfOk result (λ r. functions_of r.items ≡ spec.moved_functions ledger.now (seen nodes.now)) }
 {
-    let mut moved = Vec::new(alloc);
+    let mut functions = Vec::new(alloc);
     for node in nodes {
-        add_moved(alloc, ledger, node, &mut moved)?;
+        add_moved(alloc, ledger, node, &mut functions)?;
     }
-    Ok(moved)
+    Ok(functions)
 }
 
-/// Adds the nodes of the function that the node declares by a generated name or gives to one. Fails on allocation failure
-/// alone.
-#[tactic(auto, using(crate::proofs::MovedNodes::moved_declaration, crate::proofs::MovedNodes::moved_assignment, crate::proofs::MovedNodes::moved_declarator, crate::proofs::MovedNodes::none_moved))]
+#[tactic(auto, using(crate::proofs::MovedFunctions::moved_declaration, crate::proofs::MovedFunctions::moved_assignment, crate::proofs::MovedFunctions::moved_declarator, crate::proofs::MovedFunctions::none_moved))]
 fn add_moved<'a>(
     alloc: Global,
     ledger: &[LedgerEntry],
     node: &'a Node,
-    moved: &mut Vec<&'a Node>,
+    functions: &mut Vec<MovedFunction<'a>>,
 ) -> Result<(), AllocError>
-    ensures { OnOk result (seen moved.new.items ≡ seen moved.old.items ++ spec.moved_nodes ledger.now node.now) }
+    ensures { OnOk result (functions_of functions.new.items ≡ functions_of functions.old.items ++ spec.moved_at ledger.now node.now) }
 {
     match node.kind() {
         // function _m() {}
         Kind::FunctionDeclaration => {
-            let function = FunctionDeclarationRef::from_node(node);
-            add_if(alloc, is_generated_name(ledger, function.id), node, moved)
+            let name = spelling_of(FunctionDeclarationRef::from_node(node).id);
+            add_function(alloc, ledger, name, Some(node), functions)
         }
         // _f = function () {}
         Kind::AssignmentExpression => {
             let assignment = AssignmentExpressionRef::from_node(node);
-            let has_name = is_generated_name(ledger, Some(assignment.left));
-            add_function(alloc, has_name, Some(assignment.right), moved)
+            let name = spelling_of(Some(assignment.left));
+            add_function(alloc, ledger, name, Some(assignment.right), functions)
         }
         // let _f = function () {};
         Kind::VariableDeclarator => {
             let declarator = VariableDeclaratorRef::from_node(node);
-            let has_name = is_generated_name(ledger, Some(declarator.id));
-            add_function(alloc, has_name, declarator.init, moved)
+            let name = spelling_of(Some(declarator.id));
+            add_function(alloc, ledger, name, declarator.init, functions)
         }
         _ => Ok(()),
     }
 }
 
-/// Whether the node is an identifier of a generated name.
-fn is_generated_name(ledger: &[LedgerEntry], node: Option<&Node>) -> bool
-    ensures { result ≡ is_generated (definitions.spelling (nullable (option_map (λ x. x.now) node.entry))) ledger.now }
-{
-    is_generated(spelling_of(node), ledger)
-}
-
-/// Adds the nodes of a function, if what it is given to has a generated name. Fails on allocation failure alone.
-#[tactic(auto, using(crate::proofs::MovedNodes::function_node))]
+/// Adds what is given to a name, if a function is called by that. Fails on allocation failure alone.
 fn add_function<'a>(
     alloc: Global,
-    is_moved: bool,
-    value: Option<&'a Node>,
-    moved: &mut Vec<&'a Node>,
+    ledger: &[LedgerEntry],
+    name: &'a str,
+    value: Option<&Node>,
+    functions: &mut Vec<MovedFunction<'a>>,
 ) -> Result<(), AllocError>
-    ensures { OnOk result (seen moved.new.items ≡ seen moved.old.items ++ cond is_moved (spec.function_nodes (nullable (option_map (λ x. x.now) value.entry))) []) }
+    ensures { OnOk result (functions_of functions.new.items ≡ functions_of functions.old.items ++ spec.moved_function ledger.now (chars name.now) (nullable (option_map (λ x. x.now) value.entry))) }
 {
-    match value {
-        Some(value) => {
-            add_if(
-                alloc,
-                is_moved && is_any_function(value.kind()),
-                value,
-                moved,
-            )
-        }
-        None => Ok(()),
-    }
-}
-
-/// Adds the nodes of a tree that is moved. Fails on allocation failure alone.
-fn add_if<'a>(
-    alloc: Global,
-    is_moved: bool,
-    node: &'a Node,
-    moved: &mut Vec<&'a Node>,
-) -> Result<(), AllocError>
-    ensures { OnOk result (seen moved.new.items ≡ seen moved.old.items ++ cond is_moved (preorder node.now) []) }
-{
-    if is_moved {
-        let nodes = preorder(alloc, node)?;
-        add_all(nodes.as_slice(), moved)?;
+    if names_function(generated_as(name, ledger)) {
+        let numbers = function_numbers(alloc, value)?;
+        functions.push(MovedFunction { name, numbers })?;
     }
     Ok(())
 }
 
-fn add_all<'a>(nodes: &[&'a Node], moved: &mut Vec<&'a Node>) -> Result<(), AllocError>
-    ensures { OnOk result (seen moved.new.items ≡ seen moved.old.items ++ seen nodes.now) }
+/// Whether a name of this kind is one by which a function is called.
+fn names_function(kind: Option<GeneratedKind>) -> bool
+    ensures { result ≡ spec.names_function kind }
 {
-    for node in nodes {
-        moved.push(*node)?;
+    matches!(
+        kind,
+        Some(GeneratedKind::Method(_) | GeneratedKind::SuperFn(_) | GeneratedKind::Closure)
+    )
+}
+
+/// The numbers of the nodes of a function; none of another value. Fails on allocation failure alone.
+fn function_numbers(alloc: Global, value: Option<&Node>) -> Result<Vec<u32>, AllocError>
+    ensures { IfOk result (λ r. r.items ≡ spec.function_numbers (nullable (option_map (λ x. x.now) value.entry))) }
+{
+    match value {
+        Some(value) => numbers_of_function(alloc, value),
+        None => Ok(Vec::new(alloc)),
+    }
+}
+
+#[tactic(auto, using(crate::proofs::MovedFunctions::function_node))]
+fn numbers_of_function(alloc: Global, value: &Node) -> Result<Vec<u32>, AllocError>
+    ensures { IfOk result (λ r. r.items ≡ spec.function_numbers (child value.now)) }
+{
+    if is_any_function(value.kind()) {
+        numbers_below(alloc, value)
+    } else {
+        Ok(Vec::new(alloc))
+    }
+}
+
+// ---- some of these functions
+
+/// Copies of those of these functions that hold none of these nodes. Fails on allocation failure alone.
+pub fn outside_class<'a>(
+    alloc: Global,
+    inside: &Numbers,
+    functions: &[MovedFunction<'a>],
+) -> Result<Vec<MovedFunction<'a>>, AllocError>
+    ensures { IfOk result (λ r. functions_of r.items ≡ spec.outside_class inside.now (functions_of functions.now)) }
+{
+    let mut outside = Vec::new(alloc);
+    for function in functions {
+        add_unless_inside(alloc, inside, function, &mut outside)?;
+    }
+    Ok(outside)
+}
+
+fn add_unless_inside<'a>(
+    alloc: Global,
+    inside: &Numbers,
+    function: &MovedFunction<'a>,
+    outside: &mut Vec<MovedFunction<'a>>,
+) -> Result<(), AllocError>
+    ensures { OnOk result (functions_of outside.new.items ≡ functions_of outside.old.items ++ cond (spec.any_among inside.now (function_of function.now).numbers) [] (function_of function.now ∷ [])) }
+{
+    if !any_among(inside, function.numbers.as_slice()) {
+        let mut numbers = Vec::new(alloc);
+        add_numbers(function.numbers.as_slice(), &mut numbers)?;
+        let name = function.name;
+        outside.push(MovedFunction { name, numbers })?;
+    }
+    Ok(())
+}
+
+/// The names of those of these functions that hold one of these nodes. Fails on allocation failure alone.
+pub fn names_holding<'a>(
+    alloc: Global,
+    held: &Numbers,
+    functions: &[MovedFunction<'a>],
+) -> Result<Vec<&'a str>, AllocError>
+    ensures { IfOk result (λ r. names_of r.items ≡ spec.names_holding held.now (functions_of functions.now)) }
+{
+    let mut names = Vec::new(alloc);
+    for function in functions {
+        add_name_if_holding(held, function, &mut names)?;
+    }
+    Ok(names)
+}
+
+fn add_name_if_holding<'a>(
+    held: &Numbers,
+    function: &MovedFunction<'a>,
+    names: &mut Vec<&'a str>,
+) -> Result<(), AllocError>
+    ensures { OnOk result (names_of names.new.items ≡ names_of names.old.items ++ cond (spec.any_among held.now (function_of function.now).numbers) ((function_of function.now).name ∷ []) []) }
+{
+    if any_among(held, function.numbers.as_slice()) {
+        names.push(function.name)?;
     }
     Ok(())
 }

@@ -7,28 +7,34 @@ ghost use Rattle.std.specs.Prelude.{◌≡◌, ℕ, ◌++◌, ◌∷◌, [], opt
 ghost use Rattle.es_base.specs.Preorder.{preorder_of_part};
 ghost use Rattle.es_base.specs.Tree.{nullable};
 ghost use Rattle.es_binding_faults.specs.Seen.{seen};
+ghost use Rattle.es_lowered.specs.ClassNames as classes;
 ghost use Rattle.es_lowered.specs.OwnNames as spec;
+ghost use Rattle.es_owed_references.specs.Moved.{functions_of};
 ghost use Rattle.es_owed_references.specs.OwnNameReads.{reads_by};
+ghost use Rattle.es_owed_references.specs.Reaching.{reads_besides, reads_of, written_numbers};
 ghost use Rattle.es_references.specs.Frames.{ids};
 ghost use Rattle.es_references.specs.References.{references_of};
 ghost use Rattle.es_steps.specs.References.{has_number};
 
-use crate::moved::all_moved;
-use crate::reads::{any_stands_in_either, is_read_in, nodes_of, references_to};
+use crate::moved::{MovedFunction, moved_functions, outside_class};
+use crate::numbers::{any_among, set_of};
+use crate::reaching::{NameRead, name_reads, reached};
+use crate::reads::{is_read_in, nodes_of, references_to};
 use es_base::ids::NodeId;
 use es_base::kind::Kind;
 use es_base::ledger::LedgerEntry;
 use es_binding_faults::numbers::Numbers;
 use es_node::node::Node;
 use es_owed::listed::Listed;
+use es_owed::numbers::numbers_of;
 use es_references::references::{Reference, references};
 use es_tree::class::{ClassDeclarationRef, ClassExpressionRef};
 use es_tree::statement::VariableDeclaratorRef;
 use std::alloc::{AllocError, Global};
 
 /// Whether no name of a class is read where it is not there yet: that of a declaration in a class expression which it became
-/// without its name, and that of a new declarator in what it is given or in a function of a generated name. Fails on allocation
-/// failure alone.
+/// without its name, and that of a new declarator in what it is given or in a function of a generated name that is called there.
+/// Fails on allocation failure alone.
 pub fn own_names_stay(
     alloc: Global,
     ledger: &[LedgerEntry],
@@ -42,20 +48,9 @@ pub fn own_names_stay(
     if !none_loses_name(alloc, source.nodes.as_slice(), references.as_slice(), nodes)? {
         return Ok(false);
     }
-    let moved = all_moved(alloc, ledger, nodes)?;
-    let reads = Reads {
-        references: references.as_slice(),
-        moved: moved.as_slice(),
-    };
+    let reads = Reads::of(alloc, ledger, references.as_slice(), nodes)?;
     let declared = DeclaredClasses::of(alloc, source.nodes.as_slice())?;
-    none_reads_itself(alloc, &declared, reads, nodes)
-}
-
-/// The references of a lowered program, and the nodes of functions of generated names.
-#[derive(Clone, Copy)]
-struct Reads<'r, 'a> {
-    references: &'r [Reference<'a>],
-    moved: &'r [&'a Node],
+    none_reads_itself(alloc, &declared, &reads, nodes)
 }
 
 // ---- a class expression that was a declaration, without its name
@@ -193,13 +188,84 @@ fn add_class_identifier(node: &Node, identifiers: &mut Vec<NodeId>) -> Result<()
     }
 }
 
+/// What is read in a lowered program of these nodes: its references, its functions of generated names by which they are called,
+/// and the reads of names.
+#[derive(Drop)]
+struct Reads<'r, 'a> {
+    ledger: &'r [LedgerEntry],
+    references: &'r [Reference<'a>],
+    nodes: &'r [&'a Node],
+    functions: Vec<MovedFunction<'a>>,
+    names: Vec<NameRead<'a>>,
+
+    ghost functions_are: { functions_of functions.items ≡ classes.moved_functions ledger.now (seen nodes.now) },
+    ghost names_are: { reads_of names.items ≡ reads_besides (written_numbers (references_of references.now)) (seen nodes.now) },
+}
+
+impl<'r, 'a> Reads<'r, 'a> {
+    /// Those of these. Fails on allocation failure alone.
+    fn of(
+        alloc: Global,
+        ledger: &'r [LedgerEntry],
+        references: &'r [Reference<'a>],
+        nodes: &'r [&'a Node],
+    ) -> Result<Reads<'r, 'a>, AllocError>
+        ensures ledger { IfOk result (λ r. r.ledger.now ≡ ledger.now) }
+        ensures references { IfOk result (λ r. references_of r.references.now ≡ references_of references.now) }
+        ensures nodes { IfOk result (λ r. seen r.nodes.now ≡ seen nodes.now) }
+    {
+        let functions = moved_functions(alloc, ledger, nodes)?;
+        let names = name_reads(alloc, references, nodes)?;
+        Ok(Reads {
+            ledger,
+            references,
+            nodes,
+            functions,
+            names,
+        })
+    }
+
+    /// The functions that do not hold this node. Fails on allocation failure alone.
+    #[tactic(auto, using(crate::proofs::Steps::same_outside))]
+    fn functions_outside(
+        &self,
+        alloc: Global,
+        number: u32,
+    ) -> Result<Vec<MovedFunction<'a>>, AllocError>
+        ensures { IfOk result (λ r. functions_of r.items ≡ classes.outside_class (number ∷ []) (classes.moved_functions self.now.ledger.now (seen self.now.nodes.now))) }
+    {
+        let numbers = [number];
+        let inside = set_of(alloc, &numbers)?;
+        outside_class(alloc, &inside, self.functions.as_slice())
+    }
+
+    /// These references, with those to functions that hold one of them, and so on. Fails on allocation failure alone.
+    #[tactic(auto, using(crate::proofs::Steps::reaching_steps))]
+    fn reaching(
+        &self,
+        alloc: Global,
+        functions: &[MovedFunction],
+        numbers: &[u32],
+    ) -> Result<Vec<u32>, AllocError>
+        ensures { IfOk result (λ r. r.items ≡ classes.reaching self.now.ledger.now (functions_of functions.now) (references_of self.now.references.now) (seen self.now.nodes.now) numbers.now) }
+    {
+        reached(
+            alloc,
+            self.ledger,
+            functions,
+            self.names.as_slice(),
+            numbers,
+        )
+    }
+}
+
 fn none_reads_itself(
     alloc: Global,
     declared: &DeclaredClasses,
-    reads: Reads,
+    reads: &Reads,
     nodes: &[&Node],
 ) -> Result<bool, AllocError>
-    ensures { IfOk result (λ holds. holds ≡ spec.none_reads_itself (seen reads.entry.moved.now) (seen declared.now.nodes.now) (references_of reads.entry.references.now) (seen nodes.now)) }
+    ensures { IfOk result (λ holds. holds ≡ spec.none_reads_itself reads.now.ledger.now (classes.moved_functions reads.now.ledger.now (seen reads.now.nodes.now)) (seen declared.now.nodes.now) (seen reads.now.nodes.now) (references_of reads.now.references.now) (seen nodes.now)) }
 {
     for node in nodes {
         if reads_itself(alloc, declared, reads, node)? {
@@ -215,10 +281,10 @@ fn none_reads_itself(
 fn reads_itself(
     alloc: Global,
     declared: &DeclaredClasses,
-    reads: Reads,
+    reads: &Reads,
     node: &Node,
 ) -> Result<bool, AllocError>
-    ensures { IfOk result (λ holds. holds ≡ spec.reads_itself (seen reads.entry.moved.now) (seen declared.now.nodes.now) (references_of reads.entry.references.now) node.now) }
+    ensures { IfOk result (λ holds. holds ≡ spec.reads_itself reads.now.ledger.now (classes.moved_functions reads.now.ledger.now (seen reads.now.nodes.now)) (seen declared.now.nodes.now) (seen reads.now.nodes.now) (references_of reads.now.references.now) node.now) }
 {
     match node.kind() {
         // let A = class { static x = A; };
@@ -235,15 +301,15 @@ fn reads_itself(
 }
 
 /// Whether a declarator that the source does not have declares one of its classes, which is read in what it is given or in a
-/// function of a generated name. Fails on allocation failure alone.
+/// function of a generated name that is called there. Fails on allocation failure alone.
 #[tactic(auto, using(crate::proofs::NameReads::undeclared))]
 fn reads_own(
     alloc: Global,
     declared: &DeclaredClasses,
-    reads: Reads,
+    reads: &Reads,
     declarator: VariableDeclaratorRef,
 ) -> Result<bool, AllocError>
-    ensures { IfOk result (λ holds. holds ≡ reads_by (seen reads.entry.moved.now) (seen declared.now.nodes.now) (references_of reads.entry.references.now) declarator.entry.node_id.0 declarator.entry.id.now (nullable (option_map (λ x. x.now) declarator.entry.init))) }
+    ensures { IfOk result (λ holds. holds ≡ reads_by reads.now.ledger.now (classes.moved_functions reads.now.ledger.now (seen reads.now.nodes.now)) (seen declared.now.nodes.now) (seen reads.now.nodes.now) (references_of reads.now.references.now) declarator.entry.node_id.0 declarator.entry.id.now (nullable (option_map (λ x. x.now) declarator.entry.init))) }
 {
     let identifier = declarator.id.node_id();
     if !declared.has(identifier) {
@@ -252,23 +318,42 @@ fn reads_own(
     if any_declares(declarator.node_id.0, identifier.0, declared.nodes) {
         return Ok(false);
     }
-    is_read_early(alloc, identifier.0, reads, declarator.init)
+    is_read_early(
+        alloc,
+        reads,
+        declarator.node_id.0,
+        identifier.0,
+        declarator.init,
+    )
 }
 
-/// Whether the identifier is read in what it is given or in a function of a generated name. Fails on allocation failure alone.
-#[tactic(auto, using(crate::proofs::NameReads::same_stand))]
+/// Whether the identifier of a declarator is read in what it is given, or in a function of a generated name that is called there
+/// and does not hold the declarator. Fails on allocation failure alone.
 fn is_read_early(
     alloc: Global,
+    reads: &Reads,
+    declarator: u32,
     identifier: u32,
-    reads: Reads,
     value: Option<&Node>,
 ) -> Result<bool, AllocError>
-    ensures { IfOk result (λ holds. holds ≡ spec.any_stands (spec.references_to (identifier ∷ []) (references_of reads.entry.references.now)) (preorder_of_part (nullable (option_map (λ x. x.now) value.entry)) ++ seen reads.entry.moved.now)) }
+    ensures { IfOk result (λ holds. holds ≡ classes.any_among (classes.numbers_of (preorder_of_part (nullable (option_map (λ x. x.now) value.entry)))) (classes.reaching reads.now.ledger.now (classes.outside_class (declarator ∷ []) (classes.moved_functions reads.now.ledger.now (seen reads.now.nodes.now))) (references_of reads.now.references.now) (seen reads.now.nodes.now) (spec.references_to (identifier ∷ []) (references_of reads.now.references.now)))) }
 {
+    let functions = reads.functions_outside(alloc, declarator)?;
     let identifiers = [identifier];
     let numbers = references_to(alloc, &identifiers, reads.references)?;
-    let nodes = nodes_of(alloc, value)?;
-    Ok(any_stands_in_either(&numbers, nodes.as_slice(), reads.moved))
+    let reached = reads.reaching(alloc, functions.as_slice(), numbers.as_slice())?;
+    any_stands_in(alloc, reached.as_slice(), value)
+}
+
+/// Whether a node of one of these numbers stands in a tree that may be absent. Fails on allocation failure alone.
+#[tactic(auto, using(crate::proofs::Steps::same_among))]
+fn any_stands_in(alloc: Global, numbers: &[u32], tree: Option<&Node>) -> Result<bool, AllocError>
+    ensures { IfOk result (λ holds. holds ≡ classes.any_among (classes.numbers_of (preorder_of_part (nullable (option_map (λ x. x.now) tree.entry)))) numbers.now) }
+{
+    let nodes = nodes_of(alloc, tree)?;
+    let below = numbers_of(alloc, nodes.as_slice())?;
+    let set = set_of(alloc, below.as_slice())?;
+    Ok(any_among(&set, numbers))
 }
 
 /// Whether one of these nodes is this declarator of this identifier.

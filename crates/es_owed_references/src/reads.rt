@@ -1,15 +1,13 @@
 // Where identifiers are referred to.
 
-ghost use Rattle.std.specs.Prelude.{◌≡◌, ℕ, ◌++◌, ◌∷◌, [], cond, option_map, IfOk, OnOk};
+ghost use Rattle.std.specs.Prelude.{◌≡◌, ◌++◌, ◌∷◌, [], cond, option_map, IfOk, OnOk};
 ghost use Rattle.es_base.specs.Preorder.{preorder, preorder_of_part};
 ghost use Rattle.es_base.specs.Tree.{nullable};
 ghost use Rattle.es_binding_faults.specs.Seen.{seen};
 ghost use Rattle.es_lowered.specs.OwnNames as spec;
-ghost use Rattle.es_references.specs.Frames.{ids};
 ghost use Rattle.es_references.specs.References.{reference_of, references_of};
-ghost use Rattle.es_steps.specs.References.{has_number};
 
-use es_base::ids::NodeId;
+use crate::numbers::set_of;
 use es_binding_faults::numbers::Numbers;
 use es_binding_faults::preorder::preorder;
 use es_generated::numbers::has_number;
@@ -17,26 +15,13 @@ use es_node::node::Node;
 use es_references::references::Reference;
 use std::alloc::{AllocError, Global};
 
-/// The set of the references to these identifiers. Fails on allocation failure alone.
+/// The references to these identifiers. Fails on allocation failure alone.
 pub fn references_to(
     alloc: Global,
     identifiers: &[u32],
     references: &[Reference],
-) -> Result<Numbers, AllocError>
-    ensures { IfOk result (λ r. (n : ℕ) → has_number n r ≡ has_number n (spec.references_to identifiers.now (references_of references.now))) }
-{
-    let numbers = listed_references(alloc, identifiers, references)?;
-    let set = Numbers::of(alloc, numbers.as_slice())?;
-    Ok(set)
-}
-
-/// The references to these identifiers. Fails on allocation failure alone.
-fn listed_references(
-    alloc: Global,
-    identifiers: &[u32],
-    references: &[Reference],
-) -> Result<Vec<NodeId>, AllocError>
-    ensures { IfOk result (λ r. ids r.items ≡ spec.references_to identifiers.now (references_of references.now)) }
+) -> Result<Vec<u32>, AllocError>
+    ensures { IfOk result (λ r. r.items ≡ spec.references_to identifiers.now (references_of references.now)) }
 {
     let mut numbers = Vec::new(alloc);
     for reference in references {
@@ -48,12 +33,12 @@ fn listed_references(
 fn add_reference(
     identifiers: &[u32],
     reference: Reference,
-    numbers: &mut Vec<NodeId>,
+    numbers: &mut Vec<u32>,
 ) -> Result<(), AllocError>
-    ensures { OnOk result (ids numbers.new.items ≡ ids numbers.old.items ++ cond (spec.is_bound_among identifiers.now (reference_of reference.entry).to) ((reference_of reference.entry).number ∷ []) []) }
+    ensures { OnOk result (numbers.new.items ≡ numbers.old.items ++ cond (spec.is_bound_among identifiers.now (reference_of reference.entry).to) ((reference_of reference.entry).number ∷ []) []) }
 {
     if is_bound_among(identifiers, reference) {
-        numbers.push(reference.node)?;
+        numbers.push(reference.node.0)?;
     }
     Ok(())
 }
@@ -70,7 +55,7 @@ pub fn is_bound_among(identifiers: &[u32], reference: Reference) -> bool
 
 /// Whether a node of one of these numbers is among these.
 #[tactic(auto, using(es_owed::proofs::Nodes::number_of_node))]
-pub fn any_stands(numbers: &Numbers, nodes: &[&Node]) -> bool
+fn any_stands(numbers: &Numbers, nodes: &[&Node]) -> bool
     ensures { result ≡ spec.any_stands numbers.now (seen nodes.now) }
 {
     for node in nodes {
@@ -79,14 +64,6 @@ pub fn any_stands(numbers: &Numbers, nodes: &[&Node]) -> bool
         }
     }
     false
-}
-
-/// Whether a node of one of these numbers is among these, or among the others.
-#[tactic(auto, using(crate::proofs::NameReads::stand_append))]
-pub fn any_stands_in_either(numbers: &Numbers, nodes: &[&Node], others: &[&Node]) -> bool
-    ensures { result ≡ spec.any_stands numbers.now (seen nodes.now ++ seen others.now) }
-{
-    any_stands(numbers, nodes) || any_stands(numbers, others)
 }
 
 /// Whether a reference to one of these identifiers stands in the node. Fails on allocation failure alone.
@@ -100,8 +77,9 @@ pub fn is_read_in(
     ensures { IfOk result (λ reads. reads ≡ spec.any_stands (spec.references_to identifiers.now (references_of references.now)) (preorder node.now)) }
 {
     let numbers = references_to(alloc, identifiers, references)?;
+    let set = set_of(alloc, numbers.as_slice())?;
     let nodes = preorder(alloc, node)?;
-    Ok(any_stands(&numbers, nodes.as_slice()))
+    Ok(any_stands(&set, nodes.as_slice()))
 }
 
 /// The nodes of a tree that may be absent, in preorder. Fails on allocation failure alone.

@@ -1,5 +1,3 @@
-pub mod PlacesAround
-pub mod PlacesByKind
 pub mod PrivateReads
 pub mod SteadyKinds
 pub mod TouchesAround

@@ -10,9 +10,9 @@ use Rattle.es_steps.specs.Parts.{at, is_present, string_of}
 use Rattle.es_steps.specs.References.{is_target}
 use Rattle.es_steps.specs.Scopes.{binds}
 use Rattle.es_lowered.specs.Temporaries.{Spot, Touch, declaration_in, home_in, is_bare, is_block, is_name_of_function, spot_in, touch, touch_of, touches, touches_at, touches_in}
-use Rattle.es_owed_temporaries.specs.Surroundings.{surroundings_within}
+use Rattle.es_places.specs.Placing.{surroundings_within}
+use Rattle.es_places.proofs.Placed.{at_once, from_zero, one_on}
 use Rattle.es_owed_temporaries.specs.Touches.{spot_within, touches_from}
-use Rattle.es_owed_temporaries.proofs.PlacesAround.{at_once, from_zero, one_on}
 
 module _ (first : ℕ) (ledger : List LedgerEntry) where
   from_place : (x f : ℕ → Spot) (bare : Bool) (i : ℕ) (fs : List Field) (ps : Parts) → ((k : ℕ) → f k ≡ x (i + k)) → touches_in first ledger f bare fs ps ≡ touches_from first ledger x bare i fs ps

@@ -1,5 +1,3 @@
 pub mod Apart
-pub mod Places
 pub mod Steady
-pub mod Surroundings
 pub mod Touches

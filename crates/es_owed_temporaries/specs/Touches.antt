@@ -8,7 +8,7 @@ use Rattle.es_lowered.specs.Temporaries as spec
 use Rattle.es_lowered.specs.Temporaries.{spot_in, touches_at}
 use Rattle.es_steps.specs.References.{is_target}
 use Rattle.es_steps.specs.Scopes.{binds}
-use Rattle.es_owed_temporaries.specs.Surroundings.{surroundings_of}
+use Rattle.es_places.specs.Placing.{surroundings_of}
 use Rattle.es_owed_temporaries.specs.declared.touches.Spot.{Spot}
 use Rattle.es_owed_temporaries.specs.declared.touches.Touch.{Touch}
 

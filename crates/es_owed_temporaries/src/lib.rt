@@ -3,8 +3,6 @@
 #![tactic(auto)]
 
 pub mod apart;
-pub mod places;
 pub mod steady;
-pub mod surroundings;
 pub mod temporaries;
 pub mod touches;

@@ -3,17 +3,17 @@
 ghost use Rattle.std.specs.Prelude.{◌≡◌, ◌++◌, ◌&&◌, [], ◌∷◌, cond, bytes_eq, IfOk, OnOk};
 ghost use Rattle.std.specs.Option.{option_to_list};
 ghost use Rattle.std.specs.Str.{chars};
+ghost use Rattle.es_by_number.specs.Numbered.{pairs};
 ghost use Rattle.es_steps.specs.KeptNodes.{pair_stands};
 ghost use Rattle.es_lowered.specs.Temporaries as spec;
 ghost use Rattle.es_seen_names.specs.PrivateMembers.{private_members_of};
-ghost use Rattle.es_owed_temporaries.specs.Places.{placed_all};
 ghost use Rattle.es_owed_temporaries.specs.Steady.{all_construct, all_in, all_of, all_of_home, all_stand, steady_by_kind, test_of};
 ghost use Rattle.es_owed_temporaries.specs.Touches.{touch_here, touches_all};
 
-use crate::places::Placed;
 use crate::touches::Touch;
 use es_base::ledger::{GeneratedKind, LedgerEntry};
 use es_base::strings::is_word;
+use es_by_number::numbered::Numbered;
 use es_owed_initialized::members::class_before;
 use es_seen_names::private_member::PrivateMember;
 use std::alloc::{AllocError, Global};
@@ -30,12 +30,12 @@ pub enum Use {
 /// are those of classes, and the members those of the source. Fails on allocation failure alone.
 pub fn all_steady(
     alloc: Global,
-    places: &[Placed],
+    places: &[Numbered<u32>],
     members: &[PrivateMember],
     ledger: &[LedgerEntry],
     touches: &[Touch],
 ) -> Result<bool, AllocError>
-    ensures { IfOk result (λ holds. holds ≡ spec.all_steady (placed_all places.now) (private_members_of members.now) ledger.now (touches_all touches.now)) }
+    ensures { IfOk result (λ holds. holds ≡ spec.all_steady (pairs places.now) (private_members_of members.now) ledger.now (touches_all touches.now)) }
 {
     for entry in ledger {
         if !is_steady_entry(alloc, places, members, entry, touches)? {
@@ -48,12 +48,12 @@ pub fn all_steady(
 #[tactic(auto, using(crate::proofs::SteadyKinds::steady_name))]
 fn is_steady_entry(
     alloc: Global,
-    places: &[Placed],
+    places: &[Numbered<u32>],
     members: &[PrivateMember],
     entry: &LedgerEntry,
     touches: &[Touch],
 ) -> Result<bool, AllocError>
-    ensures { IfOk result (λ holds. holds ≡ (spec.is_steady_name (placed_all places.now) (private_members_of members.now) entry.now.kind entry.now.name (touches_all touches.now) && spec.is_near (spec.declarations_of entry.now.name (touches_all touches.now)) (spec.gifts_of entry.now.name (touches_all touches.now)))) }
+    ensures { IfOk result (λ holds. holds ≡ (spec.is_steady_name (pairs places.now) (private_members_of members.now) entry.now.kind entry.now.name (touches_all touches.now) && spec.is_near (spec.declarations_of entry.now.name (touches_all touches.now)) (spec.gifts_of entry.now.name (touches_all touches.now)))) }
 {
     let name = entry.name.as_str();
     let declarations = chosen(alloc, Use::Declares, name, touches)?;
@@ -144,8 +144,8 @@ fn all_at_home(home: u32, touches: &[Touch]) -> bool
 }
 
 /// Whether all are evaluated again with the class, if there is one, or are there from the head of their list on.
-fn all_stand_with(places: &[Placed], class: Option<u32>, touches: &[Touch]) -> bool
-    ensures { result ≡ all_stand (placed_all places.now) (option_to_list class) (touches_all touches.now) }
+fn all_stand_with(places: &[Numbered<u32>], class: Option<u32>, touches: &[Touch]) -> bool
+    ensures { result ≡ all_stand (pairs places.now) (option_to_list class) (touches_all touches.now) }
 {
     for touch in touches {
         if !stands_with(places, class, *touch) {
@@ -155,8 +155,8 @@ fn all_stand_with(places: &[Placed], class: Option<u32>, touches: &[Touch]) -> b
     true
 }
 
-fn stands_with(places: &[Placed], class: Option<u32>, touch: Touch) -> bool
-    ensures { result ≡ spec.stands_with (placed_all places.now) (option_to_list class) (touch_here touch.entry) }
+fn stands_with(places: &[Numbered<u32>], class: Option<u32>, touch: Touch) -> bool
+    ensures { result ≡ spec.stands_with (pairs places.now) (option_to_list class) (touch_here touch.entry) }
 {
     match class {
         Some(class) => touch.hoists || has_place(class, touch.place, places),
@@ -165,8 +165,8 @@ fn stands_with(places: &[Placed], class: Option<u32>, touch: Touch) -> bool
 }
 
 /// Whether all stand in the construction of the class, or are evaluated again with it.
-fn all_construct_with(places: &[Placed], class: u32, touches: &[Touch]) -> bool
-    ensures { result ≡ all_construct (placed_all places.now) class (touches_all touches.now) }
+fn all_construct_with(places: &[Numbered<u32>], class: u32, touches: &[Touch]) -> bool
+    ensures { result ≡ all_construct (pairs places.now) class (touches_all touches.now) }
 {
     for touch in touches {
         if class != touch.place && !has_place(class, touch.place, places) {
@@ -177,11 +177,11 @@ fn all_construct_with(places: &[Placed], class: u32, touches: &[Touch]) -> bool
 }
 
 /// Whether this is the place of the class.
-fn has_place(class: u32, place: u32, places: &[Placed]) -> bool
-    ensures { result ≡ pair_stands (class, place) (placed_all places.now) }
+fn has_place(class: u32, place: u32, places: &[Numbered<u32>]) -> bool
+    ensures { result ≡ pair_stands (class, place) (pairs places.now) }
 {
     for other in places {
-        if class == other.number && place == other.place {
+        if class == other.number && place == other.value {
             return true;
         }
     }
@@ -192,13 +192,13 @@ fn has_place(class: u32, place: u32, places: &[Placed]) -> bool
 
 /// Whether a name of this kind, which is given values and read so, is steady.
 fn is_steady_name(
-    places: &[Placed],
+    places: &[Numbered<u32>],
     members: &[PrivateMember],
     kind: GeneratedKind,
     gifts: &[Touch],
     reads: &[Touch],
 ) -> bool
-    ensures { result ≡ steady_by_kind (placed_all places.now) (private_members_of members.now) kind (touches_all gifts.now) (touches_all reads.now) }
+    ensures { result ≡ steady_by_kind (pairs places.now) (private_members_of members.now) kind (touches_all gifts.now) (touches_all reads.now) }
 {
     match kind {
         GeneratedKind::Temp => is_steady(gifts, reads),

@@ -5,11 +5,11 @@ ghost use Rattle.es_seen_names.specs.PrivateMembers.{private_members_of};
 ghost use Rattle.es_lowered.specs.Temporaries as spec;
 
 use crate::apart::all_apart;
-use crate::places::{Terms, all_places};
 use crate::steady::all_steady;
 use crate::touches::all_touches;
 use es_base::ledger::LedgerEntry;
 use es_owed::listed::Listed;
+use es_places::places::{Terms, all_places};
 use es_seen_names::private_member::PrivateMember;
 use std::alloc::{AllocError, Global};
 
@@ -26,7 +26,7 @@ pub fn temporaries_steady(
     ensures { IfOk result (λ holds. holds ≡ spec.temporaries_steady first ledger.now (private_members_of members.now) lowered.now.program.now) }
 {
     let terms = Terms {
-        first,
+        first_new: first,
         ledger,
         private_functions: &[],
     };

@@ -1,1 +1,1 @@
-mod Placed
+pub mod Placed

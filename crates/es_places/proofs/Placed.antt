@@ -23,20 +23,20 @@ number_of_node (Node kind m span semantic_id ps) = refl
 
 -- ---- the walk
 
+pub at_once : (i : ℕ) → i + 0 ≡ i
+at_once i = omega arith
+
+pub one_on : (i k : ℕ) → i + suc k ≡ (i + 1) + k
+one_on i k = omega arith
+
+pub from_zero : (k : ℕ) → k ≡ 0 + k
+from_zero k = omega arith
+
 from_place : (o : Terms) (s f : ℕ → spec.Surroundings) (i : ℕ) (ps : Parts) → ((k : ℕ) → f k ≡ s (i + k)) → spec.places_in o.first_new o.ledger.now o.private_functions.now f ps ≡ places_from o s i ps
 from_place o s f i end same = refl
 from_place o s f i (more p ps) same =
     ap (λ (x : spec.Surroundings). places_at o x p ++ spec.places_in o.first_new o.ledger.now o.private_functions.now (λ k. f (suc k)) ps) (same 0 ∙ ap s (at_once i))
     ∙ ap (λ (xs : List (ℕ × ℕ)). places_at o (s i) p ++ xs) (from_place o s (λ k. f (suc k)) (i + 1) ps (λ k. same (suc k) ∙ ap s (one_on i k)))
-  where
-    at_once : (i : ℕ) → i + 0 ≡ i
-    at_once i = omega arith
-
-    one_on : (i k : ℕ) → i + suc k ≡ (i + 1) + k
-    one_on i k = omega arith
-
-from_zero : (k : ℕ) → k ≡ 0 + k
-from_zero k = omega arith
 
 pub places_node : (o : Terms) (s : spec.Surroundings) (t : Tree) → places o s t ≡ place_of o s (kind_of t) (number_in t) ++ places_from o (surroundings_within o.first_new o.ledger.now s t) 0 (parts_in t)
 places_node o s (Node kind m span semantic_id ps) =

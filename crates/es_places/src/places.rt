@@ -25,17 +25,29 @@ pub struct Terms<'a> {
     pub private_functions: &'a [u32],
 }
 
-/// The functions, classes and declaring identifiers of a program that are not new, but the functions of private methods, by
-/// number, each with its place. Fails on allocation failure alone.
+/// The functions, classes and declaring identifiers of a program that are not new, but the functions of private methods, in
+/// preorder, each with its place. Fails on allocation failure alone.
 pub fn all_places(
+    alloc: Global,
+    terms: &Terms,
+    program: &Node,
+) -> Result<Vec<Numbered<u32>>, AllocError>
+    ensures { IfOk result (λ ps. pairs ps.items ≡ spec.all_places terms.now.first_new terms.now.ledger.now terms.now.private_functions.now program.now) }
+{
+    let mut found = Vec::new(alloc);
+    add_places(terms, around_program(program), program, &mut found)?;
+    Ok(found)
+}
+
+/// The same by number, as a meaning has them. Fails on allocation failure alone.
+pub fn places_by_number(
     alloc: Global,
     terms: &Terms,
     program: &Node,
 ) -> Result<Vec<Numbered<u32>>, AllocError>
     ensures { IfOk result (λ ps. pairs ps.items ≡ by_number (spec.all_places terms.now.first_new terms.now.ledger.now terms.now.private_functions.now program.now)) }
 {
-    let mut found = Vec::new(alloc);
-    add_places(terms, around_program(program), program, &mut found)?;
+    let mut found = all_places(alloc, terms, program)?;
     sort_by_number(&mut found)?;
     Ok(found)
 }

@@ -5,7 +5,7 @@ use Rattle.es_base.specs.declared.ledger.GeneratedKind.{GeneratedKind}
 use Rattle.es_base.specs.declared.literal.LiteralValue.{LiteralValue}
 use Rattle.es_base.specs.declared.literal.LiteralValue.TheVariants as literal_value
 use Rattle.es_steps.specs.Code.{Code, Codes, Target, FunctionForm, CalledBodyOf, no_rule, value, spelled, private_name, binding, name, super, member, private_member, super_member, private_in, assign, compound, logical, logical_assign, call, super_call, super_call_with_all, sequence, template, operation, chain, tested, pattern, function, new_function, private_field, method, private_method, generated_element, from_call, from_member, helper, helper_call, throw, private_initialize, bound, setter, private_value, call_arrow, to_name, to_private, done, and}
-use Rattle.es_steps.specs.GeneratedForms.{is_named, weak_map, static_field, private_function, loose_key, class_named, is_class_named, is_brand, known_object, is_string, home_of, single_property, writable_value, array_elements, read_private, set_private, is_method_kind, is_getter_kind, is_setter_kind, asserted, initialized_on, brand_on, define_on, super_get, super_set, is_number_literal, is_constant, is_quiet_key, helper_code, is_helper_object, helper_or_none, helper_or, branded_field, own_field, setter_on, field_setter, setter_of_pair, setter_of, underscore_of, same_number, loose_member, is_same_key, kept_name, generated_member, parameter_names, opened_body, no_spread, is_plain_arrow, arrow_call, is_pick, with_key, picked, new_function_call, getter_call, received_call, getter_or_received, is_super_itself, super_function_call, called_with, bound_to, has_field, has_brand, loose_initialized, object_call, member_call, new_member_call, initializers_behind, passes_all, super_call_in, super_method_call, helper_call_call, generated_call, is_class_test, generated_binary, is_undefined_test, is_new_collection, only_if, is_loose_key_call, field_object, given_function, given, is_own_class, private_assignment, generated_assignment}
+use Rattle.es_steps.specs.GeneratedForms.{is_named, weak_map, static_field, private_function, loose_key, class_named, is_class_named, is_brand, known_object, is_string, home_of, single_property, writable_value, array_elements, read_private, set_private, is_method_kind, is_getter_kind, is_setter_kind, asserted, initialized_on, brand_on, define_on, super_get, super_set, is_number_literal, is_constant, is_quiet_key, helper_code, is_helper_object, helper_or_none, helper_or, branded_field, own_field, setter_on, field_setter, setter_of_pair, setter_of, underscore_of, same_number, loose_member, is_same_key, kept_name, generated_member, parameter_names, opened_body, no_spread, is_plain_arrow, arrow_call, is_pick, with_key, picked, new_function_call, getter_call, received_call, getter_or_received, is_super_itself, super_function_call, called_with, bound_to, has_field, has_brand, loose_initialized, object_call, member_call, new_member_call, initializers_behind, passes_all, super_call_in, super_method_call, helper_call_call, generated_call, is_class_test, generated_binary, is_undefined_test, is_new_collection, only_if, is_loose_key_call, field_object, given_function, given, is_own_class, private_assignment, generated_assignment, value_of_private}
 use Rattle.es_steps.specs.Helpers.{Helper, DefineProperty, ClassPrivateFieldInitSpec, ClassPrivateMethodInitSpec, ClassPrivateFieldGet2, ClassPrivateFieldSet2, AssertClassBrand, ToSetter, CheckInRHS, ReadOnlyError, WriteOnlyError, SuperPropGet, SuperPropSet, ClassPrivateFieldLooseBase, SetFunctionName, ToPropertyKey, helper_named}
 use Rattle.es_steps.specs.PrivateNames.{PrivateMember, PrivateReference, member_at, reference_of}
 use Rattle.es_steps.specs.Expressions.{operation_of, the_code, value_code, literal_code, is_arguments, arguments_of, name_or_arguments, spelling_of, key_code, super_member_at, checked_object, member_on, member_code, is_made_private, names_class, private_on, private_field_of, test_in, private_in_of, target_of, is_logical, without_sign, assignment_code, void_code, deleted, delete_code, unary_operation, unary_code, quiet_logical, spliced, deleted_as, ended_alone, chain_or, callee_of, checked_callee, call_code, tag_of, is_numeric}
@@ -32,9 +32,9 @@ read_private-closed : (m : ℕ) (x : Option PrivateMember) (o : Code) → Closed
 read_private-closed m None o = refl
 read_private-closed m (Some x) o = refl
 
-set_private-closed : (m : ℕ) (x : Option PrivateMember) (o v : Code) → Closed (set_private m x o v)
-set_private-closed m None o v = refl
-set_private-closed m (Some x) o v = refl
+set_private-closed : (new : Bool) (m : ℕ) (x : Option PrivateMember) (o v : Code) → Closed (set_private new m x o v)
+set_private-closed new m None o v = refl
+set_private-closed new m (Some x) o v = refl
 
 initialized_on-closed : (m : ℕ) (x : Option PrivateMember) (o : Option Value) (v : Code) → Closed (initialized_on m x o v)
 initialized_on-closed m (Some x) (Some o) v = refl
@@ -54,10 +54,10 @@ super_get-closed m (Some home) k (Some this) = refl
 super_get-closed m (Some home) k None = refl
 super_get-closed m None k this = refl
 
-super_set-closed : (m : ℕ) (home : Option Home) (k v : Code) (this : Option Value) → Closed (super_set m home k v this)
-super_set-closed m (Some home) k v (Some this) = refl
-super_set-closed m (Some home) k v None = refl
-super_set-closed m None k v this = refl
+super_set-closed : (new : Bool) (m : ℕ) (home : Option Home) (k v : Code) (this : Option Value) → Closed (super_set new m home k v this)
+super_set-closed new m (Some home) k v (Some this) = refl
+super_set-closed new m (Some home) k v None = refl
+super_set-closed new m None k v this = refl
 
 asserted-closed : (m : ℕ) (x : Option PrivateMember) (q o whole : Code) → Closed whole → Closed (asserted m x q o whole)
 asserted-closed m None q o whole h = h
@@ -162,9 +162,9 @@ given_function-closed : (m : ℕ) (s : String) (g : GeneratedKind) (q : Code) �
 given_function-closed m s g (function h form own ps body) = refl
 given_function-closed m s g q = refl
 
-private_assignment-closed : (m : ℕ) (x : PrivateReference) (o v : Code) → Closed (private_assignment m x o v)
-private_assignment-closed m x own (helper_call k AssertClassBrand (and z (and o (and v done)))) = either (is_own_class x own && is_class_named x.class z) (assign (to_private m x o) v) no_rule refl refl
-private_assignment-closed m x o v = refl
+private_assignment-closed : (new : Bool) (m k : ℕ) (x : PrivateReference) (o v : Code) → Closed (private_assignment new m k x o v)
+private_assignment-closed new m k x own (helper_call j AssertClassBrand (and z (and o (and v done)))) = either (is_own_class x own && is_class_named x.class z) (assign (to_private k x o) (value_of_private x.writes new m v)) no_rule refl refl
+private_assignment-closed new m k x o v = refl
 
 deleted-closed : (m : ℕ) (e : Code) → Closed (deleted m e)
 deleted-closed m (tested o again e) = deleted-closed m e
@@ -246,7 +246,7 @@ method_or_constructor-closed false true whole f h = refl
 module _ (c : Context) where
   helper_code-closed : (m : ℕ) (h : Helper) (es : Codes) → Closed (helper_code c m h es)
   helper_code-closed m ClassPrivateFieldGet2 (and w (and o done)) = refl
-  helper_code-closed m ClassPrivateFieldSet2 (and w (and o (and v done))) = set_private-closed m (weak_map c w) o v
+  helper_code-closed m ClassPrivateFieldSet2 (and w (and o (and v done))) = set_private-closed (new_here c m) m (weak_map c w) o v
   helper_code-closed m AssertClassBrand (and q (and o (and f done))) = asserted-closed m (private_function c f) q o (helper_call m AssertClassBrand (and q (and o (and f done)))) refl
   helper_code-closed m ReadOnlyError (and s done) = either (is_constant s) throw no_rule refl refl
   helper_code-closed m WriteOnlyError (and s done) = either (is_constant s) throw no_rule refl refl
@@ -254,7 +254,7 @@ module _ (c : Context) where
   helper_code-closed m ClassPrivateMethodInitSpec (and o (and q done)) = brand_on-closed m q (known_object o)
   helper_code-closed m DefineProperty (and o (and k (and v done))) = define_on-closed m (known_object o) k v
   helper_code-closed m SuperPropGet (and h (and k (and r done))) = super_get-closed m (home_of h) k (known_object r)
-  helper_code-closed m SuperPropSet (and h (and k (and v (and r (and one done))))) = either (is_number_literal (codes "1") one) (super_set m (home_of h) k v (known_object r)) no_rule (super_set-closed m (home_of h) k v (known_object r)) refl
+  helper_code-closed m SuperPropSet (and h (and k (and v (and r (and one done))))) = either (is_number_literal (codes "1") one) (super_set (new_here c m) m (home_of h) k v (known_object r)) no_rule (super_set-closed (new_here c m) m (home_of h) k v (known_object r)) refl
   helper_code-closed m ToPropertyKey (and e done) = refl
   helper_code-closed m SetFunctionName (and e (and k done)) = either (is_named e && is_quiet_key k) (with_key k e) no_rule (with_key-closed k e) refl
   helper_code-closed m h es = refl
@@ -352,6 +352,7 @@ module _ (c : Context) where
 
   quiet_logical-closed : (m : ℕ) (operator : String) (l r whole : Code) → Closed whole → Closed (quiet_logical c m operator l r whole)
   quiet_logical-closed m operator (value (ResultOf k)) (from_call (value v)) whole h = either (new_here c m && (new_here c k && bytes_eq operator (codes "&&"))) (value (ResultOf m)) whole refl h
+  quiet_logical-closed m operator (value (ResultOf k)) (value (ResultOf j)) whole h = either (new_here c j && (new_here c m && (new_here c k && bytes_eq operator (codes "&&")))) (value (ResultOf m)) whole refl h
   quiet_logical-closed m operator l r whole h = h
 
   given-closed : (m b : ℕ) (s : String) (g : GeneratedKind) (q : Code) → Closed (given c m b s g q)
@@ -370,7 +371,7 @@ module _ (c : Context) where
   generated_assignment-closed : (m : ℕ) (to : Target) (q : Code) → Closed (generated_assignment c m to q)
   generated_assignment-closed m (to_name b s (Generated g)) q = given-closed m b s g q
   generated_assignment-closed m (to_name b s (StaticMethod d n)) q = given_function-closed m s (GeneratedKind.Method (record { 0 = d })) q
-  generated_assignment-closed m (to_private k r o) q = private_assignment-closed k r o q
+  generated_assignment-closed m (to_private k r o) q = private_assignment-closed (new_here c m) m k r o q
   generated_assignment-closed m to q = refl
 
   assignment_code-closed : (m : ℕ) (ps : Members) → Closed (assignment_code c m ps)

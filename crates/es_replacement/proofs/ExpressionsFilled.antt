@@ -377,10 +377,12 @@ module _ (c : Context) (fill : ℕ → Code) (unasked : (n : ℕ) → is_unasked
   -- what stands on the right of a quiet `&&`
   abbrev quiet_right : ℕ → ℕ → String → Code → Code → Code
   quiet_right m k operator (from_call (value v)) whole = cond (new_here c m && (new_here c k && bytes_eq operator (codes "&&"))) (value (ResultOf m)) whole
+  quiet_right m k operator (value (ResultOf j)) whole = cond (new_here c j && (new_here c m && (new_here c k && bytes_eq operator (codes "&&")))) (value (ResultOf m)) whole
   quiet_right m k operator r whole = whole
 
   quiet_right-unasked : (m k : ℕ) (operator : String) (q whole : Code) → is_unasked c.first_new q ≡ true → quiet_right m k operator q whole ≡ whole
   quiet_right-unasked m k operator (from_call (value v)) whole h = absurd (cc)
+  quiet_right-unasked m k operator (value v) whole h = absurd (cc)
   quiet_right-unasked m k operator q whole h = refl
 
   quiet_given-unasked : (m k : ℕ) (operator : String) (q whole : Code) → is_unasked c.first_new q ≡ true → quiet_right m k operator (from_call q) whole ≡ whole
@@ -389,12 +391,14 @@ module _ (c : Context) (fill : ℕ → Code) (unasked : (n : ℕ) → is_unasked
 
   quiet_right-filled : (m k : ℕ) (operator : String) (r whole : Code) → quiet_right m k operator (filled fill r) (filled fill whole) ≡ filled fill (quiet_right m k operator r whole)
   quiet_right-filled m k operator (from_call (value v)) whole = cond-code c.first_new fill unasked (new_here c m && (new_here c k && bytes_eq operator (codes "&&"))) (value (ResultOf m)) whole
+  quiet_right-filled m k operator (value (ResultOf j)) whole = cond-code c.first_new fill unasked (new_here c j && (new_here c m && (new_here c k && bytes_eq operator (codes "&&")))) (value (ResultOf m)) whole
   quiet_right-filled m k operator (from_call (initializers n)) whole = quiet_given-unasked m k operator (fill n) (filled fill whole) (unasked n)
   quiet_right-filled m k operator (initializers n) whole = quiet_right-unasked m k operator (fill n) (filled fill whole) (unasked n)
   quiet_right-filled m k operator r whole = refl
 
   quiet_of : (m k : ℕ) (operator : String) (r whole : Code) → quiet_logical c m operator (value (ResultOf k)) r whole ≡ quiet_right m k operator r whole
   quiet_of m k operator (from_call (value v)) whole = refl
+  quiet_of m k operator (value (ResultOf j)) whole = refl
   quiet_of m k operator r whole = refl
 
   quiet_left-unasked : (m : ℕ) (operator : String) (q r whole : Code) → is_unasked c.first_new q ≡ true → quiet_logical c m operator q r whole ≡ whole

@@ -3,10 +3,10 @@ use Rattle.std.specs.Prelude.{◌≡◌, ℕ, List, [], ◌∷◌, Bool, true, f
 use Rattle.es_base.specs.Numbered.{is_new}
 use Rattle.es_base.specs.declared.kind.Kind.{Kind}
 use Rattle.es_base.specs.declared.ledger.GeneratedKind.{GeneratedKind}
-use Rattle.es_steps.specs.Code.{initializers, Code, Codes, Target, FunctionForm, CalledBodyOf, no_rule, value, spelled, binding, name, super, member, private_member, assign, construct, super_call, super_call_with_all, sequence, operation, steps, new_function, new_return, from_call, from_member, helper, helper_call, throw, private_initialize, bound, setter, private_value, call_arrow, to_name, to_private, done, and, key_of}
-use Rattle.es_steps.specs.Context.{Context, Changing, Generated, StaticMethod}
+use Rattle.es_steps.specs.Code.{initializers, Code, Codes, Target, FunctionForm, CalledBodyOf, no_rule, value, spelled, binding, name, super, member, private_member, assign, construct, super_call, super_call_with_all, sequence, operation, steps, new_function, new_return, from_call, from_member, helper, helper_call, throw, private_initialize, bound, setter, private_value, call_arrow, to_name, to_private, done, and, key_of, to_super}
+use Rattle.es_steps.specs.Context.{Context, Changing, Generated, StaticMethod, new_here}
 use Rattle.es_steps.specs.Events.{Operand, Spelled, Flag, Key, Opens, Closes, OfKind}
-use Rattle.es_steps.specs.GeneratedForms.{is_named, weak_map, static_field, private_function, loose_key, class_named, is_number, is_class_named, is_brand, known_object, is_string, home_of, is_plain_property, single_property, is_writable_form, writable_value, only_operands, array_elements, is_spread, read_private, set_private, is_method_kind, is_getter_kind, is_setter_kind, asserted, initialized_on, brand_on, define_on, super_get, super_set, is_number_literal, is_constant, is_quiet_key, helper_code, is_helper_object, helper_or_none, helper_or, helper_member, branded_field, own_field, setter_on, field_setter, setter_of_pair, setter_of, underscore_of, same_number, loose_member, is_same_key, kept_name, generated_member, with_name, parameter_names, value_or_undefined, ended, opened_body, no_spread, is_plain_arrow, arrow_call, is_pick, with_key, picked, new_function_call, getter_call, received_call, getter_or_received, is_super_itself, super_function_call, called_with, bound_to, has_field, has_brand, loose_initialized, object_call, member_call, new_member_call, initializers_behind, passes_all, super_call_in, super_method_call, helper_call_call, generated_call, is_class_test, generated_binary, is_null, is_undefined, is_new_collection, only_if, is_loose_key_call, field_object, given_function, given, is_own_class, private_assignment, generated_assignment}
+use Rattle.es_steps.specs.GeneratedForms.{is_named, weak_map, static_field, private_function, loose_key, class_named, is_number, is_class_named, is_brand, known_object, is_string, home_of, is_plain_property, single_property, is_writable_form, writable_value, only_operands, array_elements, is_spread, read_private, set_private, is_method_kind, is_getter_kind, is_setter_kind, asserted, initialized_on, brand_on, define_on, super_get, super_set, is_number_literal, is_constant, is_quiet_key, helper_code, is_helper_object, helper_or_none, helper_or, helper_member, branded_field, own_field, setter_on, field_setter, setter_of_pair, setter_of, underscore_of, same_number, loose_member, is_same_key, kept_name, generated_member, with_name, parameter_names, value_or_undefined, ended, opened_body, no_spread, is_plain_arrow, arrow_call, is_pick, with_key, picked, new_function_call, getter_call, received_call, getter_or_received, is_super_itself, super_function_call, called_with, bound_to, has_field, has_brand, loose_initialized, object_call, member_call, new_member_call, initializers_behind, passes_all, super_call_in, super_method_call, helper_call_call, generated_call, is_class_test, generated_binary, is_null, is_undefined, is_new_collection, only_if, is_loose_key_call, field_object, given_function, given, is_own_class, private_assignment, generated_assignment, assigned_value, value_of_private}
 use Rattle.es_steps.specs.Helpers.{Helper, DefineProperty, ClassPrivateFieldInitSpec, ClassPrivateMethodInitSpec, ClassPrivateFieldGet2, ClassPrivateFieldSet2, AssertClassBrand, ToSetter, CheckInRHS, ReadOnlyError, WriteOnlyError, SuperPropGet, SuperPropSet, ClassPrivateFieldLooseKey, ClassPrivateFieldLooseBase, SetFunctionName, ToPropertyKey, helper_named}
 use Rattle.es_steps.specs.PrivateNames.{PrivateMember, PrivateReference, reference_of}
 use Rattle.es_steps.specs.Values.{String, StringOf, BooleanOf, Value, ConstantOf, ClassOf, ResultOf, Free, Home}
@@ -48,9 +48,13 @@ module _ (first : ℕ) (fill : ℕ → Code) (unasked : (n : ℕ) → is_unasked
   read_private-filled m None o = refl
   read_private-filled m (Some x) o = refl
 
-  set_private-filled : (m : ℕ) (x : Option PrivateMember) (o v : Code) → set_private m x (filled fill o) (filled fill v) ≡ filled fill (set_private m x o v)
-  set_private-filled m None o v = refl
-  set_private-filled m (Some x) o v = refl
+  assigned_value-filled : (new : Bool) (m : ℕ) (v : Code) → assigned_value new m (filled fill v) ≡ filled fill (assigned_value new m v)
+  assigned_value-filled true m v = refl
+  assigned_value-filled false m v = refl
+
+  set_private-filled : (new : Bool) (m : ℕ) (x : Option PrivateMember) (o v : Code) → set_private new m x (filled fill o) (filled fill v) ≡ filled fill (set_private new m x o v)
+  set_private-filled new m None o v = refl
+  set_private-filled new m (Some x) o v = ap (assign (to_private m (reference_of x) (filled fill o))) (assigned_value-filled new m v)
 
   initialized_on-filled : (m : ℕ) (x : Option PrivateMember) (o : Option Value) (v : Code) → initialized_on m x o (filled fill v) ≡ filled fill (initialized_on m x o v)
   initialized_on-filled m (Some x) (Some o) v = refl
@@ -69,9 +73,9 @@ module _ (first : ℕ) (fill : ℕ → Code) (unasked : (n : ℕ) → is_unasked
   super_get-filled m (Some home) k (Some this) = refl
   super_get-filled m home k this = refl
 
-  super_set-filled : (m : ℕ) (home : Option Home) (k v : Code) (this : Option Value) → super_set m home (filled fill k) (filled fill v) this ≡ filled fill (super_set m home k v this)
-  super_set-filled m (Some home) k v (Some this) = refl
-  super_set-filled m home k v this = refl
+  super_set-filled : (new : Bool) (m : ℕ) (home : Option Home) (k v : Code) (this : Option Value) → super_set new m home (filled fill k) (filled fill v) this ≡ filled fill (super_set new m home k v this)
+  super_set-filled new m (Some home) k v (Some this) = ap (assign (to_super m home (filled fill k) this)) (assigned_value-filled new m v)
+  super_set-filled new m home k v this = refl
 
   is_number_literal-filled : (s : String) (q : Code) → is_number_literal s (filled fill q) ≡ is_number_literal s q
   is_number_literal-filled s (initializers n) = is_number_literal-unasked first s (fill n) (unasked n)
@@ -290,10 +294,16 @@ module _ (first : ℕ) (fill : ℕ → Code) (unasked : (n : ℕ) → is_unasked
       own-unasked q h = refl
   is_own_class-filled x o = refl
 
-  private_assignment-filled : (m : ℕ) (x : PrivateReference) (o v : Code) → private_assignment m x (filled fill o) (filled fill v) ≡ filled fill (private_assignment m x o v)
-  private_assignment-filled m x own (helper_call k AssertClassBrand (and z (and o (and v done)))) = rw (is_own_class-filled x own, is_class_named-filled x.class z) (cond-code (is_own_class x own && is_class_named x.class z) (assign (to_private m x o) v) no_rule)
-  private_assignment-filled m x o (initializers n) = private_assignment-unasked first m x (filled fill o) (fill n) (unasked n)
-  private_assignment-filled m x o v = refl
+  value_of_private-filled : (w : Option ℕ) (new : Bool) (m : ℕ) (v : Code) → value_of_private w new m (filled fill v) ≡ filled fill (value_of_private w new m v)
+  value_of_private-filled None new m v = refl
+  value_of_private-filled (Some d) new m v = assigned_value-filled new m v
+
+  private_assignment-filled : (new : Bool) (m k : ℕ) (x : PrivateReference) (o v : Code) → private_assignment new m k x (filled fill o) (filled fill v) ≡ filled fill (private_assignment new m k x o v)
+  private_assignment-filled new m k x own (helper_call j AssertClassBrand (and z (and o (and v done)))) =
+      rw (is_own_class-filled x own, is_class_named-filled x.class z, value_of_private-filled x.writes new m v) (cond-code (is_own_class x own && is_class_named x.class z) (assign (to_private k x o) (value_of_private x.writes new m v)) no_rule)
+  private_assignment-filled new m k x o (initializers n) =
+      private_assignment-unasked first new m k x (filled fill o) (fill n) (unasked n) ∙ ap (assign (to_private k x (filled fill o))) (value_of_private-filled x.writes new m (initializers n))
+  private_assignment-filled new m k x o v = ap (assign (to_private k x (filled fill o))) (value_of_private-filled x.writes new m v)
 
   is_pick-filled : (ps : Codes) (body : Code) → is_pick (filled_all fill ps) (filled fill body) ≡ is_pick ps body
   is_pick-filled (and (initializers n) cs) body = pick_first-unasked first (fill n) (filled_all fill cs) (filled fill body) (unasked n)
@@ -346,7 +356,7 @@ module _ (c : Context) (fill : ℕ → Code) (unasked : (n : ℕ) → is_unasked
 
   helper_code-filled : (m : ℕ) (h : Helper) (es : Codes) → helper_code c m h (filled_all fill es) ≡ filled fill (helper_code c m h es)
   helper_code-filled m ClassPrivateFieldGet2 (and w (and o done)) = rw (weak_map-filled w) (ap from_call (read_private-filled c.first_new fill unasked m (weak_map c w) o))
-  helper_code-filled m ClassPrivateFieldSet2 (and w (and o (and v done))) = rw (weak_map-filled w) (set_private-filled c.first_new fill unasked m (weak_map c w) o v)
+  helper_code-filled m ClassPrivateFieldSet2 (and w (and o (and v done))) = rw (weak_map-filled w) (set_private-filled c.first_new fill unasked (new_here c m) m (weak_map c w) o v)
   helper_code-filled m AssertClassBrand (and q (and o (and g done))) = rw (private_function-filled g) (asserted-filled c.first_new fill unasked m (private_function c g) q o (helper_call m AssertClassBrand (and q (and o (and g done)))))
   helper_code-filled m ReadOnlyError (and s done) = rw (is_constant-filled c.first_new fill unasked s) (cond-code c.first_new fill unasked (is_constant s) throw no_rule)
   helper_code-filled m WriteOnlyError (and s done) = rw (is_constant-filled c.first_new fill unasked s) (cond-code c.first_new fill unasked (is_constant s) throw no_rule)
@@ -354,7 +364,7 @@ module _ (c : Context) (fill : ℕ → Code) (unasked : (n : ℕ) → is_unasked
   helper_code-filled m ClassPrivateMethodInitSpec (and o (and q done)) = rw (known_object-filled c.first_new fill unasked o) (brand_on-filled c.first_new fill unasked m q (known_object o))
   helper_code-filled m DefineProperty (and o (and k (and v done))) = rw (known_object-filled c.first_new fill unasked o) (define_on-filled c.first_new fill unasked m (known_object o) k v)
   helper_code-filled m SuperPropGet (and h (and k (and x done))) = rw (home_of-filled c.first_new fill unasked h, known_object-filled c.first_new fill unasked x) (super_get-filled c.first_new fill unasked m (home_of h) k (known_object x))
-  helper_code-filled m SuperPropSet (and h (and k (and v (and x (and n done))))) = rw (is_number_literal-filled c.first_new fill unasked (codes "1") n, home_of-filled c.first_new fill unasked h, known_object-filled c.first_new fill unasked x) (code-cond c.first_new fill unasked (is_number_literal (codes "1") n) (super_set m (home_of h) k v (known_object x)) no_rule (super_set-filled c.first_new fill unasked m (home_of h) k v (known_object x)) refl)
+  helper_code-filled m SuperPropSet (and h (and k (and v (and x (and n done))))) = rw (is_number_literal-filled c.first_new fill unasked (codes "1") n, home_of-filled c.first_new fill unasked h, known_object-filled c.first_new fill unasked x) (code-cond c.first_new fill unasked (is_number_literal (codes "1") n) (super_set (new_here c m) m (home_of h) k v (known_object x)) no_rule (super_set-filled c.first_new fill unasked (new_here c m) m (home_of h) k v (known_object x)) refl)
   helper_code-filled m ToPropertyKey (and k done) = refl
   helper_code-filled m SetFunctionName (and g (and k done)) = rw (is_named-filled c.first_new fill unasked g, is_quiet_key-filled c.first_new fill unasked k, with_key-filled c.first_new fill unasked k g) (cond-code c.first_new fill unasked (is_named g && is_quiet_key k) (with_key k g) no_rule)
   helper_code-filled m h es = refl
@@ -490,5 +500,5 @@ module _ (c : Context) (fill : ℕ → Code) (unasked : (n : ℕ) → is_unasked
   pub generated_assignment-filled : (m : ℕ) (to : Target) (q : Code) → generated_assignment c m (filled_target fill to) (filled fill q) ≡ filled fill (generated_assignment c m to q)
   generated_assignment-filled m (to_name b s (Generated g)) q = given-filled m b s g q
   generated_assignment-filled m (to_name b s (StaticMethod d n)) q = given_function-filled c.first_new fill unasked m s (GeneratedKind.Method (record { 0 = d })) q
-  generated_assignment-filled m (to_private k x o) q = private_assignment-filled c.first_new fill unasked k x o q
-  generated_assignment-filled m to q = refl
+  generated_assignment-filled m (to_private k x o) q = private_assignment-filled c.first_new fill unasked (new_here c m) m k x o q
+  generated_assignment-filled m to q = ap (assign (filled_target fill to)) (assigned_value-filled c.first_new fill unasked (new_here c m) m q)

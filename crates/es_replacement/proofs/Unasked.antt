@@ -5,7 +5,7 @@ use Rattle.es_base.specs.declared.ledger.GeneratedKind.{GeneratedKind}
 use Rattle.es_steps.specs.Code.{Code, Codes, no_rule, value, spelled, binding, name, member, private_member, assign, construct, super_call, operation, steps, function, new_function, new_return, class_code, from_call, helper, helper_call, bound, setter, private_value, to_private, done, and, key_of}
 use Rattle.es_steps.specs.Context.{Context, Fixed, Changing, MeansClass, Generated, StaticMethod}
 use Rattle.es_steps.specs.Events.{Detail, Operand, Spelled, Flag, Key, Opens, Closes, OfKind}
-use Rattle.es_steps.specs.GeneratedForms.{is_named, weak_map, static_field, private_function, loose_key, class_named, known_object, is_string, home_of, single_property, writable_value, array_elements, is_spread, is_setter_kind, brand_on, is_number_literal, is_constant, is_quiet_key, is_helper_object, helper_or, setter_on, setter_of, underscore_of, loose_member, is_same_key, parameter_names, ended, opened_body, is_pick, getter_call, received_call, super_function_call, called_with, has_field, has_brand, member_call, passes_all, generated_binary, is_null, is_undefined, is_new_collection, is_loose_key_call, given_function, private_assignment}
+use Rattle.es_steps.specs.GeneratedForms.{is_named, weak_map, static_field, private_function, loose_key, class_named, known_object, is_string, home_of, single_property, writable_value, array_elements, is_spread, is_setter_kind, brand_on, is_number_literal, is_constant, is_quiet_key, is_helper_object, helper_or, setter_on, setter_of, underscore_of, loose_member, is_same_key, parameter_names, ended, opened_body, is_pick, getter_call, received_call, super_function_call, called_with, has_field, has_brand, member_call, passes_all, generated_binary, is_null, is_undefined, is_new_collection, is_loose_key_call, given_function, private_assignment, value_of_private}
 use Rattle.es_steps.specs.PrivateNames.{PrivateMember, PrivateReference, reference_of}
 use Rattle.es_steps.specs.Values.{String, StringOf, Value, Undefined, Bound, Free}
 use Rattle.es_replacement.specs.Holes.{filled}
@@ -168,9 +168,9 @@ module _ (first : ℕ) where
   super_function_call-unasked m n s (super_call k j o es) cs h = absurd (cc)
   super_function_call-unasked m n s q cs h = refl
 
-  pub private_assignment-unasked : (m : ℕ) (r : PrivateReference) (own q : Code) → is_unasked first q ≡ true → private_assignment m r own q ≡ assign (to_private m r own) q
-  private_assignment-unasked m r own (helper_call k g es) h = absurd (cc)
-  private_assignment-unasked m r own q h = refl
+  pub private_assignment-unasked : (new : Bool) (m k : ℕ) (r : PrivateReference) (own q : Code) → is_unasked first q ≡ true → private_assignment new m k r own q ≡ assign (to_private k r own) (value_of_private r.writes new m q)
+  private_assignment-unasked new m k r own (helper_call j g es) h = absurd (cc)
+  private_assignment-unasked new m k r own q h = refl
 
   pub pick_first-unasked : (q : Code) (cs : Codes) (body : Code) → is_unasked first q ≡ true → is_pick (and q cs) body ≡ false
   pick_first-unasked (binding b s kind) cs body h = absurd (cc)

@@ -52,3 +52,6 @@ number raw = ConstantOf (NumberOf raw)
 
 abbrev pub sum : Operation
 sum = OfKind Kind.BinaryExpression (Spelled (codes "+") ∷ Operand ∷ Operand ∷ [])
+
+abbrev pub gives : Operation
+gives = OfKind Kind.AssignmentExpression []

@@ -1,7 +1,7 @@
 // Meanings that are written out, so that a reader sees the lists: functions that do nothing.
 
 ghost use Rattle.std.specs.Prelude.{◌≡◌, [], ◌∷◌, Some, None, true, false, codes};
-ghost use Rattle.es_rows.specs.Lists.{script_of_class, script_with_parameter, script_of, x, y, z, number, sum};
+ghost use Rattle.es_rows.specs.Lists.{script_of_class, script_with_parameter, script_of, x, y, z, number, sum, gives};
 ghost use Rattle.es_rows.specs.rows.InstanceField.{source_instance_field, output_instance_field, options_instance_field};
 ghost use Rattle.es_rows.specs.rows.TwoFields.{source_two_fields, options_two_fields};
 ghost use Rattle.es_rows.specs.witnesses.AnotherLiteral.{source_another_literal, output_another_literal, generated_another_literal, options_another_literal};
@@ -26,9 +26,9 @@ pub fn lists_are_these()
     ensures another_literal { lowered_means options_another_literal generated_another_literal source_another_literal output_another_literal ≡ script_of_class (then (Define (ThisOf 1) x (number (codes "2"))) none) }
     ensures given_back { nothing_left options_instance_field source_instance_field ≡ false }
     ensures lowered { nothing_left options_instance_field output_instance_field ≡ true }
-    ensures free_name { source_means options_free_name source_free_name ≡ script_with_parameter (then (ReadName 6 (Free (codes "y"))) (then (Define (ThisOf 1) x (ResultOf 6)) (then (Set (ThisOf 1) z (BindingOf 10)) none))) }
+    ensures free_name { source_means options_free_name source_free_name ≡ script_with_parameter (then (ReadName 6 (Free (codes "y"))) (then (Define (ThisOf 1) x (ResultOf 6)) (then (Operate 13 gives (BindingOf 10 ∷ [])) (then (Set (ThisOf 1) z (ResultOf 13)) none)))) }
     ensures compound { source_means options_compound_assignment source_compound_assignment ≡ script_of (then (ReadName 5 (Free (codes "o"))) (then (Call 4 (ResultOf 5) None []) (then (Get 3 (ResultOf 4) x) (then (Operate 2 sum (ResultOf 3 ∷ number (codes "1") ∷ [])) (then (Set (ResultOf 4) x (ResultOf 2)) none))))) }
-    ensures arguments { source_means options_arguments_of_a_program source_arguments_of_a_program ≡ script_of (then (ReadName 4 (Free (codes "arguments"))) (then (Set (ResultOf 4) x (number (codes "1"))) none)) }
+    ensures arguments { source_means options_arguments_of_a_program source_arguments_of_a_program ≡ script_of (then (ReadName 4 (Free (codes "arguments"))) (then (Operate 2 gives (number (codes "1") ∷ [])) (then (Set (ResultOf 4) x (ResultOf 2)) none))) }
 {}
 
 /// The private members of

@@ -30,13 +30,9 @@ module _ (f : ℕ → ℕ) where
   throws-mapped none = refl
   throws-mapped (then e es) = rw (is_throw-mapped e, throws-mapped es) refl
 
-  none_or-mapped : (b : Bool) (l : Events) → cond b none (mapped_events f l) ≡ mapped_events f (cond b none l)
-  none_or-mapped true l = refl
-  none_or-mapped false l = refl
-
   pub behind-mapped : (l k : Events) → behind (mapped_events f l) (mapped_events f k) ≡ mapped_events f (behind l k)
   behind-mapped none k = refl
-  behind-mapped (then e es) k = rw (is_throw-mapped e, behind-mapped es k) (ap (then (mapped_event f e)) (none_or-mapped (is_throw e) (behind es k)))
+  behind-mapped (then e es) k = ap (then (mapped_event f e)) (behind-mapped es k)
 
   undefined_or-mapped : (b : Bool) (v : Value) → cond b Undefined (mapped_value f v) ≡ mapped_value f (cond b Undefined v)
   undefined_or-mapped true v = refl
@@ -390,10 +386,10 @@ module _ {first : ℕ} {f : ℕ → ℕ} (r : Renames first f) where
       ev-follows (super_member m home k this) = settle-follows f (bind-follows f _ _ (ev-follows k) (λ b. event-follows f _ _))
       ev-follows (private_in m test o) = settle-follows f (bind-follows f _ _ (ev-follows o) (λ a. event-follows f _ _))
       ev-follows (assign to e) = settle-follows f (ev_target-follows to _ _ (λ t u x. bind-follows f _ _ (ev-follows e) (write_and_give-follows t u x)))
-      ev-follows (compound m op to e) = settle-follows f (ev_target-follows to _ _ (λ t u x. bind-follows f _ _ x.reads (λ a. bind-follows f _ _ (ev-follows e) (λ b. bind-follows f (write_and_give t) (write_and_give u) (event-follows f _ _) (write_and_give-follows t u x)))))
+      ev-follows (compound m op to e) = settle-follows f (ev_target-follows to _ _ (λ t u x. bind-follows f (write_and_give t) (write_and_give u) (settle-follows f (bind-follows f _ _ x.reads (λ a. bind-follows f _ _ (ev-follows e) (λ b. event-follows f _ _)))) (write_and_give-follows t u x)))
       ev-follows (logical m op l q) = settle-follows f (bind-follows f _ _ (ev-follows l) (λ a. held-follows f m (RightOf op) (Some a) (ev-follows q)))
       ev-follows (logical_assign m op to e) = settle-follows f (ev_target-follows to _ _ (λ t u x. bind-follows f _ _ x.reads (λ a. held-follows f m (RightOf op) (Some a) (bind-follows f _ _ (ev-follows e) (λ v. x.writes v)))))
-      ev-follows (update m op prefix to) = settle-follows f (ev_target-follows to _ _ (λ t u x. bind-follows f _ _ x.reads (λ a. bind-follows f (λ v. bind (write_ready t v) (λ w. gives (new_or_former prefix m))) (λ v. bind (write_ready u v) (λ w. gives (new_or_former prefix (f m)))) (event-follows f _ _) (λ v. bind-follows f _ _ (x.writes v) (λ w. new_or_former-follows f prefix m)))))
+      ev-follows (update m op prefix to) = settle-follows f (ev_target-follows to _ _ (λ t u x. bind-follows f (λ v. bind (write_ready t v) (λ w. gives (new_or_former prefix m))) (λ v. bind (write_ready u v) (λ w. gives (new_or_former prefix (f m)))) (settle-follows f (bind-follows f _ _ x.reads (λ a. event-follows f _ _))) (λ v. bind-follows f _ _ (x.writes v) (λ w. new_or_former-follows f prefix m))))
       ev-follows (call m g es) = settle-follows f (ev_callee-follows g _ _ (λ callee receiver. ev_all-follows es _ _ (λ vs. event-follows f _ _)))
       ev-follows (tag m g ts es) = settle-follows f (ev_callee-follows g _ _ (λ callee receiver. ev_all-follows es _ _ (λ vs. tag-follows f m callee receiver ts vs)))
       ev-follows (construct m g es) = settle-follows f (bind-follows f _ _ (ev-follows g) (λ callee. ev_all-follows es _ _ (λ vs. event-follows f _ _)))

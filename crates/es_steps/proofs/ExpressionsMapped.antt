@@ -300,6 +300,7 @@ module _ {first : ℕ} {f : ℕ → ℕ} (r : Renames first f) (c : Context) (e 
 
   quiet_logical-mapped : (m : ℕ) (operator : String) (l x whole : Code) → quiet_logical there (f m) operator (mapped_code f l) (mapped_code f x) (mapped_code f whole) ≡ mapped_code f (quiet_logical c m operator l x whole)
   quiet_logical-mapped m operator (value (ResultOf k)) (from_call (value v)) whole = rw (here r c e m, here r c e k) (cond-code f (is_new c.first_new m && (is_new c.first_new k && bytes_eq operator (codes "&&"))) (value (ResultOf m)) whole)
+  quiet_logical-mapped m operator (value (ResultOf k)) (value (ResultOf j)) whole = rw (here r c e m, here r c e k, here r c e j) (cond-code f (is_new c.first_new j && (is_new c.first_new m && (is_new c.first_new k && bytes_eq operator (codes "&&")))) (value (ResultOf m)) whole)
   quiet_logical-mapped m operator l x whole = refl
 
   pub logical_code-mapped : (m : ℕ) (ps : Members) → logical_code there (f m) (mapped_members f ps) ≡ mapped_code f (logical_code c m ps)

@@ -1,20 +1,20 @@
 -- Generated forms follow a change of numbers.
 use Rattle.std.specs.Prelude.{◌≡◌, ℕ, List, [], ◌∷◌, Bool, true, false, cond, not, ◌&&◌, nat_eq, codes, bytes_eq, Option, Some, None}
-use Rattle.std.proofs.Common.{refl, ap, ◌∙◌}
+use Rattle.std.proofs.Common.{refl, ap, ◌∙◌, ap₂}
 use Rattle.es_base.specs.Numbered.{is_new}
 use Rattle.es_base.specs.declared.kind.Kind.{Kind}
 use Rattle.es_base.specs.declared.ledger.GeneratedKind.{GeneratedKind}
-use Rattle.es_steps.specs.Code.{Code, Opened, Codes, Target, FunctionForm, InitializersOf, CalledBodyOf, no_rule, value, spelled, binding, name, super, member, private_member, assign, construct, super_call, super_call_with_all, sequence, logical, operation, steps, function, new_function, new_return, class_code, from_call, from_member, helper, helper_call, throw, private_initialize, bound, setter, private_value, call_arrow, to_name, to_private, done, and, key_of}
-use Rattle.es_steps.specs.Context.{Context, Changing, MeansClass, Generated, StaticMethod}
+use Rattle.es_steps.specs.Code.{Code, Opened, Codes, Target, FunctionForm, InitializersOf, CalledBodyOf, no_rule, value, spelled, binding, name, super, member, private_member, assign, construct, super_call, super_call_with_all, sequence, logical, operation, steps, function, new_function, new_return, class_code, from_call, from_member, helper, helper_call, throw, private_initialize, bound, setter, private_value, call_arrow, to_name, to_private, done, and, key_of, to_super}
+use Rattle.es_steps.specs.Context.{Context, Changing, MeansClass, Generated, StaticMethod, new_here}
 use Rattle.es_steps.specs.Events.{Operand, Spelled, Flag, Key, Opens, Closes, OfKind}
-use Rattle.es_steps.specs.GeneratedForms.{if_kept, is_named, if_member, is_instance_field, is_static_field, is_function_member, weak_map, static_field, private_function, loose_key, class_named, is_number, is_class_named, is_brand, class_value, known_object, class_home, prototype_home, is_string, home_of, is_plain_property, single_property, is_writable_form, writable_value, only_operands, array_elements, is_spread, read_private, set_private, is_method_kind, is_getter_kind, is_setter_kind, asserted, initialized_on, brand_on, define_on, super_get, super_set, is_number_literal, is_constant, is_quiet_key, with_key, helper_code, is_helper_object, helper_or_none, helper_or, helper_member, branded_field, own_field, setter_on, field_setter, setter_of_pair, setter_of, underscore_of, same_number, loose_member, is_same_key, kept_name, generated_member, with_name, parameter_names, value_or_undefined, ended, opened_body, no_spread, is_plain_arrow, arrow_call, is_pick, picked, new_function_call, getter_call, received_call, getter_or_received, is_super_itself, super_function_call, called_with, bound_to, has_field, has_brand, loose_initialized, object_call, member_call, new_member_call, runs_initializers, initializers_behind, passes_all, super_call_in, super_method_call, helper_call_call, generated_call, is_class_test, generated_binary, is_null, is_undefined, is_comparison, is_null_test, is_void_test, is_undefined_test, left_of, tested_object, again_of, is_new_collection, only_if, is_loose_key_call, field_object, given_function, given, is_own_class, private_assignment, generated_assignment}
+use Rattle.es_steps.specs.GeneratedForms.{if_kept, is_named, if_member, is_instance_field, is_static_field, is_function_member, weak_map, static_field, private_function, loose_key, class_named, is_number, is_class_named, is_brand, class_value, known_object, class_home, prototype_home, is_string, home_of, is_plain_property, single_property, is_writable_form, writable_value, only_operands, array_elements, is_spread, read_private, assigned_value, set_private, is_method_kind, is_getter_kind, is_setter_kind, asserted, initialized_on, brand_on, define_on, super_get, super_set, is_number_literal, is_constant, is_quiet_key, with_key, helper_code, is_helper_object, helper_or_none, helper_or, helper_member, branded_field, own_field, setter_on, field_setter, setter_of_pair, setter_of, underscore_of, same_number, loose_member, is_same_key, kept_name, generated_member, with_name, parameter_names, value_or_undefined, ended, opened_body, no_spread, is_plain_arrow, arrow_call, is_pick, picked, new_function_call, getter_call, received_call, getter_or_received, is_super_itself, super_function_call, called_with, bound_to, has_field, has_brand, loose_initialized, object_call, member_call, new_member_call, runs_initializers, initializers_behind, passes_all, super_call_in, super_method_call, helper_call_call, generated_call, is_class_test, generated_binary, is_null, is_undefined, is_comparison, is_null_test, is_void_test, is_undefined_test, left_of, tested_object, again_of, is_new_collection, only_if, is_loose_key_call, field_object, given_function, given, is_own_class, value_of_private, private_assignment, generated_assignment}
 use Rattle.es_steps.specs.Helpers.{Helper, DefineProperty, ClassPrivateFieldInitSpec, ClassPrivateMethodInitSpec, ClassPrivateFieldGet2, ClassPrivateFieldSet2, AssertClassBrand, ToSetter, CheckInRHS, ReadOnlyError, WriteOnlyError, SuperPropGet, SuperPropSet, ClassPrivateFieldLooseKey, ClassPrivateFieldLooseBase, SetFunctionName, ToPropertyKey, helper_named}
 use Rattle.es_steps.specs.Options.{keeps_privates_as_properties}
 use Rattle.es_steps.specs.SameValues.{same_boolean}
 use Rattle.es_steps.specs.PrivateNames.{PrivateMember, PrivateReference, member_at, reference_of, is_a_field}
 use Rattle.es_steps.specs.Values.{String, StringOf, NumberOf, BooleanOf, Null, Value, ConstantOf, Undefined, ClassOf, ThisOf, ResultOf, Free, Home}
 use Rattle.es_steps.proofs.ContextMapped.{new_here-mapped}
-use Rattle.es_steps.proofs.Mapped.{Renames, mapped_option, mapped_generated, mapped_private, mapped_private_reference, mapped_nullable, mapped_home, mapped_context, mapped_opened, mapped_code, mapped_codes, mapped_target}
+use Rattle.es_steps.proofs.Mapped.{Renames, mapped_option, mapped_generated, mapped_private, mapped_private_reference, mapped_nullable, mapped_home, mapped_context, mapped_opened, mapped_code, mapped_codes, mapped_target, mapped_value}
 use Rattle.es_steps.proofs.PartsMapped.{cond-mapped}
 use Rattle.es_steps.proofs.PrivatesMapped.{member_at-mapped, reference_of-mapped}
 
@@ -75,9 +75,13 @@ module _ (f : ℕ → ℕ) where
   read_private-mapped m None o = refl
   read_private-mapped m (Some x) o = ap (λ k. private_member (f m) k (mapped_code f o)) (reference_of-mapped f x)
 
-  set_private-mapped : (m : ℕ) (x : Option PrivateMember) (o v : Code) → set_private (f m) (mapped_option (mapped_private f) x) (mapped_code f o) (mapped_code f v) ≡ mapped_code f (set_private m x o v)
-  set_private-mapped m None o v = refl
-  set_private-mapped m (Some x) o v = ap (λ k. assign (to_private (f m) k (mapped_code f o)) (mapped_code f v)) (reference_of-mapped f x)
+  assigned_value-mapped : (new : Bool) (m : ℕ) (v : Code) → assigned_value new (f m) (mapped_code f v) ≡ mapped_code f (assigned_value new m v)
+  assigned_value-mapped true m v = refl
+  assigned_value-mapped false m v = refl
+
+  set_private-mapped : (new : Bool) (m : ℕ) (x : Option PrivateMember) (o v : Code) → set_private new (f m) (mapped_option (mapped_private f) x) (mapped_code f o) (mapped_code f v) ≡ mapped_code f (set_private new m x o v)
+  set_private-mapped new m None o v = refl
+  set_private-mapped new m (Some x) o v = ap₂ (λ k w. assign (to_private (f m) k (mapped_code f o)) w) (reference_of-mapped f x) (assigned_value-mapped new m v)
 
   private_member-mapped : (m : ℕ) (x : PrivateMember) (o : Code) → private_member (f m) (reference_of (mapped_private f x)) (mapped_code f o) ≡ mapped_code f (private_member m (reference_of x) o)
   private_member-mapped m x o = ap (λ k. private_member (f m) k (mapped_code f o)) (reference_of-mapped f x)
@@ -98,9 +102,9 @@ module _ (f : ℕ → ℕ) where
   super_get-mapped m (Some home) k (Some this) = refl
   super_get-mapped m home k this = refl
 
-  super_set-mapped : (m : ℕ) (home : Option Home) (k v : Code) (this : Option Value) → super_set (f m) (mapped_option (mapped_home f) home) (mapped_code f k) (mapped_code f v) (mapped_nullable f this) ≡ mapped_code f (super_set m home k v this)
-  super_set-mapped m (Some home) k v (Some this) = refl
-  super_set-mapped m home k v this = refl
+  super_set-mapped : (new : Bool) (m : ℕ) (home : Option Home) (k v : Code) (this : Option Value) → super_set new (f m) (mapped_option (mapped_home f) home) (mapped_code f k) (mapped_code f v) (mapped_nullable f this) ≡ mapped_code f (super_set new m home k v this)
+  super_set-mapped new m (Some home) k v (Some this) = ap (assign (to_super (f m) (mapped_home f home) (mapped_code f k) (mapped_value f this))) (assigned_value-mapped new m v)
+  super_set-mapped new m home k v this = refl
 
   is_number_literal-mapped : (s : String) (c : Code) → is_number_literal s (mapped_code f c) ≡ is_number_literal s c
   is_number_literal-mapped s (value (ConstantOf (NumberOf t))) = refl
@@ -327,9 +331,14 @@ module _ {first : ℕ} {f : ℕ → ℕ} (r : Renames first f) where
   is_own_class-mapped x (value (ClassOf n)) = ap (λ b. x.is_static && b) (r.apart n x.class)
   is_own_class-mapped x o = refl
 
-  private_assignment-mapped : (m : ℕ) (x : PrivateReference) (o v : Code) → private_assignment (f m) (mapped_private_reference f x) (mapped_code f o) (mapped_code f v) ≡ mapped_code f (private_assignment m x o v)
-  private_assignment-mapped m x own (helper_call k AssertClassBrand (and z (and o (and v done)))) = rw (is_own_class-mapped x own, is_class_named-mapped x.class z) (cond-code f (is_own_class x own && is_class_named x.class z) (assign (to_private m x o) v) no_rule)
-  private_assignment-mapped m x o v = refl
+  value_of_private-mapped : (w : Option ℕ) (new : Bool) (m : ℕ) (v : Code) → value_of_private (mapped_option f w) new (f m) (mapped_code f v) ≡ mapped_code f (value_of_private w new m v)
+  value_of_private-mapped None new m v = refl
+  value_of_private-mapped (Some d) new m v = assigned_value-mapped f new m v
+
+  private_assignment-mapped : (new : Bool) (m k : ℕ) (x : PrivateReference) (o v : Code) → private_assignment new (f m) (f k) (mapped_private_reference f x) (mapped_code f o) (mapped_code f v) ≡ mapped_code f (private_assignment new m k x o v)
+  private_assignment-mapped new m k x own (helper_call j AssertClassBrand (and z (and o (and v done)))) =
+      rw (is_own_class-mapped x own, is_class_named-mapped x.class z, value_of_private-mapped x.writes new m v) (cond-code f (is_own_class x own && is_class_named x.class z) (assign (to_private k x o) (value_of_private x.writes new m v)) no_rule)
+  private_assignment-mapped new m k x o v = ap (assign (to_private (f k) (mapped_private_reference f x) (mapped_code f o))) (value_of_private-mapped x.writes new m v)
 
 module _ {first : ℕ} {f : ℕ → ℕ} (r : Renames first f) (c : Context) (e : c.first_new ≡ first) where
   abbrev there : Context
@@ -381,7 +390,7 @@ module _ {first : ℕ} {f : ℕ → ℕ} (r : Renames first f) (c : Context) (e 
 
   helper_code-mapped : (m : ℕ) (h : Helper) (es : Codes) → helper_code there (f m) h (mapped_codes f es) ≡ mapped_code f (helper_code c m h es)
   helper_code-mapped m ClassPrivateFieldGet2 (and w (and o done)) = rw (weak_map-mapped w) (ap from_call (read_private-mapped f m (weak_map c w) o))
-  helper_code-mapped m ClassPrivateFieldSet2 (and w (and o (and v done))) = rw (weak_map-mapped w) (set_private-mapped f m (weak_map c w) o v)
+  helper_code-mapped m ClassPrivateFieldSet2 (and w (and o (and v done))) = rw (here m, weak_map-mapped w) (set_private-mapped f (new_here c m) m (weak_map c w) o v)
   helper_code-mapped m AssertClassBrand (and q (and o (and g done))) = rw (private_function-mapped g) (asserted-mapped r m (private_function c g) q o (helper_call m AssertClassBrand (and q (and o (and g done)))))
   helper_code-mapped m ReadOnlyError (and s done) = rw (is_constant-mapped f s) (cond-code f (is_constant s) throw no_rule)
   helper_code-mapped m WriteOnlyError (and s done) = rw (is_constant-mapped f s) (cond-code f (is_constant s) throw no_rule)
@@ -389,7 +398,7 @@ module _ {first : ℕ} {f : ℕ → ℕ} (r : Renames first f) (c : Context) (e 
   helper_code-mapped m ClassPrivateMethodInitSpec (and o (and q done)) = rw (known_object-mapped f o) (brand_on-mapped f m q (known_object o))
   helper_code-mapped m DefineProperty (and o (and k (and v done))) = rw (known_object-mapped f o) (define_on-mapped f m (known_object o) k v)
   helper_code-mapped m SuperPropGet (and h (and k (and x done))) = rw (home_of-mapped f h, known_object-mapped f x) (super_get-mapped f m (home_of h) k (known_object x))
-  helper_code-mapped m SuperPropSet (and h (and k (and v (and x (and n done))))) = rw (is_number_literal-mapped f (codes "1") n, home_of-mapped f h, known_object-mapped f x) (code-cond f (is_number_literal (codes "1") n) (super_set m (home_of h) k v (known_object x)) no_rule (super_set-mapped f m (home_of h) k v (known_object x)) refl)
+  helper_code-mapped m SuperPropSet (and h (and k (and v (and x (and n done))))) = rw (here m, is_number_literal-mapped f (codes "1") n, home_of-mapped f h, known_object-mapped f x) (code-cond f (is_number_literal (codes "1") n) (super_set (new_here c m) m (home_of h) k v (known_object x)) no_rule (super_set-mapped f (new_here c m) m (home_of h) k v (known_object x)) refl)
   helper_code-mapped m ToPropertyKey (and k done) = refl
   helper_code-mapped m SetFunctionName (and g (and k done)) = rw (is_named-mapped f g, is_quiet_key-mapped f k, with_key-mapped f k g) (cond-code f (is_named g && is_quiet_key k) (with_key k g) no_rule)
   helper_code-mapped m h es = refl
@@ -524,5 +533,5 @@ module _ {first : ℕ} {f : ℕ → ℕ} (r : Renames first f) (c : Context) (e 
   pub generated_assignment-mapped : (m : ℕ) (to : Target) (q : Code) → generated_assignment there (f m) (mapped_target f to) (mapped_code f q) ≡ mapped_code f (generated_assignment c m to q)
   generated_assignment-mapped m (to_name b s (Generated g)) q = given-mapped m b s g q
   generated_assignment-mapped m (to_name b s (StaticMethod d n)) q = given_function-mapped f m s (GeneratedKind.Method (record { 0 = d })) q
-  generated_assignment-mapped m (to_private k x o) q = private_assignment-mapped r k x o q
-  generated_assignment-mapped m to q = refl
+  generated_assignment-mapped m (to_private k x o) q = rw (here m) (private_assignment-mapped r (new_here c m) m k x o q)
+  generated_assignment-mapped m to q = rw (here m) (ap (assign (mapped_target f to)) (assigned_value-mapped f (new_here c m) m q))

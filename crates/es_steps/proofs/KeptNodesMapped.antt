@@ -28,7 +28,7 @@ module _ (f : ℕ → ℕ) where
   abbrev pub mapped_element : Element → Element
   mapped_element e = record { number = f e.number; is_static = e.is_static; is_field = e.is_field; is_block = e.is_block; is_private = e.is_private; computed = e.computed; key = mapped_part f e.key; value = mapped_part f e.value }
 
-  is_private_key-mapped : (p : Part) → is_private_key (mapped_part f p) ≡ is_private_key p
+  pub is_private_key-mapped : (p : Part) → is_private_key (mapped_part f p) ≡ is_private_key p
   is_private_key-mapped (child (Node Kind.PrivateIdentifier m span semantic_id ps)) = refl
   is_private_key-mapped p = refl
 

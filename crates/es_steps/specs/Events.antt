@@ -60,7 +60,7 @@ mutual
     EnterBody : Event
     -- the class n, which a declaration declares, gets its name (ECMA-262, 15.7.14)
     InitializeClass : (n : ℕ) → Event
-    -- an access that always throws
+    -- an access that always throws; what stands behind it is listed as if it ran
     Throw : Event
     -- the chain ends here with undefined if v is null or undefined
     Short : (v : Value) → Event
@@ -79,10 +79,10 @@ abbrev pub throws : Events → Bool
 throws none = false
 throws (then e es) = is_throw e || throws es
 
--- one list behind another; what stands behind a throw is left out
+-- one list behind another
 abbrev pub behind : Events → Events → Events
 behind none l = l
-behind (then e es) l = then e (cond (is_throw e) none (behind es l))
+behind (then e es) l = then e (behind es l)
 
 -- the value of a list: a list that throws has none
 abbrev pub value_behind : Events → Value → Value

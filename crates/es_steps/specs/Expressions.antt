@@ -236,9 +236,10 @@ unary_code m ps =
 abbrev pub binary_code : Context → ℕ → Members → Code
 binary_code c m ps = generated_binary c m (word_of (at 0 ps)) (the_code (at 1 ps)) (the_code (at 2 ps)) (operation_of Kind.BinaryExpression m ps)
 
--- a test that a generated key is not `"name"`, and what is done then, have no event
+-- a test that a generated key is not `"name"`, one behind another, and what is done then, have no event
 abbrev pub quiet_logical : Context → ℕ → String → Code → Code → Code → Code
 quiet_logical c m operator (value (ResultOf k)) (from_call (value v)) whole = cond (new_here c m && (new_here c k && bytes_eq operator (codes "&&"))) (value (ResultOf m)) whole
+quiet_logical c m operator (value (ResultOf k)) (value (ResultOf j)) whole = cond (new_here c j && (new_here c m && (new_here c k && bytes_eq operator (codes "&&")))) (value (ResultOf m)) whole
 quiet_logical c m operator l r whole = whole
 
 abbrev pub logical_code : Context → ℕ → Members → Code

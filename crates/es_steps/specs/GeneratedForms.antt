@@ -135,9 +135,14 @@ abbrev pub read_private : ℕ → Option PrivateMember → Code → Code
 read_private m None o = no_rule
 read_private m (Some x) o = private_member m (reference_of x) o
 
-abbrev pub set_private : ℕ → Option PrivateMember → Code → Code → Code
-set_private m None o v = no_rule
-set_private m (Some x) o v = assign (to_private m (reference_of x) o) v
+-- what an assignment by `=` of the source gives is told by its number
+abbrev pub assigned_value : Bool → ℕ → Code → Code
+assigned_value true m v = v
+assigned_value false m v = operation m (OfKind Kind.AssignmentExpression []) (and v done) done
+
+abbrev pub set_private : Bool → ℕ → Option PrivateMember → Code → Code → Code
+set_private new m None o v = no_rule
+set_private new m (Some x) o v = assign (to_private m (reference_of x) o) (assigned_value new m v)
 
 abbrev pub is_method_kind : PrivateKind → Bool
 is_method_kind a_method = true
@@ -172,9 +177,9 @@ abbrev pub super_get : ℕ → Option Home → Code → Option Value → Code
 super_get m (Some home) k (Some this) = from_call (super_member m home k this)
 super_get m home k this = no_rule
 
-abbrev pub super_set : ℕ → Option Home → Code → Code → Option Value → Code
-super_set m (Some home) k v (Some this) = assign (to_super m home k this) v
-super_set m home k v this = no_rule
+abbrev pub super_set : Bool → ℕ → Option Home → Code → Code → Option Value → Code
+super_set new m (Some home) k v (Some this) = assign (to_super m home k this) (assigned_value new m v)
+super_set new m home k v this = no_rule
 
 abbrev pub is_number_literal : String → Code → Bool
 is_number_literal s (value (ConstantOf (NumberOf t))) = bytes_eq s t
@@ -207,7 +212,7 @@ with_key k e = from_call e
 
 abbrev pub helper_code : Context → ℕ → Helper → Codes → Code
 helper_code c m ClassPrivateFieldGet2 (and w (and o done)) = from_call (read_private m (weak_map c w) o)
-helper_code c m ClassPrivateFieldSet2 (and w (and o (and v done))) = set_private m (weak_map c w) o v
+helper_code c m ClassPrivateFieldSet2 (and w (and o (and v done))) = set_private (new_here c m) m (weak_map c w) o v
 helper_code c m AssertClassBrand (and q (and o (and f done))) = asserted m (private_function c f) q o (helper_call m AssertClassBrand (and q (and o (and f done))))
 helper_code c m ReadOnlyError (and s done) = cond (is_constant s) throw no_rule
 helper_code c m WriteOnlyError (and s done) = cond (is_constant s) throw no_rule
@@ -215,7 +220,7 @@ helper_code c m ClassPrivateFieldInitSpec (and o (and w (and v done))) = initial
 helper_code c m ClassPrivateMethodInitSpec (and o (and q done)) = brand_on m q (known_object o)
 helper_code c m DefineProperty (and o (and k (and v done))) = define_on m (known_object o) k v
 helper_code c m SuperPropGet (and h (and k (and r done))) = super_get m (home_of h) k (known_object r)
-helper_code c m SuperPropSet (and h (and k (and v (and r (and one done))))) = cond (is_number_literal (codes "1") one) (super_set m (home_of h) k v (known_object r)) no_rule
+helper_code c m SuperPropSet (and h (and k (and v (and r (and one done))))) = cond (is_number_literal (codes "1") one) (super_set (new_here c m) m (home_of h) k v (known_object r)) no_rule
 helper_code c m ToPropertyKey (and e done) = key_of e
 helper_code c m SetFunctionName (and e (and k done)) = cond (is_named e && is_quiet_key k) (with_key k e) no_rule
 helper_code c m h es = helper_call m h es
@@ -551,13 +556,18 @@ abbrev pub is_own_class : PrivateReference → Code → Bool
 is_own_class r (value (ClassOf n)) = r.is_static && nat_eq n r.class
 is_own_class r o = false
 
-abbrev pub private_assignment : ℕ → PrivateReference → Code → Code → Code
-private_assignment m r own (helper_call k AssertClassBrand (and z (and o (and v done)))) = cond (is_own_class r own && is_class_named r.class z) (assign (to_private m r o) v) no_rule
-private_assignment m r o v = assign (to_private m r o) v
+-- a write that always throws gives nothing
+abbrev pub value_of_private : Option ℕ → Bool → ℕ → Code → Code
+value_of_private None new m v = v
+value_of_private (Some d) new m v = assigned_value new m v
+
+abbrev pub private_assignment : Bool → ℕ → ℕ → PrivateReference → Code → Code → Code
+private_assignment new m k r own (helper_call j AssertClassBrand (and z (and o (and v done)))) = cond (is_own_class r own && is_class_named r.class z) (assign (to_private k r o) (value_of_private r.writes new m v)) no_rule
+private_assignment new m k r o v = assign (to_private k r o) (value_of_private r.writes new m v)
 
 -- an assignment by `=`, number m
 abbrev pub generated_assignment : Context → ℕ → Target → Code → Code
 generated_assignment c m (to_name b s (Generated g)) e = given c m b s g e
 generated_assignment c m (to_name b s (StaticMethod d n)) e = given_function m s (GeneratedKind.Method (record { 0 = d })) e
-generated_assignment c m (to_private k r o) e = private_assignment k r o e
-generated_assignment c m to e = assign to e
+generated_assignment c m (to_private k r o) e = private_assignment (new_here c m) m k r o e
+generated_assignment c m to e = assign to (assigned_value (new_here c m) m e)

@@ -5,7 +5,7 @@ use Rattle.es_steps.specs.Code.{Code, Target}
 use Rattle.es_steps.specs.Evaluation.{binary, new_or_former}
 use Rattle.es_steps.specs.Events.{RightOf, Operate, Update}
 use Rattle.es_steps.specs.Values.{String, Undefined, ResultOf}
-use Rattle.es_evaluation.specs.Direct.{State, Operands, no_operand, one_operand, two_operands, and_then, gives, emit, held}
+use Rattle.es_evaluation.specs.Direct.{State, Operands, no_operand, one_operand, two_operands, and_then, gives, emit, held, settled}
 use Rattle.es_evaluation.specs.Flat.{single}
 use Rattle.es_evaluator.specs.Steps.{Opens, nowhere, read_at}
 use Rattle.es_code_rules.specs.Steps.{form_at, value_at}
@@ -15,7 +15,7 @@ pub assign_form : (opens : Opens) (to : Target) (e : Code) (s : State) → form_
 unfolding form_at value_at operands_at write_at
 assign_form opens to e s = refl
 
-pub compound_form : (opens : Opens) (m : ℕ) (op : String) (to : Target) (e : Code) (s : State) → form_at opens (of.compound m op to e) s ≡ (and_then (operands_at opens to) (λ t. and_then (read_at opens to t) (λ a. and_then (value_at opens e) (λ b. and_then (emit (single (Operate m (binary op) (a ∷ b ∷ []))) (ResultOf m)) (λ v. and_then (write_at opens to t v) (λ w. gives v)))))) s
+pub compound_form : (opens : Opens) (m : ℕ) (op : String) (to : Target) (e : Code) (s : State) → form_at opens (of.compound m op to e) s ≡ (and_then (operands_at opens to) (λ t. and_then (settled (and_then (read_at opens to t) (λ a. and_then (value_at opens e) (λ b. emit (single (Operate m (binary op) (a ∷ b ∷ []))) (ResultOf m))))) (λ v. and_then (write_at opens to t v) (λ w. gives v)))) s
 unfolding form_at value_at operands_at write_at read_at
 compound_form opens m op to e s = refl
 
@@ -23,7 +23,7 @@ pub logical_assign_form : (opens : Opens) (m : ℕ) (op : String) (to : Target) 
 unfolding form_at value_at operands_at write_at read_at
 logical_assign_form opens m op to e s = refl
 
-pub update_form : (opens : Opens) (m : ℕ) (op : String) (prefix : Bool) (to : Target) (s : State) → form_at opens (of.update m op prefix to) s ≡ (and_then (operands_at opens to) (λ t. and_then (read_at opens to t) (λ a. and_then (emit (single (Update m op a)) (ResultOf m)) (λ v. and_then (write_at opens to t v) (λ w. gives (new_or_former prefix m)))))) s
+pub update_form : (opens : Opens) (m : ℕ) (op : String) (prefix : Bool) (to : Target) (s : State) → form_at opens (of.update m op prefix to) s ≡ (and_then (operands_at opens to) (λ t. and_then (settled (and_then (read_at opens to t) (λ a. emit (single (Update m op a)) (ResultOf m)))) (λ v. and_then (write_at opens to t v) (λ w. gives (new_or_former prefix m))))) s
 unfolding form_at operands_at write_at read_at
 update_form opens m op prefix to s = refl
 

@@ -11,7 +11,7 @@ ghost use Rattle.es_code_rules.specs.Elsewhere.{opens_of};
 ghost use Rattle.es_code_rules.specs.Steps.{form_at};
 ghost use Rattle.es_code_rules.specs.Within.{MayEvaluate, Evaluates};
 ghost use Rattle.es_target_rules.specs.Steps.{write_at};
-ghost use Rattle.es_target_rules.specs.Assigned.{kept_step, assign_step, compound_step, logical_step, given_step, update_step};
+ghost use Rattle.es_target_rules.specs.Assigned.{kept_step, assign_step, operated_step, compound_step, logical_step, given_step, updated_step, update_step};
 
 use crate::targets::{evaluate_operands, write_target};
 use es_base::name::Name;
@@ -92,10 +92,29 @@ fn compound_to<'a, F: Fn(Global, &Opening, &mut State, &Code) -> Result<Value, F
     requires does { Evaluates (F.post within.now.evaluate.now) within.now.definitions.now }
     ensures { Returns (λ v. v) result state.new (compound_step (opens_of within.now.definitions.now within.now.opening.now) node operator.now (target_of to.now) (operands_of operands.now) (code_of right.now) (state_of state.old)) }
 {
+    let outer = state.enter();
+    let value = operated(within, state, node, operator, to, operands, right)?;
+    let value = state.leave(outer, value);
+    write_kept(within, state, to, operands, value)
+}
+
+/// What is read for `t += e`, and its operation: all in front of the write.
+fn operated<'a, F: Fn(Global, &Opening, &mut State, &Code) -> Result<Value, Fault>>(
+    within: &Within<'a, F>,
+    state: &mut State,
+    node: u32,
+    operator: &Name,
+    to: &Target,
+    operands: &Operands,
+    right: &Boxed<Code>,
+) -> Result<Value, Fault>
+    requires may { MayEvaluate (F.pre within.now.evaluate.now) }
+    requires does { Evaluates (F.post within.now.evaluate.now) within.now.definitions.now }
+    ensures { Returns (λ v. v) result state.new (operated_step (opens_of within.now.definitions.now within.now.opening.now) node operator.now (target_of to.now) (operands_of operands.now) (code_of right.now) (state_of state.old)) }
+{
     let former = read(within, state, to, operands)?;
     let right = within.evaluate(state, right.get())?;
-    let value = operate(within.alloc, state, node, operator, former, right)?;
-    write_kept(within, state, to, operands, value)
+    operate(within.alloc, state, node, operator, former, right)
 }
 
 /// `t ||= e`
@@ -223,6 +242,24 @@ fn update<'a, F: Fn(Global, &Opening, &mut State, &Code) -> Result<Value, Fault>
     requires does { Evaluates (F.post within.now.evaluate.now) within.now.definitions.now }
     ensures { Returns (λ v. v) result state.new (update_step (opens_of within.now.definitions.now within.now.opening.now) node operator.now is_prefix (target_of to.now) (operands_of operands.now) (state_of state.old)) }
 {
+    let outer = state.enter();
+    let value = updated(within, state, node, operator, to, operands)?;
+    let value = state.leave(outer, value);
+    let _written = write(within, state, to, operands, value)?;
+    Ok(new_or_former(is_prefix, node))
+}
+
+/// What is read for `t++`, and its operation: all in front of the write.
+fn updated<'a, F>(
+    within: &Within<'a, F>,
+    state: &mut State,
+    node: u32,
+    operator: &Name,
+    to: &Target,
+    operands: &Operands,
+) -> Result<Value, Fault>
+    ensures { Returns (λ v. v) result state.new (updated_step (opens_of within.now.definitions.now within.now.opening.now) node operator.now (target_of to.now) (operands_of operands.now) (state_of state.old)) }
+{
     let old = read(within, state, to, operands)?;
     let operator = operator.try_clone(within.alloc)?;
     let token = Token::Update {
@@ -230,9 +267,7 @@ fn update<'a, F: Fn(Global, &Opening, &mut State, &Code) -> Result<Value, Fault>
         operator,
         old,
     };
-    let value = emit(state, token, Value::result_of(node))?;
-    let _written = write(within, state, to, operands, value)?;
-    Ok(new_or_former(is_prefix, node))
+    emit(state, token, Value::result_of(node))
 }
 
 /// The head of a for-in or for-of, or a caught name, is given a value of a node.

@@ -6,7 +6,7 @@ use Rattle.es_base.specs.Preorder.{number_of}
 use Rattle.es_base.specs.Tree.{Tree, Part, Parts, Node, end, more, child, absent, list, string, no_string, boolean, literal}
 use Rattle.es_base.specs.declared.kind.Kind.{Kind}
 use Rattle.es_left.proofs.Booleans.{both}
-use Rattle.es_lowered.specs.Carriers.{OddForm, calls_eval, calls_private, deletes_private, deletes_name, takes_odd_parameters, declares_oddly, gives_value, has_odd_body, gives_prototype, is_shorthand, exports_oddly, no_odd_form, odd_form, keeps_form, is_call_of, may_question, has_question, carries, stands_for_node, is_carried}
+use Rattle.es_lowered.specs.Carriers.{OddForm, calls_eval, calls_private, deletes_private, deletes_name, takes_odd_parameters, declares_oddly, gives_value, has_odd_body, gives_prototype, is_shorthand, exports_oddly, no_odd_form, odd_form, keeps_form, is_call_of, may_question, has_question, carries, stands_for_node, is_carried, is_lowered_target, same_node, keeps_target}
 use Rattle.es_lowered.specs.HelperCalls.{is_number_key}
 use Rattle.es_lowered.specs.KeptWords.{same_name, same_word, same_words, is_free, keeps_computed, keeps_value, keeps_words}
 use Rattle.es_steps.proofs.Reflexive.{number-same, string-same}
@@ -79,9 +79,23 @@ value-same : (kind : Kind) (ps : Parts) → keeps_value kind ps ps ≡ true
 value-same Kind.PropertyDefinition ps = or_left (same_word (at 1 ps) (at 1 ps)) (is_true (at 3 ps) && not (is_present (at 1 ps))) (word-same (at 1 ps))
 value-same kind ps = refl
 
+node-same : (p : Part) → same_node p p ≡ true
+node-same (child t) = number-same (number_of t)
+node-same absent = refl
+node-same (list ps) = refl
+node-same (string s) = refl
+node-same no_string = refl
+node-same (boolean b) = refl
+node-same (literal v) = refl
+
+target-same : (kind : Kind) (ps : Parts) → keeps_target kind ps kind ps ≡ true
+target-same Kind.AssignmentExpression ps = or_right (is_lowered_target (at 1 ps)) (same_node (at 1 ps) (at 1 ps)) (node-same (at 1 ps))
+target-same Kind.UpdateExpression ps = or_right (is_lowered_target (at 1 ps)) (same_node (at 1 ps) (at 1 ps)) (node-same (at 1 ps))
+target-same kind ps = refl
+
 carries-itself : (kind : Kind) (ps : Parts) → carries kind ps kind ps ≡ true
 carries-itself Kind.IdentifierReference ps = rw (string-same (string_of (at 0 ps))) refl
-carries-itself kind ps = rw (number-same (kind_number kind), words-same (is_free kind) ps, computed-same kind ps, value-same kind ps) (both (stays (odd_form kind ps)) (asked-or-not kind ps))
+carries-itself kind ps = rw (number-same (kind_number kind), words-same (is_free kind) ps, computed-same kind ps, value-same kind ps, target-same kind ps) (both (stays (odd_form kind ps)) (asked-or-not kind ps))
 
 stands-for : (kind : Kind) (n : ℕ) (span : Option (ℕ × ℕ)) (semantic_id : Option ℕ) (ps : Parts) (us : List Tree) → In (Node kind n span semantic_id ps) us → stands_for_node kind n ps us ≡ true
 stands-for kind n span semantic_id ps [] i = elim i [ ]
@@ -94,14 +108,14 @@ pub carried : (first : ℕ) (us : List Tree) (t : Tree) → is_new first (number
 carried first us (Node kind n span semantic_id ps) old i = rw old (stands-for kind n span semantic_id ps us i)
 
 -- and one of its number and kind that is no reference and has its words
-alike : (kind : Kind) (ps qs : Parts) → is_reference kind ≡ false → odd_form kind qs ≡ no_odd_form → keeps_words kind ps qs ≡ true → may_question kind qs ≡ true → carries kind ps kind qs ≡ true
-alike kind ps qs e even words plain = rw (e, number-same (kind_number kind), words, even, plain) (or_right (has_question kind ps) true refl)
+alike : (kind : Kind) (ps qs : Parts) → is_reference kind ≡ false → odd_form kind qs ≡ no_odd_form → keeps_words kind ps qs ≡ true → keeps_target kind ps kind qs ≡ true → may_question kind qs ≡ true → carries kind ps kind qs ≡ true
+alike kind ps qs e even words target plain = rw (e, number-same (kind_number kind), words, target, even, plain) (or_right (has_question kind ps) true refl)
 
-stands-alike : (kind : Kind) (n : ℕ) (span : Option (ℕ × ℕ)) (semantic_id : Option ℕ) (ps qs : Parts) (us : List Tree) → is_reference kind ≡ false → odd_form kind qs ≡ no_odd_form → keeps_words kind ps qs ≡ true → may_question kind qs ≡ true → In (Node kind n span semantic_id ps) us → stands_for_node kind n qs us ≡ true
-stands-alike kind n span semantic_id ps qs [] e even words plain i = elim i [ ]
-stands-alike kind n span semantic_id ps qs (u ∷ us) e even words plain here = or_left (nat_eq n n && carries kind ps kind qs) (stands_for_node kind n qs us) (both (number-same n) (alike kind ps qs e even words plain))
-stands-alike kind n span semantic_id ps qs (Node other m mspan m_semantic_id ms ∷ us) e even words plain (later i) =
-    or_right (nat_eq n m && carries other ms kind qs) (stands_for_node kind n qs us) (stands-alike kind n span semantic_id ps qs us e even words plain i)
+stands-alike : (kind : Kind) (n : ℕ) (span : Option (ℕ × ℕ)) (semantic_id : Option ℕ) (ps qs : Parts) (us : List Tree) → is_reference kind ≡ false → odd_form kind qs ≡ no_odd_form → keeps_words kind ps qs ≡ true → keeps_target kind ps kind qs ≡ true → may_question kind qs ≡ true → In (Node kind n span semantic_id ps) us → stands_for_node kind n qs us ≡ true
+stands-alike kind n span semantic_id ps qs [] e even words target plain i = elim i [ ]
+stands-alike kind n span semantic_id ps qs (u ∷ us) e even words target plain here = or_left (nat_eq n n && carries kind ps kind qs) (stands_for_node kind n qs us) (both (number-same n) (alike kind ps qs e even words target plain))
+stands-alike kind n span semantic_id ps qs (Node other m mspan m_semantic_id ms ∷ us) e even words target plain (later i) =
+    or_right (nat_eq n m && carries other ms kind qs) (stands_for_node kind n qs us) (stands-alike kind n span semantic_id ps qs us e even words target plain i)
 
-pub carried-alike : (first : ℕ) (us : List Tree) (kind : Kind) (n : ℕ) (span : Option (ℕ × ℕ)) (semantic_id : Option ℕ) (ps qs : Parts) → is_reference kind ≡ false → odd_form kind qs ≡ no_odd_form → keeps_words kind ps qs ≡ true → may_question kind qs ≡ true → is_new first n ≡ false → In (Node kind n span semantic_id ps) us → is_carried first us (Node kind n span semantic_id qs) ≡ true
-carried-alike first us kind n span semantic_id ps qs e even words plain old i = rw old (stands-alike kind n span semantic_id ps qs us e even words plain i)
+pub carried-alike : (first : ℕ) (us : List Tree) (kind : Kind) (n : ℕ) (span : Option (ℕ × ℕ)) (semantic_id : Option ℕ) (ps qs : Parts) → is_reference kind ≡ false → odd_form kind qs ≡ no_odd_form → keeps_words kind ps qs ≡ true → keeps_target kind ps kind qs ≡ true → may_question kind qs ≡ true → is_new first n ≡ false → In (Node kind n span semantic_id ps) us → is_carried first us (Node kind n span semantic_id qs) ≡ true
+carried-alike first us kind n span semantic_id ps qs e even words target plain old i = rw old (stands-alike kind n span semantic_id ps qs us e even words target plain i)

@@ -7,10 +7,12 @@ use Rattle.es_base.specs.Numbered.{is_new, EachOnce}
 use Rattle.es_base.specs.Preorder.{number_of, preorder, preorder_of_part}
 use Rattle.es_base.specs.Tree.{Tree, Parts, Node, end, more, child, absent}
 use Rattle.es_base.specs.declared.kind.Kind.{Kind}
+use Rattle.es_base.specs.declared.ledger.LedgerEntry.{LedgerEntry}
 use Rattle.es_left.proofs.Booleans.{both}
+use Rattle.es_lowered.specs.ClassNames.{MovedFunction, moved_functions}
 use Rattle.es_steps.proofs.Reflexive.{number-same}
 use Rattle.es_steps.specs.KeptNodes.{are_new_or_among, numbers_in_class, none_enters, classes_kept}
-use Rattle.es_lowered.specs.OwnNames.{is_bound_among, references_to, identifier_at, identifiers_at, any_stands, loses_name, none_loses_name, declares_by, any_declares, all_moved, reads_itself, none_reads_itself, own_names_stay}
+use Rattle.es_lowered.specs.OwnNames.{is_bound_among, references_to, identifier_at, identifiers_at, any_stands, loses_name, none_loses_name, declares_by, any_declares, reads_itself, none_reads_itself, own_names_stay}
 use Rattle.es_steps.specs.Parts.{at}
 use Rattle.es_steps.specs.PrivateNames.{is_class}
 use Rattle.es_steps.specs.References.{Reference, resolve, has_number}
@@ -68,17 +70,18 @@ declares-itself t [] m b h e = elim h [ ]
 declares-itself t (u ∷ us) m b here e = rw e refl
 declares-itself t (u ∷ us) m b (later i) e = or_right (declares_by m b u) (any_declares m b us) (declares-itself t us m b i e)
 
-reads-none : (moved : List Tree) (t : Tree) (ts : List Tree) (rs : List Reference) → In t ts → reads_itself moved ts rs t ≡ false
-reads-none moved (Node Kind.VariableDeclarator m span semantic_id (more (child (Node kind b bspan b_semantic_id bs)) (more e end))) ts rs h =
-    rw (declares-itself (Node Kind.VariableDeclarator m span semantic_id (more (child (Node kind b bspan b_semantic_id bs)) (more e end))) ts m b h (rw (number-same m, number-same b) refl)) refl
-reads-none moved t ts rs h = refl
+module _ (ledger : List LedgerEntry) (fs : List MovedFunction) (qs : List Tree) where
+  reads-none : (t : Tree) (ts : List Tree) (rs : List Reference) → In t ts → reads_itself ledger fs ts qs rs t ≡ false
+  reads-none (Node Kind.VariableDeclarator m span semantic_id (more (child (Node kind b bspan b_semantic_id bs)) (more e end))) ts rs h =
+      rw (declares-itself (Node Kind.VariableDeclarator m span semantic_id (more (child (Node kind b bspan b_semantic_id bs)) (more e end))) ts m b h (rw (number-same m, number-same b) refl)) refl
+  reads-none t ts rs h = refl
 
-none-reads : (moved ts us : List Tree) (rs : List Reference) → Among ts us → none_reads_itself moved us rs ts ≡ true
-none-reads moved [] us rs h = refl
-none-reads moved (t ∷ ts) us rs h = rw (reads-none moved t us rs (h t here)) (none-reads moved ts us rs (λ u i. h u (later i)))
+  none-reads : (ts us : List Tree) (rs : List Reference) → Among ts us → none_reads_itself ledger fs us qs rs ts ≡ true
+  none-reads [] us rs h = refl
+  none-reads (t ∷ ts) us rs h = rw (reads-none t us rs (h t here)) (none-reads ts us rs (λ u i. h u (later i)))
 
 pub names-stay : (t : Tree) → EachOnce (map number_of (preorder t)) → own_names_stay [] t t ≡ true
-names-stay t once = both (none-loses (preorder t) (preorder t) (resolve t) once (λ u i. i)) (none-reads (all_moved [] (preorder t)) (preorder t) (preorder t) (resolve t) (λ u i. i))
+names-stay t once = both (none-loses (preorder t) (preorder t) (resolve t) once (λ u i. i)) (none-reads [] (moved_functions [] (preorder t)) (preorder t) (preorder t) (preorder t) (resolve t) (λ u i. i))
 
 -- ---- strict code
 

@@ -15,9 +15,9 @@ use Rattle.es_unchanged.proofs.Placed.{stand-where}
 use Rattle.es_unchanged.proofs.Standing.{or_right}
 
 -- old are numbers of references that write
-writes-own : (targets old : List ℕ) (rs : List Reference) → ((m : ℕ) → has_number m (writing_numbers rs) ≡ true → has_number m old ≡ true) → writes_fit [] targets old rs ≡ true
-writes-own targets old [] h = refl
-writes-own targets old (r ∷ rs) h = both (own r.writes refl) (writes-own targets old rs (λ m i. h m (behind r.writes m i)))
+writes-own : (first : ℕ) (targets old : List ℕ) (rs : List Reference) → ((m : ℕ) → has_number m (writing_numbers rs) ≡ true → has_number m old ≡ true) → writes_fit first [] targets old rs ≡ true
+writes-own first targets old [] h = refl
+writes-own first targets old (r ∷ rs) h = both (own r.writes refl) (writes-own first targets old rs (λ m i. h m (behind r.writes m i)))
   where
     own : (b : Bool) → r.writes ≡ b → (not b || has_number r.number old) ≡ true
     own true e = h r.number (rw (e, number-same r.number) refl)
@@ -34,4 +34,4 @@ none-comes false = refl
 pub references-stay : (first : ℕ) (t : Tree) → references_stay first [] t t ≡ true
 references-stay first t =
     let inner : List PlacedReference = inner_references first (preorder t) t in
-    both (both (classes-timely first t) (both (none-comes (has_stray_super no_place t)) (none-comes (has_stray_name [] t)))) (both (writes-own (plain_targets (preorder t)) (writing_numbers (resolve t)) (resolve t) (λ m i. i)) (stand-where first inner inner (λ r i. i)))
+    both (both (classes-timely first t) (both (none-comes (has_stray_super no_place t)) (none-comes (has_stray_name [] t)))) (both (writes-own first (plain_targets (preorder t)) (writing_numbers (resolve t)) (resolve t) (λ m i. i)) (stand-where first inner inner (λ r i. i)))

@@ -1,5 +1,5 @@
 -- A numbered program that has nothing to lower owes nothing as it is.
-use Rattle.std.proofs.Common.{◌≡◌, refl, sym, ap, subst, append_assoc, ℕ, zero, suc, ◌+◌, ◌<◌, ◌≤◌, List, [], ◌∷◌, ◌++◌, map, Bool, true, false, cond, Option, arith}
+use Rattle.std.proofs.Common.{◌≡◌, refl, sym, ap, subst, ℕ, zero, suc, ◌+◌, ◌<◌, ◌≤◌, List, [], ◌∷◌, ◌++◌, map, Bool, true, false, cond, Option, arith}
 use Rattle.std.specs.Prelude.{filter, not, ◌||◌, ◌&&◌, nat_eq, codes}
 use Rattle.std.specs.List.{IsDistinct}
 use Rattle.std.proofs.lemmas.Bool.{lt-leb, true≢false, and_parts}
@@ -16,7 +16,8 @@ use Rattle.es_steps.specs.Context.{is_constructor}
 use Rattle.es_lowered.specs.Bound.{all_bound}
 use Rattle.es_lowered.specs.Definitions.{FieldDefinition, chosen, element_numbers, body_numbers, elements_kept, call_definition, definition_at, definitions_in, definitions_at, definitions_of, function_definitions, super_definitions, constructor_definitions, all_definitions, instance_definitions, static_definitions, is_instance_method, any_of, defined_fields, class_fits, classes_fit, supers_stand, definitions_stand}
 use Rattle.es_lowered.specs.KeptKeys.{keys_that_stay}
-use Rattle.es_lowered.specs.HelperCalls.{is_new_private, kept_keys, all_by, new_private_names, private_keys, kept_keys_converted, is_helper_callee, StaticKey, Naming, naming_in, naming_of_element, is_class_body, field_key, method_keys, field_keys, call_fits, calls_fit, calls_in, calls_at, calls_of, calls_of_body}
+use Rattle.es_lowered.specs.Elements.{read_later_in, is_idle_element, is_ready, are_ready, elements_ready}
+use Rattle.es_lowered.specs.HelperCalls.{is_helper_callee, is_new_private, Conversions, call_fits, node_fits, names_inside, calls_fit, calls_in, calls_at, conversions}
 use Rattle.es_steps.specs.KeptNodes.{stands_equal, statement_list, declared_classes, carried_classes, item_number, item_numbers, free_number, free_numbers, is_static_block, free_lists, free_lists_at, free_lists_in, list_of, is_within, all_within, is_free_statement, stays_in_list, free_statements, free_at, free_in, all_homes, lowered_blocks}
 use Rattle.es_lowered.specs.Lowered.{IsLowered, has_new_declarator, is_new_const, is_accounted, all_accounted}
 use Rattle.es_steps.specs.LoweredClasses.{Element, elements_of, is_lowered_element, any_element, is_lowered_class, holds_lowered, has_lowered_class, constructor_function, constructor_in, nothing_left}
@@ -273,48 +274,79 @@ module _ (first : ℕ) where
     constructors_of-none o n (more p ps) b =
         constructors-behind o n (preorder_of_part p) (preorder_of ps) (constructors_at-none o n p (below-first first (preorder_of_part p) (preorder_of ps) b)) (constructors_of-none o n ps (below-second first (preorder_of_part p) (preorder_of ps) b))
 
--- ---- and no helper is called by one
+-- ---- and no helper is called by one, and no key kept by a new object or a new private element
 
-module _ (first : ℕ) (keys : List ℕ) where
-  callee-none : (h : String) (f : Part) → Below first (preorder_of_part f) → is_helper_callee first h f ≡ false
-  callee-none h (child (Node Kind.MemberExpression m span semantic_id (more (child (Node Kind.IdentifierReference n nspan n_semantic_id (more (string s) end))) (more (child (Node Kind.IdentifierName k kspan k_semantic_id (more (string t) end))) rest)))) b = rw (lt-leb first n b.1.0) refl
-  callee-none h f b = refl
+callee-none : (first : ℕ) (h : String) (f : Part) → Below first (preorder_of_part f) → is_helper_callee first h f ≡ false
+callee-none first h (child (Node Kind.MemberExpression m span semantic_id (more (child (Node Kind.IdentifierReference n nspan n_semantic_id (more (string s) end))) (more (child (Node Kind.IdentifierName k kspan k_semantic_id (more (string t) end))) rest)))) b = rw (lt-leb first n b.1.0) refl
+callee-none first h f b = refl
 
-  call-fits : (x : Naming) (kind : Kind) (ps : Parts) → Below first (preorder_of ps) → call_fits first [] keys x kind ps ≡ true
-  call-fits x Kind.CallExpression (more f (more (list (more e es)) rest)) b =
-      let callee : Below first (preorder_of_part f) = below-first first (preorder_of_part f) (preorder_of (more (list (more e es)) rest)) b in
-      rw (callee-none (codes "toPropertyKey") f callee, callee-none (codes "setFunctionName") f callee) refl
-  call-fits x kind ps b = refl
+old-private : (first : ℕ) (p : Part) → Below first (preorder_of_part p) → is_new_private first [] p ≡ false
+old-private first (child (Node Kind.PrivateIdentifier d span semantic_id ps)) b = lt-leb first d b.0
+old-private first p b = refl
+
+module _ (first : ℕ) (keys : List ℕ) (x : Conversions) where
+  call-fits : (m : ℕ) (f : Part) (es : Parts) → Below first (preorder_of_part f) → call_fits first [] keys x m f es ≡ true
+  call-fits m f end b = refl
+  call-fits m f (more e es) b = rw (callee-none first (codes "toPropertyKey") f b, callee-none first (codes "setFunctionName") f b) refl
+
+  node-fits : (names : List String) (kind : Kind) (m : ℕ) (ps : Parts) → m < first → Below first (preorder_of ps) → node_fits first [] keys x names kind m ps ≡ true
+  node-fits names Kind.CallExpression m ps l b = call-fits m (at 0 ps) (items (at 1 ps)) (part-below first 0 ps b)
+  node-fits names Kind.Property m ps l b = rw (lt-leb first m l) refl
+  node-fits names Kind.PropertyDefinition m ps l b = rw (old-private first (at 0 ps) (part-below first 0 ps b)) refl
+  node-fits names kind m ps l b = refl
 
   mutual
-    calls-fit : (x : Naming) (t : Tree) → Below first (preorder t) → calls_fit first [] keys x t ≡ true
-    calls-fit x (Node kind m span semantic_id ps) b = both (call-fits x kind ps b.1) (calls_in-fit (is_class_body kind) (naming_in x kind ps) ps b.1)
+    calls-fit : (names : List String) (t : Tree) → Below first (preorder t) → calls_fit first [] keys x names t ≡ true
+    calls-fit names (Node kind m span semantic_id ps) b = both (node-fits names kind m ps b.0 b.1) (calls_in-fit (names_inside first [] keys x names kind ps) ps b.1)
 
-    calls_in-fit : (is_body : Bool) (x : ℕ → Naming) (ps : Parts) → Below first (preorder_of ps) → calls_in first [] keys is_body x ps ≡ true
-    calls_in-fit is_body x end b = refl
-    calls_in-fit is_body x (more p ps) b =
-        both (calls_at-fit is_body (x 0) p (below-first first (preorder_of_part p) (preorder_of ps) b)) (calls_in-fit is_body (λ i. x (suc i)) ps (below-second first (preorder_of_part p) (preorder_of ps) b))
+    calls_in-fit : (names : List String) (ps : Parts) → Below first (preorder_of ps) → calls_in first [] keys x names ps ≡ true
+    calls_in-fit names end b = refl
+    calls_in-fit names (more p ps) b =
+        both (calls_at-fit names p (below-first first (preorder_of_part p) (preorder_of ps) b)) (calls_in-fit names ps (below-second first (preorder_of_part p) (preorder_of ps) b))
 
-    calls_at-fit : (is_body : Bool) (x : Naming) (p : Part) → Below first (preorder_of_part p) → calls_at first [] keys is_body x p ≡ true
-    calls_at-fit is_body x (child t) b = calls-fit x t b
-    calls_at-fit true x (list ps) b = calls_of_body-fit x (method_keys ps ++ field_keys ps) (method_keys ps) [] ps b
-    calls_at-fit false x (list ps) b = calls_of-fit x ps b
-    calls_at-fit true x p b = refl
-    calls_at-fit false x p b = refl
+    calls_at-fit : (names : List String) (p : Part) → Below first (preorder_of_part p) → calls_at first [] keys x names p ≡ true
+    calls_at-fit names (child t) b = calls-fit names t b
+    calls_at-fit names (list ps) b = calls_in-fit names ps b
+    calls_at-fit names p b = refl
 
-    calls_of-fit : (x : Naming) (ps : Parts) → Below first (preorder_of ps) → calls_of first [] keys x ps ≡ true
-    calls_of-fit x end b = refl
-    calls_of-fit x (more p ps) b =
-        both (calls_at-fit false x p (below-first first (preorder_of_part p) (preorder_of ps) b)) (calls_of-fit x ps (below-second first (preorder_of_part p) (preorder_of ps) b))
+-- ---- and no private element is new
 
-    calls_of_body-fit : (x : Naming) (all methods front : List StaticKey) (ps : Parts) → Below first (preorder_of ps) → calls_of_body first [] keys x all methods front ps ≡ true
-    calls_of_body-fit x all methods front end b = refl
-    calls_of_body-fit x all methods front (more p ps) b =
-        both (calls_at-fit false (naming_of_element x all methods front) p (below-first first (preorder_of_part p) (preorder_of ps) b))
-        (calls_of_body-fit x all methods (front ++ field_key p) ps (below-second first (preorder_of_part p) (preorder_of ps) b))
+module _ (first : ℕ) where
+  is-ready : (names : List String) (idle : Bool) (p : Part) → Below first (preorder_of_part p) → is_ready first [] names idle p ≡ true
+  is-ready names idle (child (Node Kind.PropertyDefinition m span semantic_id ps)) b = rw (old-private first (at 0 ps) (part-below first 0 ps b.1)) refl
+  is-ready names idle p b = refl
 
-abbrev none_around : Naming
-none_around = record { keys = []; outer_keys = []; all_keys = []; tested = [] }
+  are-ready : (names : List String) (idle : Bool) (ps : Parts) → Below first (preorder_of ps) → are_ready first [] names idle ps ≡ true
+  are-ready names idle end b = refl
+  are-ready names idle (more p ps) b =
+      both (is-ready names (idle && is_idle_element first [] p) p (below-first first (preorder_of_part p) (preorder_of ps) b)) (are-ready names (idle && is_idle_element first [] p) ps (below-second first (preorder_of_part p) (preorder_of ps) b))
+
+  pub ready-behind : (ts us : List Tree) → elements_ready first [] ts ≡ true → elements_ready first [] us ≡ true → elements_ready first [] (ts ++ us) ≡ true
+  ready-behind [] us g h = h
+  ready-behind (Node Kind.ClassBody m span semantic_id ps ∷ ts) us g h =
+      let parts = and_parts (are_ready first [] (read_later_in false ps) true (items (at 0 ps))) (elements_ready first [] ts) g in
+      both parts.0 (ready-behind ts us parts.1 h)
+  ready-behind (t ∷ ts) us g h = ready-behind ts us g h
+
+  mutual
+    tree-ready : (t : Tree) → Below first (preorder t) → elements_ready first [] (preorder t) ≡ true
+    tree-ready (Node Kind.ClassBody m span semantic_id ps) b =
+        both (are-ready (read_later_in false ps) true (items (at 0 ps)) (list-below first (at 0 ps) (part-below first 0 ps b.1))) (parts-ready ps b.1)
+    tree-ready (Node kind m span semantic_id ps) b = parts-ready ps b.1
+
+    part-ready : (p : Part) → Below first (preorder_of_part p) → elements_ready first [] (preorder_of_part p) ≡ true
+    part-ready (child t) b = tree-ready t b
+    part-ready absent b = refl
+    part-ready (list ps) b = parts-ready ps b
+    part-ready (string s) b = refl
+    part-ready no_string b = refl
+    part-ready (boolean v) b = refl
+    part-ready (literal v) b = refl
+
+    parts-ready : (ps : Parts) → Below first (preorder_of ps) → elements_ready first [] (preorder_of ps) ≡ true
+    parts-ready end b = refl
+    parts-ready (more p ps) b =
+        ready-behind (preorder_of_part p) (preorder_of ps) (part-ready p (below-first first (preorder_of_part p) (preorder_of ps) b)) (parts-ready ps (below-second first (preorder_of_part p) (preorder_of ps) b))
 
 supers-none : (first : ℕ) (o : Options) (n : ℕ) (ts : List Tree) → super_definitions first o [] n ts ≡ []
 supers-none first o n [] = refl
@@ -464,43 +496,6 @@ elements-stand o (Node kind n span semantic_id ps ∷ ts) qs none h once =
     either true c e = rw (unlowered o (elements_of ps) e, class-body kind n span semantic_id ps qs c once (h (Node kind n span semantic_id ps) here)) (within-same (element_numbers (elements_of ps)))
     either false c e = refl
 
--- ---- no key is kept by a new object or a new private element
-
-module _ (first : ℕ) (keys : List ℕ) (names privates : List String) where
-  old-private : (p : Part) → Below first (preorder_of_part p) → is_new_private first [] keys p ≡ false
-  old-private (child (Node Kind.PrivateIdentifier d span semantic_id ps)) b = lt-leb first d b.0
-  old-private p b = refl
-
-  old-kept : (t : Tree) → Below first (preorder t) → kept_keys first [] keys names privates t ≡ []
-  old-kept (Node Kind.Property m span semantic_id ps) b = rw (lt-leb first m b.0) refl
-  old-kept (Node Kind.PropertyDefinition m span semantic_id ps) b = rw (old-private (at 0 ps) (part-below first 0 ps b.1)) refl
-  old-kept t b = refl
-
-  kept-append : (ts us : List Tree) → all_by first [] keys (kept_keys first [] keys names privates) (ts ++ us) ≡ all_by first [] keys (kept_keys first [] keys names privates) ts ++ all_by first [] keys (kept_keys first [] keys names privates) us
-  kept-append [] us = refl
-  kept-append (t ∷ ts) us = rw (kept-append ts us) (sym (append_assoc (kept_keys first [] keys names privates t) (all_by first [] keys (kept_keys first [] keys names privates) ts) (all_by first [] keys (kept_keys first [] keys names privates) us)))
-
-  mutual
-    tree-kept : (t : Tree) → Below first (preorder t) → all_by first [] keys (kept_keys first [] keys names privates) (preorder t) ≡ []
-    tree-kept (Node kind m span semantic_id ps) b = rw (old-kept (Node kind m span semantic_id ps) b, parts-kept ps b.1) refl
-
-    part-kept : (p : Part) → Below first (preorder_of_part p) → all_by first [] keys (kept_keys first [] keys names privates) (preorder_of_part p) ≡ []
-    part-kept (child t) b = tree-kept t b
-    part-kept absent b = refl
-    part-kept (list ps) b = parts-kept ps b
-    part-kept (string s) b = refl
-    part-kept no_string b = refl
-    part-kept (boolean x) b = refl
-    part-kept (literal v) b = refl
-
-    parts-kept : (ps : Parts) → Below first (preorder_of ps) → all_by first [] keys (kept_keys first [] keys names privates) (preorder_of ps) ≡ []
-    parts-kept end b = refl
-    parts-kept (more p ps) b =
-        rw (kept-append (preorder_of_part p) (preorder_of ps), part-kept p (below-first first (preorder_of_part p) (preorder_of ps) b), parts-kept ps (below-second first (preorder_of_part p) (preorder_of ps) b)) refl
-
-none-kept : (first : ℕ) (keys : List ℕ) (t : Tree) → Below first (preorder t) → kept_keys_converted first [] keys (preorder t) ≡ true
-none-kept first keys t b = rw (tree-kept first keys (new_private_names first [] keys (preorder t)) (private_keys first [] keys (preorder t)) t b) refl
-
 -- ---- the program
 
 same_or : (b : Bool) → (not b || b) ≡ true
@@ -574,7 +569,7 @@ unchanged-owes o t e h left =
         strict = strict-stays (nodes t) t;
         texts = old-texts (nodes t) (preorder t) (preorder t) turn.below (λ u i. i);
         initialized = refl;
-        timely = names-timely (nodes t) (private_members t) t;
+        timely = both (names-timely (nodes t) (private_members t) t) (tree-ready (nodes t) t turn.below);
         temporaries = refl;
         keys = rw (temporaries-none (nodes t) o (private_members t) t (preorder t)) (keys-stand (lowers_fields o));
         classes = classes-stay (nodes t) t turn.once;
@@ -585,7 +580,7 @@ unchanged-owes o t e h left =
         homes = home-same (nodes t) (lowered_blocks o t) (all_homes t);
         definitions = definitions-stand o t turn.below h;
         elements = elements-stand o (preorder t) (preorder t) h (λ u i. i) turn.once;
-        calls = both (calls-fit (nodes t) (keys_that_stay (nodes t) [] t t) none_around t turn.below) (none-kept (nodes t) (keys_that_stay (nodes t) [] t t) t turn.below);
+        calls = calls-fit (nodes t) (keys_that_stay (nodes t) [] t t) (conversions (nodes t) [] (preorder t)) [] t turn.below;
         printable = both (same_or (is_printable t)) (all-among (bare_strings (preorder t)));
       };
     }

@@ -139,6 +139,12 @@ returns-clause-class_temporary_of_a_function_expression c = refl
 pub returns-clause-class_temporary_of_another_case : goal.returns-clause-class_temporary_of_another_case
 returns-clause-class_temporary_of_another_case c = refl
 
+pub returns-clause-class_updated_by_a_temporary : goal.returns-clause-class_updated_by_a_temporary
+returns-clause-class_updated_by_a_temporary c = refl
+
+pub returns-clause-class_updated_by_a_temporary_beside_a_field : goal.returns-clause-class_updated_by_a_temporary_beside_a_field
+returns-clause-class_updated_by_a_temporary_beside_a_field c = refl
+
 pub returns-clause-closure_before_its_class : goal.returns-clause-closure_before_its_class
 returns-clause-closure_before_its_class c = refl
 
@@ -181,6 +187,12 @@ returns-clause-conversion_in_front_of_a_key c = refl
 pub returns-clause-conversion_in_front_of_a_named_class : goal.returns-clause-conversion_in_front_of_a_named_class
 returns-clause-conversion_in_front_of_a_named_class c = refl
 
+pub returns-clause-conversion_of_a_call_for_a_read_that_throws : goal.returns-clause-conversion_of_a_call_for_a_read_that_throws
+returns-clause-conversion_of_a_call_for_a_read_that_throws c = refl
+
+pub returns-clause-conversion_of_a_call_for_an_assignment : goal.returns-clause-conversion_of_a_call_for_an_assignment
+returns-clause-conversion_of_a_call_for_an_assignment c = refl
+
 pub returns-clause-conversion_of_a_class_for_this : goal.returns-clause-conversion_of_a_class_for_this
 returns-clause-conversion_of_a_class_for_this c = refl
 
@@ -195,6 +207,9 @@ returns-clause-conversion_of_a_name_of_that_spelling c = refl
 
 pub returns-clause-conversion_of_a_name_with_the_number_of_a_key : goal.returns-clause-conversion_of_a_name_with_the_number_of_a_key
 returns-clause-conversion_of_a_name_with_the_number_of_a_key c = refl
+
+pub returns-clause-conversion_of_a_private_element : goal.returns-clause-conversion_of_a_private_element
+returns-clause-conversion_of_a_private_element c = refl
 
 pub returns-clause-conversion_of_a_sequence_with_the_number_of_a_key : goal.returns-clause-conversion_of_a_sequence_with_the_number_of_a_key
 returns-clause-conversion_of_a_sequence_with_the_number_of_a_key c = refl
@@ -310,8 +325,17 @@ returns-clause-initialized_head_behind_an_error c = refl
 pub returns-clause-key_given_again : goal.returns-clause-key_given_again
 returns-clause-key_given_again c = refl
 
+pub returns-clause-key_kept_beside_a_conversion : goal.returns-clause-key_kept_beside_a_conversion
+returns-clause-key_kept_beside_a_conversion c = refl
+
 pub returns-clause-key_kept_by_a_call : goal.returns-clause-key_kept_by_a_call
 returns-clause-key_kept_by_a_call c = refl
+
+pub returns-clause-key_kept_by_a_logical_assignment : goal.returns-clause-key_kept_by_a_logical_assignment
+returns-clause-key_kept_by_a_logical_assignment c = refl
+
+pub returns-clause-key_kept_by_an_assigned_function : goal.returns-clause-key_kept_by_an_assigned_function
+returns-clause-key_kept_by_an_assigned_function c = refl
 
 pub returns-clause-key_of_another_member : goal.returns-clause-key_of_another_member
 returns-clause-key_of_another_member c = refl
@@ -403,6 +427,9 @@ returns-clause-method_given_behind_its_calls c = refl
 pub returns-clause-method_outside_of_a_called_function : goal.returns-clause-method_outside_of_a_called_function
 returns-clause-method_outside_of_a_called_function c = refl
 
+pub returns-clause-name_given_behind_a_call : goal.returns-clause-name_given_behind_a_call
+returns-clause-name_given_behind_a_call c = refl
+
 pub returns-clause-name_given_behind_a_field : goal.returns-clause-name_given_behind_a_field
 returns-clause-name_given_behind_a_field c = refl
 
@@ -481,6 +508,12 @@ returns-clause-pattern_without_a_value c = refl
 pub returns-clause-private_element_of_the_class_around : goal.returns-clause-private_element_of_the_class_around
 returns-clause-private_element_of_the_class_around c = refl
 
+pub returns-clause-private_element_read_by_a_constructor : goal.returns-clause-private_element_read_by_a_constructor
+returns-clause-private_element_read_by_a_constructor c = refl
+
+pub returns-clause-private_element_read_by_a_field : goal.returns-clause-private_element_read_by_a_field
+returns-clause-private_element_read_by_a_field c = refl
+
 pub returns-clause-private_method_in_front_of_its_class : goal.returns-clause-private_method_in_front_of_its_class
 returns-clause-private_method_in_front_of_its_class c = refl
 
@@ -529,6 +562,9 @@ returns-clause-regular_expression_read_twice c = refl
 pub returns-clause-rests_exchanged_behind_an_error : goal.returns-clause-rests_exchanged_behind_an_error
 returns-clause-rests_exchanged_behind_an_error c = refl
 
+pub returns-clause-second_private_element_read_by_a_field : goal.returns-clause-second_private_element_read_by_a_field
+returns-clause-second_private_element_read_by_a_field c = refl
+
 pub returns-clause-second_string_that_a_printer_makes_a_directive : goal.returns-clause-second_string_that_a_printer_makes_a_directive
 returns-clause-second_string_that_a_printer_makes_a_directive c = refl
 
@@ -549,6 +585,9 @@ returns-clause-strict_rest c = refl
 
 pub returns-clause-string_that_a_printer_makes_a_directive : goal.returns-clause-string_that_a_printer_makes_a_directive
 returns-clause-string_that_a_printer_makes_a_directive c = refl
+
+pub returns-clause-super_addition_that_becomes_strict : goal.returns-clause-super_addition_that_becomes_strict
+returns-clause-super_addition_that_becomes_strict c = refl
 
 pub returns-clause-super_call_in_a_super_function_that_nothing_calls : goal.returns-clause-super_call_in_a_super_function_that_nothing_calls
 returns-clause-super_call_in_a_super_function_that_nothing_calls c = refl
@@ -574,6 +613,12 @@ returns-clause-super_function_without_fields c = refl
 pub returns-clause-super_in_a_function_that_nothing_calls : goal.returns-clause-super_in_a_function_that_nothing_calls
 returns-clause-super_in_a_function_that_nothing_calls c = refl
 
+pub returns-clause-super_logical_assignment_that_becomes_strict : goal.returns-clause-super_logical_assignment_that_becomes_strict
+returns-clause-super_logical_assignment_that_becomes_strict c = refl
+
+pub returns-clause-super_update_that_becomes_strict : goal.returns-clause-super_update_that_becomes_strict
+returns-clause-super_update_that_becomes_strict c = refl
+
 pub returns-clause-tag_of_a_private_element : goal.returns-clause-tag_of_a_private_element
 returns-clause-tag_of_a_private_element c = refl
 
@@ -597,6 +642,9 @@ returns-clause-temporary_of_the_program c = refl
 
 pub returns-clause-test_dropped_behind_an_error : goal.returns-clause-test_dropped_behind_an_error
 returns-clause-test_dropped_behind_an_error c = refl
+
+pub returns-clause-test_of_a_member_of_the_source : goal.returns-clause-test_of_a_member_of_the_source
+returns-clause-test_of_a_member_of_the_source c = refl
 
 pub returns-clause-text_of_a_directive : goal.returns-clause-text_of_a_directive
 returns-clause-text_of_a_directive c = refl

@@ -115,6 +115,9 @@ returns-clause-shared_parameters c = (refl, refl, refl)
 pub returns-clause-statement_of_an_if : goal.returns-clause-statement_of_an_if
 returns-clause-statement_of_an_if c = (refl, refl, refl)
 
+pub returns-clause-statements_behind_a_throw : goal.returns-clause-statements_behind_a_throw
+returns-clause-statements_behind_a_throw c = (refl, refl, refl)
+
 pub returns-clause-static_getter_or_method : goal.returns-clause-static_getter_or_method
 returns-clause-static_getter_or_method c = (refl, refl, refl)
 

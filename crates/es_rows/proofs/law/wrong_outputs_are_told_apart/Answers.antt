@@ -19,6 +19,27 @@ returns-clause-arrow_that_gives_another c = refl
 pub returns-clause-arrow_without_its_return : goal.returns-clause-arrow_without_its_return
 returns-clause-arrow_without_its_return c = refl
 
+pub returns-clause-assignment_in_a_heritage : goal.returns-clause-assignment_in_a_heritage
+returns-clause-assignment_in_a_heritage c = refl
+
+pub returns-clause-assignment_of_a_field_without_a_construction : goal.returns-clause-assignment_of_a_field_without_a_construction
+returns-clause-assignment_of_a_field_without_a_construction c = refl
+
+pub returns-clause-assignment_that_becomes_strict : goal.returns-clause-assignment_that_becomes_strict
+returns-clause-assignment_that_becomes_strict c = refl
+
+pub returns-clause-assignment_to_a_temporary_that_becomes_strict : goal.returns-clause-assignment_to_a_temporary_that_becomes_strict
+returns-clause-assignment_to_a_temporary_that_becomes_strict c = refl
+
+pub returns-clause-assignment_with_the_number_of_another : goal.returns-clause-assignment_with_the_number_of_another
+returns-clause-assignment_with_the_number_of_another c = refl
+
+pub returns-clause-assignment_with_the_numbers_of_another : goal.returns-clause-assignment_with_the_numbers_of_another
+returns-clause-assignment_with_the_numbers_of_another c = refl
+
+pub returns-clause-assignments_of_a_name_exchanged : goal.returns-clause-assignments_of_a_name_exchanged
+returns-clause-assignments_of_a_name_exchanged c = refl
+
 pub returns-clause-async_constructor : goal.returns-clause-async_constructor
 returns-clause-async_constructor c = refl
 
@@ -48,6 +69,12 @@ returns-clause-class_renamed c = refl
 
 pub returns-clause-constructor_of_another_key : goal.returns-clause-constructor_of_another_key
 returns-clause-constructor_of_another_key c = refl
+
+pub returns-clause-conversion_of_an_assignment_of_another_name : goal.returns-clause-conversion_of_an_assignment_of_another_name
+returns-clause-conversion_of_an_assignment_of_another_name c = refl
+
+pub returns-clause-conversion_of_another_assignment : goal.returns-clause-conversion_of_another_assignment
+returns-clause-conversion_of_another_assignment c = refl
 
 pub returns-clause-declarator_out_of_its_block : goal.returns-clause-declarator_out_of_its_block
 returns-clause-declarator_out_of_its_block c = refl
@@ -105,6 +132,9 @@ returns-clause-key_given_behind_the_fields c = refl
 
 pub returns-clause-key_given_in_its_value : goal.returns-clause-key_given_in_its_value
 returns-clause-key_given_in_its_value c = refl
+
+pub returns-clause-key_in_front_of_a_throw : goal.returns-clause-key_in_front_of_a_throw
+returns-clause-key_in_front_of_a_throw c = refl
 
 pub returns-clause-key_of_a_binding_in_a_temporary : goal.returns-clause-key_of_a_binding_in_a_temporary
 returns-clause-key_of_a_binding_in_a_temporary c = refl
@@ -202,6 +232,9 @@ returns-clause-script_in_an_arrow c = refl
 pub returns-clause-spread_for_a_parameter : goal.returns-clause-spread_for_a_parameter
 returns-clause-spread_for_a_parameter c = refl
 
+pub returns-clause-statements_behind_a_throw_exchanged : goal.returns-clause-statements_behind_a_throw_exchanged
+returns-clause-statements_behind_a_throw_exchanged c = refl
+
 pub returns-clause-static_constructor : goal.returns-clause-static_constructor
 returns-clause-static_constructor c = refl
 
@@ -210,6 +243,9 @@ returns-clause-static_field_before_its_class c = refl
 
 pub returns-clause-static_key_read_late : goal.returns-clause-static_key_read_late
 returns-clause-static_key_read_late c = refl
+
+pub returns-clause-super_assignment_in_a_heritage : goal.returns-clause-super_assignment_in_a_heritage
+returns-clause-super_assignment_in_a_heritage c = refl
 
 pub returns-clause-super_function_called_with_another : goal.returns-clause-super_function_called_with_another
 returns-clause-super_function_called_with_another c = refl

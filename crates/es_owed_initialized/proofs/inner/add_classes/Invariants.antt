@@ -1,7 +1,0 @@
-use Rattle.std.proofs.Common.{◌≡◌, ◌++◌, drop}
-use Rattle.es_binding_faults.specs.Seen.{seen}
-use Rattle.es_lowered.specs.ClassNames.{class_numbers}
-use Rattle.es_owed_initialized.proofs.inner.add_classes.Given as goal
-
-abbrev pub invariant-loop-node : goal.invariant-loop-node
-invariant-loop-node l = l.classes.items ++ class_numbers (seen (drop l.node-index l.nodes)) ≡ l.fn.classes.items ++ class_numbers (seen l.nodes)

@@ -1,0 +1,7 @@
+use Rattle.std.proofs.Common.{◌≡◌, ◌++◌, drop}
+use Rattle.es_binding_faults.specs.Seen.{seen}
+use Rattle.es_lowered.specs.ClassNames.{class_numbers}
+use Rattle.es_owed_initialized.proofs.inner.class_numbers.Given as goal
+
+abbrev pub invariant-loop-node : goal.invariant-loop-node
+invariant-loop-node l = l.numbers.items ++ class_numbers (seen (drop l.node-index l.nodes)) ≡ class_numbers (seen l.nodes)

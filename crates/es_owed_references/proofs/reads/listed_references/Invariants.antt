@@ -1,8 +1,0 @@
-use Rattle.std.proofs.Common.{◌≡◌, ◌++◌, drop}
-use Rattle.es_lowered.specs.OwnNames.{references_to}
-use Rattle.es_references.specs.Frames.{ids}
-use Rattle.es_references.specs.References.{references_of}
-use Rattle.es_owed_references.proofs.reads.listed_references.Given as goal
-
-abbrev pub invariant-loop-reference : goal.invariant-loop-reference
-invariant-loop-reference l = ids l.numbers.items ++ references_to l.identifiers (references_of (drop l.reference-index l.references)) ≡ references_to l.identifiers (references_of l.references)
