@@ -90,7 +90,6 @@ STRICT = 'none_becomes_strict (nodes source_{n}) source_{n} output_{n}'
 TEXTS = 'texts_stay (nodes source_{n}) source_{n} output_{n}'
 OWN_NAMES = 'own_names_stay generated_{n} source_{n} output_{n}'
 CARRIERS = 'numbers_carried (nodes source_{n}) source_{n} output_{n}'
-READY = 'elements_ready (nodes source_{n}) generated_{n} (preorder output_{n})'
 REFERENCES = 'references_stay (nodes source_{n}) generated_{n} source_{n} output_{n}'
 NOT_MET = {
     'temporary_given_again': STEADY,
@@ -317,9 +316,6 @@ NOT_MET = {
     'super_addition_that_becomes_strict': CARRIERS,
     'super_update_that_becomes_strict': CARRIERS,
     'super_logical_assignment_that_becomes_strict': CARRIERS,
-    'private_element_read_by_a_field': READY,
-    'private_element_read_by_a_constructor': READY,
-    'second_private_element_read_by_a_field': READY,
     'class_updated_by_a_temporary': REFERENCES,
     'class_updated_by_a_temporary_beside_a_field': REFERENCES,
 }
@@ -386,7 +382,6 @@ ghost use Rattle.std.specs.Prelude.{◌≡◌, [], ◌∷◌, false};
 ghost use Rattle.es_rows.specs.Owed.{Kept, KeptAfter, Owed, TellsApart, Refused, MeansOther, RefusedAfter, Means, HaveShapes};
 ghost use Rattle.es_lowered.specs.Carriers.{numbers_carried};
 ghost use Rattle.es_lowered.specs.Definitions.{definitions_stand};
-ghost use Rattle.es_lowered.specs.Elements.{elements_ready};
 ghost use Rattle.es_base.specs.Conforms.{conforms};
 ghost use Rattle.es_base.specs.Preorder.{nodes, preorder};
 ghost use Rattle.es_base.specs.declared.table.Place.{Place};

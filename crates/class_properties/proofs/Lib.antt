@@ -16,7 +16,6 @@ pub mod OfKinds
 pub mod Owed
 pub mod Printed
 pub mod ReadReferences
-pub mod Ready
 pub mod Remaining
 pub mod Renumbered
 pub mod Same

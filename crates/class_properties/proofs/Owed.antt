@@ -28,7 +28,6 @@ use Rattle.class_properties.proofs.Numbered.{definitions_from, fields_size, lowe
 use Rattle.class_properties.proofs.Numbered as numbered
 use Rattle.class_properties.proofs.Renumbered.{lowered-numbered}
 use Rattle.class_properties.proofs.Printed.{lowered-stays_printable}
-use Rattle.class_properties.proofs.Ready.{program-ready}
 use Rattle.class_properties.proofs.Remaining.{Remains, remains}
 use Rattle.class_properties.proofs.Strictness.{no-directive, no-lowered_directive, program-strict}
 use Rattle.class_properties.proofs.Carried.{numbers-carried}
@@ -137,7 +136,7 @@ module _ (asked : Options) where
           strict = numbered-strict t p e;
           texts = texts-stay t p e;
           initialized = refl;
-          timely = both (names-timely first (private_members t) q) (program-ready first first t p);
+          timely = names-timely first (private_members t) q;
           temporaries = refl;
           keys = rw (temporaries-none first (defining asked) (private_members t) q (preorder q)) refl;
           carriers = numbers-carried t p e;

@@ -1,3 +1,4 @@
+pub mod Around
 pub mod Last
 pub mod Placed
 pub mod Rows

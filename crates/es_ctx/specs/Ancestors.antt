@@ -1,13 +1,17 @@
 -- The nodes around the node at hand, as they are told of.
-use Rattle.std.specs.Prelude.{ℕ, zero, suc, List, [], ◌∷◌, Bool, true, false, Option, Some, None}
+use Rattle.std.specs.Prelude.{ℕ, zero, suc, List, [], ◌∷◌, ◌++◌, Bool, true, false, Option, Some, None}
 use Rattle.es_base.specs.Table.{Field, members_of}
 use Rattle.es_base.specs.Tree.{Tree, Part, Parts, Node, end, more, child}
 use Rattle.es_base.specs.declared.kind.Kind.{Kind}
 use Rattle.es_base.specs.declared.table.Place.{Place}
 use Rattle.es_base.specs.declared.table.Sort.{Sort}
+use Rattle.es_ctx.specs.AncestorKinds.{kind_inside}
+use Rattle.es_ctx.specs.declared.ancestor.Ancestor.{Ancestor}
 use Rattle.es_ctx.specs.declared.ancestor.ClassHead.{ClassHead}
 use Rattle.es_ctx.specs.declared.ancestor.Parent.{Parent}
-use Rattle.es_visit.specs.Roles.{is_computed, is_static}
+use Rattle.es_ctx.specs.declared.ancestor_kind.AncestorKind.{AncestorKind}
+use Rattle.es_visit.specs.Roles.{is_computed, is_static, role_at}
+use Rattle.es_visit.specs.declared.roles.Role.{Role}
 
 abbrev pub is_node : Part → Bool
 is_node (child t) = true
@@ -34,6 +38,31 @@ class_head k ps = None
 -- what is told of a node
 abbrev pub parent_of : Tree → Parent
 parent_of (Node k i sp si ps) = record { kind = k; node = i; scope = si; is_computed = is_computed k ps; is_static = is_static k ps; class = class_head k ps }
+
+-- ---- places
+
+-- what the innermost of these tells, which stand outermost first
+abbrev pub innermost_or : {X : Type 0} → X → (Ancestor → X) → List Ancestor → X
+innermost_or none told [] = none
+innermost_or none told (a ∷ []) = told a
+innermost_or none told (a ∷ b ∷ rest) = innermost_or none told (b ∷ rest)
+
+abbrev pub innermost_kind : List Ancestor → AncestorKind
+innermost_kind around = innermost_or AncestorKind.Other (λ a. a.kind) around
+
+-- a member of the node of which this is told, behind the places around that node
+abbrev pub ancestor_of : List Ancestor → Parent → ℕ → Ancestor
+ancestor_of around parent at = record { kind = kind_inside (innermost_kind around) parent.kind at; parent = parent; at = at }
+
+-- how what stands there stands there
+abbrev pub ancestor_role : Ancestor → Role
+ancestor_role a = role_at a.parent.is_computed (members_of a.parent.kind) a.at
+
+-- these places with that one
+abbrev pub going_into : List Ancestor → Parent → ℕ → List Ancestor
+going_into around parent at = around ++ ancestor_of around parent at ∷ []
+
+-- ---- lists of statements
 
 -- whether a member is a list of statements: the body of a program, a block, a function or a static block, or
 -- what a case of a `switch` has

@@ -1,3 +1,5 @@
+pub mod AncestorKinds
 pub mod Ancestors
 pub mod Lists
+pub mod ScopesAround
 pub mod Stores

@@ -91,6 +91,10 @@ changed at f [] = []
 changed zero f (l ∷ ls) = f l ∷ ls
 changed (suc at) f (l ∷ ls) = l ∷ changed at f ls
 
+-- statements that are kept beside the element of a number, in the innermost open list that has it
+abbrev pub kept_beside : Side → List Tree → ℕ → List OpenList → List OpenList
+kept_beside side ts n ls = changed (place_of n ls) (with_slot (beside side ts) n) ls
+
 -- ---- opening and closing
 
 -- the open lists after one more may be open

@@ -2,13 +2,15 @@
 
 ghost use Rattle.std.specs.Prelude.{◌≡◌, map};
 ghost use Rattle.es_base.specs.Table.{field_of};
-ghost use Rattle.es_ctx.specs.Ancestors.{parent_of, class_head, class_head_of, is_node, begins_with_node, semantic_id_of, is_statement_list, has_statements_in, has_statements};
+ghost use Rattle.es_ctx.specs.Ancestors.{parent_of, innermost_kind, ancestor_of, ancestor_role, class_head, class_head_of, is_node, begins_with_node, semantic_id_of, is_statement_list, has_statements_in, has_statements};
+ghost use Rattle.es_ctx.specs.ScopesAround.{is_discriminant, scope_there, is_in_list, is_hoisted_to, hoist_scope_there};
 ghost use Rattle.es_node.specs.View.{part_of, parts_of};
 
+use crate::ancestor_kind::{AncestorKind, kind_inside};
 use es_base::kind::Kind;
 use es_base::table::{Member, Place, Sort, members};
 use es_node::node::{Node, Part};
-use es_visit::roles::{is_computed, is_static};
+use es_visit::roles::{Role, is_computed, is_static, role_at};
 
 /// What a class says of itself before its body.
 #[derive(Debug, Clone, Copy, PartialEq, Eq)]
@@ -56,8 +58,95 @@ impl Parent {
 /// A node around the node at hand, and at which of its members that stands.
 #[derive(Debug, Clone, Copy, PartialEq, Eq)]
 pub struct Ancestor {
+    /// The place of that member.
+    pub kind: AncestorKind,
     pub parent: Parent,
     pub at: usize,
+}
+
+impl Ancestor {
+    /// Of a member of the node of which this is told, behind the places around that node, the outermost first.
+    pub fn of(around: &[Ancestor], parent: Parent, at: usize) -> Ancestor
+        ensures { result ≡ ancestor_of around.now parent at }
+    {
+        Ancestor {
+            kind: kind_inside(innermost_kind(around), parent.kind, at),
+            parent,
+            at,
+        }
+    }
+
+    /// Whether what stands there is an element of a list of statements.
+    pub fn is_in_list(&self) -> bool
+        ensures { result ≡ is_in_list self.now }
+    {
+        has_statements(self.parent.kind, self.at)
+    }
+
+    /// The scope of the node around, if it has one that what stands there is in.
+    pub fn scope(&self) -> Option<u32>
+        ensures { result ≡ scope_there self.now }
+    {
+        if is_discriminant(self.parent.kind, self.at) {
+            None
+        } else {
+            self.parent.scope
+        }
+    }
+
+    /// The scope of the node around, if what stands there is a part from which `var` is hoisted to it.
+    pub fn hoist_scope(&self) -> Option<u32>
+        ensures { result ≡ hoist_scope_there self.now }
+    {
+        if is_hoisted_to(self.kind) {
+            self.parent.scope
+        } else {
+            None
+        }
+    }
+
+    /// How what stands there stands there.
+    pub fn role(&self) -> Role
+        ensures { result ≡ ancestor_role self.now }
+    {
+        role_at(self.parent.kind, self.parent.is_computed, self.at)
+    }
+}
+
+// switch (a) { case b: }
+fn is_discriminant(kind: Kind, at: usize) -> bool
+    ensures { result ≡ is_discriminant kind at }
+{
+    match kind {
+        Kind::SwitchStatement => at == 0,
+        _ => false,
+    }
+}
+
+/// Whether `var` is hoisted from there to the scope of the node around: a program, a function or a static block.
+fn is_hoisted_to(kind: AncestorKind) -> bool
+    ensures { result ≡ is_hoisted_to kind }
+{
+    matches!(
+        kind,
+        AncestorKind::ProgramBody
+            | AncestorKind::FunctionParams
+            | AncestorKind::FunctionBody
+            | AncestorKind::ArrowParams
+            | AncestorKind::ArrowBody
+            | AncestorKind::StaticBlockBody
+    )
+}
+
+/// The innermost of these places, which stand outermost first.
+#[tactic(auto, using(crate::proofs::Last::no_kind))]
+fn innermost_kind(around: &[Ancestor]) -> AncestorKind
+    ensures { result ≡ innermost_kind around.now }
+{
+    match around.last() {
+        Some(ancestor) => ancestor.kind,
+        None => AncestorKind::Other,
+    }
 }
 
 /// What a class says of itself before its body; of another node nothing.

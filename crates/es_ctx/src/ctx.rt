@@ -1,26 +1,31 @@
 // The context of a walk.
 
-ghost use Rattle.std.specs.Prelude.{◌≡◌, ◌+◌, ◌<◌, ◌^◌, ◌∷◌, [], ◌++◌, length, true, IsTrue, ◌↔◌, OnOk};
+ghost use Rattle.std.specs.Prelude.{◌≡◌, ◌+◌, ◌-◌, ◌<◌, ◌^◌, [], ◌∷◌, ◌++◌, length, reverse, slice_get, true, IsTrue, ◌↔◌, OnErr, OnOk, Some};
 ghost use Rattle.es_base.specs.declared.table.Sort as sorts;
-ghost use Rattle.es_ctx.specs.Ancestors.{has_statements};
-ghost use Rattle.es_ctx.specs.Stores.{front, opened, closed, placed, filled, innermost, place_of, changed, beside, with_slot, with_var, with_let};
+ghost use Rattle.es_ctx.specs.Ancestors.{going_into, has_statements};
+ghost use Rattle.es_ctx.specs.ScopesAround.{current_scope_id, current_hoist_scope_id, current_block_scope_id};
+ghost use Rattle.es_ctx.specs.Stores.{front, opened, closed, placed, filled, innermost, place_of, kept_beside, changed, with_var, with_let};
 ghost use Rattle.es_node.specs.View.{part_of, is_list, has_shape};
 
 use crate::ancestor::{Ancestor, Parent, has_statements};
+use crate::ancestors::Ancestors;
+use crate::scopes::{hoist_scope, scope_from};
 use crate::stores::{OpenList, Side, keep_beside, place};
-use es_base::ids::NodeId;
+use es_base::diagnostic::Diagnostic;
+use es_base::ids::{NodeId, ScopeId};
 use es_base::list::List;
 use es_node::node::{Node, Part};
 use std::alloc::{AllocError, Global};
 
-/// What a walk carries along: the number that is given next, the nodes around the node at hand, and what is
-/// to be put into the open lists of statements. The innermost of both stand last.
+/// What a walk carries along: the number that is given next, the nodes around the node at hand, what is to be
+/// put into the open lists of statements, and the warnings so far. The innermost of nodes and lists stand last.
 #[derive(Drop)]
 pub struct TraverseCtx {
     pub alloc: Global,
     pub next: u32,
     pub path: List<Ancestor>,
     pub lists: List<OpenList>,
+    pub diagnostics: List<Diagnostic>,
 }
 
 impl TraverseCtx {
@@ -30,12 +35,14 @@ impl TraverseCtx {
         ensures next { result.next ≡ next }
         ensures path { result.path ≡ [] }
         ensures lists { result.lists ≡ [] }
+        ensures diagnostics { result.diagnostics ≡ [] }
     {
         TraverseCtx {
             alloc,
             next,
             path: List::new(alloc),
             lists: List::new(alloc),
+            diagnostics: List::new(alloc),
         }
     }
 
@@ -46,10 +53,22 @@ impl TraverseCtx {
         ensures next { self.new.next ≡ self.old.next + 1 }
         ensures path { self.new.path ≡ self.old.path }
         ensures lists { self.new.lists ≡ self.old.lists }
+        ensures diagnostics { self.new.diagnostics ≡ self.old.diagnostics }
     {
         let id = NodeId(self.next);
         self.next += 1;
         id
+    }
+
+    /// Adds a warning. Fails on allocation failure alone, and then adds none.
+    pub fn warn(&mut self, diagnostic: Diagnostic) -> Result<(), AllocError>
+        ensures next { self.new.next ≡ self.old.next }
+        ensures path { self.new.path ≡ self.old.path }
+        ensures lists { self.new.lists ≡ self.old.lists }
+        ensures ok { OnOk result (self.new.diagnostics ≡ self.old.diagnostics ++ diagnostic ∷ []) }
+        ensures err { OnErr result (self.new.diagnostics ≡ self.old.diagnostics) }
+    {
+        self.diagnostics.push(diagnostic)
     }
 
     /// Goes into a member of a node; its list is opened, if it is one of statements. Fails on allocation
@@ -57,10 +76,12 @@ impl TraverseCtx {
     pub fn open(&mut self, parent: Parent, at: usize, part: &Part) -> Result<(), AllocError>
         requires { has_statements parent.kind at ≡ true → is_list part.now ≡ true }
         ensures next { OnOk result (self.new.next ≡ self.old.next) }
-        ensures path { OnOk result (self.new.path ≡ self.old.path ++ record { parent = parent; at = at } ∷ []) }
+        ensures path { OnOk result (self.new.path ≡ going_into self.old.path parent at) }
         ensures lists { OnOk result (self.new.lists ≡ opened (has_statements parent.kind at) (part_of part.now) self.old.lists) }
+        ensures diagnostics { self.new.diagnostics ≡ self.old.diagnostics }
     {
-        self.path.push(Ancestor { parent, at })?;
+        let ancestor = Ancestor::of(self.path.as_slice(), parent, at);
+        self.path.push(ancestor)?;
         if has_statements(parent.kind, at) {
             let list = OpenList::open(self.alloc, part.as_list())?;
             self.lists.push(list)?;
@@ -78,6 +99,7 @@ impl TraverseCtx {
         ensures lists { OnOk result (self.new.lists ≡ closed (has_statements parent.kind at) self.old.lists) }
         ensures part { OnOk result (part_of part.new ≡ filled (has_statements parent.kind at) self.old.lists (part_of part.old)) }
         ensures shape { OnOk result ((sort : sorts.Sort) → has_shape sort part.new ≡ has_shape sort part.old) }
+        ensures diagnostics { self.new.diagnostics ≡ self.old.diagnostics }
     {
         self.leave();
         if has_statements(parent.kind, at) && !self.lists.is_empty() {
@@ -93,11 +115,64 @@ impl TraverseCtx {
         ensures next { self.new.next ≡ self.old.next }
         ensures path { self.new.path ≡ front self.old.path }
         ensures lists { self.new.lists ≡ self.old.lists }
+        ensures diagnostics { self.new.diagnostics ≡ self.old.diagnostics }
     {
         if !self.path.is_empty() {
             let innermost = self.path.len() - 1;
             let _left = self.path.remove(innermost);
         }
+    }
+
+    /// The innermost place around the node at hand.
+    pub fn parent(&self) -> &Ancestor
+        requires { 0 < length self.now.path }
+        ensures { slice_get self.now.path (length self.now.path - 1) ≡ Some result.now }
+    {
+        self.ancestor(0)
+    }
+
+    /// The place around the node at hand which is the n-th from the innermost outwards, counted from 0.
+    pub fn ancestor(&self, n: usize) -> &Ancestor
+        requires { n < length self.now.path }
+        ensures { slice_get self.now.path (length self.now.path - 1 - n) ≡ Some result.now }
+    {
+        let path = self.path.as_slice();
+        &path[path.len() - 1 - n]
+    }
+
+    /// The places around the node at hand, the innermost first.
+    pub fn ancestors(&self) -> Ancestors<'_>
+        ensures { result ≡ reverse self.now.path }
+    {
+        Ancestors::new(self.path.as_slice())
+    }
+
+    /// The scope that the node at hand is in, by the scopes that the nodes around carry.
+    pub fn current_scope_id(&self) -> ScopeId
+        ensures { result ≡ current_scope_id self.now.path }
+    {
+        ScopeId(scope_from(true, self.ancestors()))
+    }
+
+    /// The scope around the node at hand that `var` is hoisted to.
+    pub fn current_hoist_scope_id(&self) -> ScopeId
+        ensures { result ≡ current_hoist_scope_id self.now.path }
+    {
+        ScopeId(hoist_scope(self.ancestors()))
+    }
+
+    /// The scope of the innermost list of statements around the node at hand.
+    pub fn current_block_scope_id(&self) -> ScopeId
+        ensures { result ≡ current_block_scope_id self.now.path }
+    {
+        ScopeId(scope_from(false, self.ancestors()))
+    }
+
+    /// Whether the node at hand is the root, with no place around.
+    pub fn is_root(&self) -> bool
+        ensures { IsTrue result ↔ (self.now.path ≡ []) }
+    {
+        self.path.is_empty()
     }
 
     /// Whether a list of statements is open, so that statements and declarations can be kept.
@@ -120,7 +195,8 @@ impl TraverseCtx {
         requires { 0 < length self.old.lists }
         ensures next { self.new.next ≡ self.old.next }
         ensures path { self.new.path ≡ self.old.path }
-        ensures lists { OnOk result (self.new.lists ≡ changed (place_of statement.0 self.old.lists) (with_slot (beside side new) statement.0) self.old.lists) }
+        ensures lists { OnOk result (self.new.lists ≡ kept_beside side new statement.0 self.old.lists) }
+        ensures diagnostics { self.new.diagnostics ≡ self.old.diagnostics }
     {
         let place = place_of(statement.0, self.lists.as_slice());
         let lists = self.lists.as_mut_slice();
@@ -135,6 +211,7 @@ impl TraverseCtx {
         ensures next { self.new.next ≡ self.old.next }
         ensures path { self.new.path ≡ self.old.path }
         ensures lists { OnOk result (self.new.lists ≡ changed (innermost self.old.lists) (with_var declarator) self.old.lists) }
+        ensures diagnostics { self.new.diagnostics ≡ self.old.diagnostics }
     {
         let place = self.lists.len() - 1;
         let lists = self.lists.as_mut_slice();
@@ -149,6 +226,7 @@ impl TraverseCtx {
         ensures next { self.new.next ≡ self.old.next }
         ensures path { self.new.path ≡ self.old.path }
         ensures lists { OnOk result (self.new.lists ≡ changed (innermost self.old.lists) (with_let declarator) self.old.lists) }
+        ensures diagnostics { self.new.diagnostics ≡ self.old.diagnostics }
     {
         let place = self.lists.len() - 1;
         let lists = self.lists.as_mut_slice();

@@ -3,5 +3,9 @@
 #![tactic(auto)]
 
 pub mod ancestor;
+pub mod ancestor_kind;
+pub mod ancestors;
+pub mod beside;
 pub mod ctx;
+mod scopes;
 pub mod stores;

@@ -255,7 +255,7 @@ abbrev pub options_functions_in_blocks : Options
 options_functions_in_blocks = options_of false (Some (record { loose = false })) false
 
 abbrev pub heritages_functions_in_blocks : List (ℕ × Bool)
-heritages_functions_in_blocks = (1, true) ∷ (11, false) ∷ (24, false) ∷ []
+heritages_functions_in_blocks = (1, true) ∷ (11, true) ∷ (24, false) ∷ []
 
 -- `class A0 extends (class { static { class D {} } }) {} class A1 extends (class { static { (class D {}); } }) {} class A2 extends (class { static { debugger; } }) {} class A3 extends (class { static { if (1) 2; } }) {} class A4 extends (class { static { l: 1; } }) {} class A5 extends (class { static { for (;;) {} } }) {} class A6 extends (class { static { (class { static x = 1; }); } }) {} class A7 extends (class { static { throw 1; } }) {} class A8 extends (class { static { try {} catch {} } }) {}`
 abbrev pub source_statements_in_blocks : Tree

@@ -25,9 +25,7 @@ use Rattle.es_steps.specs.Standing.{all_numbers, ledger_numbers, all_pass, all_o
 use Rattle.es_steps.specs.Strict.{none_becomes_strict}
 use Rattle.es_lowered.specs.Temporaries.{temporaries_steady}
 use Rattle.es_lowered.specs.Texts.{texts_stay}
-use Rattle.es_lowered.specs.Elements.{elements_ready}
 use Rattle.es_lowered.specs.Timely.{names_timely}
-use Rattle.es_lowered.proofs.ElementsMapped.{elements_ready-mapped}
 use Rattle.es_steps.proofs.StrictMapped.{none_becomes_strict-mapped}
 use Rattle.es_lowered.proofs.TemporariesMapped.{temporaries_steady-mapped}
 use Rattle.es_lowered.proofs.CarriersMapped.{numbers_carried-mapped}
@@ -113,9 +111,9 @@ module _ (first : ℕ) (o : Options) where
   elements-unchanging : Unchanging first (λ l p q. elements_kept o (preorder p) (preorder q))
   elements-unchanging f r l p q = ap₂ (elements_kept o) (preorder-mapped f p) (preorder-mapped f q) ∙ elements_kept-mapped r o (preorder p) (preorder q)
 
-  timely-unchanging : Unchanging first (λ l p q. names_timely first l (private_members p) q && elements_ready first l (preorder q))
+  timely-unchanging : Unchanging first (λ l p q. names_timely first l (private_members p) q)
   timely-unchanging f r l p q =
-      ap₂ (λ a b. a && b) (ap (λ ms. names_timely first (mapped_ledger f l) ms (mapped f q)) (private_members-mapped f p) ∙ names_timely-mapped r l (private_members p) q) (elements_ready-mapped r l q)
+      ap (λ ms. names_timely first (mapped_ledger f l) ms (mapped f q)) (private_members-mapped f p) ∙ names_timely-mapped r l (private_members p) q
 
   temporaries-unchanging : Unchanging first (λ l p q. temporaries_steady first l (private_members p) q)
   temporaries-unchanging f r l p q = ap (λ ms. temporaries_steady first (mapped_ledger f l) ms (mapped f q)) (private_members-mapped f p) ∙ temporaries_steady-mapped r l (private_members p) q
@@ -140,7 +138,7 @@ clauses_law first o ledger p q once old generated met = record {
     strict = kept first ledger p q once old generated (λ l p q. none_becomes_strict first p q) (λ f r l p q. none_becomes_strict-mapped r p q) met.strict;
     texts = kept first ledger p q once old generated (λ l p q. texts_stay first p q) (λ f r l p q. texts_stay-mapped r p q) met.texts;
     initialized = kept first ledger p q once old generated (λ l p q. initializations_stand first l p q l) (initialized-unchanging first o) met.initialized;
-    timely = kept first ledger p q once old generated (λ l p q. names_timely first l (private_members p) q && elements_ready first l (preorder q)) (timely-unchanging first o) met.timely;
+    timely = kept first ledger p q once old generated (λ l p q. names_timely first l (private_members p) q) (timely-unchanging first o) met.timely;
     temporaries = kept first ledger p q once old generated (λ l p q. temporaries_steady first l (private_members p) q) (temporaries-unchanging first o) met.temporaries;
     keys = kept first ledger p q once old generated (λ l p q. keys_clause first o l (private_members p) q (preorder q)) (keys-unchanging first o) met.keys;
     carriers = kept first ledger p q once old generated (λ l p q. numbers_carried first p q) (λ f r l p q. numbers_carried-mapped r p q) met.carriers;

@@ -225,9 +225,7 @@ module _ {first : ℕ} {f : ℕ → ℕ} (r : Renames first f) where
     -- ---- keys of static elements
 
     generated_spelling-mapped : (p : Part) → generated_spelling first there (mapped_part f p) ≡ generated_spelling first ledger p
-    generated_spelling-mapped (child (Node Kind.IdentifierReference m span semantic_id ps)) =
-        rw (string_at-mapped f 0 ps) (ap (λ b. cond b (string_of (at 0 ps) ∷ []) []) (is_generated-mapped f (string_of (at 0 ps)) ledger))
-    generated_spelling-mapped p = refl
+    generated_spelling-mapped p = rw (is_generated_name-mapped f ledger p, spelling-mapped f p) refl
 
     is_key_conversion-mapped : (p : Part) → is_key_conversion first there (mapped_part f p) ≡ is_key_conversion first ledger p
     is_key_conversion-mapped (child (Node Kind.CallExpression m span semantic_id ps)) = rw (at-mapped f 0 ps) (is_helper_callee-mapped (codes "toPropertyKey") (at 0 ps))

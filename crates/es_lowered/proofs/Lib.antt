@@ -3,7 +3,6 @@ pub mod HelperCallsMapped
 pub mod TemporariesMapped
 pub mod TextsMapped
 pub mod TimelyMapped
-pub mod ElementsMapped
 pub mod FunctionsAroundMapped
 pub mod ClassNamesMapped
 pub mod KeptWordsMapped

@@ -234,8 +234,7 @@ behind_tests (Some tested) (k ∷ ks) = not_among tested k ++ behind_tests (Some
 
 module _ (first : ℕ) (ledger : List LedgerEntry) where
   abbrev pub generated_spelling : Part → List String
-  generated_spelling (child (Node Kind.IdentifierReference m span semantic_id ps)) = cond (is_generated (string_of (at 0 ps)) ledger) (string_of (at 0 ps) ∷ []) []
-  generated_spelling p = []
+  generated_spelling p = cond (is_generated_name ledger p) (spelling p ∷ []) []
 
   abbrev pub is_key_conversion : Part → Bool
   is_key_conversion (child (Node Kind.CallExpression m span semantic_id ps)) = is_helper_callee first (codes "toPropertyKey") (at 0 ps)

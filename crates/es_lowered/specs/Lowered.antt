@@ -12,7 +12,6 @@ use Rattle.es_steps.specs.Context.{is_generated}
 use Rattle.es_lowered.specs.Carriers.{numbers_carried}
 use Rattle.es_lowered.specs.ClassNames.{class_numbers, numbers_of, without}
 use Rattle.es_lowered.specs.Definitions.{spelling, field_part, names_class, class_identifiers, definitions_stand, all_temporaries, all_different, elements_kept}
-use Rattle.es_lowered.specs.Elements.{elements_ready}
 use Rattle.es_steps.specs.GeneratedForms.{if_member, is_instance_field, is_static_field, is_function_member}
 use Rattle.es_lowered.specs.KeptKeys.{keys_that_stay}
 use Rattle.es_lowered.specs.HelperCalls.{is_helper_callee, helper_calls_fit}
@@ -320,7 +319,7 @@ pub record MeetsClauses (first : ℕ) (o : Options) (ledger : List LedgerEntry) 
   pub strict : none_becomes_strict first p q ≡ true
   pub texts : texts_stay first p q ≡ true
   pub initialized : initializations_stand first ledger p q ledger ≡ true
-  pub timely : (names_timely first ledger (private_members p) q && elements_ready first ledger (preorder q)) ≡ true
+  pub timely : names_timely first ledger (private_members p) q ≡ true
   pub temporaries : temporaries_steady first ledger (private_members p) q ≡ true
   pub keys : keys_stand first o ledger (private_members p) q (all_temporaries first o ledger (private_members p) q (preorder q)) ≡ true
   pub carriers : numbers_carried first p q ≡ true

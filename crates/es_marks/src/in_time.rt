@@ -93,7 +93,7 @@ fn is_held_among(part: HeldPart, parts: &[HeldPart]) -> bool
 }
 
 /// Whether each of these parts is among the others.
-fn all_held(parts: &[HeldPart], others: &[HeldPart]) -> bool
+pub fn all_held(parts: &[HeldPart], others: &[HeldPart]) -> bool
     ensures { result ≡ all_pairs_stand (held_parts parts.now) (held_parts others.now) }
 {
     for part in parts {

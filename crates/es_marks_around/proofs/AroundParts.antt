@@ -1,13 +1,13 @@
 -- What is around the parts of a node, by its kind.
-use Rattle.std.proofs.Common.{◌≡◌, refl, ap, ◌∙◌, ℕ, List, ◌∷◌, Bool, true, false, cond, ◌&&◌, ◌||◌}
-use Rattle.es_base.specs.Tree.{Tree, Parts, Node, child}
+use Rattle.std.proofs.Common.{◌≡◌, refl, ℕ, List, ◌∷◌, false, cond, ◌&&◌, ◌||◌}
+use Rattle.es_base.specs.Tree.{Tree, Parts, Node}
 use Rattle.es_base.specs.declared.kind.Kind.{Kind}
 use Rattle.es_base.specs.declared.ledger.LedgerEntry.{LedgerEntry}
 use Rattle.es_node.specs.View.{kind_of, number_in, parts_in}
-use Rattle.es_steps.specs.Parts.{at, is_true}
+use Rattle.es_steps.specs.Parts.{at}
 use Rattle.es_steps.specs.PrivateNames.{is_class}
 use Rattle.es_lowered.specs.Definitions.{spelling}
-use Rattle.es_lowered.specs.HelperCalls.{body_runs, runs_with_class}
+use Rattle.es_lowered.specs.HelperCalls.{body_runs}
 use Rattle.es_lowered.specs.Timely.{Around, is_callee_of_call, is_declared, is_held, is_held_arrow, is_hoisted, is_instance_value, runs_later}
 use Rattle.es_marks_around.specs.Inside.{around_within, is_always_held}
 
@@ -38,18 +38,3 @@ not_hoisted ledger kind ps other = refl
 pub no_callee : (kind : Kind) (i : ℕ) → (kind ≡ Kind.CallExpression → ⊥) → is_callee_of_call kind i ≡ false
 no_callee Kind.CallExpression i other = absurd (other refl)
 no_callee kind i other = refl
-
-pub runs_block : (t : Tree) → kind_of t ≡ Kind.StaticBlock → runs_with_class (child t) ≡ true
-runs_block (Node kind m span semantic_id ps) is = ap (λ k. runs_with_class (child (Node k m span semantic_id ps))) is
-
-pub runs_field : (t : Tree) → kind_of t ≡ Kind.PropertyDefinition → runs_with_class (child t) ≡ is_true (at 3 (parts_in t))
-runs_field (Node kind m span semantic_id ps) is = ap (λ k. runs_with_class (child (Node k m span semantic_id ps))) is
-
-pub runs_not : (t : Tree) → (kind_of t ≡ Kind.StaticBlock → ⊥) → (kind_of t ≡ Kind.PropertyDefinition → ⊥) → runs_with_class (child t) ≡ false
-runs_not (Node Kind.StaticBlock m span semantic_id ps) a b = absurd (a refl)
-runs_not (Node Kind.PropertyDefinition m span semantic_id ps) a b = absurd (b refl)
-runs_not (Node kind m span semantic_id ps) a b = refl
-
-pub no_body : (t : Tree) → (kind_of t ≡ Kind.ClassBody → ⊥) → body_runs (child t) ≡ false
-no_body (Node Kind.ClassBody m span semantic_id ps) other = absurd (other refl)
-no_body (Node kind m span semantic_id ps) other = refl

@@ -1,7 +1,7 @@
 -- The heads of lists of statements, statement by statement.
-use Rattle.std.proofs.Common.{◌≡◌, refl, ap, ◌∙◌, ℕ, List, [], ◌∷◌, ◌++◌, Bool, true, false, cond, ◌&&◌}
+use Rattle.std.proofs.Common.{◌≡◌, refl, ap, List, [], ◌∷◌, ◌++◌, true, false, cond, ◌&&◌}
 use Rattle.std.specs.Prelude.{not}
-use Rattle.es_base.specs.Tree.{Tree, Parts, Node, end, more, child}
+use Rattle.es_base.specs.Tree.{Tree, Parts, Node, more, child}
 use Rattle.es_base.specs.declared.kind.Kind.{Kind}
 use Rattle.es_node.specs.View.{kind_of, number_in, parts_in}
 use Rattle.es_steps.specs.KeptNodes.{statement_list}

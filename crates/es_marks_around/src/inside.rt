@@ -3,7 +3,7 @@
 ghost use Rattle.std.specs.Prelude.{◌≡◌, ◌∷◌, ◌&&◌, ◌||◌, cond, not};
 ghost use Rattle.std.specs.Str.{chars};
 ghost use Rattle.es_base.specs.Numbered as numbered;
-ghost use Rattle.es_base.specs.Tree.{child, trees};
+ghost use Rattle.es_base.specs.Tree.{child};
 ghost use Rattle.es_node.specs.View.{kind_of, number_in, parts_in, parts_of};
 ghost use Rattle.es_steps.specs.Expressions as expressions;
 ghost use Rattle.es_steps.specs.Parts.{at};
@@ -26,9 +26,9 @@ use es_marks::around::{
 };
 use es_node::node::{Node, Part};
 use es_owed_initialized::kinds::{is_arrow, is_class, is_function};
+use es_owed_initialized::runs::body_runs;
 use es_owed_initialized::spelling::spelling_at;
 use es_seen_names::parts::{is_true_at, string_at};
-use es_tree::class::ClassBodyRef;
 use es_validity::jumps::is_loop;
 
 /// What is around the i-th part of a node, where the first new node has this number.
@@ -234,42 +234,6 @@ fn class_name_inside<'a>(around: &Around<'_, 'a>, node: &'a Node) -> &'a str
         spelling_at(node.parts(), 0)
     } else {
         around.class_name
-    }
-}
-
-/// Whether an element runs with its class: a static block, and a static field.
-#[tactic(auto, using(crate::proofs::AroundParts::runs_block, crate::proofs::AroundParts::runs_field, crate::proofs::AroundParts::runs_not))]
-pub fn runs_with_class(element: &Node) -> bool
-    ensures { result ≡ calls.runs_with_class (child element.now) }
-{
-    match element.kind() {
-        // static {}
-        Kind::StaticBlock => true,
-        // static a = 1;
-        Kind::PropertyDefinition => is_true_at(element.parts(), 3),
-        _ => false,
-    }
-}
-
-fn any_runs(elements: &[Node]) -> bool
-    ensures { result ≡ calls.any_runs (trees elements.now) }
-{
-    for element in elements {
-        if runs_with_class(element) {
-            return true;
-        }
-    }
-    false
-}
-
-/// Whether the body has an element that runs with the class.
-#[tactic(auto, using(crate::proofs::AroundParts::no_body))]
-fn body_runs(body: &Node) -> bool
-    ensures { result ≡ calls.body_runs (child body.now) }
-{
-    match body.kind() {
-        Kind::ClassBody => any_runs(ClassBodyRef::from_node(body).body),
-        _ => false,
     }
 }
 

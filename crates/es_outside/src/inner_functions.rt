@@ -122,17 +122,12 @@ fn add_branches<'a>(
     }
 }
 
-/// Adds the name of the function, if it is neither async nor a generator.
+/// Adds the name of the function.
 fn add_own_name<'a>(node: &'a Node, names: &mut Vec<&'a str>) -> Result<(), AllocError>
     requires { kind_of node.now ≡ Kind.FunctionDeclaration }
     ensures { OnOk result (texts names.new.items ≡ texts names.old.items ++ function_name (child node.now)) }
 {
-    let function = FunctionDeclarationRef::from_node(node);
-    if function.is_async || function.generator {
-        Ok(())
-    } else {
-        add_spelling(function.id, names)
-    }
+    add_spelling(FunctionDeclarationRef::from_node(node).id, names)
 }
 
 /// Adds the spelling of the identifier.

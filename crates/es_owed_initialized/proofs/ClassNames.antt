@@ -23,16 +23,9 @@ pub names_nothing : (n : ℕ) (ledger : List LedgerEntry) (rs : List Reference) 
 names_nothing n ledger rs bs (Node Kind.IdentifierReference m span semantic_id ps) other = absurd (other refl)
 names_nothing n ledger rs bs (Node kind m span semantic_id ps) other = refl
 
-among : (bs : List ℕ) (r : Referent) → is_bound_among bs (Some r) ≡ own.is_bound_among bs r
+pub among : (bs : List ℕ) (r : Referent) → is_bound_among bs (Some r) ≡ own.is_bound_among bs r
 among bs (Bound b) = refl
 among bs (Free s) = refl
-
-pub first_reference : (bs : List ℕ) (m : ℕ) (r : Reference) (rs : List Reference) → is_bound_among bs (referent_of m (r ∷ rs)) ≡ cond (nat_eq m r.number) (own.is_bound_among bs r.to) (is_bound_among bs (referent_of m rs))
-first_reference bs m r rs = here (nat_eq m r.number)
-  where
-    here : (b : Bool) → is_bound_among bs (cond b (Some r.to) (referent_of m rs)) ≡ cond b (own.is_bound_among bs r.to) (is_bound_among bs (referent_of m rs))
-    here true = among bs r.to
-    here false = refl
 
 -- ---- identifiers
 

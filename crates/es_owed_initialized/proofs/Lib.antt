@@ -5,4 +5,5 @@ pub mod InnerClasses
 pub mod KeyNames
 pub mod PairsBehind
 pub mod Placed
+pub mod RunningElements
 pub mod Spellings

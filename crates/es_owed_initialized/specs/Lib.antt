@@ -2,4 +2,5 @@ pub mod Behind
 pub mod Forms
 pub mod Initial
 pub mod Keys
+pub mod Meanings
 pub mod Placed

@@ -10,6 +10,7 @@ ghost use Rattle.es_lowered.specs.OwnNames as names;
 ghost use Rattle.es_steps.specs.LoweredClasses.{referent_of};
 ghost use Rattle.es_steps.specs.Parts.{at};
 
+use crate::meaning::reference_at;
 use es_base::kind::Kind;
 use es_base::ledger::{GeneratedKind, LedgerEntry};
 use es_binding_faults::bound::is_binding_identifier;
@@ -54,16 +55,14 @@ fn is_class_temporary(class: u32, kind: Option<GeneratedKind>) -> bool
 }
 
 /// Whether the reference of this number means one of these identifiers.
-#[tactic(auto, using(crate::proofs::ClassNames::first_reference))]
-fn means_one(identifiers: &[u32], number: u32, references: &[Reference]) -> bool
+#[tactic(auto, using(crate::proofs::ClassNames::among))]
+pub fn means_one(identifiers: &[u32], number: u32, references: &[Reference]) -> bool
     ensures { result ≡ spec.is_bound_among identifiers.now (referent_of number (references_of references.now)) }
 {
-    for reference in references {
-        if number == reference.node.0 {
-            return is_bound_among(identifiers, *reference);
-        }
+    match reference_at(number, references) {
+        Some(reference) => is_bound_among(identifiers, reference),
+        None => false,
     }
-    false
 }
 
 /// Whether the reference means one of these identifiers.

@@ -97,7 +97,7 @@ fn is_loose_key_helper(first: u32, node: &Node) -> bool
 
 /// Whether the node is a member of this name of the new `babelHelpers`.
 #[tactic(auto, using(crate::proofs::GivenForms::callee_of, crate::proofs::GivenForms::no_callee))]
-fn is_helper_callee(first: u32, helper: &str, node: &Node) -> bool
+pub fn is_helper_callee(first: u32, helper: &str, node: &Node) -> bool
     ensures { result ≡ calls.is_helper_callee first (chars helper.now) (child node.now) }
 {
     match node.kind() {
@@ -110,8 +110,9 @@ fn is_helper_callee(first: u32, helper: &str, node: &Node) -> bool
     }
 }
 
+/// Whether the node is the new `babelHelpers`.
 #[tactic(auto, using(crate::proofs::GivenForms::no_helpers))]
-fn is_babel_helpers(first: u32, node: &Node) -> bool
+pub fn is_babel_helpers(first: u32, node: &Node) -> bool
     ensures { result ≡ is_babel_helpers first node.now }
 {
     match node.kind() {

@@ -9,6 +9,8 @@ pub mod initializing;
 pub mod inner;
 pub mod keys;
 pub mod kinds;
+pub mod meaning;
 pub mod members;
 pub mod numbers;
+pub mod runs;
 pub mod spelling;

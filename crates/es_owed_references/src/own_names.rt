@@ -9,16 +9,13 @@ ghost use Rattle.es_base.specs.Tree.{nullable};
 ghost use Rattle.es_binding_faults.specs.Seen.{seen};
 ghost use Rattle.es_lowered.specs.ClassNames as classes;
 ghost use Rattle.es_lowered.specs.OwnNames as spec;
-ghost use Rattle.es_owed_references.specs.Moved.{functions_of};
 ghost use Rattle.es_owed_references.specs.OwnNameReads.{reads_by};
-ghost use Rattle.es_owed_references.specs.Reaching.{reads_besides, reads_of, written_numbers};
 ghost use Rattle.es_references.specs.Frames.{ids};
 ghost use Rattle.es_references.specs.References.{references_of};
 ghost use Rattle.es_steps.specs.References.{has_number};
 
-use crate::moved::{MovedFunction, moved_functions, outside_class};
+use crate::lowered_reads::Reads;
 use crate::numbers::{any_among, set_of};
-use crate::reaching::{NameRead, name_reads, reached};
 use crate::reads::{is_read_in, nodes_of, references_to};
 use es_base::ids::NodeId;
 use es_base::kind::Kind;
@@ -188,77 +185,6 @@ fn add_class_identifier(node: &Node, identifiers: &mut Vec<NodeId>) -> Result<()
     }
 }
 
-/// What is read in a lowered program of these nodes: its references, its functions of generated names by which they are called,
-/// and the reads of names.
-#[derive(Drop)]
-struct Reads<'r, 'a> {
-    ledger: &'r [LedgerEntry],
-    references: &'r [Reference<'a>],
-    nodes: &'r [&'a Node],
-    functions: Vec<MovedFunction<'a>>,
-    names: Vec<NameRead<'a>>,
-
-    ghost functions_are: { functions_of functions.items ≡ classes.moved_functions ledger.now (seen nodes.now) },
-    ghost names_are: { reads_of names.items ≡ reads_besides (written_numbers (references_of references.now)) (seen nodes.now) },
-}
-
-impl<'r, 'a> Reads<'r, 'a> {
-    /// Those of these. Fails on allocation failure alone.
-    fn of(
-        alloc: Global,
-        ledger: &'r [LedgerEntry],
-        references: &'r [Reference<'a>],
-        nodes: &'r [&'a Node],
-    ) -> Result<Reads<'r, 'a>, AllocError>
-        ensures ledger { IfOk result (λ r. r.ledger.now ≡ ledger.now) }
-        ensures references { IfOk result (λ r. references_of r.references.now ≡ references_of references.now) }
-        ensures nodes { IfOk result (λ r. seen r.nodes.now ≡ seen nodes.now) }
-    {
-        let functions = moved_functions(alloc, ledger, nodes)?;
-        let names = name_reads(alloc, references, nodes)?;
-        Ok(Reads {
-            ledger,
-            references,
-            nodes,
-            functions,
-            names,
-        })
-    }
-
-    /// The functions that do not hold this node. Fails on allocation failure alone.
-    #[tactic(auto, using(crate::proofs::Steps::same_outside))]
-    fn functions_outside(
-        &self,
-        alloc: Global,
-        number: u32,
-    ) -> Result<Vec<MovedFunction<'a>>, AllocError>
-        ensures { IfOk result (λ r. functions_of r.items ≡ classes.outside_class (number ∷ []) (classes.moved_functions self.now.ledger.now (seen self.now.nodes.now))) }
-    {
-        let numbers = [number];
-        let inside = set_of(alloc, &numbers)?;
-        outside_class(alloc, &inside, self.functions.as_slice())
-    }
-
-    /// These references, with those to functions that hold one of them, and so on. Fails on allocation failure alone.
-    #[tactic(auto, using(crate::proofs::Steps::reaching_steps))]
-    fn reaching(
-        &self,
-        alloc: Global,
-        functions: &[MovedFunction],
-        numbers: &[u32],
-    ) -> Result<Vec<u32>, AllocError>
-        ensures { IfOk result (λ r. r.items ≡ classes.reaching self.now.ledger.now (functions_of functions.now) (references_of self.now.references.now) (seen self.now.nodes.now) numbers.now) }
-    {
-        reached(
-            alloc,
-            self.ledger,
-            functions,
-            self.names.as_slice(),
-            numbers,
-        )
-    }
-}
-
 fn none_reads_itself(
     alloc: Global,
     declared: &DeclaredClasses,
@@ -338,7 +264,8 @@ fn is_read_early(
 ) -> Result<bool, AllocError>
     ensures { IfOk result (λ holds. holds ≡ classes.any_among (classes.numbers_of (preorder_of_part (nullable (option_map (λ x. x.now) value.entry)))) (classes.reaching reads.now.ledger.now (classes.outside_class (declarator ∷ []) (classes.moved_functions reads.now.ledger.now (seen reads.now.nodes.now))) (references_of reads.now.references.now) (seen reads.now.nodes.now) (spec.references_to (identifier ∷ []) (references_of reads.now.references.now)))) }
 {
-    let functions = reads.functions_outside(alloc, declarator)?;
+    let declarators = [declarator];
+    let functions = reads.functions_outside(alloc, &declarators)?;
     let identifiers = [identifier];
     let numbers = references_to(alloc, &identifiers, reads.references)?;
     let reached = reads.reaching(alloc, functions.as_slice(), numbers.as_slice())?;

@@ -1,1 +1,3 @@
+pub mod CalledByClass
 pub mod OwnMarks
+pub mod WalkedMarks

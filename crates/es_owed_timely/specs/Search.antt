@@ -1,6 +1,6 @@
 -- The marks that code looks for, as definitions have them.
-use Rattle.std.specs.Prelude.{ℕ, List, Bool, Option}
-use Rattle.es_base.specs.Tree.{Part, Parts}
+use Rattle.std.specs.Prelude.{ℕ, List, Bool, false, Option}
+use Rattle.es_base.specs.Tree.{Tree, Part, Parts}
 use Rattle.es_base.specs.declared.kind.Kind.{Kind}
 use Rattle.es_lowered.specs.ClassNames.{is_asked}
 use Rattle.es_lowered.specs.Timely as spec
@@ -39,3 +39,28 @@ module _ (s : Search) where
 
   abbrev pub marks_behind : Around → Option MarkForm → Kind → ℕ → Parts → List Mark
   marks_behind = spec.marks_behind s.first s.ledger.now (private_members_of s.members.now) (asked_by s.asked) s.leading.now
+
+  abbrev pub marks : Around → Option MarkForm → Tree → List Mark
+  marks = spec.marks s.first s.ledger.now (private_members_of s.members.now) (asked_by s.asked) s.leading.now
+
+  abbrev pub marks_in : Bool → Bool → (ℕ → Around) → (ℕ → Bool) → Option MarkForm → Parts → List Mark
+  marks_in = spec.marks_in s.first s.ledger.now (private_members_of s.members.now) (asked_by s.asked) s.leading.now
+
+  -- of a part that is no list of elements
+  abbrev pub marks_at : Around → Option MarkForm → Part → List Mark
+  marks_at = spec.marks_at s.first s.ledger.now (private_members_of s.members.now) (asked_by s.asked) s.leading.now false
+
+  abbrev pub marks_of : Around → Option MarkForm → Parts → List Mark
+  marks_of = spec.marks_of s.first s.ledger.now (private_members_of s.members.now) (asked_by s.asked) s.leading.now
+
+  abbrev pub key_marks : Around → Parts → List Mark
+  key_marks = spec.key_marks s.first s.ledger.now (private_members_of s.members.now) (asked_by s.asked) s.leading.now
+
+  abbrev pub value_marks : Bool → Around → Parts → List Mark
+  value_marks = spec.value_marks s.first s.ledger.now (private_members_of s.members.now) (asked_by s.asked) s.leading.now
+
+  abbrev pub let_form : Kind → ℕ → Parts → Option MarkForm
+  let_form = spec.let_form s.first s.ledger.now (private_members_of s.members.now) (asked_by s.asked) s.leading.now
+
+  abbrev pub is_given : Kind → Parts → ℕ → Bool
+  is_given = spec.is_given s.first s.ledger.now (private_members_of s.members.now) (asked_by s.asked) s.leading.now

@@ -1,4 +1,7 @@
-//! Marks of generated names in a program. So far: which marks are asked for, and those that a node has by itself.
+//! That generated names are declared and given values in front of where they are used.
 #![tactic(auto)]
 
+pub mod functions;
 pub mod search;
+pub mod timely;
+pub mod walk;

@@ -237,7 +237,7 @@ fn add_needed<'a>(
 }
 
 /// Whether a name of this kind has to be given in front of this class.
-fn is_needed_by(class: u32, members: &[PrivateMember], kind: GeneratedKind) -> bool
+pub fn is_needed_by(class: u32, members: &[PrivateMember], kind: GeneratedKind) -> bool
     ensures { result ≡ spec.is_needed_by class (private_members_of members.now) kind }
 {
     match kind {

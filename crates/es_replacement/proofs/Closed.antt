@@ -9,7 +9,7 @@ use Rattle.es_steps.specs.GeneratedForms.{is_named, weak_map, static_field, priv
 use Rattle.es_steps.specs.Helpers.{Helper, DefineProperty, ClassPrivateFieldInitSpec, ClassPrivateMethodInitSpec, ClassPrivateFieldGet2, ClassPrivateFieldSet2, AssertClassBrand, ToSetter, CheckInRHS, ReadOnlyError, WriteOnlyError, SuperPropGet, SuperPropSet, ClassPrivateFieldLooseBase, SetFunctionName, ToPropertyKey, helper_named}
 use Rattle.es_steps.specs.PrivateNames.{PrivateMember, PrivateReference, member_at, reference_of}
 use Rattle.es_steps.specs.Expressions.{operation_of, the_code, value_code, literal_code, is_arguments, arguments_of, name_or_arguments, spelling_of, key_code, super_member_at, checked_object, member_on, member_code, is_made_private, names_class, private_on, private_field_of, test_in, private_in_of, target_of, is_logical, without_sign, assignment_code, void_code, deleted, delete_code, unary_operation, unary_code, quiet_logical, spliced, deleted_as, ended_alone, chain_or, callee_of, checked_callee, call_code, tag_of, is_numeric}
-use Rattle.es_steps.specs.Statements.{is_other_directive, declarator_of, function_or_new, function_code, hoisted_function, declared_function, around_plain, value_or_undefined, private_element, field_of, is_constructor_key, method_or_constructor, is_declared_as, method_of}
+use Rattle.es_steps.specs.Statements.{is_other_directive, declarator_of, function_or_new, function_code, hoisted_function, declared_function, value_or_undefined, private_element, field_of, is_constructor_key, method_or_constructor, is_declared_as, method_of}
 use Rattle.es_steps.specs.Scopes.{Declaration}
 use Rattle.es_steps.specs.Context.{Context, NameKind, Fixed, Changing, Generated, StaticMethod, MeansClass, name_kind, new_here, is_constructor, is_generated_private}
 use Rattle.es_steps.specs.Events.{Delete}
@@ -455,7 +455,7 @@ module _ (c : Context) where
   pattern_code-closed kind m ps = statement_code-closed kind m ps
 
   class_form_code-closed : (kind : Kind) (m : ℕ) (ps : Members) → Closed (class_form_code c kind m ps)
-  class_form_code-closed Kind.FunctionDeclaration m ps = declared_function-closed (around_plain (flag_of (at 3 ps) || flag_of (at 4 ps)) c.around) m (at 0 ps) (function_code c m None ps) (function_or_new-closed (new_here c m) m _ None _ _)
+  class_form_code-closed Kind.FunctionDeclaration m ps = declared_function-closed c.around m (at 0 ps) (function_code c m None ps) (function_or_new-closed (new_here c m) m _ None _ _)
   class_form_code-closed Kind.FunctionExpression m ps = function_or_new-closed (new_here c m) m _ _ _ _
   class_form_code-closed Kind.ArrowFunctionExpression m ps = function_or_new-closed (new_here c m) m _ _ _ _
   class_form_code-closed Kind.ClassDeclaration m ps = refl

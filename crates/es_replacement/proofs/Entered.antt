@@ -2,13 +2,14 @@
 use Rattle.std.specs.Prelude.{◌≡◌, refl, ℕ, suc, List, [], ◌∷◌, ◌++◌, Bool, true, false, cond, ◌&&◌, ◌||◌, not, Option, Some, None}
 use Rattle.std.proofs.Common.{◌∙◌, ap, ap₂, sym}
 use Rattle.es_steps.specs.Code.{Code, Codes, Target, Callee, FunctionForm, Opened, binding, rest, member, private_member, super_member, private_in, assign, compound, logical, logical_assign, update, call, tag, construct, super_call, sequence, template, operation, chain, short, tested, pattern, takes, steps, gives_to, export_default, function, new_function, class_code, field, private_field, method, private_method, constructor, static_block, generated_element, from_call, from_member, key_of, define, private_initialize, call_arrow, call_closure, initializers, give_function, give_class, to_name, to_member, to_private, to_super, to_setter, to_pattern, to_default, plain, on_member, on_private, on_super, with_receiver, checked, on_chain, behind_test, done, and}
-use Rattle.es_steps.specs.Entries.{Entry, Method, is_string_among, without, parameter_of, parameters_of, constructor_form, constructor_parameters, no_constructor, if_one, in_order, all_identifiers, entered, ev_parameter, ev_parameters, ev_given, ev_body, ev_construction, listed, value_in, after_run, function_entry, class_entry, some_value, method_with, Entries, heritage_in, behind_key, methods_in, keys_stay, behind_code, behind_all, behind_target, behind_callee, behind_arguments, behind_parameters, behind_fields, behind_leading, leading, elements_start, entries, target_entries, pattern_entries, taken_entries, take_entries, callee_entries, all_entries, held_entries, parameter_entries, key_entries, key_entry, static_entries, static_entry, field_entries, field_entry, function_entries, element_function}
+use Rattle.es_steps.specs.Entries.{Entry, Method, is_string_among, without, parameter_of, parameters_of, constructor_form, constructor_parameters, no_constructor, if_one, in_order, all_identifiers, entered, ev_parameter, ev_parameters, ev_given, ev_body, ev_construction, listed, value_in, after_run, is_quiet_run, function_entry, class_entry, some_value, method_with, Entries, heritage_in, behind_key, methods_in, keys_stay, behind_code, behind_all, behind_target, behind_callee, behind_arguments, behind_parameters, behind_fields, behind_leading, leading, elements_start, entries, target_entries, pattern_entries, taken_entries, take_entries, callee_entries, all_entries, held_entries, parameter_entries, key_entries, key_entry, static_entries, static_entry, field_entries, field_entry, function_entries, element_function}
 use Rattle.es_steps.specs.Evaluation.{added, only_private, Environment, Run, Evaluation, gives, event, bind, bind_parameters, write_ready, ev, ev_target, ev_take, ev_keys, ev_static, ev_field, ev_initializers}
 use Rattle.es_steps.specs.Events.{Take, Index, Rest, Operate, SuperCallWithAll, EnterBody}
 use Rattle.es_steps.specs.GeneratedForms as forms
 use Rattle.es_steps.specs.Opening.{all_arguments, assigned_in, assigned_in_all}
 use Rattle.es_steps.specs.References.{has_number}
 use Rattle.es_steps.specs.Values.{String, Value, Undefined, ThisOf, ResultOf}
+use Rattle.es_steps.proofs.PartsMapped.{cond-mapped}
 use Rattle.es_replacement.proofs.Admitted.{of_function}
 use Rattle.es_replacement.proofs.Environments.{left, right, nothing_added, added_behind, without-append, within_commutes}
 use Rattle.es_replacement.proofs.Evaluations.{ev-replaced, ev_target-replaced, ev_take-replaced, ev_callee-replaced, ev_all-replaced, ev_keys-replaced, ev_key-replaced, ev_static-replaced, ev_field-replaced, ev_initializers-replaced}
@@ -75,14 +76,25 @@ module _ (names : List String) where
   after_run-without s None = refl
   after_run-without s (Some r) = refl
 
+  is_quiet_run-without : (r : Option Run) → is_quiet_run (run_without names r) ≡ is_quiet_run r
+  is_quiet_run-without None = refl
+  is_quiet_run-without (Some r) = refl
+
   pub listed-same : {x y : Evaluation} → Replaces names x y → (s : Environment) → listed (x (without names s)) ≡ listed (y s)
   listed-same {y = y} all s = ap listed (all.same s) ∙ listed-without (y s)
 
   value-same : {x y : Evaluation} → Replaces names x y → (s : Environment) → value_in (x (without names s)) ≡ value_in (y s)
   value-same {y = y} all s = ap value_in (all.same s) ∙ value_in-without (y s)
 
+  quiet-same : {x y : Evaluation} → Replaces names x y → (s : Environment) → is_quiet_run (x (without names s)) ≡ is_quiet_run (y s)
+  quiet-same {y = y} all s = ap is_quiet_run (all.same s) ∙ is_quiet_run-without (y s)
+
   pub after-same : {x y : Evaluation} → Replaces names x y → (s : Environment) → after_run (without names s) (x (without names s)) ≡ without names (after_run s (y s))
   after-same {y = y} all s = ap (after_run (without names s)) (all.same s) ∙ after_run-without s (y s)
+
+  extends_if : (s t : Environment) (b : Bool) → Extends s t → Extends s (cond b t s)
+  extends_if s t true all = all
+  extends_if s t false all = nothing_added s
 
   after_adds : (s : Environment) (r : Option Run) → OnlyAdds s r → Extends s (after_run s r)
   after_adds s None all = nothing_added s
@@ -214,8 +226,13 @@ module _ (names : List String) (opens there : Opened → Evaluation) (follow : A
   behind_static-alike : (n : ℕ) (s : Environment) (c : Code) → not (is_hole c) ≡ true → admits names plain_ones c ≡ true → after_run (without names s) (ev_static opens n Undefined (filled a c) (without names s)) ≡ without names (after_run s (ev_static there n Undefined (filled b c) s))
   behind_static-alike n s c h p = after-same names (ev_static-replaced names opens there follow plain_ones a b at_hole n Undefined c h p) s
 
+  quiet_static-alike : (n : ℕ) (s : Environment) (c : Code) → not (is_hole c) ≡ true → admits names plain_ones c ≡ true → is_quiet_run (ev_static opens n Undefined (filled a c) (without names s)) ≡ is_quiet_run (ev_static there n Undefined (filled b c) s)
+  quiet_static-alike n s c h p = quiet-same names (ev_static-replaced names opens there follow plain_ones a b at_hole n Undefined c h p) s
+
   behind_leading-alike : (n : ℕ) (s : Environment) (cs : Codes) → none_is_hole cs ≡ true → admits_all names plain_ones cs ≡ true → behind_leading opens first late n (without names s) (filled_all a cs) ≡ without names (behind_leading there first late n s (filled_all b cs))
-  behind_leading-alike n s (and (generated_element x c) cs) h p = let q1 : admits names plain_ones (generated_element x c) ≡ true = left _ _ p in rw (behind_static-alike n s (generated_element x c) refl q1) (behind_leading-alike n (after_run s (ev_static there n Undefined (filled b (generated_element x c)) s)) cs h (right _ _ p))
+  behind_leading-alike n s (and (generated_element x c) cs) h p = let q1 : admits names plain_ones (generated_element x c) ≡ true = left _ _ p in
+      rw (quiet_static-alike n s (generated_element x c) refl q1, behind_static-alike n s (generated_element x c) refl q1)
+      (cond-mapped (without names) (is_quiet_run (ev_static there n Undefined (filled b (generated_element x c)) s)) _ s (behind_leading-alike n (after_run s (ev_static there n Undefined (filled b (generated_element x c)) s)) cs h (right _ _ p)) refl)
   behind_leading-alike n s (and (field false form k c) cs) h p = behind_leading-alike n s cs h (right _ _ p)
   behind_leading-alike n s (and (private_field false d c) cs) h p = behind_leading-alike n s cs h (right _ _ p)
   behind_leading-alike n s (and (method is_static kind k f) cs) h p = behind_leading-alike n s cs h (right _ _ p)
@@ -227,7 +244,7 @@ module _ (names : List String) (opens there : Opened → Evaluation) (follow : A
   leading-adds : (n : ℕ) (s : Environment) (cs : Codes) → none_is_hole cs ≡ true → admits_all names plain_ones cs ≡ true → Extends s (behind_leading there first late n s (filled_all b cs))
   leading-adds n s (and (generated_element x c) cs) h p =
       let t : Environment = after_run s (ev_static there n Undefined (filled b (generated_element x c)) s) in
-      added_behind s t (behind_leading there first late n t (filled_all b cs)) (after_adds names s (ev_static there n Undefined (filled b (generated_element x c)) s) ((ev_static-replaced names opens there follow plain_ones a b at_hole n Undefined (generated_element x c) refl (left _ _ p)).adds s)) (leading-adds n t cs h (right _ _ p))
+      extends_if names s (behind_leading there first late n t (filled_all b cs)) (is_quiet_run (ev_static there n Undefined (filled b (generated_element x c)) s)) (added_behind s t (behind_leading there first late n t (filled_all b cs)) (after_adds names s (ev_static there n Undefined (filled b (generated_element x c)) s) ((ev_static-replaced names opens there follow plain_ones a b at_hole n Undefined (generated_element x c) refl (left _ _ p)).adds s)) (leading-adds n t cs h (right _ _ p)))
   leading-adds n s (and (field false form k c) cs) h p = leading-adds n s cs h (right _ _ p)
   leading-adds n s (and (private_field false d c) cs) h p = leading-adds n s cs h (right _ _ p)
   leading-adds n s (and (method is_static kind k f) cs) h p = leading-adds n s cs h (right _ _ p)

@@ -9,7 +9,7 @@ use Rattle.es_steps.specs.Events.{Detail, Operand, Empty, Index, Rest, OfKind, T
 use Rattle.es_steps.specs.Expressions.{the_code, key_code, key_details, target_of}
 use Rattle.es_steps.specs.Members.{Member, Members, code, absent, list, string, more, end, at, from, before, operands, details, codes_in, codes_of, word_of, flag_of}
 use Rattle.es_steps.specs.PrivateNames.{member_at}
-use Rattle.es_steps.specs.Statements.{held_from, case_code, given_codes, catch_code, is_initialized, initialized_first, head_initializers, declared_target, given_targets, head_targets, for_each_code, is_other_directive, expression_code, declarator_of, declarator_code, return_code, suspension_code, default_export_code, default_code, rest_code, pattern_property_code, target_number, taken, taken_element, elements_from, members_of_list, array_pattern_code, taken_properties, object_pattern_code, form_of, function_or_new, own_name_of, function_code, function_expression_code, hoisted_function, declared_function, around_plain, is_new_return, ends_with_return, arrow_body, function_declaration_code, arrow_code, declared_by, elements_of, class_of, value_or_undefined, is_name_or_length, is_absent, field_form, private_element, field_of, field_code, is_constructor_key, method_or_constructor, is_declared_as, method_of, method_code}
+use Rattle.es_steps.specs.Statements.{held_from, case_code, given_codes, catch_code, is_initialized, initialized_first, head_initializers, declared_target, given_targets, head_targets, for_each_code, is_other_directive, expression_code, declarator_of, declarator_code, return_code, suspension_code, default_export_code, default_code, rest_code, pattern_property_code, target_number, taken, taken_element, elements_from, members_of_list, array_pattern_code, taken_properties, object_pattern_code, form_of, function_or_new, own_name_of, function_code, function_expression_code, hoisted_function, declared_function, is_new_return, ends_with_return, arrow_body, function_declaration_code, arrow_code, declared_by, elements_of, class_of, value_or_undefined, is_name_or_length, is_absent, field_form, private_element, field_of, field_code, is_constructor_key, method_or_constructor, is_declared_as, method_of, method_code}
 use Rattle.es_steps.specs.GeneratedForms.{opened_body}
 use Rattle.es_steps.specs.References.{declared}
 use Rattle.es_steps.specs.Scopes.{Declaration}
@@ -294,10 +294,8 @@ module _ (c : Context) (fill : ℕ → Code) (unasked : (n : ℕ) → is_unasked
 
   pub function_declaration_code-filled : (g : ℕ) (ps : Members) → function_declaration_code c g (filled_members fill ps) ≡ filled fill (function_declaration_code c g ps)
   function_declaration_code-filled g ps =
-      let around : Option (List Declaration) = around_plain (flag_of (at 3 ps) || flag_of (at 4 ps)) c.around in
-      ap₂ (λ a b. declared_function (around_plain (a || b) c.around) g (at 0 (filled_members fill ps)) (function_code c g None (filled_members fill ps))) (flag_at-filled fill 3 ps) (flag_at-filled fill 4 ps)
-      ∙ ap₂ (declared_function around g) (at-filled fill 0 ps) (function_code-filled g None ps)
-      ∙ declared_function-filled c.first_new fill unasked around g (at 0 ps) (function_code c g None ps)
+      ap₂ (declared_function c.around g) (at-filled fill 0 ps) (function_code-filled g None ps)
+      ∙ declared_function-filled c.first_new fill unasked c.around g (at 0 ps) (function_code c g None ps)
 
   arrow_body-unasked : (q : Code) → is_unasked c.first_new q ≡ true → arrow_body false q ≡ q
   arrow_body-unasked (steps cs) h = absurd (cc)

@@ -22,7 +22,6 @@ use Rattle.es_steps.specs.References.{has_number}
 use Rattle.es_steps.specs.Strict.{none_becomes_strict}
 use Rattle.es_lowered.specs.Temporaries.{temporaries_steady}
 use Rattle.es_lowered.specs.Texts.{texts_stay}
-use Rattle.es_lowered.specs.Elements.{elements_ready}
 use Rattle.es_lowered.specs.Timely.{names_timely}
 use Rattle.es_steps.specs.declared.options.Options.{Options}
 
@@ -49,7 +48,7 @@ clauses o ledger p q =
     ∷ none_becomes_strict (nodes p) p q
     ∷ texts_stay (nodes p) p q
     ∷ initializations_stand (nodes p) ledger p q ledger
-    ∷ (names_timely (nodes p) ledger (private_members p) q && elements_ready (nodes p) ledger (preorder q))
+    ∷ names_timely (nodes p) ledger (private_members p) q
     ∷ temporaries_steady (nodes p) ledger (private_members p) q
     ∷ keys_stand (nodes p) o ledger (private_members p) q (all_temporaries (nodes p) o ledger (private_members p) q (preorder q))
     ∷ numbers_carried (nodes p) p q

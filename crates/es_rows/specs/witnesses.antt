@@ -29,6 +29,7 @@ pub mod AssignmentWithTheNumberOfAnother
 pub mod AssignmentWithTheNumbersOfAnother
 pub mod AssignmentsOfANameExchanged
 pub mod AsyncConstructor
+pub mod AsyncFunctionAroundAFunctionInACase
 pub mod AwaitInAFunctionThatNothingCalls
 pub mod AwaitInAStaticBlock
 pub mod AwaitInAStaticElement
@@ -188,6 +189,7 @@ pub mod FunctionOfACase
 pub mod FunctionOfAParameter
 pub mod FunctionOutOfItsBlock
 pub mod FunctionsOfABlockExchanged
+pub mod GeneratorAroundAFunctionInABlock
 pub mod GeneratorConstructor
 pub mod GetterBehindAnError
 pub mod GetterMadeAMethod

@@ -4,7 +4,6 @@ ghost use Rattle.std.specs.Prelude.{◌≡◌, [], ◌∷◌, false};
 ghost use Rattle.es_rows.specs.Owed.{Kept, KeptAfter, Owed, TellsApart, Refused, MeansOther, RefusedAfter, Means, HaveShapes};
 ghost use Rattle.es_lowered.specs.Carriers.{numbers_carried};
 ghost use Rattle.es_lowered.specs.Definitions.{definitions_stand};
-ghost use Rattle.es_lowered.specs.Elements.{elements_ready};
 ghost use Rattle.es_base.specs.Conforms.{conforms};
 ghost use Rattle.es_base.specs.Preorder.{nodes, preorder};
 ghost use Rattle.es_base.specs.declared.table.Place.{Place};
@@ -135,6 +134,7 @@ ghost use Rattle.es_rows.specs.witnesses.AssignmentWithTheNumberOfAnother.{sourc
 ghost use Rattle.es_rows.specs.witnesses.AssignmentWithTheNumbersOfAnother.{source_assignment_with_the_numbers_of_another, output_assignment_with_the_numbers_of_another, generated_assignment_with_the_numbers_of_another, options_assignment_with_the_numbers_of_another};
 ghost use Rattle.es_rows.specs.witnesses.AssignmentsOfANameExchanged.{source_assignments_of_a_name_exchanged, output_assignments_of_a_name_exchanged, generated_assignments_of_a_name_exchanged, options_assignments_of_a_name_exchanged};
 ghost use Rattle.es_rows.specs.witnesses.AsyncConstructor.{source_async_constructor, output_async_constructor, generated_async_constructor, options_async_constructor};
+ghost use Rattle.es_rows.specs.witnesses.AsyncFunctionAroundAFunctionInACase.{first_async_function_around_a_function_in_a_case, second_async_function_around_a_function_in_a_case, options_async_function_around_a_function_in_a_case};
 ghost use Rattle.es_rows.specs.witnesses.AwaitInAFunctionThatNothingCalls.{source_await_in_a_function_that_nothing_calls, output_await_in_a_function_that_nothing_calls, generated_await_in_a_function_that_nothing_calls, options_await_in_a_function_that_nothing_calls};
 ghost use Rattle.es_rows.specs.witnesses.AwaitInAStaticBlock.{source_await_in_a_static_block, output_await_in_a_static_block, generated_await_in_a_static_block, options_await_in_a_static_block};
 ghost use Rattle.es_rows.specs.witnesses.AwaitInAStaticElement.{source_await_in_a_static_element, output_await_in_a_static_element, generated_await_in_a_static_element, options_await_in_a_static_element};
@@ -292,6 +292,7 @@ ghost use Rattle.es_rows.specs.witnesses.FunctionOfACase.{first_function_of_a_ca
 ghost use Rattle.es_rows.specs.witnesses.FunctionOfAParameter.{first_function_of_a_parameter, second_function_of_a_parameter, options_function_of_a_parameter};
 ghost use Rattle.es_rows.specs.witnesses.FunctionOutOfItsBlock.{source_function_out_of_its_block, output_function_out_of_its_block, generated_function_out_of_its_block, options_function_out_of_its_block};
 ghost use Rattle.es_rows.specs.witnesses.FunctionsOfABlockExchanged.{source_functions_of_a_block_exchanged, output_functions_of_a_block_exchanged, generated_functions_of_a_block_exchanged, options_functions_of_a_block_exchanged};
+ghost use Rattle.es_rows.specs.witnesses.GeneratorAroundAFunctionInABlock.{first_generator_around_a_function_in_a_block, second_generator_around_a_function_in_a_block, options_generator_around_a_function_in_a_block};
 ghost use Rattle.es_rows.specs.witnesses.GeneratorConstructor.{source_generator_constructor, output_generator_constructor, generated_generator_constructor, options_generator_constructor};
 ghost use Rattle.es_rows.specs.witnesses.GetterBehindAnError.{source_getter_behind_an_error, output_getter_behind_an_error, generated_getter_behind_an_error, options_getter_behind_an_error};
 ghost use Rattle.es_rows.specs.witnesses.GetterMadeAMethod.{source_getter_made_a_method, output_getter_made_a_method, generated_getter_made_a_method, options_getter_made_a_method};
@@ -670,6 +671,7 @@ pub fn programs_are_told_apart()
     ensures arguments_behind_a_write { TellsApart options_arguments_behind_a_write first_arguments_behind_a_write second_arguments_behind_a_write }
     ensures arguments_of_a_block { TellsApart options_arguments_of_a_block first_arguments_of_a_block second_arguments_of_a_block }
     ensures arguments_of_an_inner_function { TellsApart options_arguments_of_an_inner_function first_arguments_of_an_inner_function second_arguments_of_an_inner_function }
+    ensures async_function_around_a_function_in_a_case { TellsApart options_async_function_around_a_function_in_a_case first_async_function_around_a_function_in_a_case second_async_function_around_a_function_in_a_case }
     ensures caught_names_exchanged { TellsApart options_caught_names_exchanged first_caught_names_exchanged second_caught_names_exchanged }
     ensures default_exports { TellsApart options_default_exports first_default_exports second_default_exports }
     ensures default_function { TellsApart options_default_function first_default_function second_default_function }
@@ -682,6 +684,7 @@ pub fn programs_are_told_apart()
     ensures function_of_a_branch { TellsApart options_function_of_a_branch first_function_of_a_branch second_function_of_a_branch }
     ensures function_of_a_case { TellsApart options_function_of_a_case first_function_of_a_case second_function_of_a_case }
     ensures function_of_a_parameter { TellsApart options_function_of_a_parameter first_function_of_a_parameter second_function_of_a_parameter }
+    ensures generator_around_a_function_in_a_block { TellsApart options_generator_around_a_function_in_a_block first_generator_around_a_function_in_a_block second_generator_around_a_function_in_a_block }
     ensures getter_or_method { TellsApart options_getter_or_method first_getter_or_method second_getter_or_method }
     ensures global_renamed { TellsApart options_global_renamed first_global_renamed second_global_renamed }
     ensures hole_in_a_pattern { TellsApart options_hole_in_a_pattern first_hole_in_a_pattern second_hole_in_a_pattern }
@@ -782,6 +785,8 @@ pub fn wrong_outputs_are_told_apart()
     ensures parent_never_constructed { Refused options_parent_never_constructed generated_parent_never_constructed source_parent_never_constructed output_parent_never_constructed }
     ensures picked_by_an_async_arrow { Refused options_picked_by_an_async_arrow generated_picked_by_an_async_arrow source_picked_by_an_async_arrow output_picked_by_an_async_arrow }
     ensures private_element_in_front_of_its_value { Refused options_private_element_in_front_of_its_value generated_private_element_in_front_of_its_value source_private_element_in_front_of_its_value output_private_element_in_front_of_its_value }
+    ensures private_element_read_by_a_constructor { Refused options_private_element_read_by_a_constructor generated_private_element_read_by_a_constructor source_private_element_read_by_a_constructor output_private_element_read_by_a_constructor }
+    ensures private_element_read_by_a_field { Refused options_private_element_read_by_a_field generated_private_element_read_by_a_field source_private_element_read_by_a_field output_private_element_read_by_a_field }
     ensures private_field_dropped { Refused options_private_field_dropped generated_private_field_dropped source_private_field_dropped output_private_field_dropped }
     ensures private_method_dropped { Refused options_private_method_dropped generated_private_method_dropped source_private_method_dropped output_private_method_dropped }
     ensures private_name_of_another_class { Refused options_private_name_of_another_class generated_private_name_of_another_class source_private_name_of_another_class output_private_name_of_another_class }
@@ -795,6 +800,7 @@ pub fn wrong_outputs_are_told_apart()
     ensures result_of_the_setter { Refused options_result_of_the_setter generated_result_of_the_setter source_result_of_the_setter output_result_of_the_setter }
     ensures return_in_an_arrow { Refused options_return_in_an_arrow generated_return_in_an_arrow source_return_in_an_arrow output_return_in_an_arrow }
     ensures script_in_an_arrow { Refused options_script_in_an_arrow generated_script_in_an_arrow source_script_in_an_arrow output_script_in_an_arrow }
+    ensures second_private_element_read_by_a_field { Refused options_second_private_element_read_by_a_field generated_second_private_element_read_by_a_field source_second_private_element_read_by_a_field output_second_private_element_read_by_a_field }
     ensures spread_for_a_parameter { Refused options_spread_for_a_parameter generated_spread_for_a_parameter source_spread_for_a_parameter output_spread_for_a_parameter }
     ensures statements_behind_a_throw_exchanged { Refused options_statements_behind_a_throw_exchanged generated_statements_behind_a_throw_exchanged source_statements_behind_a_throw_exchanged output_statements_behind_a_throw_exchanged }
     ensures static_constructor { Refused options_static_constructor generated_static_constructor source_static_constructor output_static_constructor }
@@ -1018,8 +1024,6 @@ pub fn clauses_are_not_met()
     ensures pattern_of_no_regular_expression { texts_stay (nodes source_pattern_of_no_regular_expression) source_pattern_of_no_regular_expression output_pattern_of_no_regular_expression ≡ false }
     ensures pattern_without_a_value { stays_printable source_pattern_without_a_value output_pattern_without_a_value ≡ false }
     ensures private_element_of_the_class_around { temporaries_steady (nodes source_private_element_of_the_class_around) generated_private_element_of_the_class_around (private_members source_private_element_of_the_class_around) output_private_element_of_the_class_around ≡ false }
-    ensures private_element_read_by_a_constructor { elements_ready (nodes source_private_element_read_by_a_constructor) generated_private_element_read_by_a_constructor (preorder output_private_element_read_by_a_constructor) ≡ false }
-    ensures private_element_read_by_a_field { elements_ready (nodes source_private_element_read_by_a_field) generated_private_element_read_by_a_field (preorder output_private_element_read_by_a_field) ≡ false }
     ensures private_method_in_front_of_its_class { references_stay (nodes source_private_method_in_front_of_its_class) generated_private_method_in_front_of_its_class source_private_method_in_front_of_its_class output_private_method_in_front_of_its_class ≡ false }
     ensures private_method_outside_of_a_function { references_stay (nodes source_private_method_outside_of_a_function) generated_private_method_outside_of_a_function source_private_method_outside_of_a_function output_private_method_outside_of_a_function ≡ false }
     ensures private_name_constructor { texts_stay (nodes source_private_name_constructor) source_private_name_constructor output_private_name_constructor ≡ false }
@@ -1036,7 +1040,6 @@ pub fn clauses_are_not_met()
     ensures raw_of_a_template { texts_stay (nodes source_raw_of_a_template) source_raw_of_a_template output_raw_of_a_template ≡ false }
     ensures regular_expression_read_twice { temporaries_steady (nodes source_regular_expression_read_twice) generated_regular_expression_read_twice (private_members source_regular_expression_read_twice) output_regular_expression_read_twice ≡ false }
     ensures rests_exchanged_behind_an_error { numbers_carried (nodes source_rests_exchanged_behind_an_error) source_rests_exchanged_behind_an_error output_rests_exchanged_behind_an_error ≡ false }
-    ensures second_private_element_read_by_a_field { elements_ready (nodes source_second_private_element_read_by_a_field) generated_second_private_element_read_by_a_field (preorder output_second_private_element_read_by_a_field) ≡ false }
     ensures second_string_that_a_printer_makes_a_directive { stays_printable source_second_string_that_a_printer_makes_a_directive output_second_string_that_a_printer_makes_a_directive ≡ false }
     ensures setter_in_a_super_function_that_nothing_calls { numbers_carried (nodes source_setter_in_a_super_function_that_nothing_calls) source_setter_in_a_super_function_that_nothing_calls output_setter_in_a_super_function_that_nothing_calls ≡ false }
     ensures shorthand_of_an_operator { numbers_carried (nodes source_shorthand_of_an_operator) source_shorthand_of_an_operator output_shorthand_of_an_operator ≡ false }

@@ -26,7 +26,6 @@ use es_node::node::Node;
 use es_steps::options::Options;
 use es_tree::class::{ClassDeclarationRef, MethodDefinitionRef, PropertyDefinitionRef};
 use es_tree::expression::{MetaPropertyRef, TemplateLiteralRef, UnaryExpressionRef};
-use es_tree::function::FunctionDeclarationRef;
 use es_tree::identifier::{IdentifierNameRef, IdentifierReferenceRef};
 use es_tree::literal::LiteralRef;
 use es_tree::statement::VariableDeclaratorRef;
@@ -56,10 +55,7 @@ pub fn acts<F: NameFacts>(
         // class A {}
         Kind::ClassDeclaration => ClassDeclarationRef::from_node(node).id.is_some(),
         // { function f() {} }
-        Kind::FunctionDeclaration => {
-            let function = FunctionDeclarationRef::from_node(node);
-            standing.in_block && !(function.is_async || function.generator)
-        }
+        Kind::FunctionDeclaration => standing.in_block,
         // var x;
         Kind::VariableDeclarator => {
             let declarator = VariableDeclaratorRef::from_node(node);

@@ -2,14 +2,14 @@
 use Rattle.std.specs.Prelude.{◌≡◌, ℕ, suc, List, [], ◌∷◌, ◌++◌, map, Bool, true, false, cond, ◌&&◌, Option, Some, None}
 use Rattle.std.proofs.Common.{refl, ap, ap₂, ◌∙◌}
 use Rattle.es_steps.specs.Code.{Code, Codes, Target, Callee, FunctionForm, Opened, binding, rest, member, private_member, super_member, private_in, assign, compound, logical, logical_assign, update, call, tag, construct, super_call, sequence, template, operation, chain, short, tested, pattern, takes, steps, gives_to, export_default, function, new_function, class_code, field, private_field, method, private_method, constructor, static_block, generated_element, from_call, from_member, key_of, define, private_initialize, call_arrow, call_closure, give_function, give_class, to_name, to_member, to_private, to_super, to_setter, to_pattern, to_default, plain, on_member, on_private, on_super, with_receiver, checked, on_chain, behind_test, done, and}
-use Rattle.es_steps.specs.Entries.{Parameter, Identifier, RestIdentifier, Pattern, Method, Listed, is_string_among, without, parameter_of, parameters_of, constructor_form, constructor_parameters, no_constructor, if_one, in_order, is_identifier, all_identifiers, entered, ev_parameter, ev_parameters, ev_given, ev_body, ev_construction, listed, value_in, after_run, function_entry, class_entry, some_value, method_with, Entries, heritage_in, same_nullable, behind_key, methods_in, keys_stay, behind_code, behind_all, behind_target, behind_callee, behind_arguments, behind_parameters, behind_fields, behind_leading, leading, elements_start, entries, target_entries, pattern_entries, taken_entries, take_entries, callee_entries, all_entries, held_entries, parameter_entries, key_entries, key_entry, static_entries, static_entry, field_entries, field_entry, function_entries, element_function}
+use Rattle.es_steps.specs.Entries.{Parameter, Identifier, RestIdentifier, Pattern, Method, Listed, is_string_among, without, parameter_of, parameters_of, constructor_form, constructor_parameters, no_constructor, if_one, in_order, is_identifier, all_identifiers, entered, ev_parameter, ev_parameters, ev_given, ev_body, ev_construction, listed, value_in, after_run, is_quiet_run, function_entry, class_entry, some_value, method_with, Entries, heritage_in, same_nullable, behind_key, methods_in, keys_stay, behind_code, behind_all, behind_target, behind_callee, behind_arguments, behind_parameters, behind_fields, behind_leading, leading, elements_start, entries, target_entries, pattern_entries, taken_entries, take_entries, callee_entries, all_entries, held_entries, parameter_entries, key_entries, key_entry, static_entries, static_entry, field_entries, field_entry, function_entries, element_function}
 use Rattle.es_steps.specs.Evaluation.{Environment, Run, Evaluation, gives, event, bind, write_ready, ev, ev_target, ev_take, ev_keys, ev_static, ev_field, ev_initializers}
 use Rattle.es_steps.specs.Events.{Take, Index, Rest, Operate, SuperCallWithAll, EnterBody}
 use Rattle.es_steps.specs.GeneratedForms.{is_plain}
 use Rattle.es_steps.specs.Opening.{all_arguments, assigned_in, assigned_in_all}
 use Rattle.es_steps.specs.References.{has_number}
 use Rattle.es_steps.specs.Values.{String, Value, Undefined, ThisOf, ResultOf}
-use Rattle.es_steps.proofs.EvaluationMapped.{added_private-mapped, as_key-mapped, same_value-mapped, Follows, no_meaning-follows, gives-follows, event-follows, bind-follows, value_behind-mapped, bind_parameters-follows, ev-follows, ev_target-follows, ev_take-follows, ev_callee-follows, ev_all-follows, ev_keys-follows, ev_key-follows, ev_static-follows, ev_field-follows, ev_initializers-follows}
+use Rattle.es_steps.proofs.EvaluationMapped.{is_none-mapped, added_private-mapped, as_key-mapped, same_value-mapped, Follows, no_meaning-follows, gives-follows, event-follows, bind-follows, value_behind-mapped, bind_parameters-follows, ev-follows, ev_target-follows, ev_take-follows, ev_callee-follows, ev_all-follows, ev_keys-follows, ev_key-follows, ev_static-follows, ev_field-follows, ev_initializers-follows}
 use Rattle.es_steps.proofs.Mapped.{Renames, mapped_option, mapped_value, mapped_nullable, mapped_given, mapped_environment, mapped_runs, mapped_opened, mapped_code, mapped_target, mapped_callee, mapped_codes, mapped_listed, mapped_parameter, mapped_parameters, mapped_methods, mapped_entry, mapped_nullable_entry, mapped_entries}
 use Rattle.es_steps.proofs.OpeningMapped.{all_arguments-mapped, assigned_in-mapped, assigned_in_all-mapped}
 use Rattle.es_steps.proofs.PartsMapped.{cond-mapped, append-mapped}
@@ -84,6 +84,13 @@ module _ (f : ℕ → ℕ) where
 
   pub after-follows : {a b : Evaluation} → Follows f a b → (s : Environment) → after_run (mapped_environment f s) (b (mapped_environment f s)) ≡ mapped_environment f (after_run s (a s))
   after-follows {a = a} all s = ap (after_run (mapped_environment f s)) (all.on s) ∙ after_run-mapped s (a s)
+
+  is_quiet_run-mapped : (x : Option Run) → is_quiet_run (mapped_runs f x) ≡ is_quiet_run x
+  is_quiet_run-mapped None = refl
+  is_quiet_run-mapped (Some x) = is_none-mapped f x.events
+
+  pub quiet-run-follows : {a b : Evaluation} → Follows f a b → (s : Environment) → is_quiet_run (b (mapped_environment f s)) ≡ is_quiet_run (a s)
+  quiet-run-follows {a = a} all s = ap is_quiet_run (all.on s) ∙ is_quiet_run-mapped (a s)
 
   pub listed-follows : {a b : Evaluation} → Follows f a b → (s : Environment) → listed (b (mapped_environment f s)) ≡ mapped_option (mapped_listed f) (listed (a s))
   listed-follows {a = a} all s = ap listed (all.on s) ∙ listed-mapped (a s)
@@ -210,7 +217,10 @@ module _ {first : ℕ} {f : ℕ → ℕ} (r : Renames first f) (opens there : Op
   behind_fields-mapped s n (and h hs) es = refl
 
   behind_leading-mapped : (n : ℕ) (s : Environment) (cs : Codes) → behind_leading there first later (f n) (mapped_environment f s) (mapped_codes f cs) ≡ mapped_environment f (behind_leading opens first late n s cs)
-  behind_leading-mapped n s (and (generated_element x c) cs) = rw (after-follows f (ev_static-follows r opens there follow n Undefined (generated_element x c)) s) (behind_leading-mapped n (after_run s (ev_static opens n Undefined (generated_element x c) s)) cs)
+  behind_leading-mapped n s (and (generated_element x c) cs) =
+      let element : Follows f (ev_static opens n Undefined (generated_element x c)) (ev_static there (f n) Undefined (generated_element x (mapped_code f c))) = ev_static-follows r opens there follow n Undefined (generated_element x c) in
+      rw (quiet-run-follows f element s, after-follows f element s)
+      (cond-mapped (mapped_environment f) (is_quiet_run (ev_static opens n Undefined (generated_element x c) s)) _ s (behind_leading-mapped n (after_run s (ev_static opens n Undefined (generated_element x c) s)) cs) refl)
   behind_leading-mapped n s (and (field false form k c) cs) = behind_leading-mapped n s cs
   behind_leading-mapped n s (and (private_field false d c) cs) = behind_leading-mapped n s cs
   behind_leading-mapped n s (and (method is_static kind k g) cs) = behind_leading-mapped n s cs

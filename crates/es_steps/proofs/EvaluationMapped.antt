@@ -47,6 +47,10 @@ module _ (f : ℕ → ℕ) where
   run_behind-mapped l None = refl
   run_behind-mapped l (Some r) = rw (behind-mapped l r.events) refl
 
+  pub is_none-mapped : (l : Events) → is_none (mapped_events f l) ≡ is_none l
+  is_none-mapped none = refl
+  is_none-mapped (then e es) = refl
+
   pub no_meaning-follows : Follows f no_meaning no_meaning
   no_meaning-follows = record { on = λ s. refl }
 
@@ -277,10 +281,6 @@ module _ (f : ℕ → ℕ) where
 -- ---- what looks at numbers
 
 module _ {first : ℕ} {f : ℕ → ℕ} (r : Renames first f) where
-  is_none-mapped : (l : Events) → is_none (mapped_events f l) ≡ is_none l
-  is_none-mapped none = refl
-  is_none-mapped (then e es) = refl
-
   pub same_value-mapped : (v w : Value) → same_value (mapped_value f v) (mapped_value f w) ≡ same_value v w
   same_value-mapped (ConstantOf c) w = of_constant w
     where
@@ -305,7 +305,7 @@ module _ {first : ℕ} {f : ℕ → ℕ} (r : Renames first f) where
 
   same_run-mapped : (v : Value) (s : Environment) (x : Option Run) → same_run (mapped_value f v) (mapped_environment f s) (mapped_runs f x) ≡ mapped_runs f (same_run v s x)
   same_run-mapped v s None = refl
-  same_run-mapped v s (Some x) = rw (is_none-mapped x.events, same_value-mapped v x.value) (chosen (is_none x.events && same_value v x.value))
+  same_run-mapped v s (Some x) = rw (is_none-mapped f x.events, same_value-mapped v x.value) (chosen (is_none x.events && same_value v x.value))
     where
       chosen : (b : Bool) → cond b (Some (mapped_run f (record { events = none; value = v; after = s }))) None ≡ mapped_runs f (cond b (Some (record { events = none; value = v; after = s })) None)
       chosen true = refl

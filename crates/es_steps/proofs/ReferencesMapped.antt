@@ -138,7 +138,7 @@ module _ (f : ℕ → ℕ) where
   bound_spelling-mapped p = refl
 
   function_name-mapped : (p : Part) → function_name (mapped_part f p) ≡ function_name p
-  function_name-mapped (child (Node Kind.FunctionDeclaration m span semantic_id ps)) = rw (is_true_at-mapped f 3 ps, is_true_at-mapped f 4 ps, at-mapped f 0 ps, bound_spelling-mapped (at 0 ps)) refl
+  function_name-mapped (child (Node Kind.FunctionDeclaration m span semantic_id ps)) = rw (at-mapped f 0 ps, bound_spelling-mapped (at 0 ps)) refl
   function_name-mapped (child (Node Kind.LabeledStatement m span semantic_id (more label (more s end)))) = function_name-mapped s
   function_name-mapped (child (Node Kind.IfStatement m span semantic_id (more test (more s (more other end))))) = ap₂ (λ a b. a ++ b) (function_name-mapped s) (function_name-mapped other)
   function_name-mapped p = refl

@@ -10,7 +10,7 @@ use Rattle.es_steps.specs.Events.{Detail, Operand, Empty, Index, Rest, OfKind, T
 use Rattle.es_steps.specs.Expressions.{the_code, key_code, key_details, target_of}
 use Rattle.es_steps.specs.Members.{Member, Members, code, absent, list, string, more, end, at, from, before, operands, details, codes_in, codes_of, word_of, flag_of}
 use Rattle.es_steps.specs.PrivateNames.{PrivateMember, member_at}
-use Rattle.es_steps.specs.Statements.{held_from, case_code, given_codes, catch_code, is_initialized, initialized_first, head_initializers, declared_target, given_targets, head_targets, for_each_code, is_other_directive, expression_code, declarator_of, declarator_code, return_code, suspension_code, default_export_code, default_code, rest_code, pattern_property_code, target_number, taken, taken_element, elements_from, members_of_list, array_pattern_code, taken_properties, object_pattern_code, form_of, function_or_new, own_name_of, function_code, function_expression_code, hoisted_function, declared_function, around_plain, is_new_return, ends_with_return, arrow_body, function_declaration_code, arrow_code, declared_by, declared_by_let, elements_of, class_of, value_or_undefined, is_name_or_length, is_absent, field_form, private_element, field_of, field_code, is_constructor_key, method_or_constructor, is_declared_as, method_of, method_code}
+use Rattle.es_steps.specs.Statements.{held_from, case_code, given_codes, catch_code, is_initialized, initialized_first, head_initializers, declared_target, given_targets, head_targets, for_each_code, is_other_directive, expression_code, declarator_of, declarator_code, return_code, suspension_code, default_export_code, default_code, rest_code, pattern_property_code, target_number, taken, taken_element, elements_from, members_of_list, array_pattern_code, taken_properties, object_pattern_code, form_of, function_or_new, own_name_of, function_code, function_expression_code, hoisted_function, declared_function, is_new_return, ends_with_return, arrow_body, function_declaration_code, arrow_code, declared_by, declared_by_let, elements_of, class_of, value_or_undefined, is_name_or_length, is_absent, field_form, private_element, field_of, field_code, is_constructor_key, method_or_constructor, is_declared_as, method_of, method_code}
 use Rattle.es_steps.specs.GeneratedForms.{opened_body}
 use Rattle.es_steps.specs.References.{declared}
 use Rattle.es_steps.specs.Scopes.{Declaration}
@@ -259,12 +259,8 @@ module _ {first : ℕ} {f : ℕ → ℕ} (r : Renames first f) (c : Context) (e 
 
   pub function_declaration_code-mapped : (g : ℕ) (ps : Members) → function_declaration_code there (f g) (mapped_members f ps) ≡ mapped_code f (function_declaration_code c g ps)
   function_declaration_code-mapped g ps =
-      let suspends : Bool = flag_of (at 3 ps) || flag_of (at 4 ps) in
-      let around : Option (List Declaration) = around_plain suspends c.around in
-      ap₂ (λ a b. declared_function (around_plain (a || b) there.around) (f g) (at 0 (mapped_members f ps)) (function_code there (f g) None (mapped_members f ps))) (flag_at-mapped f 3 ps) (flag_at-mapped f 4 ps)
-      ∙ ap (λ x. declared_function x (f g) (at 0 (mapped_members f ps)) (function_code there (f g) None (mapped_members f ps))) (cond-mapped (mapped_option (mapped_declarations f)) suspends None c.around refl refl)
-      ∙ ap₂ (declared_function (mapped_option (mapped_declarations f) around) (f g)) (at-mapped f 0 ps) (function_code-mapped g None ps)
-      ∙ declared_function-mapped f around g (at 0 ps) (function_code c g None ps)
+      ap₂ (declared_function there.around (f g)) (at-mapped f 0 ps) (function_code-mapped g None ps)
+      ∙ declared_function-mapped f c.around g (at 0 ps) (function_code c g None ps)
 
   arrow_body-mapped : (new : Bool) (q : Code) → arrow_body new (mapped_code f q) ≡ mapped_code f (arrow_body new q)
   arrow_body-mapped false (steps cs) = rw (ends_with_return-mapped f cs, opened_body-mapped f (steps cs)) (cond-code f (ends_with_return cs) (opened_body (steps cs)) (steps cs))

@@ -2,7 +2,7 @@
 -- stands. (ECMA-262, 10.2 and 15.7: calls, field initialization, class definition evaluation. Entries are our own.)
 use Rattle.std.specs.Prelude.{ℕ, suc, List, [], ◌∷◌, ◌++◌, Bool, true, false, cond, ◌&&◌, ◌||◌, bytes_eq, Option, Some, None}
 use Rattle.es_steps.specs.Code.{Code, Codes, Target, Callee, FunctionForm, Opened, binding, rest, member, private_member, super_member, private_in, assign, compound, logical, logical_assign, update, call, tag, construct, super_call, sequence, template, operation, chain, short, tested, pattern, takes, steps, gives_to, export_default, function, new_function, class_code, field, private_field, method, private_method, constructor, static_block, generated_element, from_call, from_member, key_of, define, private_initialize, call_arrow, call_closure, give_function, give_class, to_name, to_member, to_private, to_super, to_setter, to_pattern, to_default, plain, on_member, on_private, on_super, with_receiver, checked, on_chain, behind_test, done, and}
-use Rattle.es_steps.specs.Evaluation.{added, only_private, Environment, Run, Evaluation, no_meaning, gives, event, bind, bind_parameters, write_ready, ev, ev_all, ev_target, ev_take, ev_callee, ev_key, ev_keys, ev_static, ev_field, ev_initializers}
+use Rattle.es_steps.specs.Evaluation.{added, is_none, only_private, Environment, Run, Evaluation, no_meaning, gives, event, bind, bind_parameters, write_ready, ev, ev_all, ev_target, ev_take, ev_callee, ev_key, ev_keys, ev_static, ev_field, ev_initializers}
 use Rattle.es_steps.specs.Events.{Events, Take, Index, Rest, Operate, SuperCallWithAll, EnterBody, value_behind}
 use Rattle.es_steps.specs.GeneratedForms.{is_plain}
 use Rattle.es_steps.specs.Opening.{assigned_in, assigned_in_all, all_arguments}
@@ -141,6 +141,10 @@ abbrev pub after_run : Environment → Option Run → Environment
 after_run env None = env
 after_run env (Some r) = r.after
 
+abbrev pub is_quiet_run : Option Run → Bool
+is_quiet_run None = false
+is_quiet_run (Some r) = is_none r.events
+
 abbrev pub function_entry : FunctionForm → Option ℕ → List Parameter → Option Listed → Option Entry
 function_entry form own_name ps None = None
 function_entry form own_name ps (Some l) = Some (FunctionEntry form own_name ps l)
@@ -210,9 +214,10 @@ module _ (opens : Opened → Evaluation) (first_new : ℕ) (late : List ℕ) whe
   behind_fields s n done es = after_run s (ev_initializers opens n es s)
   behind_fields s n (and h hs) es = s
 
-  -- what the private elements hold that are generated in front of all other elements which run with the class
+  -- what the private elements hold that are generated in front of all other elements which run with the class, and whose values have
+  -- no event: what runs there may construct the class, where the element is not there yet
   abbrev pub behind_leading : ℕ → Environment → Codes → Environment
-  behind_leading n s (and (generated_element x r) cs) = behind_leading n (after_run s (ev_static opens n Undefined (generated_element x r) s)) cs
+  behind_leading n s (and (generated_element x r) cs) = cond (is_quiet_run (ev_static opens n Undefined (generated_element x r) s)) (behind_leading n (after_run s (ev_static opens n Undefined (generated_element x r) s)) cs) s
   behind_leading n s (and (field false form k r) cs) = behind_leading n s cs
   behind_leading n s (and (private_field false d r) cs) = behind_leading n s cs
   behind_leading n s (and (method is_static kind k f) cs) = behind_leading n s cs

@@ -111,7 +111,7 @@ module _ (o : Options) (program : Tree) where
   -- a class that is declared is given to its name
   acts a Kind.ClassDeclaration m ps = is_present (at 0 ps)
   -- a function in a block is given to a `var` of its name, too (B.3.2)
-  acts a Kind.FunctionDeclaration m ps = a.in_block && not (is_true (at 3 ps) || is_true (at 4 ps))
+  acts a Kind.FunctionDeclaration m ps = a.in_block
   acts a Kind.VariableDeclaration m ps = false
   acts a Kind.VariableDeclarator m ps = is_present (at 1 ps) || not (is_identifier (at 0 ps))
   acts a Kind.ExpressionStatement m ps = false

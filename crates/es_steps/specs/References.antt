@@ -129,7 +129,7 @@ bound_spelling (child (Node Kind.BindingIdentifier b span semantic_id ps)) = str
 bound_spelling p = []
 
 abbrev pub function_name : Part → List String
-function_name (child (Node Kind.FunctionDeclaration m span semantic_id ps)) = cond (is_true (at 3 ps) || is_true (at 4 ps)) [] (bound_spelling (at 0 ps))
+function_name (child (Node Kind.FunctionDeclaration m span semantic_id ps)) = bound_spelling (at 0 ps)
 function_name (child (Node Kind.LabeledStatement m span semantic_id (more label (more s end)))) = function_name s
 function_name (child (Node Kind.IfStatement m span semantic_id (more test (more s (more other end))))) = function_name s ++ function_name other
 function_name p = []

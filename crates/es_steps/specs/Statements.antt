@@ -174,7 +174,8 @@ function_code c f own_name ps = function_or_new (new_here c f) f (form_of false 
 abbrev pub function_expression_code : Context → ℕ → Members → Code
 function_expression_code c f ps = function_code c f (own_name_of c (at 0 ps)) ps
 
--- what the name of a function in a block means around is given the function (B.3.2)
+-- what the name of a function in a block means around is given the function (B.3.2; an async function or a generator is bound in its
+-- block alone: that it is given, too, tells it from what else has its name, and is so on both sides)
 abbrev pub hoisted_function : Option (List Declaration) → ℕ → String → Code → Code
 hoisted_function None f s e = e
 hoisted_function (Some names) f s e = steps (and e (and (assign (to_name f s (Changing (referent s (declared s names)))) (value (FunctionOf f))) done))
@@ -186,12 +187,8 @@ declared_function around f (code (binding b s (Generated g))) e = no_rule
 declared_function around f (code (binding b s kind)) e = hoisted_function around f s e
 declared_function around f p e = e
 
--- an async function or a generator is bound in its block alone
-abbrev pub around_plain : Bool → Option (List Declaration) → Option (List Declaration)
-around_plain suspends around = cond suspends None around
-
 abbrev pub function_declaration_code : Context → ℕ → Members → Code
-function_declaration_code c f ps = declared_function (around_plain (flag_of (at 3 ps) || flag_of (at 4 ps)) c.around) f (at 0 ps) (function_code c f None ps)
+function_declaration_code c f ps = declared_function c.around f (at 0 ps) (function_code c f None ps)
 
 -- the expression that is the body of an arrow may become a new `return` at the end of a list
 abbrev pub is_new_return : Code → Bool

@@ -16,7 +16,6 @@ use Rattle.es_steps.specs.Context.{is_constructor}
 use Rattle.es_lowered.specs.Bound.{all_bound}
 use Rattle.es_lowered.specs.Definitions.{FieldDefinition, chosen, element_numbers, body_numbers, elements_kept, call_definition, definition_at, definitions_in, definitions_at, definitions_of, function_definitions, super_definitions, constructor_definitions, all_definitions, instance_definitions, static_definitions, is_instance_method, any_of, defined_fields, class_fits, classes_fit, supers_stand, definitions_stand}
 use Rattle.es_lowered.specs.KeptKeys.{keys_that_stay}
-use Rattle.es_lowered.specs.Elements.{read_later_in, is_idle_element, is_ready, are_ready, elements_ready}
 use Rattle.es_lowered.specs.HelperCalls.{is_helper_callee, is_new_private, Conversions, call_fits, node_fits, names_inside, calls_fit, calls_in, calls_at, conversions}
 use Rattle.es_steps.specs.KeptNodes.{stands_equal, statement_list, declared_classes, carried_classes, item_number, item_numbers, free_number, free_numbers, is_static_block, free_lists, free_lists_at, free_lists_in, list_of, is_within, all_within, is_free_statement, stays_in_list, free_statements, free_at, free_in, all_homes, lowered_blocks}
 use Rattle.es_lowered.specs.Lowered.{IsLowered, has_new_declarator, is_new_const, is_accounted, all_accounted}
@@ -309,45 +308,6 @@ module _ (first : ℕ) (keys : List ℕ) (x : Conversions) where
     calls_at-fit names (list ps) b = calls_in-fit names ps b
     calls_at-fit names p b = refl
 
--- ---- and no private element is new
-
-module _ (first : ℕ) where
-  is-ready : (names : List String) (idle : Bool) (p : Part) → Below first (preorder_of_part p) → is_ready first [] names idle p ≡ true
-  is-ready names idle (child (Node Kind.PropertyDefinition m span semantic_id ps)) b = rw (old-private first (at 0 ps) (part-below first 0 ps b.1)) refl
-  is-ready names idle p b = refl
-
-  are-ready : (names : List String) (idle : Bool) (ps : Parts) → Below first (preorder_of ps) → are_ready first [] names idle ps ≡ true
-  are-ready names idle end b = refl
-  are-ready names idle (more p ps) b =
-      both (is-ready names (idle && is_idle_element first [] p) p (below-first first (preorder_of_part p) (preorder_of ps) b)) (are-ready names (idle && is_idle_element first [] p) ps (below-second first (preorder_of_part p) (preorder_of ps) b))
-
-  pub ready-behind : (ts us : List Tree) → elements_ready first [] ts ≡ true → elements_ready first [] us ≡ true → elements_ready first [] (ts ++ us) ≡ true
-  ready-behind [] us g h = h
-  ready-behind (Node Kind.ClassBody m span semantic_id ps ∷ ts) us g h =
-      let parts = and_parts (are_ready first [] (read_later_in false ps) true (items (at 0 ps))) (elements_ready first [] ts) g in
-      both parts.0 (ready-behind ts us parts.1 h)
-  ready-behind (t ∷ ts) us g h = ready-behind ts us g h
-
-  mutual
-    tree-ready : (t : Tree) → Below first (preorder t) → elements_ready first [] (preorder t) ≡ true
-    tree-ready (Node Kind.ClassBody m span semantic_id ps) b =
-        both (are-ready (read_later_in false ps) true (items (at 0 ps)) (list-below first (at 0 ps) (part-below first 0 ps b.1))) (parts-ready ps b.1)
-    tree-ready (Node kind m span semantic_id ps) b = parts-ready ps b.1
-
-    part-ready : (p : Part) → Below first (preorder_of_part p) → elements_ready first [] (preorder_of_part p) ≡ true
-    part-ready (child t) b = tree-ready t b
-    part-ready absent b = refl
-    part-ready (list ps) b = parts-ready ps b
-    part-ready (string s) b = refl
-    part-ready no_string b = refl
-    part-ready (boolean v) b = refl
-    part-ready (literal v) b = refl
-
-    parts-ready : (ps : Parts) → Below first (preorder_of ps) → elements_ready first [] (preorder_of ps) ≡ true
-    parts-ready end b = refl
-    parts-ready (more p ps) b =
-        ready-behind (preorder_of_part p) (preorder_of ps) (part-ready p (below-first first (preorder_of_part p) (preorder_of ps) b)) (parts-ready ps (below-second first (preorder_of_part p) (preorder_of ps) b))
-
 supers-none : (first : ℕ) (o : Options) (n : ℕ) (ts : List Tree) → super_definitions first o [] n ts ≡ []
 supers-none first o n [] = refl
 supers-none first o n (Node kind m span semantic_id ps ∷ ts) = supers-none first o n ts
@@ -569,7 +529,7 @@ unchanged-owes o t e h left =
         strict = strict-stays (nodes t) t;
         texts = old-texts (nodes t) (preorder t) (preorder t) turn.below (λ u i. i);
         initialized = refl;
-        timely = both (names-timely (nodes t) (private_members t) t) (tree-ready (nodes t) t turn.below);
+        timely = names-timely (nodes t) (private_members t) t;
         temporaries = refl;
         keys = rw (temporaries-none (nodes t) o (private_members t) t (preorder t)) (keys-stand (lowers_fields o));
         classes = classes-stay (nodes t) t turn.once;

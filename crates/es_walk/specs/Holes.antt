@@ -1,6 +1,7 @@
 -- The places of nodes and parts, and the nodes that a walk has still to enter.
-use Rattle.std.specs.Prelude.{ℕ, ◌+◌, List, [], ◌∷◌, ◌++◌, Option}
+use Rattle.std.specs.Prelude.{ℕ, ◌+◌, List, [], ◌∷◌, Option}
 use Rattle.es_base.specs.declared.kind.Kind.{Kind}
+use Rattle.es_ctx.specs.Ancestors.{going_into}
 use Rattle.es_ctx.specs.declared.ancestor.Ancestor.{Ancestor}
 use Rattle.es_ctx.specs.declared.ancestor.Parent.{Parent}
 use Rattle.es_base.specs.Tree.{Tree, Part, Parts, Node, end, more, child, absent, list, string, no_string, boolean, literal}
@@ -32,7 +33,7 @@ abbrev mutual
   places (of_item before after place) = part_places place
 
   pub part_places : PartHole → List Ancestor
-  part_places (at_part parent k i sp si before after outer) = places outer ++ record { parent = parent; at = count before } ∷ []
+  part_places (at_part parent k i sp si before after outer) = going_into (places outer) parent (count before)
 
 -- the nodes that a walk has still to enter, in preorder
 abbrev mutual

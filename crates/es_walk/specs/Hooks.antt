@@ -1,15 +1,15 @@
 -- Which named hooks a node meets, and what their laws give for all of them.
-use Rattle.std.specs.Prelude.{◌≡◌, ℕ, ◌≤◌, List, [], ◌∷◌, Bool, true, false, Option, Some, None}
+use Rattle.std.specs.Prelude.{◌≡◌, ℕ, ◌≤◌, List, Bool, true, false, Option, Some, None}
 use Rattle.std.proofs.Common.{ap, arith}
 use Rattle.es_base.specs.Preorder.{nodes}
-use Rattle.es_base.specs.Table.{members_of, is_statement, is_expression, is_target}
+use Rattle.es_base.specs.Table.{is_statement, is_expression, is_target}
 use Rattle.es_base.specs.Tree.{Tree, Part, Node}
 use Rattle.es_base.specs.declared.kind.Kind.{Kind}
+use Rattle.es_ctx.specs.Ancestors.{innermost_or, ancestor_role}
 use Rattle.es_ctx.specs.declared.ancestor.Ancestor.{Ancestor}
 use Rattle.es_ctx.specs.declared.ancestor.Parent.{Parent}
 use Rattle.es_ctx.specs.declared.ctx.TraverseCtx.{TraverseCtx}
 use Rattle.es_node.specs.View.{kind_of}
-use Rattle.es_visit.specs.Roles.{role_at}
 use Rattle.es_visit.specs.declared.roles.Role.{Role}
 use Rattle.es_walk.specs.Placing.{place_here, place_on}
 use Rattle.es_walk.specs.Steps.{OpensPart, ClosesPart, KeepsPlace, KeepPlaces}
@@ -36,9 +36,7 @@ is_leaving h = false
 
 -- the role of the node at hand: that of the innermost place around
 abbrev pub role_here : List Ancestor → Role
-role_here [] = Role.Other
-role_here (a ∷ []) = role_at a.parent.is_computed (members_of a.parent.kind) a.at
-role_here (a ∷ b ∷ rest) = role_here (b ∷ rest)
+role_here around = innermost_or Role.Other ancestor_role around
 
 abbrev pub hook_if : Bool → Hook → Option Hook
 hook_if true h = Some h
@@ -132,10 +130,10 @@ module _ {T : Type 0} (does : Hook → T × TraverseCtx → Tree → T × Traver
 -- what is done beside the hooks, seen from a transform inside another
 module _ {T N : Type 0} (inner : N → T) where
   pub inner_opens : (s : N × TraverseCtx) (parent : Parent) (at : ℕ) (p : Part) (e : N × TraverseCtx) → OpensPart s parent at p e → OpensPart (inner s.0, s.1) parent at p (inner e.0, e.1)
-  inner_opens s parent at p e h = record { transform = ap inner h.transform; next = h.next; path = h.path; lists = h.lists }
+  inner_opens s parent at p e h = record { transform = ap inner h.transform; next = h.next; path = h.path; lists = h.lists; diagnostics = h.diagnostics }
 
   pub inner_closes : (s : N × TraverseCtx) (parent : Parent) (at : ℕ) (p : Part) (e : N × TraverseCtx) (q : Part) → ClosesPart s parent at p e q → ClosesPart (inner s.0, s.1) parent at p (inner e.0, e.1) q
-  inner_closes s parent at p e q h = record { transform = ap inner h.transform; next = h.next; path = h.path; lists = h.lists; part = h.part }
+  inner_closes s parent at p e q h = record { transform = ap inner h.transform; next = h.next; path = h.path; lists = h.lists; diagnostics = h.diagnostics; part = h.part }
 
   pub inner_place : (s e : N × TraverseCtx) → KeepsPlace (inner s.0, s.1) (inner e.0, e.1) → KeepsPlace s e
   inner_place s e h = record { path = h.path; depth = h.depth; given = h.given }

@@ -4,7 +4,7 @@ use Rattle.std.proofs.Common.{ap, ◌∙◌, arith}
 use Rattle.es_base.specs.Preorder.{nodes_of, nodes_of_part}
 use Rattle.es_base.specs.Tree.{Tree, Part, Parts, end, more, child, absent, list, string, no_string, boolean, literal, trees}
 use Rattle.es_base.specs.declared.operator.VariableDeclarationKind.{VariableDeclarationKind}
-use Rattle.es_ctx.specs.Ancestors.{has_statements}
+use Rattle.es_ctx.specs.Ancestors.{ancestor_of, has_statements}
 use Rattle.es_ctx.specs.Lists.{front-push, filled-push}
 use Rattle.es_ctx.specs.Stores.{pick, slot_of, without, trees_then, left_over, spread, declared, is_directive, behind_directives, placed, front, opened, closed, filled, open_list, declared_nodes, stored_slots, stored_list, stored, element_number}
 use Rattle.es_ctx.specs.declared.ancestor.Parent.{Parent}
@@ -142,7 +142,7 @@ length-opened false p ls ms e = e
 -- a member that is opened, walked so that the place is kept, and closed
 pub member_keeps : {T : Type 0} (s m n e : T × TraverseCtx) (k : Parent) (at : ℕ) (p q r : Part) → OpensPart s k at p m → KeepsPlace m n → ClosesPart n k at q e r → KeepsPlace s e
 member_keeps s m n e k at p q r a h b = record {
-  path = b.path ∙ ap front (h.path ∙ a.path) ∙ front-push s.1.path (record { parent = k; at = at });
+  path = b.path ∙ ap front (h.path ∙ a.path) ∙ front-push s.1.path (ancestor_of s.1.path k at);
   depth = ap length b.lists ∙ length-opened (has_statements k.kind at) p s.1.lists n.1.lists (h.depth ∙ ap length a.lists);
   given = omega (arith, a.next, h.given, b.next);
 }

@@ -1,9 +1,9 @@
 -- The whole: a tree with what the open lists keep put at its place.
-use Rattle.std.specs.Prelude.{◌≡◌, ℕ, ◌+◌, List, [], ◌∷◌, ◌++◌, Bool, true, false, refl, Option}
+use Rattle.std.specs.Prelude.{◌≡◌, ℕ, ◌+◌, List, ◌∷◌, Bool, true, false, refl, Option}
 use Rattle.std.proofs.Common.{ap, sym, ◌∙◌}
 use Rattle.es_base.specs.Tree.{Tree, Part, Parts, Node, end, more, child, absent, list, string, no_string, boolean, literal}
 use Rattle.es_base.specs.declared.kind.Kind.{Kind}
-use Rattle.es_ctx.specs.Ancestors.{has_statements}
+use Rattle.es_ctx.specs.Ancestors.{ancestor_of, going_into, has_statements}
 use Rattle.es_ctx.specs.Lists.{front-push}
 use Rattle.es_ctx.specs.Stores.{front, opened, closed, filled}
 use Rattle.es_ctx.specs.declared.ancestor.Ancestor.{Ancestor}
@@ -66,7 +66,7 @@ module _ {S : Type 0} (enters : Bool → S → Tree → S → Tree → Type 0) (
     (path : S → List Ancestor) (lists : S → List OpenList) (kept : S → Tree → List Tree → List Tree → Type 0)
     (enter_path : (goes : Bool) (s e : S) (t u : Tree) → enters goes s t e u → path e ≡ path s)
     (leave_path : (s e : S) (t u : Tree) → leaves s t e u → path e ≡ path s)
-    (opens_path : (s e : S) (parent : Parent) (at : ℕ) (p : Part) → opens s parent at p e → path e ≡ path s ++ record { parent = parent; at = at } ∷ [])
+    (opens_path : (s e : S) (parent : Parent) (at : ℕ) (p : Part) → opens s parent at p e → path e ≡ going_into (path s) parent at)
     (closes_path : (s e : S) (parent : Parent) (at : ℕ) (p q : Part) → closes s parent at p e q → path e ≡ front (path s))
     (enter_law : (s e : S) (t u : Tree) → enters true s t e u → (hole : Hole) → path s ≡ places hole → (around rest : List Tree) → kept s (whole (lists s) hole t) around (pending t rest) → kept e (whole (lists e) hole u) (t ∷ around) (pending_below u rest))
     (pass_law : (s e : S) (t u : Tree) → enters false s t e u → (hole : Hole) → path s ≡ places hole → (around rest : List Tree) → kept s (whole (lists s) hole t) around (pending t rest) → kept e (whole (lists e) hole u) around rest)
@@ -86,7 +86,7 @@ module _ {S : Type 0} (enters : Bool → S → Tree → S → Tree → Type 0) (
     path_parts (w.next h hs) = path_parts hs ∙ path_member h
 
     path_member : {parent : Parent} {at : ℕ} {s e : S} {p q : Part} → w.TraversedMember enters leaves opens closes parent at s p e q → path e ≡ path s
-    path_member {parent} {at} {s} (w.between a h b) = closes_path _ _ _ _ _ _ b ∙ ap front (path_part h ∙ opens_path _ _ _ _ _ a) ∙ front-push (path s) (record { parent = parent; at = at })
+    path_member {parent} {at} {s} (w.between a h b) = closes_path _ _ _ _ _ _ b ∙ ap front (path_part h ∙ opens_path _ _ _ _ _ a) ∙ front-push (path s) (ancestor_of (path s) parent at)
 
     path_part : {s e : S} {p q : Part} → w.TraversedPart enters leaves opens closes s p e q → path e ≡ path s
     path_part (w.of_child h) = path_node h
@@ -123,7 +123,7 @@ module _ {S : Type 0} (enters : Bool → S → Tree → S → Tree → Type 0) (
         let place = at_part parent k i sp si before after outer in
         let opening = whole-opened parent k i sp si before after outer (has_statements parent.kind at) (lists s) (lists m) p (same parent k is c) (opens_list _ _ _ _ _ a) in
         let entering : kept m (whole_part (lists m) place p) around (pending_part p rest) = rw opening (open_law _ _ _ _ _ a _ around (pending_part p rest) x) in
-        let around_part : path m ≡ places outer ++ record { parent = parent; at = count before } ∷ [] = opens_path _ _ _ _ _ a ∙ ap (λ ps. ps ++ record { parent = parent; at = at } ∷ []) here ∙ ap (λ (n : ℕ). places outer ++ record { parent = parent; at = n } ∷ []) (sym c) in
+        let around_part : path m ≡ going_into (places outer) parent (count before) = opens_path _ _ _ _ _ a ∙ ap (λ ps. going_into ps parent at) here ∙ ap (λ (n : ℕ). going_into (places outer) parent n) (sym c) in
         let inside : kept n (whole_part (lists n) place q) around rest = keeps_part h place around_part around rest entering in
         let closing = whole-closed parent k i sp si before after outer (has_statements parent.kind at) (lists n) (lists e) q r (same parent k is c) (closes_list _ _ _ _ _ _ b) (fills_part _ _ _ _ _ _ b) in
         close_law _ _ _ _ _ _ b _ around rest (rw closing at inside)

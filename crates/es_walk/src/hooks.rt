@@ -23,7 +23,7 @@ use es_base::kind::Kind;
 use es_base::table::{Place, fits};
 use es_ctx::ctx::TraverseCtx;
 use es_node::node::Node;
-use es_visit::roles::{Role, role_at};
+use es_visit::roles::Role;
 use std::alloc::AllocError;
 
 /// A hook of `Hooks`.
@@ -178,11 +178,7 @@ pub fn role_here(ctx: &TraverseCtx) -> Role
     ensures { result ≡ role_here ctx.now.path }
 {
     match ctx.path.as_slice().last() {
-        Some(ancestor) => role_at(
-            ancestor.parent.kind,
-            ancestor.parent.is_computed,
-            ancestor.at,
-        ),
+        Some(ancestor) => ancestor.role(),
         None => Role::Other,
     }
 }

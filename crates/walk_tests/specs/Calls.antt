@@ -26,7 +26,7 @@ weight k = 1
 pub weighs_something : (k : Kind) → 1 ≤ weight k
 weighs_something k = omega arith
 
-heft-nodes : (t : Tree) → heft weight t ≡ nodes t
+pub heft-nodes : (t : Tree) → heft weight t ≡ nodes t
 heft-nodes (Node k i sp si ps) = omega arith
 
 mutual
@@ -78,7 +78,7 @@ leaves_stay s e t u (hooks.leaves m v x y) =
 abbrev pub Any : Tree → Type 0
 Any t = Unit {0}
 
-settle : (t : Tree) → BelowSettled Any t → AllSettled Any t
+pub settle : (t : Tree) → BelowSettled Any t → AllSettled Any t
 settle (Node k i sp si ps) h = (tt {0}, h)
 
 -- the whole is the program

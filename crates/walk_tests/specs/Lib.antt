@@ -6,3 +6,4 @@ pub mod OldNumbers
 pub mod Power
 pub mod PowerKept
 pub mod PowerLaws
+pub mod Warnings

@@ -3,12 +3,15 @@
 ghost use Rattle.std.specs.Prelude.{◌≡◌, IfOk};
 ghost use Rattle.es_base.specs.declared.kind.Kind as kind;
 
-use es_base::ids::NodeId;
+use es_base::diagnostic::Diagnostic;
+use es_base::ids::{NodeId, ScopeId};
 use es_base::kind::Kind;
 use es_base::list::List;
 use es_base::literal::LiteralValue;
 use es_base::name::Name;
 use es_ctx::ancestor::{Parent, has_statements};
+use es_ctx::ancestor_kind::AncestorKind;
+use es_ctx::beside::{insert_after, insert_before, insert_many_after, insert_many_before};
 use es_ctx::ctx::TraverseCtx;
 use es_ctx::stores::Side;
 use es_node::node::{Node, Part};
@@ -56,9 +59,28 @@ fn keep(ctx: &mut TraverseCtx, side: Side, element: u32, number: u32) -> Result<
     if !ctx.has_open_list() {
         return Err(Fail::new("no list is open"));
     }
-    let mut statements = List::new(ctx.alloc);
-    statements.push(statement(ctx.alloc, number)?)?;
-    ctx.insert(side, NodeId(element), statements)?;
+    let statement = statement(ctx.alloc, number)?;
+    match side {
+        Side::Before => insert_before(NodeId(element), statement, ctx)?,
+        Side::After => insert_after(NodeId(element), statement, ctx)?,
+    }
+    Ok(())
+}
+
+/// Keeps two statements on a side of an element.
+fn keep_two(ctx: &mut TraverseCtx, side: Side, element: u32, first: u32) -> Result<(), Fail> {
+    if !ctx.has_open_list() {
+        return Err(Fail::new("no list is open"));
+    }
+    let statements = vec![in ctx.alloc;
+        statement(ctx.alloc, first)?,
+        statement(ctx.alloc, first)?,
+    ]?;
+    let statements = List::from_vec(statements);
+    match side {
+        Side::Before => insert_many_before(NodeId(element), statements, ctx)?,
+        Side::After => insert_many_after(NodeId(element), statements, ctx)?,
+    }
     Ok(())
 }
 
@@ -110,6 +132,8 @@ fn keep_some(ctx: &mut TraverseCtx) -> Result<(), Fail> {
     keep(ctx, Side::After, 2, 22)?;
     keep(ctx, Side::Before, 2, 20)?;
     keep(ctx, Side::Before, 2, 21)?;
+    keep_two(ctx, Side::Before, 3, 30)?;
+    keep_two(ctx, Side::After, 3, 31)?;
     keep(ctx, Side::After, 77, 78)
 }
 
@@ -130,7 +154,7 @@ fn closed(alloc: Global) -> Result<String, Fail> {
 fn statements_go_beside_their_elements(rt: HostRuntime) -> Result<(), Fail> {
     let found = closed(rt.alloc())?;
     let wanted =
-        "ExpressionStatement 1\nVariableDeclaration 4294967295\nVariableDeclaration 4294967295\nBreakStatement 20\nBreakStatement 21\nBreakStatement 2\nBreakStatement 22\nBreakStatement 3\nBreakStatement 78\n";
+        "ExpressionStatement 1\nVariableDeclaration 4294967295\nVariableDeclaration 4294967295\nBreakStatement 20\nBreakStatement 21\nBreakStatement 2\nBreakStatement 22\nBreakStatement 30\nBreakStatement 30\nBreakStatement 3\nBreakStatement 31\nBreakStatement 31\nBreakStatement 78\n";
     assert!(rt; found.as_str() == wanted, "{found}");
     Ok(())
 }
@@ -144,6 +168,53 @@ fn numbers_are_given(rt: HostRuntime) -> Result<(), Fail> {
     let parent = block(alloc)?;
     assert!(rt; parent.node == 9);
     assert!(rt; has_statements(parent.kind, 0) && !has_statements(parent.kind, 1));
+    Ok(())
+}
+
+/// The kinds of the places around, the innermost first.
+fn kinds(alloc: Global, ctx: &TraverseCtx) -> Result<String, AllocError> {
+    let mut text = String::new(alloc);
+    for ancestor in ctx.ancestors() {
+        write!(text, "{:?} ", ancestor.kind)?;
+    }
+    Ok(text)
+}
+
+// function f(a = { b }) {}
+#[test]
+fn places_are_named(rt: HostRuntime) -> Result<(), Fail> {
+    let alloc = rt.alloc();
+    let mut ctx = TraverseCtx::new(alloc, 5);
+    assert!(rt; ctx.is_root());
+    let part = Part::List(List::new(alloc));
+    let mut function = block(alloc)?;
+    function.kind = Kind::FunctionDeclaration;
+    function.scope = Some(7);
+    ctx.open(function, 1, &part)?;
+    let mut default = function;
+    default.kind = Kind::AssignmentPattern;
+    default.scope = None;
+    ctx.open(default, 1, &part)?;
+    let found = kinds(alloc, &ctx)?;
+    assert!(rt;
+        found.as_str() == "FormalParameterInitializer FunctionParams ",
+        "{found}"
+    );
+    assert!(rt; ctx.current_scope_id() == ScopeId(7));
+    assert!(rt; ctx.current_hoist_scope_id() == ScopeId(7));
+    assert!(rt; ctx.current_block_scope_id() == ScopeId(0));
+    Ok(())
+}
+
+#[test]
+fn warnings_are_kept(rt: HostRuntime) -> Result<(), Fail> {
+    let alloc = rt.alloc();
+    let mut ctx = TraverseCtx::new(alloc, 5);
+    ctx.warn(Diagnostic {
+        node: NodeId(3),
+        span: None,
+    })?;
+    assert!(rt; ctx.diagnostics.len() == 1);
     Ok(())
 }
 

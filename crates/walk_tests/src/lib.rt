@@ -8,3 +8,4 @@ pub mod hoist;
 pub mod power;
 #[cfg(test)]
 mod programs;
+pub mod warnings;

@@ -6,6 +6,7 @@ ghost use Rattle.es_base.specs.Preorder.{nodes};
 use crate::calls::called_hooks;
 use crate::hoist::hoist_this;
 use crate::power::lower_powers;
+use crate::warnings::warn_of_awaits;
 use es_json::read::read_program;
 use es_json::write::write_program;
 use es_node::node::Node;
@@ -82,5 +83,21 @@ fn hooks_are_called_by_role_and_kind(rt: HostRuntime) -> Result<(), Fail> {
     let mut program = read(alloc, source)?;
     let found = called_hooks(alloc, &mut program)?;
     assert!(rt; found.as_str() == wanted, "{found}");
+    Ok(())
+}
+
+// await await x;
+#[test]
+fn awaits_are_warned_of(rt: HostRuntime) -> Result<(), Fail> {
+    let alloc = rt.alloc();
+    let source =
+        r#"{"type":"Program","sourceType":"module","body":[{"type":"ExpressionStatement","expression":{"type":"AwaitExpression","argument":{"type":"AwaitExpression","argument":{"type":"Identifier","name":"x"}}}}]}"#;
+    let mut program = read(alloc, source)?;
+    let found = warn_of_awaits(alloc, &mut program)?;
+    let mut text = String::new(alloc);
+    for warning in found.as_slice() {
+        write!(text, "{} ", warning.node.0)?;
+    }
+    assert!(rt; text.as_str() == "2 3 ", "{text}");
     Ok(())
 }

@@ -508,12 +508,6 @@ returns-clause-pattern_without_a_value c = refl
 pub returns-clause-private_element_of_the_class_around : goal.returns-clause-private_element_of_the_class_around
 returns-clause-private_element_of_the_class_around c = refl
 
-pub returns-clause-private_element_read_by_a_constructor : goal.returns-clause-private_element_read_by_a_constructor
-returns-clause-private_element_read_by_a_constructor c = refl
-
-pub returns-clause-private_element_read_by_a_field : goal.returns-clause-private_element_read_by_a_field
-returns-clause-private_element_read_by_a_field c = refl
-
 pub returns-clause-private_method_in_front_of_its_class : goal.returns-clause-private_method_in_front_of_its_class
 returns-clause-private_method_in_front_of_its_class c = refl
 
@@ -561,9 +555,6 @@ returns-clause-regular_expression_read_twice c = refl
 
 pub returns-clause-rests_exchanged_behind_an_error : goal.returns-clause-rests_exchanged_behind_an_error
 returns-clause-rests_exchanged_behind_an_error c = refl
-
-pub returns-clause-second_private_element_read_by_a_field : goal.returns-clause-second_private_element_read_by_a_field
-returns-clause-second_private_element_read_by_a_field c = refl
 
 pub returns-clause-second_string_that_a_printer_makes_a_directive : goal.returns-clause-second_string_that_a_printer_makes_a_directive
 returns-clause-second_string_that_a_printer_makes_a_directive c = refl

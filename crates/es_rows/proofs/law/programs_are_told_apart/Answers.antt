@@ -10,6 +10,9 @@ returns-clause-arguments_of_a_block c = (refl, refl, refl)
 pub returns-clause-arguments_of_an_inner_function : goal.returns-clause-arguments_of_an_inner_function
 returns-clause-arguments_of_an_inner_function c = (refl, refl, refl)
 
+pub returns-clause-async_function_around_a_function_in_a_case : goal.returns-clause-async_function_around_a_function_in_a_case
+returns-clause-async_function_around_a_function_in_a_case c = (refl, refl, refl)
+
 pub returns-clause-caught_names_exchanged : goal.returns-clause-caught_names_exchanged
 returns-clause-caught_names_exchanged c = (refl, refl, refl)
 
@@ -45,6 +48,9 @@ returns-clause-function_of_a_case c = (refl, refl, refl)
 
 pub returns-clause-function_of_a_parameter : goal.returns-clause-function_of_a_parameter
 returns-clause-function_of_a_parameter c = (refl, refl, refl)
+
+pub returns-clause-generator_around_a_function_in_a_block : goal.returns-clause-generator_around_a_function_in_a_block
+returns-clause-generator_around_a_function_in_a_block c = (refl, refl, refl)
 
 pub returns-clause-getter_or_method : goal.returns-clause-getter_or_method
 returns-clause-getter_or_method c = (refl, refl, refl)

@@ -190,6 +190,12 @@ returns-clause-picked_by_an_async_arrow c = refl
 pub returns-clause-private_element_in_front_of_its_value : goal.returns-clause-private_element_in_front_of_its_value
 returns-clause-private_element_in_front_of_its_value c = refl
 
+pub returns-clause-private_element_read_by_a_constructor : goal.returns-clause-private_element_read_by_a_constructor
+returns-clause-private_element_read_by_a_constructor c = refl
+
+pub returns-clause-private_element_read_by_a_field : goal.returns-clause-private_element_read_by_a_field
+returns-clause-private_element_read_by_a_field c = refl
+
 pub returns-clause-private_field_dropped : goal.returns-clause-private_field_dropped
 returns-clause-private_field_dropped c = refl
 
@@ -228,6 +234,9 @@ returns-clause-return_in_an_arrow c = refl
 
 pub returns-clause-script_in_an_arrow : goal.returns-clause-script_in_an_arrow
 returns-clause-script_in_an_arrow c = refl
+
+pub returns-clause-second_private_element_read_by_a_field : goal.returns-clause-second_private_element_read_by_a_field
+returns-clause-second_private_element_read_by_a_field c = refl
 
 pub returns-clause-spread_for_a_parameter : goal.returns-clause-spread_for_a_parameter
 returns-clause-spread_for_a_parameter c = refl

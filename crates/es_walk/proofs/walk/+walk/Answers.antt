@@ -70,7 +70,7 @@ walk_node-returns g t c = a.node_passed _ _ _ _ c.if-goes.false c.in_ok-goes.ens
 pub walk_member-walk_part-requires : goal.walk_member-walk_part-requires
 walk_member-walk_part-requires g t c κs within =
     let same = ap stored c.in_ok-open.ensures.lists ∙ stored-opened (has_statements c.args.parent.kind c.args.at) (part_of c.args.part.now) c.args.ctx.now.lists in
-    let opens : OpensPart (c.args.transform.now, c.args.ctx.now) c.args.parent c.args.at (part_of c.args.part.now) (c.args.transform.now, c.open.new.self) = record { transform = refl; next = c.in_ok-open.ensures.next; path = c.in_ok-open.ensures.path; lists = c.in_ok-open.ensures.lists } in (
+    let opens : OpensPart (c.args.transform.now, c.args.ctx.now) c.args.parent c.args.at (part_of c.args.part.now) (c.args.transform.now, c.open.new.self) = record { transform = refl; next = c.in_ok-open.ensures.next; path = c.in_ok-open.ensures.path; lists = c.in_ok-open.ensures.lists; diagnostics = c.in_ok-open.ensures.diagnostics } in (
       omega (arith, same, c.decreases),
       (
         within,
@@ -85,7 +85,7 @@ pub walk_member-close-requires : goal.walk_member-close-requires
 walk_member-close-requires g t c = λ is. c.in_ok-walk_part.ensures.shape (Sort.List Place.Statement) ∙ c.requires.shape is
 
 pub walk_member-returns-clause-walked : goal.walk_member-returns-clause-walked
-walk_member-returns-clause-walked g t c = w.between (record { transform = refl; next = c.in_ok-open.ensures.next; path = c.in_ok-open.ensures.path; lists = c.in_ok-open.ensures.lists }) c.in_ok-walk_part.ensures.walked (record { transform = refl; next = c.in_ok-close.ensures.next; path = c.in_ok-close.ensures.path; lists = c.in_ok-close.ensures.lists; part = c.in_ok-close.ensures.part })
+walk_member-returns-clause-walked g t c = w.between (record { transform = refl; next = c.in_ok-open.ensures.next; path = c.in_ok-open.ensures.path; lists = c.in_ok-open.ensures.lists; diagnostics = c.in_ok-open.ensures.diagnostics }) c.in_ok-walk_part.ensures.walked (record { transform = refl; next = c.in_ok-close.ensures.next; path = c.in_ok-close.ensures.path; lists = c.in_ok-close.ensures.lists; diagnostics = c.in_ok-close.ensures.diagnostics; part = c.in_ok-close.ensures.part })
 
 pub walk_member-returns-clause-shape : goal.walk_member-returns-clause-shape
 walk_member-returns-clause-shape g t c = λ sort. c.in_ok-close.ensures.shape sort ∙ c.in_ok-walk_part.ensures.shape sort

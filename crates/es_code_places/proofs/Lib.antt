@@ -1,0 +1,3 @@
+pub mod NameForms
+pub mod Places
+pub mod PrivateForms

@@ -1,0 +1,2 @@
+pub mod NameForms
+pub mod PrivateKeys

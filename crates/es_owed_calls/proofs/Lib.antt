@@ -1,0 +1,12 @@
+pub mod CallNodes
+pub mod ConversionNodes
+pub mod HelperNodes
+pub mod KeyFormNodes
+pub mod KeyNames
+pub mod Keys
+pub mod NamingNodes
+pub mod Results
+pub mod SpelledNodes
+pub mod StaticKeys
+pub mod TellingNodes
+pub mod TestNodes

@@ -1,0 +1,10 @@
+use Rattle.std.proofs.Common.{◌≡◌, ◌++◌, drop}
+use Rattle.es_binding_faults.specs.Seen.{seen}
+use Rattle.es_lowered.specs.HelperCalls.{converted_keys}
+use Rattle.es_owed_calls.specs.Strings.{strings}
+use Rattle.es_owed_calls.proofs.conversions.converted_keys.Given as goal
+
+abbrev pub invariant-loop-node : goal.invariant-loop-node
+invariant-loop-node l =
+    let found = converted_keys l.terms.first l.terms.ledger.now in
+    strings l.converted.items ++ found (seen (drop l.node-index l.nodes)) ≡ found (seen l.nodes)
