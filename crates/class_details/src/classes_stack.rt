@@ -1,6 +1,6 @@
 // The classes around a place.
 
-ghost use Rattle.std.specs.Prelude.{◌≡◌, ◌<◌, ◌∷◌, ◌-◌, ◌++◌, [], IsSome, Some, None, false, length, vec_len, option_map, option_and_then, slice_get, OnOk, OnErr, IfOk};
+ghost use Rattle.std.specs.Prelude.{◌≡◌, ◌<◌, ◌∷◌, ◌-◌, ◌++◌, ◌↔◌, [], IsTrue, IsSome, Some, None, false, length, vec_len, option_map, option_and_then, slice_get, OnOk, OnErr, IfOk};
 
 use crate::class_details::ClassDetails;
 use crate::find::find_among;
@@ -75,6 +75,13 @@ impl ClassesStack {
         ensures value { slice_get self.old.classes.items place ≡ Some result.now }
     {
         &mut self.classes[place]
+    }
+
+    /// Whether a class declares the private name, so that it can be found.
+    pub fn declares(&self, name: &Name) -> bool
+        ensures { IsTrue result ↔ IsSome (found name.now self.now.classes.items) }
+    {
+        find_among(self.classes.as_slice(), name).is_some()
     }
 
     /// What a use of the private name means.

@@ -6,7 +6,7 @@ use Rattle.std.proofs.lemmas.List.{append-nil}
 use Rattle.es_base.specs.Preorder.{preorder, preorder_of}
 use Rattle.es_base.specs.Conforms.{is_among}
 use Rattle.es_base.specs.declared.kind.Kind.{Kind}
-use Rattle.es_base.specs.Tree.{Tree, Parts, end, more, trees, Node, string, list}
+use Rattle.es_base.specs.Tree.{Tree, Parts, end, more, trees, Node, child, absent, string, list}
 use Rattle.es_steps.proofs.FirstMeaning.{members_of_all-append}
 use Rattle.es_steps.specs.Context.{Context}
 use Rattle.es_steps.specs.Evaluation.{Environment}
@@ -15,6 +15,7 @@ use Rattle.es_steps.specs.Modules.{links_in, exports_in}
 use Rattle.es_steps.specs.PrivateNames.{private_members, members_of_all, elements_members}
 use Rattle.es_lowered.specs.KeptReferences.{writing_numbers}
 use Rattle.es_steps.specs.References.{Reference, if_bound, is_free, assigned, item_references, resolve, written_by, written_by_all, written, changing_by, changing_in, varying, writes_free, caught_again, caught_again_in, given_of, changed_otherwise, inner_functions, function_names, gives_inside, changes_free}
+use Rattle.es_steps.specs.Branches.{names_inside, around_branches, around_branches_of}
 use Rattle.es_steps.specs.Repeated.{Surroundings, places_of, all_places}
 use Rattle.es_steps.specs.Shared.{shared, shared_of}
 use Rattle.es_steps.specs.Scopes.{Declaration, lexical_part, lexical_items, var_part, body_names}
@@ -113,13 +114,13 @@ pub record Unwritten (ps : Parts) : Type 0 where
   pub repeated : written_by_all (preorder_of ps) ≡ []
   pub changing : changing_in (preorder_of ps) ≡ []
   pub caught : caught_again_in (preorder_of ps) ≡ []
-  pub given : (names : List Declaration) → given_of names ps ≡ []
+  pub given : (names uncaught : List Declaration) → given_of names uncaught ps ≡ []
   pub inside : (s : String) → gives_inside s (preorder_of ps) ≡ false
   pub functions : declared_functions [] (preorder_of ps) ≡ []
   pub members : members_of_all (preorder_of ps) ≡ []
 
 unwritten-end : Unwritten end
-unwritten-end = record { assigned = λ names. refl; writing = λ names. refl; free = λ names. refl; repeated = refl; changing = refl; caught = refl; given = λ names. refl; inside = λ s. refl; functions = refl; members = refl }
+unwritten-end = record { assigned = λ names. refl; writing = λ names. refl; free = λ names. refl; repeated = refl; changing = refl; caught = refl; given = λ names uncaught. refl; inside = λ s. refl; functions = refl; members = refl }
 
 fields-unwritten : (es : Parts) → AreFields es → Unwritten es
 fields-unwritten end h = unwritten-end
@@ -144,7 +145,7 @@ elements-unwritten (more p es) h k =
       repeated = rw (names-definitions (more p es) h (k + 4), lexical-definitions (more p es) h (k + 4), four_ends (preorder_of ts)) u.repeated;
       changing = rw (four_ends (preorder_of ts)) u.changing;
       caught = rw (four_ends (preorder_of ts)) u.caught;
-      given = λ names. four-none (u.given _);
+      given = λ names uncaught. four-none (u.given _ _);
       inside = λ s. rw (function-definitions (more p es) h (k + 4), four_ends (preorder_of ts)) (u.inside s);
       functions = rw (four_ends (preorder_of ts)) u.functions;
       members = rw (four_ends (preorder_of ts)) u.members;
@@ -191,7 +192,7 @@ classes-unwritten end h = unwritten-end
 classes-unwritten (more p ps) (a_class n span semantic_id id body (a_name i ispan i_semantic_id s free) (a_body m bspan b_semantic_id es he), h) =
     let rest : Unwritten ps = classes-unwritten ps h in
     let u : ClassUnwritten n es ps = class-unwritten n es ps (fields-unwritten es he) rest (fields-no_members n es he) in
-    record { assigned = u.assigned; writing = u.writing; free = u.free; repeated = u.repeated; changing = u.changing; caught = u.caught; given = λ names. two-none ((fields-unwritten es he).given _) (rest.given names); inside = u.inside; functions = u.functions; members = u.members }
+    record { assigned = u.assigned; writing = u.writing; free = u.free; repeated = u.repeated; changing = u.changing; caught = u.caught; given = λ names uncaught. two-none ((fields-unwritten es he).given _ _) (rest.given names uncaught); inside = u.inside; functions = u.functions; members = u.members }
 
 lowered-unwritten : (ps : Parts) → AreClasses ps → (k : ℕ) → Unwritten (lowered_statements k ps)
 lowered-unwritten end h k = unwritten-end
@@ -199,7 +200,7 @@ lowered-unwritten (more p ps) (a_class n span semantic_id id body (a_name i ispa
     let next : ℕ = k + statement_size p in
     let rest : Unwritten (lowered_statements next ps) = lowered-unwritten ps h next in
     let u : ClassUnwritten n (lowered_elements k es) (lowered_statements next ps) = class-unwritten n (lowered_elements k es) (lowered_statements next ps) (elements-unwritten es he k) rest (lowered-no_members n k es) in
-    record { assigned = u.assigned; writing = u.writing; free = u.free; repeated = u.repeated; changing = u.changing; caught = u.caught; given = λ names. two-none ((elements-unwritten es he k).given _) (rest.given names); inside = u.inside; functions = u.functions; members = u.members }
+    record { assigned = u.assigned; writing = u.writing; free = u.free; repeated = u.repeated; changing = u.changing; caught = u.caught; given = λ names uncaught. two-none ((elements-unwritten es he k).given _ _) (rest.given names uncaught); inside = u.inside; functions = u.functions; members = u.members }
 
 -- ---- declaring identifiers: those of the classes
 
@@ -293,6 +294,45 @@ classes-placed first (more p ps) (a_class n span semantic_id id body (a_name i i
 pub places-lowered : (first : ℕ) (t : Tree) → IsProgram t → all_places first [] [] (lowered_from first t) ≡ all_places first [] [] t
 places-lowered first t (a_program m span semantic_id s all h) = ap (λ xs. xs ++ []) (classes-placed first all h first (omega arith) _)
 
+-- ---- names around functions that are branches: there are none
+
+abbrev Unbranched : Parts → Type 0
+Unbranched ps = (names : List Declaration) → around_branches_of names ps ≡ []
+
+fields-unbranched : (es : Parts) → AreFields es → Unbranched es
+fields-unbranched end h c = refl
+fields-unbranched (more p es) (a_field m span semantic_id key v (a_key i ispan i_semantic_id x) no_value, h) c = fields-unbranched es h c
+fields-unbranched (more p es) (a_field m span semantic_id key v (a_key i ispan i_semantic_id x) (a_literal l lspan l_semantic_id w fine), h) c = fields-unbranched es h c
+fields-unbranched (more p es) (a_field m span semantic_id key v (a_key i ispan i_semantic_id x) (a_reference r rspan r_semantic_id y), h) c = fields-unbranched es h c
+
+definitions-unbranched : (es : Parts) → AreFields es → (k : ℕ) → Unbranched (trees (definitions_from k es))
+definitions-unbranched end h k c = refl
+definitions-unbranched (more p es) (a_field m span semantic_id key v hk no_value, h) k c = definitions-unbranched es h (k + 9) c
+definitions-unbranched (more p es) (a_field m span semantic_id key v hk (a_literal l lspan l_semantic_id w fine), h) k c = definitions-unbranched es h (k + 7) c
+definitions-unbranched (more p es) (a_field m span semantic_id key v hk (a_reference r rspan r_semantic_id y), h) k c = definitions-unbranched es h (k + 7) c
+
+elements-unbranched : (es : Parts) → AreFields es → (k : ℕ) → Unbranched (lowered_elements k es)
+elements-unbranched end h k c = refl
+elements-unbranched (more p es) h k c = four_ends _ ∙ definitions-unbranched (more p es) h (k + 4) _
+
+classes-unbranched : (ps : Parts) → AreClasses ps → Unbranched ps
+classes-unbranched end h c = refl
+classes-unbranched (more p ps) (a_class n span semantic_id id body (a_name i ispan i_semantic_id x free) (a_body m bspan b_semantic_id es he), h) c =
+    let in_class : List Declaration = names_inside c Kind.ClassDeclaration n (more id (more absent (more body end))) 2 in
+    rw (fields-unbranched es he (names_inside in_class Kind.ClassBody m (more (list es) end) 0), classes-unbranched ps h c) refl
+
+lowered-unbranched : (ps : Parts) → AreClasses ps → (k : ℕ) → Unbranched (lowered_statements k ps)
+lowered-unbranched end h k c = refl
+lowered-unbranched (more p ps) (a_class n span semantic_id id body (a_name i ispan i_semantic_id x free) (a_body m bspan b_semantic_id es he), h) k c =
+    let low : Parts = more (list (lowered_elements k es)) end in
+    let in_class : List Declaration = names_inside c Kind.ClassDeclaration n (more id (more absent (more (child (Node Kind.ClassBody m bspan b_semantic_id low)) end))) 2 in
+    rw (elements-unbranched es he k (names_inside in_class Kind.ClassBody m low 0), lowered-unbranched ps h (k + statement_size p) c) refl
+
+pub branches-lowered : (k : ℕ) (t : Tree) → IsProgram t → around_branches [] (lowered_from k t) ≡ around_branches [] t
+branches-lowered k t (a_program m span semantic_id s all h) =
+    let names : Parts → List Declaration = λ ps. names_inside [] Kind.Program m (more (string s) (more (list ps) end)) 1 in
+    rw (classes-unbranched all h (names all), lowered-unbranched all h k (names (lowered_statements k all))) refl
+
 pub globals-lowered : (first k : ℕ) (t : Tree) → IsProgram t → globals first (lowered_from k t) ≡ globals first t
 globals-lowered first k t (a_program m span semantic_id s all h) = rw (names-lowered all h k) refl
 
@@ -325,7 +365,7 @@ written-lowered k t (a_program m span semantic_id s all h) =
 
 -- nothing changes without a write
 changed-none : (m : ℕ) (span : Option (ℕ × ℕ)) (semantic_id : Option ℕ) (s : String) (ps : Parts) → Unwritten ps → changed_otherwise (Node Kind.Program m span semantic_id (more (string s) (more (list ps) end))) ≡ []
-changed-none m span semantic_id s ps u = three-none (rw (append-nil (preorder_of ps)) u.changing) (rw (append-nil (preorder_of ps)) u.caught) (one-none (u.given _))
+changed-none m span semantic_id s ps u = three-none (rw (append-nil (preorder_of ps)) u.changing) (rw (append-nil (preorder_of ps)) u.caught) (one-none (u.given _ _))
 
 pub varying-lowered : (k : ℕ) (t : Tree) → IsProgram t → varying (lowered_from k t) ≡ varying t
 varying-lowered k t (a_program m span semantic_id s all h) =

@@ -11,6 +11,7 @@ use Rattle.es_base.specs.declared.kind.Kind.{Kind}
 use Rattle.es_base.specs.declared.table.Place.{Place}
 use Rattle.es_steps.proofs.FirstMeaning.{joined-done, not_generated-found, plain-name, plain-literal}
 use Rattle.es_steps.proofs.PlainClasses.{IsNotGenerated, fixed, changing, means_class, IsPlain, a_value}
+use Rattle.es_steps.specs.ClassHeads.{named_classes}
 use Rattle.es_steps.specs.Code.{Code, Codes, value, spelled, field, define, steps, new_function, constructor, done, and}
 use Rattle.es_steps.specs.Context.{Context, NameKind, found_kind, name_kind, inside}
 use Rattle.es_steps.specs.Evaluation.{settle_run, ev}
@@ -26,6 +27,7 @@ use Rattle.es_steps.specs.Opening.{definitions, opening}
 use Rattle.es_steps.specs.PrivateNames.{PrivateMember, private_members}
 use Rattle.es_steps.specs.Reading.{read, read_part, read_items}
 use Rattle.es_steps.specs.References.{declared, varying}
+use Rattle.es_steps.specs.Branches.{around_branches}
 use Rattle.es_steps.specs.Repeated.{all_places}
 use Rattle.es_steps.specs.Shared.{shared}
 use Rattle.es_steps.specs.Scopes.{Declaration, own_name, body_names}
@@ -34,7 +36,7 @@ use Rattle.es_steps.specs.Values.{String, ConstantOf, StringOf, Undefined, ThisO
 use Rattle.es_steps.specs.declared.options.Options.{Options}
 use Rattle.class_properties.proofs.Defining.{defining, is_defining}
 use Rattle.class_properties.proofs.Constructions.{Fields, no_fields, with_field, ArePlain, field_codes, Defines, none_defined, defined, AreLowered, no_constructor, one_constructor, pair_of_classes, ArePairs, RunAlike, ran, value_behind-undefined, pairs-run}
-use Rattle.class_properties.proofs.Declared.{HasNone, source-none, lowered-none, names-definitions, names-lowered, varying-lowered, declaring-lowered, globals-lowered, shared-lowered, places-lowered}
+use Rattle.class_properties.proofs.Declared.{HasNone, source-none, lowered-none, names-definitions, names-lowered, varying-lowered, declaring-lowered, globals-lowered, shared-lowered, places-lowered, branches-lowered}
 use Rattle.class_properties.proofs.FreeNames.{leaves}
 use Rattle.class_properties.proofs.Shaped.{IsValue, no_value, a_literal, a_reference, a_key, a_field, AreFields, a_body, a_name as a_class_name, a_class, AreClasses, IsProgram, a_program, first_form-shaped}
 use Rattle.class_properties.proofs.Numbered.{key_string, value_from, definitions_from, lowered_elements, lowered_statements}
@@ -202,8 +204,8 @@ module _ (asked : Options) where
 
   -- ---- programs
 
-  abbrev terms : ℕ → Options → List PrivateMember → Terms
-  terms first options members = record { first_new = first; options = options; ledger = []; members = members; late = [] }
+  abbrev terms : ℕ → Options → List PrivateMember → List (ℕ × ℕ) → Terms
+  terms first options members named = record { first_new = first; options = options; ledger = []; members = members; named = named; late = [] }
 
   abbrev listed_alone : Events → Option Listed
   listed_alone l = Some (record { events = l; value = Undefined })
@@ -214,10 +216,10 @@ module _ (asked : Options) where
   with-parts : (o : Terms) (t : Tree) {d d2 : List (ℕ × ℕ)} {l l2 : Option Listed} {es es2 : Option (List (ℕ × Entry))} {ms ms2 : Option (List (ℕ × MemberEntry))} {xs xs2 : Option (List (String × Exported))} → d ≡ d2 → l ≡ l2 → es ≡ es2 → ms ≡ ms2 → xs ≡ xs2 → with_all o t d l es ms xs ≡ with_all o t d2 l2 es2 ms2 xs2
   with-parts o t a b c e f = rw (a, b, c, e, f) refl
 
-  pairs-mean : (first : ℕ) (options : Options) (members : List PrivateMember) (p q : Tree) (cs ds : Codes) → members ≡ [] → ArePairs cs ds → HasNone p → HasNone q
-      → source_type_of q ≡ source_type_of p → declaring first ClassDeclared q ≡ declaring first ClassDeclared p → globals first q ≡ globals first p → shared false q ≡ shared false p → all_places first [] [] q ≡ all_places first [] [] p → means_of (terms first options members) q (steps ds) ≡ means_of (terms first options members) p (steps cs)
-  pairs-mean first options members p q cs ds none_there h np nq source_type bindings names same_shared stand =
-      let o : Terms = terms first options members in
+  pairs-mean : (first : ℕ) (options : Options) (members : List PrivateMember) (named : List (ℕ × ℕ)) (p q : Tree) (cs ds : Codes) → members ≡ [] → ArePairs cs ds → HasNone p → HasNone q
+      → source_type_of q ≡ source_type_of p → declaring first ClassDeclared q ≡ declaring first ClassDeclared p → globals first q ≡ globals first p → shared false q ≡ shared false p → all_places first [] [] q ≡ all_places first [] [] p → around_branches [] q ≡ around_branches [] p → means_of (terms first options members named) q (steps ds) ≡ means_of (terms first options members named) p (steps cs)
+  pairs-mean first options members named p q cs ds none_there h np nq source_type bindings names same_shared stand branches =
+      let o : Terms = terms first options members named in
       let run : RunAlike (opening (definitions (steps cs))) (opening (definitions (steps ds))) first cs ds = pairs-run (opening (definitions (steps cs))) (opening (definitions (steps ds))) first cs ds h in
       let es : Option (List (ℕ × Entry)) = whole (entries (opening (definitions (steps cs))) first [] [] (steps cs)) in
       let here : means_of o p (steps cs) ≡ with_all o p [] (listed_alone run.listed) es (Some []) (Some []) =
@@ -226,10 +228,10 @@ module _ (asked : Options) where
       with-parts o q run.lowered_functions (ap (λ r. listed (settle_run r)) run.lowered ∙ listed-settled run.listed) (ap whole run.entries) (rw (run.lowered_functions, none_there) refl) (ap all_exports (nq.exports (in_body (start o q) q) (after_run [] (ev (opening (definitions (steps ds))) (steps ds) [])))) in
       there ∙ told (listed_alone run.listed) es ∙ sym here
     where
-      told : (l : Option Listed) (es : Option (List (ℕ × Entry))) → with_all (terms first options members) q [] l es (Some []) (Some []) ≡ with_all (terms first options members) p [] l es (Some []) (Some [])
+      told : (l : Option Listed) (es : Option (List (ℕ × Entry))) → with_all (terms first options members named) q [] l es (Some []) (Some []) ≡ with_all (terms first options members named) p [] l es (Some []) (Some [])
       told None es = refl
       told (Some l) None = refl
-      told (Some l) (Some es) = rw (source_type, bindings, names, same_shared, stand, nq.functions, np.functions, nq.links, np.links) refl
+      told (Some l) (Some es) = rw (source_type, bindings, names, same_shared, stand, branches, nq.functions, np.functions, nq.links, np.links) refl
 
   program-means : (t : Tree) → IsProgram t → lowered_means (defining asked) [] t (numbered.lowered t) ≡ source_means (defining asked) t
   program-means t (a_program m span semantic_id s all h) =
@@ -247,7 +249,7 @@ module _ (asked : Options) where
       let here : Codes = codes_in (read_items c all) in
       let there : Codes = codes_in (read_items d low) in
       ap (λ cs. means_of o q (steps cs)) (joined-done there)
-      ∙ pairs-mean first (defining asked) (private_members t) t q here there np.members (classes-read c d all plain alike h first (omega arith)) np nq refl (declaring-lowered first first t p) (globals-lowered first first t p) (shared-lowered first t p) (places-lowered first t p)
+      ∙ pairs-mean first (defining asked) (private_members t) (named_classes t) t q here there np.members (classes-read c d all plain alike h first (omega arith)) np nq refl (declaring-lowered first first t p) (globals-lowered first first t p) (shared-lowered first t p) (places-lowered first t p) (branches-lowered first t p)
       ∙ sym (ap (λ cs. means_of o t (steps cs)) (joined-done here))
 
   form-means : (t : Tree) → conforms Place.Program t ≡ true → is_first_form t [] ≡ true → t ≡ numbered_from 0 t → lowered_means (defining asked) [] t (lowered t) ≡ source_means (defining asked) t

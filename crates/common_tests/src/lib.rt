@@ -1,5 +1,7 @@
-// Tests of what all lowerings share: generated names, duplicates, and the classes around a place.
+// Tests of what all lowerings share: the keys of private names, and the classes around a place.
 #![tactic(auto)]
 
+#[cfg(test)]
+mod classes;
 #[cfg(test)]
 mod keys;

@@ -12,3 +12,4 @@ pub mod FreeEvals
 pub mod Repeating
 pub mod EvalNames
 pub mod WholeNames
+pub mod Catches

@@ -13,3 +13,4 @@ pub mod numbers;
 pub mod preorder;
 pub mod repeats;
 pub mod scopes;
+pub mod vars;

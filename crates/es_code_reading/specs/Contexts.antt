@@ -52,8 +52,8 @@ frame_in Frame.Assignment = spec.assignment_frame
 frame_in Frame.Declarator = spec.declarator_frame
 frame_in Frame.Same = spec.same_frame
 
--- what is seen at a place: names and private members, those of the names that no catch declares as a name, and what of them is
--- seen around the block that a function is declared in
+-- what is seen at a place: names and private members, those of the names that no catch in the function around declares as a name,
+-- and what of them is seen around the block that a function is declared in
 pub record Seen : Type 0 where
   pub names : List Declaration
   pub privates : List PrivateMember
@@ -67,6 +67,7 @@ context_with t seen a = record {
   ledger = t.ledger.now;
   options = t.options;
   members = private_members_of t.members.now;
+  named = t.named.now;
   varying = t.varying.now;
   writes_arguments = t.writes_arguments;
   names = seen.names;

@@ -36,6 +36,8 @@ pub struct Terms<'a> {
     pub ledger: &'a [LedgerEntry],
     /// The private members of the source.
     pub members: &'a [PrivateMember<'a>],
+    /// The class expressions of the source whose heritage or keys read their name, with their identifiers.
+    pub named: &'a [(u32, u32)],
     /// The bindings that are imported or written anywhere in the program.
     pub varying: &'a [u32],
     /// Whether a free `arguments` is written.
@@ -77,7 +79,7 @@ pub struct Context<'r, 'a> {
     pub terms: &'r Terms<'a>,
     pub names: Names<'r, 'a>,
     pub privates: Privates<'r, 'a>,
-    /// Those of the names that no catch declares as a name.
+    /// Those of the names that no catch in the function, the arrow or the static block around declares as a name.
     pub uncaught: Names<'r, 'a>,
     /// What of these is seen around the block, the cases or the `if` that a function which is declared here stands in
     /// (B.3.2, B.3.4).

@@ -1,6 +1,6 @@
 // What is known inside of a node, part by part.
 
-ghost use Rattle.std.specs.Prelude.{◌≡◌, ℕ, IfOk, MatchOption, None, Some, option_map};
+ghost use Rattle.std.specs.Prelude.{◌≡◌, ℕ, IfOk, MatchOption, None, Some, cond, option_map};
 ghost use Rattle.std.specs.Str.{chars};
 ghost use Rattle.es_base.specs.Tree.{child};
 ghost use Rattle.es_node.specs.View.{kind_of, number_in, parts_in, parts_of};
@@ -16,9 +16,9 @@ use crate::context::{Around, Context, FunctionRole, Terms, This};
 use es_base::kind::Kind;
 use es_base::ledger::{GeneratedKind, LedgerEntry};
 use es_base::strings::spells;
-use es_binding_faults::bound::is_binding_identifier;
 use es_binding_faults::hoisted::part_at;
 use es_binding_faults::scopes::is_body_part;
+use es_binding_faults::vars::{catches_a_name, takes_vars};
 use es_codes::event::Home;
 use es_generated::ledger::generated_as;
 use es_generated::numbers::is_new;
@@ -388,21 +388,6 @@ pub fn around_inside<'a>(
 
 // ---- what a function in a block is seen by (B.3.2, B.3.4)
 
-/// Whether it is a catch of one name.
-#[tactic(auto, using(crate::proofs::Catches::caught_name, crate::proofs::Catches::no_catch, crate::proofs::Catches::no_name))]
-fn catches_a_name(kind: Kind, parts: &[Part]) -> bool
-    ensures { result ≡ references.catches_a_name kind (parts_of parts.now) }
-{
-    match kind {
-        // catch (e) {}
-        Kind::CatchClause => match part_at(parts, 0) {
-            Some(Part::Child(param)) => is_binding_identifier(param),
-            _ => false,
-        },
-        _ => false,
-    }
-}
-
 /// The names that the i-th part of a node sees of its scope, but for the name that a catch declares. Fails on allocation
 /// failure alone.
 #[tactic(auto, using(crate::proofs::Catches::caught, crate::proofs::Catches::class_around, crate::proofs::Catches::seen_around))]
@@ -421,6 +406,18 @@ pub fn names_around<'a>(
         // class A {}, whose name is not seen around
         Kind::ClassDeclaration => Ok(Vec::new(alloc)),
         _ => names_seen(alloc, is_body, node, i),
+    }
+}
+
+/// Those of the names around a node of this kind that no catch in the function around its parts declares as a name: all of them,
+/// if the node is itself that function, an arrow or a static block.
+pub fn uncaught_around<'r, 'a>(c: &Context<'r, 'a>, kind: Kind) -> Names<'r, 'a>
+    ensures { names_in result ≡ cond (references.takes_vars kind) (names_in c.now.names) (names_in c.now.uncaught) }
+{
+    if takes_vars(kind) {
+        c.names
+    } else {
+        c.uncaught
     }
 }
 

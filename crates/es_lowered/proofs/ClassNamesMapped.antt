@@ -27,7 +27,7 @@ use Rattle.es_steps.proofs.ReferencesMapped.{resolve-mapped, has_number-mapped}
 use Rattle.es_lowered.proofs.TimelyMapped.{mapped_mark, marks-mapped, all_pairs_stand-mapped}
 
 module _ (f : ℕ → ℕ) where
-  numbers_of-mapped : (ts : List Tree) → numbers_of (map (mapped f) ts) ≡ map f (numbers_of ts)
+  pub numbers_of-mapped : (ts : List Tree) → numbers_of (map (mapped f) ts) ≡ map f (numbers_of ts)
   numbers_of-mapped [] = refl
   numbers_of-mapped (t ∷ ts) = ap₂ (λ n ns. n ∷ ns) (number_of-mapped f t) (numbers_of-mapped ts)
 
@@ -37,7 +37,7 @@ module _ (f : ℕ → ℕ) where
   pub numbers_of_part-mapped : (p : Part) → numbers_of (preorder_of_part (mapped_part f p)) ≡ map f (numbers_of (preorder_of_part p))
   numbers_of_part-mapped p = ap numbers_of (preorder_of_part-mapped f p) ∙ numbers_of-mapped (preorder_of_part p)
 
-  numbers_of_parts-mapped : (ps : Parts) → numbers_of (preorder_of (mapped_parts f ps)) ≡ map f (numbers_of (preorder_of ps))
+  pub numbers_of_parts-mapped : (ps : Parts) → numbers_of (preorder_of (mapped_parts f ps)) ≡ map f (numbers_of (preorder_of ps))
   numbers_of_parts-mapped ps = ap numbers_of (preorder_of-mapped f ps) ∙ numbers_of-mapped (preorder_of ps)
 
   numbers_of_key-mapped : (b : Bool) (k : Part) → numbers_of_key b (mapped_part f k) ≡ map f (numbers_of_key b k)

@@ -1,5 +1,5 @@
 -- What a lowered program owes is kept where its new numbers are given anew.
-use Rattle.std.specs.Prelude.{◌≡◌, ℕ, List, map, Bool, true, ◌&&◌, None}
+use Rattle.std.specs.Prelude.{◌≡◌, ℕ, List, map, Bool, true, None}
 use Rattle.std.proofs.Common.{refl, sym, ap, ap₂, ◌∙◌}
 use Rattle.std.proofs.lemmas.Bool.{and_parts}
 use Rattle.std.proofs.lemmas.List.{map-append}

@@ -5,6 +5,8 @@ pub mod TextsMapped
 pub mod TimelyMapped
 pub mod FunctionsAroundMapped
 pub mod ClassNamesMapped
+pub mod StatementOrderMapped
+pub mod ClassLetsMapped
 pub mod KeptWordsMapped
 pub mod StrayNamesMapped
 pub mod SupersMapped

@@ -49,7 +49,7 @@ module _ (f : ℕ → ℕ) where
   spelling_at-mapped : (i : ℕ) (ps : Parts) → spelling (at i (mapped_parts f ps)) ≡ spelling (at i ps)
   spelling_at-mapped i ps = ap spelling (at-mapped f i ps) ∙ spelling-mapped f (at i ps)
 
-  are_bare-mapped : (ps : Parts) → are_bare (mapped_parts f ps) ≡ are_bare ps
+  pub are_bare-mapped : (ps : Parts) → are_bare (mapped_parts f ps) ≡ are_bare ps
   are_bare-mapped end = refl
   are_bare-mapped (more (child (Node Kind.VariableDeclarator m span semantic_id ps)) rest) = rw (is_present_at-mapped f 1 ps, are_bare-mapped rest) refl
   are_bare-mapped (more p rest) = refl
@@ -87,6 +87,7 @@ module _ (f : ℕ → ℕ) where
   comes_first-mapped (Some (GeneratedKind.WeakMap d)) = refl
   comes_first-mapped (Some (GeneratedKind.Brand n)) = refl
   comes_first-mapped (Some (GeneratedKind.LooseKey d)) = refl
+  comes_first-mapped (Some (GeneratedKind.Method d)) = refl
   comes_first-mapped (Some (GeneratedKind.SuperFn n)) = refl
   comes_first-mapped (Some GeneratedKind.Closure) = refl
   comes_first-mapped (Some g) = refl

@@ -139,6 +139,7 @@ abbrev pub comes_first : Option GeneratedKind → Bool
 comes_first (Some (GeneratedKind.WeakMap d)) = true
 comes_first (Some (GeneratedKind.Brand n)) = true
 comes_first (Some (GeneratedKind.LooseKey d)) = true
+comes_first (Some (GeneratedKind.Method d)) = true
 comes_first (Some (GeneratedKind.SuperFn n)) = true
 comes_first (Some GeneratedKind.Closure) = true
 comes_first g = false

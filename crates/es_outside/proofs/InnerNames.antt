@@ -5,8 +5,7 @@ use Rattle.es_base.specs.Tree.{Tree, Parts, Node, end, more, child, absent, list
 use Rattle.es_base.specs.declared.kind.Kind.{Kind}
 use Rattle.es_node.specs.View.{kind_of}
 use Rattle.es_steps.specs.Parts.{at, items}
-use Rattle.es_steps.specs.References.{bound_spelling, function_name, function_names, case_functions, inner_functions, gives_inside, catches_a_name}
-use Rattle.es_steps.specs.Scopes.{is_binding_identifier, is_declaring}
+use Rattle.es_steps.specs.References.{bound_spelling, function_name, function_names, case_functions, inner_functions, gives_inside}
 use Rattle.es_steps.specs.Values.{String}
 use Rattle.es_outside.specs.InnerFunctions.{give_name}
 
@@ -45,15 +44,3 @@ no_function (Node kind m span semantic_id ps) function label if = refl
 pub gives_alike : (s : String) (ts : List Tree) → give_name s ts ≡ gives_inside s ts
 gives_alike s [] = refl
 gives_alike s (Node kind m span semantic_id ps ∷ ts) = ap (λ b. is_among s (inner_functions false kind ps) || b) (gives_alike s ts)
-
--- ---- a caught name
-
-pub caught_name : (ps : Parts) → catches_a_name Kind.CatchClause ps ≡ is_declaring (at 0 ps)
-caught_name ps = refl
-
-pub no_catch : (kind : Kind) (ps : Parts) → (kind ≡ Kind.CatchClause → ⊥) → catches_a_name kind ps ≡ false
-no_catch Kind.CatchClause ps other = absurd (other refl)
-no_catch kind ps other = refl
-
-pub no_name : (t : Tree) → is_declaring (child t) ≡ is_binding_identifier (kind_of t)
-no_name (Node kind b span semantic_id ps) = refl

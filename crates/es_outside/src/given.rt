@@ -1,27 +1,23 @@
 // The bindings that functions in blocks give a value to (ECMA-262, B.3.2).
 
-ghost use Rattle.std.specs.Prelude.{◌≡◌, ◌++◌, [], false, IfOk, OnOk, true};
+ghost use Rattle.std.specs.Prelude.{◌≡◌, ◌++◌, [], cond, false, IfOk, OnOk, true};
 ghost use Rattle.std.specs.Str.{chars};
 ghost use Rattle.es_base.specs.Tree.{nullable, nullable_trees, trees};
-ghost use Rattle.es_base.specs.declared.kind.Kind.{Kind};
-ghost use Rattle.es_binding_faults.specs.Named.{named, plain};
 ghost use Rattle.es_node.specs.View.{kind_of, part_of, parts_in, parts_of};
 ghost use Rattle.es_steps.specs.References as spec;
 ghost use Rattle.es_steps.specs.References.{declared, given_around, if_bound, meant, referent};
 ghost use Rattle.es_steps.specs.Scopes.{is_body_part};
 ghost use Rattle.es_references.specs.Frames.{ids};
+ghost use Rattle.es_references.specs.References.{names_in, names_inside};
 ghost use Rattle.es_outside.specs.Given.{given_by, given_by_items, given_by_part, given_from, names_passed};
 ghost use Rattle.es_outside.specs.InnerFunctions.{texts};
-ghost use Rattle.es_references.specs.References.{names_in};
 
 use crate::inner_functions::inner_functions;
 use es_base::ids::NodeId;
 use es_base::kind::Kind;
-use es_binding_faults::bound::is_binding_identifier;
-use es_binding_faults::hoisted::part_at;
 use es_binding_faults::scopes::is_body_part;
+use es_binding_faults::vars::{catches_a_name, takes_vars};
 use es_node::node::{Node, Part};
-use es_references::frame::Frame;
 use es_references::references::{Parent, Scope, binding_of, names_seen};
 use std::alloc::{AllocError, Global};
 
@@ -29,92 +25,131 @@ use std::alloc::{AllocError, Global};
 /// alone.
 #[tactic(auto, using(crate::proofs::Giving::given_alike))]
 pub fn given(alloc: Global, program: &Node) -> Result<Vec<NodeId>, AllocError>
-    ensures { IfOk result (λ r. ids r.items ≡ given_around [] false program.now) }
+    ensures { IfOk result (λ r. ids r.items ≡ given_around [] [] false program.now) }
 {
     let mut bindings = Vec::new(alloc);
-    add_given(alloc, &Scope::Outside, false, program, &mut bindings)?;
+    add_given(
+        alloc,
+        &Scope::Outside,
+        &Scope::Outside,
+        false,
+        program,
+        &mut bindings,
+    )?;
     Ok(bindings)
 }
 
 // ---- the walk
 
-/// Adds those of the node. Fails on allocation failure alone.
+/// Adds those of the node, where these names are seen, and these of them are not caught in the function, the arrow or the static
+/// block around: what a function in a block is given to passes a caught name of its own function (B.3.4). Fails on allocation
+/// failure alone.
 #[cycle(given)]
 fn add_given<'a>(
     alloc: Global,
-    scope: &Scope<'_, 'a>,
+    names: &Scope<'_, 'a>,
+    uncaught: &Scope<'_, 'a>,
     is_body: bool,
     node: &'a Node,
     bindings: &mut Vec<NodeId>,
 ) -> Result<(), AllocError>
-    ensures { OnOk result (ids bindings.new.items ≡ ids bindings.old.items ++ given_by (names_in scope.now) is_body node.now) }
+    ensures { OnOk result (ids bindings.new.items ≡ ids bindings.old.items ++ given_by (names_in names.now) (names_in uncaught.now) is_body node.now) }
 {
-    add_own(alloc, &*scope, is_body, node, bindings)?;
+    add_own(alloc, &*uncaught, is_body, node, bindings)?;
     let around = Parent {
         kind: node.kind(),
         is_body,
         parts: node.parts(),
     };
-    add_given_in(alloc, scope, around, bindings)
+    add_given_inside(alloc, names, uncaught, around, bindings)
 }
 
-/// The same of the parts of a node.
+/// The same of the parts of a node: a function, an arrow or a static block passes no name that is caught outside of it.
 #[cycle(given)]
-fn add_given_in<'a>(
+fn add_given_inside<'a>(
     alloc: Global,
-    scope: &Scope<'_, 'a>,
+    names: &Scope<'_, 'a>,
+    uncaught: &Scope<'_, 'a>,
     around: Parent<'a>,
     bindings: &mut Vec<NodeId>,
 ) -> Result<(), AllocError>
-    ensures { OnOk result (ids bindings.new.items ≡ ids bindings.old.items ++ given_from (names_passed (names_in scope.now) around.entry.is_body around.entry.kind (parts_of around.entry.parts.now)) (is_body_part around.entry.kind) 0 (parts_of around.entry.parts.now)) }
+    ensures { OnOk result (ids bindings.new.items ≡ ids bindings.old.items ++ given_from (names_inside (names_in names.now) around.entry.is_body around.entry.kind (parts_of around.entry.parts.now)) (names_passed (cond (spec.takes_vars around.entry.kind) (names_in names.now) (names_in uncaught.now)) around.entry.is_body around.entry.kind (parts_of around.entry.parts.now)) (is_body_part around.entry.kind) 0 (parts_of around.entry.parts.now)) }
+{
+    if takes_vars(around.kind) {
+        let all = *names;
+        add_given_in(alloc, names, &all, around, bindings)
+    } else {
+        add_given_in(alloc, names, uncaught, around, bindings)
+    }
+}
+
+/// The same of the parts of a node, where these names are seen around it, and these are passed on.
+#[cycle(given)]
+fn add_given_in<'a>(
+    alloc: Global,
+    names: &Scope<'_, 'a>,
+    uncaught: &Scope<'_, 'a>,
+    around: Parent<'a>,
+    bindings: &mut Vec<NodeId>,
+) -> Result<(), AllocError>
+    ensures { OnOk result (ids bindings.new.items ≡ ids bindings.old.items ++ given_from (names_inside (names_in names.now) around.entry.is_body around.entry.kind (parts_of around.entry.parts.now)) (names_passed (names_in uncaught.now) around.entry.is_body around.entry.kind (parts_of around.entry.parts.now)) (is_body_part around.entry.kind) 0 (parts_of around.entry.parts.now)) }
 {
     let parts = around.parts;
     for (i, part) in parts.iter().enumerate() {
-        add_given_of(alloc, &*scope, around, i, part, bindings)?;
+        add_given_of(alloc, &*names, &*uncaught, around, i, part, bindings)?;
     }
     Ok(())
 }
 
 /// The same of the i-th part of a node.
 #[cycle(given)]
+#[tactic(auto, using(crate::proofs::Giving::nothing_passed))]
 fn add_given_of<'a>(
     alloc: Global,
-    scope: &Scope<'_, 'a>,
+    names: &Scope<'_, 'a>,
+    uncaught: &Scope<'_, 'a>,
     around: Parent<'a>,
     i: usize,
     part: &'a Part,
     bindings: &mut Vec<NodeId>,
 ) -> Result<(), AllocError>
-    ensures { OnOk result (ids bindings.new.items ≡ ids bindings.old.items ++ given_by_part (names_passed (names_in scope.now) around.entry.is_body around.entry.kind (parts_of around.entry.parts.now) i) (is_body_part around.entry.kind i) (part_of part.now)) }
+    ensures { OnOk result (ids bindings.new.items ≡ ids bindings.old.items ++ given_by_part (names_inside (names_in names.now) around.entry.is_body around.entry.kind (parts_of around.entry.parts.now) i) (names_passed (names_in uncaught.now) around.entry.is_body around.entry.kind (parts_of around.entry.parts.now) i) (is_body_part around.entry.kind i) (part_of part.now)) }
 {
-    let frame = names_around(alloc, around, i)?;
+    let frame = names_seen(alloc, around, i)?;
     let is_body = is_body_part(around.kind, i);
     if frame.names.is_empty() {
-        add_given_at(alloc, scope, is_body, part, bindings)
-    } else {
-        let inner = Scope::Inside {
-            frame: &frame,
-            outer: &*scope,
-        };
-        add_given_at(alloc, &inner, is_body, part, bindings)
+        return add_given_at(alloc, names, uncaught, is_body, part, bindings);
     }
+    let seen = Scope::Inside {
+        frame: &frame,
+        outer: &*names,
+    };
+    if catches_a_name(around.kind, around.parts) {
+        return add_given_at(alloc, &seen, uncaught, is_body, part, bindings);
+    }
+    let passed = Scope::Inside {
+        frame: &frame,
+        outer: &*uncaught,
+    };
+    add_given_at(alloc, &seen, &passed, is_body, part, bindings)
 }
 
 #[cycle(given)]
 fn add_given_at<'a>(
     alloc: Global,
-    scope: &Scope<'_, 'a>,
+    names: &Scope<'_, 'a>,
+    uncaught: &Scope<'_, 'a>,
     is_body: bool,
     part: &'a Part,
     bindings: &mut Vec<NodeId>,
 ) -> Result<(), AllocError>
-    ensures { OnOk result (ids bindings.new.items ≡ ids bindings.old.items ++ given_by_part (names_in scope.now) is_body (part_of part.now)) }
+    ensures { OnOk result (ids bindings.new.items ≡ ids bindings.old.items ++ given_by_part (names_in names.now) (names_in uncaught.now) is_body (part_of part.now)) }
 {
     match part {
-        Part::Child(node) => add_given(alloc, scope, is_body, node, bindings),
-        Part::List(nodes) => add_given_of_list(alloc, scope, nodes.as_slice(), bindings),
+        Part::Child(node) => add_given(alloc, names, uncaught, is_body, node, bindings),
+        Part::List(nodes) => add_given_of_list(alloc, names, uncaught, nodes.as_slice(), bindings),
         Part::Holes(nodes) => {
-            add_given_of_list_with_holes(alloc, scope, nodes.as_slice(), bindings)
+            add_given_of_list_with_holes(alloc, names, uncaught, nodes.as_slice(), bindings)
         }
         _ => Ok(()),
     }
@@ -123,14 +158,15 @@ fn add_given_at<'a>(
 #[cycle(given)]
 fn add_given_of_list<'a>(
     alloc: Global,
-    scope: &Scope<'_, 'a>,
+    names: &Scope<'_, 'a>,
+    uncaught: &Scope<'_, 'a>,
     nodes: &'a [Node],
     bindings: &mut Vec<NodeId>,
 ) -> Result<(), AllocError>
-    ensures { OnOk result (ids bindings.new.items ≡ ids bindings.old.items ++ given_by_items (names_in scope.now) (trees nodes.now)) }
+    ensures { OnOk result (ids bindings.new.items ≡ ids bindings.old.items ++ given_by_items (names_in names.now) (names_in uncaught.now) (trees nodes.now)) }
 {
     for node in nodes {
-        add_given(alloc, &*scope, false, node, bindings)?;
+        add_given(alloc, &*names, &*uncaught, false, node, bindings)?;
     }
     Ok(())
 }
@@ -138,14 +174,15 @@ fn add_given_of_list<'a>(
 #[cycle(given)]
 fn add_given_of_list_with_holes<'a>(
     alloc: Global,
-    scope: &Scope<'_, 'a>,
+    names: &Scope<'_, 'a>,
+    uncaught: &Scope<'_, 'a>,
     nodes: &'a [Option<Node>],
     bindings: &mut Vec<NodeId>,
 ) -> Result<(), AllocError>
-    ensures { OnOk result (ids bindings.new.items ≡ ids bindings.old.items ++ given_by_items (names_in scope.now) (nullable_trees nodes.now)) }
+    ensures { OnOk result (ids bindings.new.items ≡ ids bindings.old.items ++ given_by_items (names_in names.now) (names_in uncaught.now) (nullable_trees nodes.now)) }
 {
     for node in nodes {
-        add_given_of_hole(alloc, &*scope, node, bindings)?;
+        add_given_of_hole(alloc, &*names, &*uncaught, node, bindings)?;
     }
     Ok(())
 }
@@ -153,14 +190,15 @@ fn add_given_of_list_with_holes<'a>(
 #[cycle(given)]
 fn add_given_of_hole<'a>(
     alloc: Global,
-    scope: &Scope<'_, 'a>,
+    names: &Scope<'_, 'a>,
+    uncaught: &Scope<'_, 'a>,
     node: &'a Option<Node>,
     bindings: &mut Vec<NodeId>,
 ) -> Result<(), AllocError>
-    ensures { OnOk result (ids bindings.new.items ≡ ids bindings.old.items ++ given_by_part (names_in scope.now) false (nullable node.now)) }
+    ensures { OnOk result (ids bindings.new.items ≡ ids bindings.old.items ++ given_by_part (names_in names.now) (names_in uncaught.now) false (nullable node.now)) }
 {
     match node {
-        Some(node) => add_given(alloc, scope, false, node, bindings),
+        Some(node) => add_given(alloc, names, uncaught, false, node, bindings),
         None => Ok(()),
     }
 }
@@ -202,31 +240,5 @@ fn add_binding(scope: &Scope, name: &str, bindings: &mut Vec<NodeId>) -> Result<
             Ok(())
         }
         None => Ok(()),
-    }
-}
-
-/// What the i-th part of a node sees of the names of its scope: nothing of a caught name. Fails on allocation failure alone.
-fn names_around<'a>(alloc: Global, around: Parent<'a>, i: usize) -> Result<Frame<'a>, AllocError>
-    ensures { IfOk result (λ r. named r.names.items ≡ plain (spec.names_around around.entry.is_body around.entry.kind 0 (parts_of around.entry.parts.now) i)) }
-{
-    if catches_a_name(around.kind, around.parts) {
-        Frame::of(alloc, Vec::new(alloc))
-    } else {
-        names_seen(alloc, around, i)
-    }
-}
-
-/// Whether it is a catch of one name.
-#[tactic(auto, using(crate::proofs::InnerNames::caught_name, crate::proofs::InnerNames::no_catch, crate::proofs::InnerNames::no_name))]
-fn catches_a_name(kind: Kind, parts: &[Part]) -> bool
-    ensures { result ≡ spec.catches_a_name kind (parts_of parts.now) }
-{
-    match kind {
-        // catch (e) {}
-        Kind::CatchClause => match part_at(parts, 0) {
-            Some(Part::Child(param)) => is_binding_identifier(param),
-            _ => false,
-        },
-        _ => false,
     }
 }

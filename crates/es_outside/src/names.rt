@@ -55,7 +55,7 @@ struct Unwritten<'a> {
 
     ghost changing_are: { (n : ℕ) → has_number n changing ≡ has_number n (changing_in (preorder program.now)) },
     ghost caught_again_are: { (n : ℕ) → has_number n caught_again ≡ has_number n (caught_again_in (preorder program.now)) },
-    ghost given_are: { (n : ℕ) → has_number n given ≡ has_number n (given_around [] false program.now) },
+    ghost given_are: { (n : ℕ) → has_number n given ≡ has_number n (given_around [] [] false program.now) },
     ghost arguments_are: { arguments ≡ changes_free (codes "arguments") program.now },
 }
 
@@ -136,7 +136,7 @@ fn caught_again(alloc: Global, nodes: &[&Node]) -> Result<Numbers, AllocError>
 
 /// The bindings that functions in blocks give a value to. Fails on allocation failure alone.
 fn given_numbers(alloc: Global, program: &Node) -> Result<Numbers, AllocError>
-    ensures { IfOk result (λ r. (n : ℕ) → has_number n r ≡ has_number n (given_around [] false program.now)) }
+    ensures { IfOk result (λ r. (n : ℕ) → has_number n r ≡ has_number n (given_around [] [] false program.now)) }
 {
     let bindings = given(alloc, program)?;
     Numbers::of(alloc, bindings.as_slice())

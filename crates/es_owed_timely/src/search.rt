@@ -170,6 +170,7 @@ fn comes_first(kind: Option<GeneratedKind>) -> bool
             GeneratedKind::WeakMap(_)
                 | GeneratedKind::Brand(_)
                 | GeneratedKind::LooseKey(_)
+                | GeneratedKind::Method(_)
                 | GeneratedKind::SuperFn(_)
                 | GeneratedKind::Closure
         )

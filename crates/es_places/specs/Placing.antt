@@ -32,6 +32,12 @@ places_of o s ps = spec.places_of o.first_new o.ledger.now o.private_functions.n
 abbrev pub place_of : Terms → spec.Surroundings → Kind → ℕ → List (ℕ × ℕ)
 place_of o s kind m = spec.place_of o.first_new o.ledger.now o.private_functions.now s kind m
 
+abbrev pub head_place : Terms → spec.Surroundings → Kind → Parts → List (ℕ × ℕ)
+head_place o s kind ps = spec.head_place o.first_new o.ledger.now o.private_functions.now s kind ps
+
+abbrev pub declaration_place : Terms → spec.Surroundings → Part → List (ℕ × ℕ)
+declaration_place o s p = spec.declaration_place o.first_new o.ledger.now o.private_functions.now s p
+
 -- those of the parts from the i-th on
 abbrev pub places_from : Terms → (ℕ → spec.Surroundings) → ℕ → Parts → List (ℕ × ℕ)
 places_from o s i end = []

@@ -1,16 +1,19 @@
 // The places of the functions, classes and declaring identifiers of a program.
 
 ghost use Rattle.std.specs.Prelude.{◌≡◌, ◌++◌, IfOk, OnOk};
-ghost use Rattle.es_base.specs.Tree.{nullable, nullable_trees, trees};
+ghost use Rattle.es_base.specs.Tree.{child, nullable, nullable_trees, trees};
 ghost use Rattle.es_by_number.specs.Numbered.{pairs};
-ghost use Rattle.es_node.specs.View.{kind_of, number_in, part_of, parts_of};
+ghost use Rattle.es_node.specs.View.{kind_of, number_in, part_of, parts_in, parts_of};
 ghost use Rattle.es_steps.specs.Meaning.{by_number};
+ghost use Rattle.es_steps.specs.Parts.{at};
 ghost use Rattle.es_steps.specs.Repeated as spec;
-ghost use Rattle.es_places.specs.Placing.{place_of, places, places_at, places_from, places_of, surroundings_of, surroundings_within};
+ghost use Rattle.es_places.specs.Placing.{declaration_place, head_place, place_of, places, places_at, places_from, places_of, surroundings_of, surroundings_within};
 
 use crate::surroundings::{Surroundings, around_program, is_class, surroundings_in};
+use es_base::kind::Kind;
 use es_base::ledger::LedgerEntry;
 use es_binding_faults::bound::is_binding_identifier;
+use es_binding_faults::hoisted::part_at;
 use es_by_number::numbered::{Numbered, sort_by_number};
 use es_generated::numbers::{has_number, is_new};
 use es_node::node::{Node, Part};
@@ -25,8 +28,8 @@ pub struct Terms<'a> {
     pub private_functions: &'a [u32],
 }
 
-/// The functions, classes and declaring identifiers of a program that are not new, but the functions of private methods, in
-/// preorder, each with its place. Fails on allocation failure alone.
+/// The functions, classes, declaring identifiers and declarations that a `for` begins with of a program which are not new, but
+/// the functions of private methods, each with its place, in preorder. Fails on allocation failure alone.
 pub fn all_places(
     alloc: Global,
     terms: &Terms,
@@ -64,6 +67,7 @@ fn add_places(
     ensures { OnOk result (pairs found.new.items ≡ pairs found.old.items ++ places terms.now (surroundings_of around) node.now) }
 {
     add_place(terms, around, node, found)?;
+    add_head_place(terms, around, node, found)?;
     add_places_in(terms, around, node, node.parts(), found)
 }
 
@@ -167,6 +171,62 @@ fn add_place(
         })?;
     }
     Ok(())
+}
+
+/// Adds the place of the declaration that a `for` begins with, if it is not new. Fails on allocation failure alone.
+#[tactic(auto, using(crate::proofs::Placed::head_of, crate::proofs::Placed::no_head))]
+fn add_head_place(
+    terms: &Terms,
+    around: Surroundings,
+    node: &Node,
+    found: &mut Vec<Numbered<u32>>,
+) -> Result<(), AllocError>
+    ensures { OnOk result (pairs found.new.items ≡ pairs found.old.items ++ head_place terms.now (surroundings_of around) (kind_of node.now) (parts_in node.now)) }
+{
+    match node.kind() {
+        // for (let i = 0; ..) {}
+        Kind::ForStatement => add_first_place(terms, around, node.parts(), found),
+        _ => Ok(()),
+    }
+}
+
+fn add_first_place(
+    terms: &Terms,
+    around: Surroundings,
+    parts: &[Part],
+    found: &mut Vec<Numbered<u32>>,
+) -> Result<(), AllocError>
+    ensures { OnOk result (pairs found.new.items ≡ pairs found.old.items ++ declaration_place terms.now (surroundings_of around) (at 0 (parts_of parts.now))) }
+{
+    match part_at(parts, 0) {
+        Some(Part::Child(node)) => add_declaration_place(terms, around, node, found),
+        _ => Ok(()),
+    }
+}
+
+#[tactic(auto, using(crate::proofs::Placed::declared_place, crate::proofs::Placed::not_declared))]
+fn add_declaration_place(
+    terms: &Terms,
+    around: Surroundings,
+    node: &Node,
+    found: &mut Vec<Numbered<u32>>,
+) -> Result<(), AllocError>
+    ensures { OnOk result (pairs found.new.items ≡ pairs found.old.items ++ declaration_place terms.now (surroundings_of around) (child node.now)) }
+{
+    match node.kind() {
+        // let i = 0
+        Kind::VariableDeclaration => {
+            let number = node.node_id().0;
+            if !is_new(terms.first_new, number) {
+                found.push(Numbered {
+                    number,
+                    value: around.place,
+                })?;
+            }
+            Ok(())
+        }
+        _ => Ok(()),
+    }
 }
 
 /// Whether the node has a place.

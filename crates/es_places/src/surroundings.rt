@@ -6,7 +6,6 @@ ghost use Rattle.es_base.specs.Tree.{child, end, more, nullable};
 ghost use Rattle.es_base.specs.declared.kind.Kind.{Kind};
 ghost use Rattle.es_node.specs.View.{kind_of, number_in, part_of, parts_in, parts_of};
 ghost use Rattle.es_steps.specs.Context as context;
-ghost use Rattle.es_steps.specs.KeptNodes as kept;
 ghost use Rattle.es_steps.specs.Parts.{at, is_true, items};
 ghost use Rattle.es_steps.specs.PrivateNames as privates;
 ghost use Rattle.es_steps.specs.Repeated as spec;
@@ -15,6 +14,7 @@ ghost use Rattle.es_places.specs.Placing.{is_field, surroundings_of, surrounding
 use es_base::kind::Kind;
 use es_base::ledger::{GeneratedKind, LedgerEntry};
 use es_binding_faults::hoisted::{is_var, part_at};
+use es_binding_faults::vars::takes_vars;
 use es_generated::ledger::generated_as;
 use es_generated::numbers::is_new;
 use es_node::node::{Node, Part};
@@ -86,20 +86,6 @@ pub fn is_class(kind: Kind) -> bool
     ensures { result ≡ privates.is_class kind }
 {
     matches!(kind, Kind::ClassDeclaration | Kind::ClassExpression)
-}
-
-fn is_static_block(kind: Kind) -> bool
-    ensures { result ≡ kept.is_static_block kind }
-{
-    matches!(kind, Kind::StaticBlock)
-}
-
-/// Whether a `var` in it is hoisted no further.
-#[tactic(auto, using(crate::proofs::Placed::takes_by_kind))]
-fn takes_vars(kind: Kind) -> bool
-    ensures { result ≡ spec.takes_vars kind }
-{
-    is_static_block(kind) || is_any_function(kind)
 }
 
 // ---- the place
@@ -238,7 +224,7 @@ fn once_place_at(parts: &[Part], place: u32) -> u32
     }
 }
 
-#[tactic(auto, using(crate::proofs::Placed::no_declaration, crate::proofs::Placed::declaration_place))]
+#[tactic(auto, using(crate::proofs::Placed::no_declaration, crate::proofs::Placed::its_declaration))]
 fn once_place(node: &Node, place: u32) -> u32
     ensures { result ≡ spec.once_place (child node.now) place }
 {

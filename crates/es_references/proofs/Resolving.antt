@@ -58,7 +58,7 @@ plain_seen switch_scope m ps i = refl
 plain_seen catch_scope m ps i = refl
 plain_seen no_scope m ps i = refl
 
-inside : (names : List Declaration) (is_body : Bool) (kind : Kind) (m : ℕ) (ps : Parts) (i : ℕ) → plain (names_at is_body kind m ps i ++ names) ≡ names_inside (plain names) is_body kind ps i
+pub inside : (names : List Declaration) (is_body : Bool) (kind : Kind) (m : ℕ) (ps : Parts) (i : ℕ) → plain (names_at is_body kind m ps i ++ names) ≡ names_inside (plain names) is_body kind ps i
 inside names is_body kind m ps i = plain-append (names_at is_body kind m ps i) names ∙ ap (λ (ds : List Declaration). ds ++ plain names) (plain_seen (scope_of kind is_body) m ps i)
 
 -- ---- of a tree

@@ -27,7 +27,7 @@ logical_law options = record {
   before = (refl, (refl, tt));
   after = (refl, (refl, tt));
   apart = refl;
-  declared = record { source_type = refl; functions = refl; bindings = refl; globals = refl; shared = refl; places = refl; links = refl; exports = λ env. refl };
+  declared = record { source_type = refl; functions = refl; bindings = refl; globals = refl; shared = refl; places = refl; branches = refl; links = refl; exports = λ env. refl };
 }
 
 pub logical_has_meaning : LogicalHasMeaning
@@ -53,7 +53,7 @@ private_law = record {
   before = refl;
   after = refl;
   apart = refl;
-  declared = record { source_type = refl; functions = refl; bindings = refl; globals = refl; shared = refl; places = refl; links = refl; exports = λ env. refl };
+  declared = record { source_type = refl; functions = refl; bindings = refl; globals = refl; shared = refl; places = refl; branches = refl; links = refl; exports = λ env. refl };
 }
 
 pub private_has_meaning : PrivateHasMeaning

@@ -73,7 +73,7 @@ module _ (c : Context) (fill : ℕ → Code) (unasked : (n : ℕ) → is_unasked
   class_form_code-filled Kind.FunctionExpression m ps closed heads = function_expression_code-filled c fill unasked m ps
   class_form_code-filled Kind.ArrowFunctionExpression m ps closed heads = arrow_code-filled c fill unasked m ps
   class_form_code-filled Kind.ClassDeclaration m ps closed heads = class_declaration-filled m ps
-  class_form_code-filled Kind.ClassExpression m ps closed heads = class_of-filled c.first_new fill unasked (declared_by_let m c.let_class) m ps
+  class_form_code-filled Kind.ClassExpression m ps closed heads = class_of-filled c.first_new fill unasked (declared_by_let m c.named c.let_class) m ps
   class_form_code-filled Kind.ClassBody m ps closed heads = ap steps (codes_in-filled fill ps)
   class_form_code-filled Kind.PropertyDefinition m ps closed heads = field_code-filled c fill unasked ps
   class_form_code-filled Kind.MethodDefinition m ps closed heads = method_code-filled c fill unasked ps

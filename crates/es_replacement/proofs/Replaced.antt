@@ -63,7 +63,7 @@ exports-same names out c env end = refl
 exports-same names out c env (more p ps) = ap₂ (λ (x y : List Export). x ++ y) (export-same names out c env p) (exports-same names out c env ps)
 
 with_all-same : (o : Terms) (t u : Tree) (d : List (ℕ × ℕ)) → DeclaresAlike o d t u → (l : Option Listed) (es : _) (ms : _) (xs : _) → with_all o t d l es ms xs ≡ with_all o u d l es ms xs
-with_all-same o t u d same (Some l) (Some es) (Some ms) (Some xs) = rw (same.source_type, same.functions, same.bindings, same.globals, same.shared, same.places, same.links) refl
+with_all-same o t u d same (Some l) (Some es) (Some ms) (Some xs) = rw (same.source_type, same.functions, same.bindings, same.globals, same.shared, same.places, same.branches, same.links) refl
 with_all-same o t u d same l es ms xs = refl
 
 codes-same : (names : List String) (x y : Code) → MayReplace names x y → is_string_among default_key names ≡ false → (o : Terms) (t u : Tree) → DeclaresAlike o (private_functions x) t u → means_of o t x ≡ means_of o u y

@@ -44,7 +44,7 @@ abbrev pub script : TreeHole
 script = within Kind.Program 0 None None (more (string (codes "script")) end) (an_item (more (child declaration) end) end) end (within Kind.ExpressionStatement 1 None None end the_child (more no_string end) top)
 
 abbrev pub terms : Options → Terms
-terms options = record { first_new = 8; options = options; ledger = record { name = codes "_t"; kind = GeneratedKind.Temp } ∷ []; members = []; late = [] }
+terms options = record { first_new = 8; options = options; ledger = record { name = codes "_t"; kind = GeneratedKind.Temp } ∷ []; members = []; named = []; late = [] }
 
 abbrev pub LogicalLaw : Type 0
 LogicalLaw = (options : Options) → StandsFor temporary true (terms options) script assigned tested
@@ -82,7 +82,7 @@ in_class =
     (within Kind.MethodDefinition 6 None None (more (child (named Kind.IdentifierName 7 (codes "m"))) end) the_child (more (string (codes "method")) (more (boolean false) (more (boolean false) end))) returned)))
 
 abbrev pub private_terms : Terms
-private_terms = record { first_new = 14; options = options_of false (Some (record { loose = false })) false; ledger = record { name = codes "_x"; kind = GeneratedKind.WeakMap (record { 0 = 5 }) } ∷ []; members = record { number = 5; spelling = codes "x"; class = 1; is_static = false; kind = a_field } ∷ []; late = [] }
+private_terms = record { first_new = 14; options = options_of false (Some (record { loose = false })) false; ledger = record { name = codes "_x"; kind = GeneratedKind.WeakMap (record { 0 = 5 }) } ∷ []; members = record { number = 5; spelling = codes "x"; class = 1; is_static = false; kind = a_field } ∷ []; named = []; late = [] }
 
 abbrev pub PrivateLaw : Type 0
 PrivateLaw = StandsApart [] true private_terms in_class field_read field_given

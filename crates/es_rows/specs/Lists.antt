@@ -18,6 +18,7 @@ script_with l entries bindings globals places = Some (record {
   globals = globals;
   shared = [];
   places = places;
+  branches = [];
   links = [];
   exports = [];
 })

@@ -1,3 +1,4 @@
+pub mod AccessorGivenBehindAKey
 pub mod AnotherLiteral
 pub mod AnotherLiteralBehindParameters
 pub mod AnotherLiteralOfAWrittenClass
@@ -43,6 +44,7 @@ pub mod BlockBehindAKeptField
 pub mod BlockBehindFields
 pub mod BlockBesideAFieldOutside
 pub mod BlockDropped
+pub mod BlockInFrontOfAClassWithAHeritage
 pub mod BlockInFrontOfItsClass
 pub mod BlockOfABinding
 pub mod BlockOfAnArrow
@@ -54,13 +56,21 @@ pub mod BodyInAnArrow
 pub mod BoundBeforeItsTest
 pub mod BranchOfAKey
 pub mod BranchOfAKeyOfAnother
+pub mod BranchThatNamesItself
 pub mod BrandOutsideOfACalledFunction
 pub mod BreakInAnArrow
 pub mod BreakInAnArrowBesideAwait
 pub mod CallInASuperFunctionThatNothingCalls
+pub mod CallInFrontOfAClass
+pub mod CallInFrontOfAClassWithABlock
+pub mod CallInFrontOfAClassWithAHeritage
+pub mod CallInTheLetOfAClass
 pub mod CallOfAPrivateElement
 pub mod CallOfEvalByItsName
+pub mod CallOnALiteralInFrontOfAClass
 pub mod CaughtKey
+pub mod CaughtNameAroundABranch
+pub mod CaughtNameAroundASecondBranch
 pub mod CaughtNamesExchanged
 pub mod ChangingKeyBeforeARegularExpression
 pub mod ChangingKeyBehindABlock
@@ -146,9 +156,11 @@ pub mod DeclarationWithoutItsNameInAMethod
 pub mod DeclarationWithoutItsNames
 pub mod DeclaratorInAConst
 pub mod DeclaratorOutOfItsBlock
+pub mod DefaultExportBehindACall
 pub mod DefaultExports
 pub mod DefaultFunction
 pub mod DefaultFunctionExpression
+pub mod DefaultValueBehindACall
 pub mod DefaultsExchangedBehindAnError
 pub mod DefinitionsNested
 pub mod DelegationBehindAnError
@@ -176,6 +188,7 @@ pub mod FieldsOfAWrittenClassExchanged
 pub mod FlagsOfNoRegularExpression
 pub mod ForAwaitInAnArrow
 pub mod FreeName
+pub mod FunctionInABlockInsideOfWhatCatches
 pub mod FunctionInABlockOfAnotherName
 pub mod FunctionInABranchOfABlock
 pub mod FunctionInACatch
@@ -198,6 +211,7 @@ pub mod GlobalRenamed
 pub mod HandlerDroppedBehindAnError
 pub mod HandlerExchangedBehindAnError
 pub mod HeadsExchangedBehindAnError
+pub mod HeadsOfLoopsExchanged
 pub mod HeritageReadLate
 pub mod HexadecimalBigint
 pub mod HiddenBody
@@ -238,13 +252,16 @@ pub mod LabelTwice
 pub mod LabelWordBehindAnError
 pub mod LabelledFunctionInABlock
 pub mod LabelledFunctionInABranch
+pub mod LetAtTheHeadOfALoop
 pub mod LetBehindACall
+pub mod LetBehindAClosure
 pub mod LetBehindAConstructor
 pub mod LetBehindAField
 pub mod LetBehindAnArrow
 pub mod LetBesideACaughtName
 pub mod LetInFrontOfAFunction
 pub mod LetInStrictCode
+pub mod LetInsideOfWhatCatches
 pub mod LetOfAHead
 pub mod LetOfAnotherCase
 pub mod LetOutOfAHead
@@ -306,6 +323,7 @@ pub mod OwnNameInAKey
 pub mod OwnNameOfAClassBehindAWrite
 pub mod OwnNameOfADeclarationWritten
 pub mod OwnNameOfADeclarationWrittenLater
+pub mod OwnNameThatBecomesALet
 pub mod OwnNameThatIsMeant
 pub mod OwnNameThatNothingMeans
 pub mod OwnNamesExchanged
@@ -390,6 +408,7 @@ pub mod StaticGetterOrMethod
 pub mod StaticKeyReadLate
 pub mod StaticPrivateMethodOfAnotherClass
 pub mod StaticPrivateMethodThatReadsAField
+pub mod StaticValueInFrontOfAClass
 pub mod StrictArrow
 pub mod StrictDefaultExportWithAPattern
 pub mod StrictFunctionOfAMethod

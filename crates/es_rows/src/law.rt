@@ -104,6 +104,7 @@ ghost use Rattle.es_rows.specs.rows.BlockInParameter.{source_block_in_parameter,
 ghost use Rattle.es_rows.specs.rows.ClosureNameTaken.{source_closure_name_taken, output_closure_name_taken, generated_closure_name_taken, options_closure_name_taken, outside_closure_name_taken};
 ghost use Rattle.es_rows.specs.rows.PrivateNameTaken.{source_private_name_taken, output_private_name_taken, generated_private_name_taken, options_private_name_taken, outside_private_name_taken};
 ghost use Rattle.es_rows.specs.rows.BlockOfStatementsAlone.{source_block_of_statements_alone, output_block_of_statements_alone, generated_block_of_statements_alone, options_block_of_statements_alone, outside_block_of_statements_alone};
+ghost use Rattle.es_rows.specs.witnesses.AccessorGivenBehindAKey.{source_accessor_given_behind_a_key, output_accessor_given_behind_a_key, generated_accessor_given_behind_a_key, options_accessor_given_behind_a_key};
 ghost use Rattle.es_rows.specs.witnesses.AnotherLiteral.{source_another_literal, output_another_literal, generated_another_literal, options_another_literal};
 ghost use Rattle.es_rows.specs.witnesses.AnotherLiteralBehindParameters.{source_another_literal_behind_parameters, output_another_literal_behind_parameters, generated_another_literal_behind_parameters, options_another_literal_behind_parameters};
 ghost use Rattle.es_rows.specs.witnesses.AnotherLiteralOfAWrittenClass.{source_another_literal_of_a_written_class, output_another_literal_of_a_written_class, generated_another_literal_of_a_written_class, options_another_literal_of_a_written_class};
@@ -148,6 +149,7 @@ ghost use Rattle.es_rows.specs.witnesses.BlockBehindAKeptField.{source_block_beh
 ghost use Rattle.es_rows.specs.witnesses.BlockBehindFields.{source_block_behind_fields, output_block_behind_fields, generated_block_behind_fields, options_block_behind_fields};
 ghost use Rattle.es_rows.specs.witnesses.BlockBesideAFieldOutside.{first_block_beside_a_field_outside, second_block_beside_a_field_outside, options_block_beside_a_field_outside};
 ghost use Rattle.es_rows.specs.witnesses.BlockDropped.{source_block_dropped, output_block_dropped, generated_block_dropped, options_block_dropped};
+ghost use Rattle.es_rows.specs.witnesses.BlockInFrontOfAClassWithAHeritage.{source_block_in_front_of_a_class_with_a_heritage, output_block_in_front_of_a_class_with_a_heritage, generated_block_in_front_of_a_class_with_a_heritage, options_block_in_front_of_a_class_with_a_heritage};
 ghost use Rattle.es_rows.specs.witnesses.BlockInFrontOfItsClass.{source_block_in_front_of_its_class, output_block_in_front_of_its_class, generated_block_in_front_of_its_class, options_block_in_front_of_its_class};
 ghost use Rattle.es_rows.specs.witnesses.BlockOfABinding.{source_block_of_a_binding, output_block_of_a_binding, generated_block_of_a_binding, options_block_of_a_binding};
 ghost use Rattle.es_rows.specs.witnesses.BlockOfAnArrow.{source_block_of_an_arrow, output_block_of_an_arrow, generated_block_of_an_arrow, options_block_of_an_arrow};
@@ -159,13 +161,21 @@ ghost use Rattle.es_rows.specs.witnesses.BodyInAnArrow.{source_body_in_an_arrow,
 ghost use Rattle.es_rows.specs.witnesses.BoundBeforeItsTest.{source_bound_before_its_test, output_bound_before_its_test, generated_bound_before_its_test, options_bound_before_its_test};
 ghost use Rattle.es_rows.specs.witnesses.BranchOfAKey.{source_branch_of_a_key, output_branch_of_a_key, generated_branch_of_a_key, options_branch_of_a_key};
 ghost use Rattle.es_rows.specs.witnesses.BranchOfAKeyOfAnother.{source_branch_of_a_key_of_another, output_branch_of_a_key_of_another, generated_branch_of_a_key_of_another, options_branch_of_a_key_of_another};
+ghost use Rattle.es_rows.specs.witnesses.BranchThatNamesItself.{first_branch_that_names_itself, second_branch_that_names_itself, options_branch_that_names_itself};
 ghost use Rattle.es_rows.specs.witnesses.BrandOutsideOfACalledFunction.{source_brand_outside_of_a_called_function, output_brand_outside_of_a_called_function, generated_brand_outside_of_a_called_function, options_brand_outside_of_a_called_function};
 ghost use Rattle.es_rows.specs.witnesses.BreakInAnArrow.{source_break_in_an_arrow, output_break_in_an_arrow, generated_break_in_an_arrow, options_break_in_an_arrow};
 ghost use Rattle.es_rows.specs.witnesses.BreakInAnArrowBesideAwait.{source_break_in_an_arrow_beside_await, output_break_in_an_arrow_beside_await, generated_break_in_an_arrow_beside_await, options_break_in_an_arrow_beside_await};
 ghost use Rattle.es_rows.specs.witnesses.CallInASuperFunctionThatNothingCalls.{source_call_in_a_super_function_that_nothing_calls, output_call_in_a_super_function_that_nothing_calls, generated_call_in_a_super_function_that_nothing_calls, options_call_in_a_super_function_that_nothing_calls};
+ghost use Rattle.es_rows.specs.witnesses.CallInFrontOfAClass.{source_call_in_front_of_a_class, output_call_in_front_of_a_class, generated_call_in_front_of_a_class, options_call_in_front_of_a_class};
+ghost use Rattle.es_rows.specs.witnesses.CallInFrontOfAClassWithABlock.{source_call_in_front_of_a_class_with_a_block, output_call_in_front_of_a_class_with_a_block, generated_call_in_front_of_a_class_with_a_block, options_call_in_front_of_a_class_with_a_block};
+ghost use Rattle.es_rows.specs.witnesses.CallInFrontOfAClassWithAHeritage.{source_call_in_front_of_a_class_with_a_heritage, output_call_in_front_of_a_class_with_a_heritage, generated_call_in_front_of_a_class_with_a_heritage, options_call_in_front_of_a_class_with_a_heritage};
+ghost use Rattle.es_rows.specs.witnesses.CallInTheLetOfAClass.{source_call_in_the_let_of_a_class, output_call_in_the_let_of_a_class, generated_call_in_the_let_of_a_class, options_call_in_the_let_of_a_class};
 ghost use Rattle.es_rows.specs.witnesses.CallOfAPrivateElement.{source_call_of_a_private_element, output_call_of_a_private_element, generated_call_of_a_private_element, options_call_of_a_private_element};
 ghost use Rattle.es_rows.specs.witnesses.CallOfEvalByItsName.{source_call_of_eval_by_its_name, output_call_of_eval_by_its_name, generated_call_of_eval_by_its_name, options_call_of_eval_by_its_name};
+ghost use Rattle.es_rows.specs.witnesses.CallOnALiteralInFrontOfAClass.{source_call_on_a_literal_in_front_of_a_class, output_call_on_a_literal_in_front_of_a_class, generated_call_on_a_literal_in_front_of_a_class, options_call_on_a_literal_in_front_of_a_class};
 ghost use Rattle.es_rows.specs.witnesses.CaughtKey.{first_caught_key, second_caught_key, options_caught_key};
+ghost use Rattle.es_rows.specs.witnesses.CaughtNameAroundABranch.{first_caught_name_around_a_branch, second_caught_name_around_a_branch, options_caught_name_around_a_branch};
+ghost use Rattle.es_rows.specs.witnesses.CaughtNameAroundASecondBranch.{first_caught_name_around_a_second_branch, second_caught_name_around_a_second_branch, options_caught_name_around_a_second_branch};
 ghost use Rattle.es_rows.specs.witnesses.CaughtNamesExchanged.{first_caught_names_exchanged, second_caught_names_exchanged, options_caught_names_exchanged};
 ghost use Rattle.es_rows.specs.witnesses.ChangingKeyBeforeARegularExpression.{first_changing_key_before_a_regular_expression, second_changing_key_before_a_regular_expression, options_changing_key_before_a_regular_expression};
 ghost use Rattle.es_rows.specs.witnesses.ChangingKeyBehindABlock.{first_changing_key_behind_a_block, second_changing_key_behind_a_block, options_changing_key_behind_a_block};
@@ -250,9 +260,11 @@ ghost use Rattle.es_rows.specs.witnesses.DeclarationWithoutItsNameInAMethod.{sou
 ghost use Rattle.es_rows.specs.witnesses.DeclarationWithoutItsNames.{source_declaration_without_its_names, output_declaration_without_its_names, generated_declaration_without_its_names, options_declaration_without_its_names};
 ghost use Rattle.es_rows.specs.witnesses.DeclaratorInAConst.{source_declarator_in_a_const, output_declarator_in_a_const, generated_declarator_in_a_const, options_declarator_in_a_const};
 ghost use Rattle.es_rows.specs.witnesses.DeclaratorOutOfItsBlock.{source_declarator_out_of_its_block, output_declarator_out_of_its_block, generated_declarator_out_of_its_block, options_declarator_out_of_its_block};
+ghost use Rattle.es_rows.specs.witnesses.DefaultExportBehindACall.{source_default_export_behind_a_call, output_default_export_behind_a_call, generated_default_export_behind_a_call, options_default_export_behind_a_call};
 ghost use Rattle.es_rows.specs.witnesses.DefaultExports.{first_default_exports, second_default_exports, options_default_exports};
 ghost use Rattle.es_rows.specs.witnesses.DefaultFunction.{first_default_function, second_default_function, options_default_function};
 ghost use Rattle.es_rows.specs.witnesses.DefaultFunctionExpression.{source_default_function_expression, output_default_function_expression, generated_default_function_expression, options_default_function_expression};
+ghost use Rattle.es_rows.specs.witnesses.DefaultValueBehindACall.{source_default_value_behind_a_call, output_default_value_behind_a_call, generated_default_value_behind_a_call, options_default_value_behind_a_call};
 ghost use Rattle.es_rows.specs.witnesses.DefaultsExchangedBehindAnError.{source_defaults_exchanged_behind_an_error, output_defaults_exchanged_behind_an_error, generated_defaults_exchanged_behind_an_error, options_defaults_exchanged_behind_an_error};
 ghost use Rattle.es_rows.specs.witnesses.DefinitionsNested.{source_definitions_nested, output_definitions_nested, generated_definitions_nested, options_definitions_nested};
 ghost use Rattle.es_rows.specs.witnesses.DelegationBehindAnError.{source_delegation_behind_an_error, output_delegation_behind_an_error, generated_delegation_behind_an_error, options_delegation_behind_an_error};
@@ -279,6 +291,7 @@ ghost use Rattle.es_rows.specs.witnesses.FieldsExchanged.{source_fields_exchange
 ghost use Rattle.es_rows.specs.witnesses.FieldsOfAWrittenClassExchanged.{source_fields_of_a_written_class_exchanged, output_fields_of_a_written_class_exchanged, generated_fields_of_a_written_class_exchanged, options_fields_of_a_written_class_exchanged};
 ghost use Rattle.es_rows.specs.witnesses.FlagsOfNoRegularExpression.{source_flags_of_no_regular_expression, output_flags_of_no_regular_expression, generated_flags_of_no_regular_expression, options_flags_of_no_regular_expression};
 ghost use Rattle.es_rows.specs.witnesses.ForAwaitInAnArrow.{source_for_await_in_an_arrow, output_for_await_in_an_arrow, generated_for_await_in_an_arrow, options_for_await_in_an_arrow};
+ghost use Rattle.es_rows.specs.witnesses.FunctionInABlockInsideOfWhatCatches.{first_function_in_a_block_inside_of_what_catches, second_function_in_a_block_inside_of_what_catches, options_function_in_a_block_inside_of_what_catches};
 ghost use Rattle.es_rows.specs.witnesses.FunctionInABlockOfAnotherName.{first_function_in_a_block_of_another_name, second_function_in_a_block_of_another_name, options_function_in_a_block_of_another_name};
 ghost use Rattle.es_rows.specs.witnesses.FunctionInABranchOfABlock.{first_function_in_a_branch_of_a_block, second_function_in_a_branch_of_a_block, options_function_in_a_branch_of_a_block};
 ghost use Rattle.es_rows.specs.witnesses.FunctionInACatch.{first_function_in_a_catch, second_function_in_a_catch, options_function_in_a_catch};
@@ -301,6 +314,7 @@ ghost use Rattle.es_rows.specs.witnesses.GlobalRenamed.{first_global_renamed, se
 ghost use Rattle.es_rows.specs.witnesses.HandlerDroppedBehindAnError.{source_handler_dropped_behind_an_error, output_handler_dropped_behind_an_error, generated_handler_dropped_behind_an_error, options_handler_dropped_behind_an_error};
 ghost use Rattle.es_rows.specs.witnesses.HandlerExchangedBehindAnError.{source_handler_exchanged_behind_an_error, output_handler_exchanged_behind_an_error, generated_handler_exchanged_behind_an_error, options_handler_exchanged_behind_an_error};
 ghost use Rattle.es_rows.specs.witnesses.HeadsExchangedBehindAnError.{source_heads_exchanged_behind_an_error, output_heads_exchanged_behind_an_error, generated_heads_exchanged_behind_an_error, options_heads_exchanged_behind_an_error};
+ghost use Rattle.es_rows.specs.witnesses.HeadsOfLoopsExchanged.{first_heads_of_loops_exchanged, second_heads_of_loops_exchanged, options_heads_of_loops_exchanged};
 ghost use Rattle.es_rows.specs.witnesses.HeritageReadLate.{source_heritage_read_late, output_heritage_read_late, generated_heritage_read_late, options_heritage_read_late};
 ghost use Rattle.es_rows.specs.witnesses.HexadecimalBigint.{source_hexadecimal_bigint, output_hexadecimal_bigint, generated_hexadecimal_bigint, options_hexadecimal_bigint};
 ghost use Rattle.es_rows.specs.witnesses.HiddenBody.{source_hidden_body, output_hidden_body, generated_hidden_body, options_hidden_body};
@@ -341,13 +355,16 @@ ghost use Rattle.es_rows.specs.witnesses.LabelTwice.{source_label_twice, output_
 ghost use Rattle.es_rows.specs.witnesses.LabelWordBehindAnError.{source_label_word_behind_an_error, output_label_word_behind_an_error, generated_label_word_behind_an_error, options_label_word_behind_an_error};
 ghost use Rattle.es_rows.specs.witnesses.LabelledFunctionInABlock.{first_labelled_function_in_a_block, second_labelled_function_in_a_block, options_labelled_function_in_a_block};
 ghost use Rattle.es_rows.specs.witnesses.LabelledFunctionInABranch.{source_labelled_function_in_a_branch, output_labelled_function_in_a_branch, generated_labelled_function_in_a_branch, options_labelled_function_in_a_branch};
+ghost use Rattle.es_rows.specs.witnesses.LetAtTheHeadOfALoop.{first_let_at_the_head_of_a_loop, second_let_at_the_head_of_a_loop, options_let_at_the_head_of_a_loop};
 ghost use Rattle.es_rows.specs.witnesses.LetBehindACall.{source_let_behind_a_call, output_let_behind_a_call, generated_let_behind_a_call, options_let_behind_a_call};
+ghost use Rattle.es_rows.specs.witnesses.LetBehindAClosure.{source_let_behind_a_closure, output_let_behind_a_closure, generated_let_behind_a_closure, options_let_behind_a_closure};
 ghost use Rattle.es_rows.specs.witnesses.LetBehindAConstructor.{source_let_behind_a_constructor, output_let_behind_a_constructor, generated_let_behind_a_constructor, options_let_behind_a_constructor};
 ghost use Rattle.es_rows.specs.witnesses.LetBehindAField.{source_let_behind_a_field, output_let_behind_a_field, generated_let_behind_a_field, options_let_behind_a_field};
 ghost use Rattle.es_rows.specs.witnesses.LetBehindAnArrow.{source_let_behind_an_arrow, output_let_behind_an_arrow, generated_let_behind_an_arrow, options_let_behind_an_arrow};
 ghost use Rattle.es_rows.specs.witnesses.LetBesideACaughtName.{source_let_beside_a_caught_name, output_let_beside_a_caught_name, generated_let_beside_a_caught_name, options_let_beside_a_caught_name};
 ghost use Rattle.es_rows.specs.witnesses.LetInFrontOfAFunction.{source_let_in_front_of_a_function, output_let_in_front_of_a_function, generated_let_in_front_of_a_function, options_let_in_front_of_a_function};
 ghost use Rattle.es_rows.specs.witnesses.LetInStrictCode.{source_let_in_strict_code, output_let_in_strict_code, generated_let_in_strict_code, options_let_in_strict_code};
+ghost use Rattle.es_rows.specs.witnesses.LetInsideOfWhatCatches.{first_let_inside_of_what_catches, second_let_inside_of_what_catches, options_let_inside_of_what_catches};
 ghost use Rattle.es_rows.specs.witnesses.LetOfAHead.{first_let_of_a_head, second_let_of_a_head, options_let_of_a_head};
 ghost use Rattle.es_rows.specs.witnesses.LetOfAnotherCase.{source_let_of_another_case, output_let_of_another_case, generated_let_of_another_case, options_let_of_another_case};
 ghost use Rattle.es_rows.specs.witnesses.LetOutOfAHead.{source_let_out_of_a_head, output_let_out_of_a_head, generated_let_out_of_a_head, options_let_out_of_a_head};
@@ -408,6 +425,7 @@ ghost use Rattle.es_rows.specs.witnesses.OwnNameInAKey.{source_own_name_in_a_key
 ghost use Rattle.es_rows.specs.witnesses.OwnNameOfAClassBehindAWrite.{first_own_name_of_a_class_behind_a_write, second_own_name_of_a_class_behind_a_write, options_own_name_of_a_class_behind_a_write};
 ghost use Rattle.es_rows.specs.witnesses.OwnNameOfADeclarationWritten.{first_own_name_of_a_declaration_written, second_own_name_of_a_declaration_written, options_own_name_of_a_declaration_written};
 ghost use Rattle.es_rows.specs.witnesses.OwnNameOfADeclarationWrittenLater.{first_own_name_of_a_declaration_written_later, second_own_name_of_a_declaration_written_later, options_own_name_of_a_declaration_written_later};
+ghost use Rattle.es_rows.specs.witnesses.OwnNameThatBecomesALet.{source_own_name_that_becomes_a_let, output_own_name_that_becomes_a_let, generated_own_name_that_becomes_a_let, options_own_name_that_becomes_a_let};
 ghost use Rattle.es_rows.specs.witnesses.OwnNameThatIsMeant.{source_own_name_that_is_meant, output_own_name_that_is_meant, generated_own_name_that_is_meant, options_own_name_that_is_meant};
 ghost use Rattle.es_rows.specs.witnesses.OwnNameThatNothingMeans.{source_own_name_that_nothing_means, output_own_name_that_nothing_means, generated_own_name_that_nothing_means, options_own_name_that_nothing_means};
 ghost use Rattle.es_rows.specs.witnesses.OwnNamesExchanged.{first_own_names_exchanged, second_own_names_exchanged, options_own_names_exchanged};
@@ -492,6 +510,7 @@ ghost use Rattle.es_rows.specs.witnesses.StaticGetterOrMethod.{first_static_gett
 ghost use Rattle.es_rows.specs.witnesses.StaticKeyReadLate.{source_static_key_read_late, output_static_key_read_late, generated_static_key_read_late, options_static_key_read_late};
 ghost use Rattle.es_rows.specs.witnesses.StaticPrivateMethodOfAnotherClass.{first_static_private_method_of_another_class, second_static_private_method_of_another_class, options_static_private_method_of_another_class};
 ghost use Rattle.es_rows.specs.witnesses.StaticPrivateMethodThatReadsAField.{source_static_private_method_that_reads_a_field, output_static_private_method_that_reads_a_field, generated_static_private_method_that_reads_a_field, options_static_private_method_that_reads_a_field};
+ghost use Rattle.es_rows.specs.witnesses.StaticValueInFrontOfAClass.{source_static_value_in_front_of_a_class, output_static_value_in_front_of_a_class, generated_static_value_in_front_of_a_class, options_static_value_in_front_of_a_class};
 ghost use Rattle.es_rows.specs.witnesses.StrictArrow.{source_strict_arrow, output_strict_arrow, generated_strict_arrow, options_strict_arrow};
 ghost use Rattle.es_rows.specs.witnesses.StrictDefaultExportWithAPattern.{source_strict_default_export_with_a_pattern, output_strict_default_export_with_a_pattern, generated_strict_default_export_with_a_pattern, options_strict_default_export_with_a_pattern};
 ghost use Rattle.es_rows.specs.witnesses.StrictFunctionOfAMethod.{source_strict_function_of_a_method, output_strict_function_of_a_method, generated_strict_function_of_a_method, options_strict_function_of_a_method};
@@ -672,10 +691,14 @@ pub fn programs_are_told_apart()
     ensures arguments_of_a_block { TellsApart options_arguments_of_a_block first_arguments_of_a_block second_arguments_of_a_block }
     ensures arguments_of_an_inner_function { TellsApart options_arguments_of_an_inner_function first_arguments_of_an_inner_function second_arguments_of_an_inner_function }
     ensures async_function_around_a_function_in_a_case { TellsApart options_async_function_around_a_function_in_a_case first_async_function_around_a_function_in_a_case second_async_function_around_a_function_in_a_case }
+    ensures branch_that_names_itself { TellsApart options_branch_that_names_itself first_branch_that_names_itself second_branch_that_names_itself }
+    ensures caught_name_around_a_branch { TellsApart options_caught_name_around_a_branch first_caught_name_around_a_branch second_caught_name_around_a_branch }
+    ensures caught_name_around_a_second_branch { TellsApart options_caught_name_around_a_second_branch first_caught_name_around_a_second_branch second_caught_name_around_a_second_branch }
     ensures caught_names_exchanged { TellsApart options_caught_names_exchanged first_caught_names_exchanged second_caught_names_exchanged }
     ensures default_exports { TellsApart options_default_exports first_default_exports second_default_exports }
     ensures default_function { TellsApart options_default_function first_default_function second_default_function }
     ensures delete_of_a_name { TellsApart options_delete_of_a_name first_delete_of_a_name second_delete_of_a_name }
+    ensures function_in_a_block_inside_of_what_catches { TellsApart options_function_in_a_block_inside_of_what_catches first_function_in_a_block_inside_of_what_catches second_function_in_a_block_inside_of_what_catches }
     ensures function_in_a_block_of_another_name { TellsApart options_function_in_a_block_of_another_name first_function_in_a_block_of_another_name second_function_in_a_block_of_another_name }
     ensures function_in_a_branch_of_a_block { TellsApart options_function_in_a_branch_of_a_block first_function_in_a_branch_of_a_block second_function_in_a_branch_of_a_block }
     ensures function_in_a_catch { TellsApart options_function_in_a_catch first_function_in_a_catch second_function_in_a_catch }
@@ -687,11 +710,14 @@ pub fn programs_are_told_apart()
     ensures generator_around_a_function_in_a_block { TellsApart options_generator_around_a_function_in_a_block first_generator_around_a_function_in_a_block second_generator_around_a_function_in_a_block }
     ensures getter_or_method { TellsApart options_getter_or_method first_getter_or_method second_getter_or_method }
     ensures global_renamed { TellsApart options_global_renamed first_global_renamed second_global_renamed }
+    ensures heads_of_loops_exchanged { TellsApart options_heads_of_loops_exchanged first_heads_of_loops_exchanged second_heads_of_loops_exchanged }
     ensures hole_in_a_pattern { TellsApart options_hole_in_a_pattern first_hole_in_a_pattern second_hole_in_a_pattern }
     ensures imports_exchanged { TellsApart options_imports_exchanged first_imports_exchanged second_imports_exchanged }
     ensures inner_name_of_a_written_class { TellsApart options_inner_name_of_a_written_class first_inner_name_of_a_written_class second_inner_name_of_a_written_class }
     ensures key_heads_exchanged { TellsApart options_key_heads_exchanged first_key_heads_exchanged second_key_heads_exchanged }
     ensures labelled_function_in_a_block { TellsApart options_labelled_function_in_a_block first_labelled_function_in_a_block second_labelled_function_in_a_block }
+    ensures let_at_the_head_of_a_loop { TellsApart options_let_at_the_head_of_a_loop first_let_at_the_head_of_a_loop second_let_at_the_head_of_a_loop }
+    ensures let_inside_of_what_catches { TellsApart options_let_inside_of_what_catches first_let_inside_of_what_catches second_let_inside_of_what_catches }
     ensures let_of_a_head { TellsApart options_let_of_a_head first_let_of_a_head second_let_of_a_head }
     ensures let_out_of_a_loop { TellsApart options_let_out_of_a_loop first_let_out_of_a_loop second_let_out_of_a_loop }
     ensures loop_heads_exchanged { TellsApart options_loop_heads_exchanged first_loop_heads_exchanged second_loop_heads_exchanged }
@@ -740,8 +766,13 @@ pub fn wrong_outputs_are_told_apart()
     ensures binding_in_a_temporary { Refused options_binding_in_a_temporary generated_binding_in_a_temporary source_binding_in_a_temporary output_binding_in_a_temporary }
     ensures binding_not_renamed { Refused options_binding_not_renamed generated_binding_not_renamed source_binding_not_renamed output_binding_not_renamed }
     ensures block_behind_fields { Refused options_block_behind_fields generated_block_behind_fields source_block_behind_fields output_block_behind_fields }
+    ensures block_in_front_of_a_class_with_a_heritage { Refused options_block_in_front_of_a_class_with_a_heritage generated_block_in_front_of_a_class_with_a_heritage source_block_in_front_of_a_class_with_a_heritage output_block_in_front_of_a_class_with_a_heritage }
     ensures body_dropped { Refused options_body_dropped generated_body_dropped source_body_dropped output_body_dropped }
     ensures bound_before_its_test { Refused options_bound_before_its_test generated_bound_before_its_test source_bound_before_its_test output_bound_before_its_test }
+    ensures call_in_front_of_a_class { Refused options_call_in_front_of_a_class generated_call_in_front_of_a_class source_call_in_front_of_a_class output_call_in_front_of_a_class }
+    ensures call_in_front_of_a_class_with_a_block { Refused options_call_in_front_of_a_class_with_a_block generated_call_in_front_of_a_class_with_a_block source_call_in_front_of_a_class_with_a_block output_call_in_front_of_a_class_with_a_block }
+    ensures call_in_front_of_a_class_with_a_heritage { Refused options_call_in_front_of_a_class_with_a_heritage generated_call_in_front_of_a_class_with_a_heritage source_call_in_front_of_a_class_with_a_heritage output_call_in_front_of_a_class_with_a_heritage }
+    ensures call_on_a_literal_in_front_of_a_class { Refused options_call_on_a_literal_in_front_of_a_class generated_call_on_a_literal_in_front_of_a_class source_call_on_a_literal_in_front_of_a_class output_call_on_a_literal_in_front_of_a_class }
     ensures class_in_front_of_its_use { Refused options_class_in_front_of_its_use generated_class_in_front_of_its_use source_class_in_front_of_its_use output_class_in_front_of_its_use }
     ensures class_renamed { Refused options_class_renamed generated_class_renamed source_class_renamed output_class_renamed }
     ensures constructor_of_another_key { Refused options_constructor_of_another_key generated_constructor_of_another_key source_constructor_of_another_key output_constructor_of_another_key }
@@ -806,6 +837,7 @@ pub fn wrong_outputs_are_told_apart()
     ensures static_constructor { Refused options_static_constructor generated_static_constructor source_static_constructor output_static_constructor }
     ensures static_field_before_its_class { Refused options_static_field_before_its_class generated_static_field_before_its_class source_static_field_before_its_class output_static_field_before_its_class }
     ensures static_key_read_late { Refused options_static_key_read_late generated_static_key_read_late source_static_key_read_late output_static_key_read_late }
+    ensures static_value_in_front_of_a_class { Refused options_static_value_in_front_of_a_class generated_static_value_in_front_of_a_class source_static_value_in_front_of_a_class output_static_value_in_front_of_a_class }
     ensures super_assignment_in_a_heritage { Refused options_super_assignment_in_a_heritage generated_super_assignment_in_a_heritage source_super_assignment_in_a_heritage output_super_assignment_in_a_heritage }
     ensures super_function_called_with_another { Refused options_super_function_called_with_another generated_super_function_called_with_another source_super_function_called_with_another output_super_function_called_with_another }
     ensures super_gives_zero { Refused options_super_gives_zero generated_super_gives_zero source_super_gives_zero output_super_gives_zero }
@@ -855,6 +887,7 @@ pub fn wrong_outputs_behind_parameters_are_told_apart()
 
 /// Wrong outputs that a clause on lowered programs finds, though their meanings may be those of their sources.
 pub fn clauses_are_not_met()
+    ensures accessor_given_behind_a_key { names_timely (nodes source_accessor_given_behind_a_key) generated_accessor_given_behind_a_key (private_members source_accessor_given_behind_a_key) output_accessor_given_behind_a_key ≡ false }
     ensures another_literal_of_a_written_class { definitions_stand (nodes source_another_literal_of_a_written_class) options_another_literal_of_a_written_class generated_another_literal_of_a_written_class (private_members source_another_literal_of_a_written_class) source_another_literal_of_a_written_class output_another_literal_of_a_written_class ≡ false }
     ensures argument_in_front_of_its_class { references_stay (nodes source_argument_in_front_of_its_class) generated_argument_in_front_of_its_class source_argument_in_front_of_its_class output_argument_in_front_of_its_class ≡ false }
     ensures arguments_in_a_field { is_printable output_arguments_in_a_field ≡ false }
@@ -879,6 +912,7 @@ pub fn clauses_are_not_met()
     ensures break_in_an_arrow { is_printable output_break_in_an_arrow ≡ false }
     ensures break_in_an_arrow_beside_await { stays_printable source_break_in_an_arrow_beside_await output_break_in_an_arrow_beside_await ≡ false }
     ensures call_in_a_super_function_that_nothing_calls { definitions_stand (nodes source_call_in_a_super_function_that_nothing_calls) options_call_in_a_super_function_that_nothing_calls generated_call_in_a_super_function_that_nothing_calls (private_members source_call_in_a_super_function_that_nothing_calls) source_call_in_a_super_function_that_nothing_calls output_call_in_a_super_function_that_nothing_calls ≡ false }
+    ensures call_in_the_let_of_a_class { references_stay (nodes source_call_in_the_let_of_a_class) generated_call_in_the_let_of_a_class source_call_in_the_let_of_a_class output_call_in_the_let_of_a_class ≡ false }
     ensures call_of_a_private_element { numbers_carried (nodes source_call_of_a_private_element) source_call_of_a_private_element output_call_of_a_private_element ≡ false }
     ensures call_of_eval_by_its_name { numbers_carried (nodes source_call_of_eval_by_its_name) source_call_of_eval_by_its_name output_call_of_eval_by_its_name ≡ false }
     ensures character_of_no_name { texts_stay (nodes source_character_of_no_name) source_character_of_no_name output_character_of_no_name ≡ false }
@@ -941,6 +975,8 @@ pub fn clauses_are_not_met()
     ensures declaration_without_its_name_in_a_method { own_names_stay generated_declaration_without_its_name_in_a_method source_declaration_without_its_name_in_a_method output_declaration_without_its_name_in_a_method ≡ false }
     ensures declaration_without_its_names { stays_printable source_declaration_without_its_names output_declaration_without_its_names ≡ false }
     ensures declarator_in_a_const { declarations_accounted (nodes source_declarator_in_a_const) generated_declarator_in_a_const source_declarator_in_a_const output_declarator_in_a_const ≡ false }
+    ensures default_export_behind_a_call { references_stay (nodes source_default_export_behind_a_call) generated_default_export_behind_a_call source_default_export_behind_a_call output_default_export_behind_a_call ≡ false }
+    ensures default_value_behind_a_call { references_stay (nodes source_default_value_behind_a_call) generated_default_value_behind_a_call source_default_value_behind_a_call output_default_value_behind_a_call ≡ false }
     ensures defaults_exchanged_behind_an_error { numbers_carried (nodes source_defaults_exchanged_behind_an_error) source_defaults_exchanged_behind_an_error output_defaults_exchanged_behind_an_error ≡ false }
     ensures delegation_behind_an_error { numbers_carried (nodes source_delegation_behind_an_error) source_delegation_behind_an_error output_delegation_behind_an_error ≡ false }
     ensures delete_of_a_name_behind_a_throw { numbers_carried (nodes source_delete_of_a_name_behind_a_throw) source_delete_of_a_name_behind_a_throw output_delete_of_a_name_behind_a_throw ≡ false }
@@ -975,6 +1011,7 @@ pub fn clauses_are_not_met()
     ensures label_word_behind_an_error { numbers_carried (nodes source_label_word_behind_an_error) source_label_word_behind_an_error output_label_word_behind_an_error ≡ false }
     ensures labelled_function_in_a_branch { numbers_carried (nodes source_labelled_function_in_a_branch) source_labelled_function_in_a_branch output_labelled_function_in_a_branch ≡ false }
     ensures let_behind_a_call { names_timely (nodes source_let_behind_a_call) generated_let_behind_a_call (private_members source_let_behind_a_call) output_let_behind_a_call ≡ false }
+    ensures let_behind_a_closure { references_stay (nodes source_let_behind_a_closure) generated_let_behind_a_closure source_let_behind_a_closure output_let_behind_a_closure ≡ false }
     ensures let_behind_a_constructor { names_timely (nodes source_let_behind_a_constructor) generated_let_behind_a_constructor (private_members source_let_behind_a_constructor) output_let_behind_a_constructor ≡ false }
     ensures let_behind_a_field { names_timely (nodes source_let_behind_a_field) generated_let_behind_a_field (private_members source_let_behind_a_field) output_let_behind_a_field ≡ false }
     ensures let_behind_an_arrow { names_timely (nodes source_let_behind_an_arrow) generated_let_behind_an_arrow (private_members source_let_behind_an_arrow) output_let_behind_an_arrow ≡ false }
@@ -1018,6 +1055,7 @@ pub fn clauses_are_not_met()
     ensures number_that_strict_code_has_not { texts_stay (nodes source_number_that_strict_code_has_not) source_number_that_strict_code_has_not output_number_that_strict_code_has_not ≡ false }
     ensures own_name_in_a_heritage { names_timely (nodes source_own_name_in_a_heritage) generated_own_name_in_a_heritage (private_members source_own_name_in_a_heritage) output_own_name_in_a_heritage ≡ false }
     ensures own_name_in_a_key { names_timely (nodes source_own_name_in_a_key) generated_own_name_in_a_key (private_members source_own_name_in_a_key) output_own_name_in_a_key ≡ false }
+    ensures own_name_that_becomes_a_let { references_stay (nodes source_own_name_that_becomes_a_let) generated_own_name_that_becomes_a_let source_own_name_that_becomes_a_let output_own_name_that_becomes_a_let ≡ false }
     ensures own_name_that_is_meant { declarations_accounted (nodes source_own_name_that_is_meant) generated_own_name_that_is_meant source_own_name_that_is_meant output_own_name_that_is_meant ≡ false }
     ensures parameter_read_later { temporaries_steady (nodes source_parameter_read_later) generated_parameter_read_later (private_members source_parameter_read_later) output_parameter_read_later ≡ false }
     ensures parameter_renamed { homes_kept (nodes source_parameter_renamed) options_parameter_renamed source_parameter_renamed output_parameter_renamed ≡ false }

@@ -10,13 +10,13 @@ use Rattle.es_steps.specs.Context.{NameKind, Fixed, Changing, MeansClass, Functi
 use Rattle.es_steps.specs.Meaning.{Terms, start}
 use Rattle.es_steps.specs.Parts.{at, items, block_items, string_of, is_true, is_present}
 use Rattle.es_steps.specs.PrivateNames.{seen_members}
-use Rattle.es_steps.specs.References.{declared, has_number, names_around}
+use Rattle.es_steps.specs.References.{declared, has_number}
 use Rattle.es_steps.specs.Scopes.{ClassName, no_class, declares, own_name, let_names, Declaration, bound_part, names_at, class_in}
 use Rattle.es_steps.specs.Values.{String, Bound, Home, OfClass, OfPrototype}
 use Rattle.es_steps.proofs.Mapped.{mapped, mapped_part, mapped_parts, mapped_class_name, mapped_declaration, mapped_declarations, mapped_option, mapped_generated, mapped_ledger, mapped_name_kind, mapped_private, mapped_home, mapped_role, mapped_pair, mapped_context, mapped_terms, Renames}
 use Rattle.es_steps.proofs.PartsMapped.{cond-mapped, append-mapped, is_some-mapped, at-mapped, items_at-mapped, block_items_at-mapped, string_at-mapped, is_true_at-mapped, is_present_at-mapped, number_of-mapped}
 use Rattle.es_steps.proofs.PrivatesMapped.{seen_members-mapped}
-use Rattle.es_steps.proofs.ReferencesMapped.{declared-mapped, has_number-mapped, changes_free-mapped, varying-mapped, names_around-mapped}
+use Rattle.es_steps.proofs.ReferencesMapped.{declared-mapped, has_number-mapped, changes_free-mapped, varying-mapped, uncaught_at-mapped}
 use Rattle.es_steps.proofs.ScopesMapped.{bound_at-mapped, names_at-mapped, class_in-mapped}
 
 -- ---- the ledger
@@ -201,7 +201,7 @@ module _ {first : ℕ} {f : ℕ → ℕ} (r : Renames first f) where
 
   pub inside-mapped : (c : Context) → c.first_new ≡ first → (kind : Kind) (m : ℕ) (ps : Parts) (i : ℕ) → inside (mapped_context f c) kind (f m) (mapped_parts f ps) i ≡ mapped_context f (inside c kind m ps i)
   inside-mapped c e kind m ps i =
-      rw (framed-mapped (frame_of kind) m ps i c e, seen_names-mapped c kind m ps i, append-mapped (mapped_private f) (seen_members kind m ps i) c.privates (seen_members-mapped f kind m ps i) refl, role_in-mapped f (frame_of kind) ps i c, around_inside-mapped c kind, append-mapped (mapped_declaration f) (names_around c.is_body kind m ps i) c.uncaught (names_around-mapped f c.is_body kind m ps i) refl)
+      rw (framed-mapped (frame_of kind) m ps i c e, seen_names-mapped c kind m ps i, append-mapped (mapped_private f) (seen_members kind m ps i) c.privates (seen_members-mapped f kind m ps i) refl, role_in-mapped f (frame_of kind) ps i c, around_inside-mapped c kind, uncaught_at-mapped f c.names c.uncaught c.is_body kind m ps i)
       refl
 
   -- ---- the start

@@ -8,6 +8,8 @@ pub mod ScopesMapped
 pub mod ReferencesMapped
 pub mod MembersMapped
 pub mod PrivatesMapped
+pub mod BranchesMapped
+pub mod ClassHeadsMapped
 pub mod ContextMapped
 pub mod FormsMapped
 pub mod ExpressionsMapped

@@ -200,6 +200,7 @@ module _ (f : ℕ → ℕ) where
     ledger = mapped_ledger c.ledger;
     options = c.options;
     members = mapped_privates c.members;
+    named = map mapped_pair c.named;
     varying = map f c.varying;
     writes_arguments = c.writes_arguments;
     names = mapped_declarations c.names;
@@ -415,9 +416,10 @@ module _ (f : ℕ → ℕ) where
     globals = map mapped_name m.globals;
     shared = map mapped_pair m.shared;
     places = map mapped_pair m.places;
+    branches = map mapped_pair m.branches;
     links = map mapped_link m.links;
     exports = map mapped_named_export m.exports;
   }
 
   abbrev pub mapped_terms : Terms → Terms
-  mapped_terms o = record { first_new = o.first_new; options = o.options; ledger = mapped_ledger o.ledger; members = mapped_privates o.members; late = map f o.late }
+  mapped_terms o = record { first_new = o.first_new; options = o.options; ledger = mapped_ledger o.ledger; members = mapped_privates o.members; named = map mapped_pair o.named; late = map f o.late }

@@ -17,6 +17,7 @@ use Rattle.es_steps.specs.Opening.{Definition, definitions, opening}
 use Rattle.es_steps.specs.Parts.{at, items, string_of}
 use Rattle.es_steps.specs.PrivateNames.{PrivateMember, PrivateKind, a_field}
 use Rattle.es_steps.specs.Reading.{read}
+use Rattle.es_steps.specs.Branches.{around_branches}
 use Rattle.es_steps.specs.Repeated.{all_places}
 use Rattle.es_steps.specs.Shared.{shared}
 use Rattle.es_steps.specs.Scopes.{Declaration, is_binding_identifier, class_in, body_names}
@@ -30,6 +31,7 @@ use Rattle.es_steps.proofs.OpeningMapped.{gather-mapped, definitions-mapped, ope
 use Rattle.es_steps.proofs.PartsMapped.{cond-mapped, append-mapped, at-mapped, items_at-mapped, string_at-mapped, preorder-mapped}
 use Rattle.es_steps.proofs.ReadingMapped.{read-mapped}
 use Rattle.es_steps.proofs.ScopesMapped.{body_names-mapped, class_in-mapped}
+use Rattle.es_steps.proofs.BranchesMapped.{around_branches-mapped}
 use Rattle.es_steps.proofs.RepeatedMapped.{all_places-mapped}
 use Rattle.es_steps.proofs.SharedMapped.{shared-mapped}
 
@@ -222,7 +224,7 @@ module _ {f : ℕ → ℕ} (o : Terms) (r : Renames o.first_new f) (t : Tree) wh
   places-mapped d = ap (λ ns. all_places o.first_new (mapped_ledger f o.ledger) ns (mapped f t)) (second_numbers-mapped f d) ∙ all_places-mapped r o.ledger (second_numbers d) t
 
   abbrev found : List (ℕ × ℕ) → Listed → List (ℕ × Entry) → List (ℕ × MemberEntry) → List (String × Exported) → Meaning
-  found d l es ms xs = record { source_type = source_type_of t; program = l; entries = by_number es; members = by_number ms; functions = by_number (declared_functions o.ledger (preorder t)); bindings = by_number (old_bindings o.first_new (declaring o.first_new ClassDeclared t)); globals = by_number (globals o.first_new t); shared = by_number (shared false t); places = by_number (private_places d); links = links_in (body_of t); exports = xs }
+  found d l es ms xs = record { source_type = source_type_of t; program = l; entries = by_number es; members = by_number ms; functions = by_number (declared_functions o.ledger (preorder t)); bindings = by_number (old_bindings o.first_new (declaring o.first_new ClassDeclared t)); globals = by_number (globals o.first_new t); shared = by_number (shared false t); places = by_number (private_places d); branches = by_number (around_branches [] t); links = links_in (body_of t); exports = xs }
 
   found-same : (d : List (ℕ × ℕ)) (l : Listed) (es : List (ℕ × Entry)) (ms : List (ℕ × MemberEntry)) (xs : List (String × Exported)) → mapped_meaning f (found d l es ms xs) ≡ found d l es ms xs → with_all (mapped_terms f o) (mapped f t) (map (mapped_pair f) d) (Some (mapped_listed f l)) (Some (map (mapped_numbered_entry f) es)) (Some (map (mapped_numbered_member f) ms)) (Some (map (mapped_named_export f) xs)) ≡ Some (found d l es ms xs)
   found-same d l es ms xs still =
@@ -231,10 +233,11 @@ module _ {f : ℕ → ℕ} (o : Terms) (r : Renames o.first_new f) (t : Tree) wh
       let same_members : map (mapped_numbered_member f) ms ≡ ms = by_number-still (mapped_numbered_member f) ms (ap (λ (m : Meaning). m.members) still) in
       let same_functions : declared_functions (mapped_ledger f o.ledger) (preorder (mapped f t)) ≡ declared_functions o.ledger (preorder t) = functions-mapped ∙ by_number-still (mapped_pair f) (declared_functions o.ledger (preorder t)) (ap (λ (m : Meaning). m.functions) still) in
       let same_places : all_places o.first_new (mapped_ledger f o.ledger) (second_numbers (map (mapped_pair f) d)) (mapped f t) ≡ private_places d = places-mapped d ∙ by_number-still (mapped_pair f) (private_places d) (ap (λ (m : Meaning). m.places) still) in
+      let same_caught : around_branches [] (mapped f t) ≡ around_branches [] t = around_branches-mapped f [] t ∙ by_number-still (mapped_pair f) (around_branches [] t) (ap (λ (m : Meaning). m.branches) still) in
       let same_shared : shared false (mapped f t) ≡ shared false t = shared-mapped f false t ∙ by_number-still (mapped_pair f) (shared false t) (ap (λ (m : Meaning). m.shared) still) in
       let same_links : links_in (body_of (mapped f t)) ≡ links_in (body_of t) = ap links_in (body_of-mapped f t) ∙ links_in-mapped r (body_of t) ∙ ap (λ (m : Meaning). m.links) still in
       let same_exports : map (mapped_named_export f) xs ≡ xs = ap (λ (m : Meaning). m.exports) still in
-      rw (program, same_entries, same_members, same_functions, same_shared, same_places, same_links, same_exports, bindings-same, globals-mapped r t, source_type_of-mapped f t) refl
+      rw (program, same_entries, same_members, same_functions, same_shared, same_places, same_caught, same_links, same_exports, bindings-same, globals-mapped r t, source_type_of-mapped f t) refl
 
   with_all-same : (d : List (ℕ × ℕ)) (l : Option Listed) (es : Option (List (ℕ × Entry))) (ms : Option (List (ℕ × MemberEntry))) (xs : Option (List (String × Exported))) (m : Option Meaning) → with_all o t d l es ms xs ≡ m → mapped_option (mapped_meaning f) m ≡ m → with_all (mapped_terms f o) (mapped f t) (map (mapped_pair f) d) (mapped_option (mapped_listed f) l) (mapped_option (map (mapped_numbered_entry f)) es) (mapped_option (map (mapped_numbered_member f)) ms) (mapped_option (map (mapped_named_export f)) xs) ≡ m
   with_all-same d (Some l) (Some es) (Some ms) (Some xs) m e still = found-same d l es ms xs (some-same _ _ (ap (mapped_option (mapped_meaning f)) e ∙ still ∙ sym e)) ∙ e

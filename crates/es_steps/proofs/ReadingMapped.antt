@@ -65,7 +65,7 @@ module _ {first : ℕ} {f : ℕ → ℕ} (r : Renames first f) (c : Context) (e 
   class_form_code-mapped Kind.FunctionExpression m ps = function_expression_code-mapped r c e m ps
   class_form_code-mapped Kind.ArrowFunctionExpression m ps = arrow_code-mapped r c e m ps
   class_form_code-mapped Kind.ClassDeclaration m ps = class_declaration-mapped m ps
-  class_form_code-mapped Kind.ClassExpression m ps = ap (λ d. class_of d (f m) (mapped_members f ps)) (declared_by_let-mapped r c e m c.let_class) ∙ class_of-mapped f (declared_by_let m c.let_class) m ps
+  class_form_code-mapped Kind.ClassExpression m ps = ap (λ d. class_of d (f m) (mapped_members f ps)) (declared_by_let-mapped r c e m c.named c.let_class) ∙ class_of-mapped f (declared_by_let m c.named c.let_class) m ps
   class_form_code-mapped Kind.ClassBody m ps = ap steps (codes_in-mapped f ps)
   class_form_code-mapped Kind.PropertyDefinition m ps = field_code-mapped r c e ps
   class_form_code-mapped Kind.MethodDefinition m ps = method_code-mapped r c e ps

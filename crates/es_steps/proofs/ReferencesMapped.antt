@@ -1,5 +1,5 @@
 -- What references refer to, and which bindings are written, follow a change of numbers.
-use Rattle.std.specs.Prelude.{◌≡◌, ℕ, suc, List, [], ◌∷◌, ◌++◌, ◌||◌, map, Bool, true, false, bytes_eq, codes, Option, Some, None}
+use Rattle.std.specs.Prelude.{◌≡◌, ℕ, suc, List, [], ◌∷◌, ◌++◌, ◌||◌, map, Bool, cond, true, false, bytes_eq, codes, Option, Some, None}
 use Rattle.std.proofs.Common.{refl, ap, ap₂, ◌∙◌}
 use Rattle.es_base.specs.Conforms.{is_among}
 use Rattle.es_base.specs.Preorder.{preorder}
@@ -7,11 +7,11 @@ use Rattle.es_base.specs.Table.{Field, members_of}
 use Rattle.es_base.specs.Tree.{Tree, Part, Parts, Node, end, more, child, list}
 use Rattle.es_base.specs.declared.kind.Kind.{Kind}
 use Rattle.es_steps.specs.Parts.{at, items, string_of}
-use Rattle.es_steps.specs.References.{declared, referent, Reference, is_target, is_reference, reference, references, references_in, part_references, item_references, resolve, has_number, numbers_of, if_bound, assigned, is_declared, repeated, is_for_each, written_by, written_by_all, written, named_arguments, changing_by, changing_in, caught_again, caught_again_in, bound_spelling, function_name, function_names, case_functions, inner_functions, meant, catches_a_name, names_around, given_around, given_in, given_at, given_of, changed_otherwise, gives_inside, changes_free, varying, is_free, writes_free}
+use Rattle.es_steps.specs.References.{declared, referent, Reference, is_target, is_reference, reference, references, references_in, part_references, item_references, resolve, has_number, numbers_of, if_bound, assigned, is_declared, repeated, is_for_each, written_by, written_by_all, written, named_arguments, changing_by, changing_in, caught_again, caught_again_in, bound_spelling, function_name, function_names, case_functions, inner_functions, meant, catches_a_name, names_around, takes_vars, uncaught_at, given_around, given_in, given_at, given_of, changed_otherwise, gives_inside, changes_free, varying, is_free, writes_free}
 use Rattle.es_steps.specs.Scopes.{Declaration, no_class, bound_part, names_at, is_body_part, scope_form, scope_names, var_part}
 use Rattle.es_steps.specs.Values.{String, Referent, Bound, Free}
 use Rattle.es_steps.proofs.Mapped.{mapped, mapped_part, mapped_parts, mapped_declaration, mapped_declarations, mapped_option, mapped_reference, mapped_referent, Renames}
-use Rattle.es_steps.proofs.PartsMapped.{cond-mapped, append-mapped, at-mapped, items_at-mapped, string_at-mapped, is_true_at-mapped, preorder-mapped}
+use Rattle.es_steps.proofs.PartsMapped.{cond-mapped, append-mapped, at-mapped, items_at-mapped, string_at-mapped, preorder-mapped}
 use Rattle.es_steps.proofs.ScopesMapped.{bound_part-mapped, bound_at-mapped, is_declaring_at-mapped, names_at-mapped, scope_names-mapped, var_part-mapped}
 
 module _ (f : ℕ → ℕ) where
@@ -173,37 +173,41 @@ module _ (f : ℕ → ℕ) where
   catches_a_name-mapped Kind.CatchClause ps = is_declaring_at-mapped f 0 ps
   catches_a_name-mapped kind ps = refl
 
-  pub names_around-mapped : (is_body : Bool) (kind : Kind) (m : ℕ) (ps : Parts) (i : ℕ) → names_around is_body kind (f m) (mapped_parts f ps) i ≡ mapped_declarations f (names_around is_body kind m ps i)
+  names_around-mapped : (is_body : Bool) (kind : Kind) (m : ℕ) (ps : Parts) (i : ℕ) → names_around is_body kind (f m) (mapped_parts f ps) i ≡ mapped_declarations f (names_around is_body kind m ps i)
   names_around-mapped is_body kind m ps i = rw (catches_a_name-mapped kind ps) (cond-mapped (mapped_declarations f) (catches_a_name kind ps) [] (names_at is_body kind m ps i) refl (names_at-mapped f is_body kind m ps i))
 
+  pub uncaught_at-mapped : (names uncaught : List Declaration) (is_body : Bool) (kind : Kind) (m : ℕ) (ps : Parts) (i : ℕ) → uncaught_at (mapped_declarations f names) (mapped_declarations f uncaught) is_body kind (f m) (mapped_parts f ps) i ≡ mapped_declarations f (uncaught_at names uncaught is_body kind m ps i)
+  uncaught_at-mapped names uncaught is_body kind m ps i =
+      append-mapped (mapped_declaration f) (names_around is_body kind m ps i) (cond (takes_vars kind) names uncaught) (names_around-mapped is_body kind m ps i) (cond-mapped (mapped_declarations f) (takes_vars kind) names uncaught refl refl)
+
   mutual
-    given_around-mapped : (names : List Declaration) (is_body : Bool) (t : Tree) → given_around (mapped_declarations f names) is_body (mapped f t) ≡ map f (given_around names is_body t)
-    given_around-mapped names is_body (Node kind m span semantic_id ps) =
+    given_around-mapped : (names uncaught : List Declaration) (is_body : Bool) (t : Tree) → given_around (mapped_declarations f names) (mapped_declarations f uncaught) is_body (mapped f t) ≡ map f (given_around names uncaught is_body t)
+    given_around-mapped names uncaught is_body (Node kind m span semantic_id ps) =
         append-mapped f _ _
-        (rw (inner_functions-mapped is_body kind ps) (meant-mapped names (inner_functions is_body kind ps)))
-        (given_in-mapped _ (λ i. names_around is_body kind m ps i ++ names) (is_body_part kind) (λ i. append-mapped (mapped_declaration f) _ names (names_around-mapped is_body kind m ps i) refl) ps)
+        (rw (inner_functions-mapped is_body kind ps) (meant-mapped uncaught (inner_functions is_body kind ps)))
+        (given_in-mapped _ (λ i. names_at is_body kind m ps i ++ names) _ (uncaught_at names uncaught is_body kind m ps) (is_body_part kind) (λ i. append-mapped (mapped_declaration f) _ names (names_at-mapped f is_body kind m ps i) refl) (uncaught_at-mapped names uncaught is_body kind m ps) ps)
 
-    given_in-mapped : (seen names : ℕ → List Declaration) (bodies : ℕ → Bool) → ((i : ℕ) → seen i ≡ mapped_declarations f (names i)) → (ps : Parts) → given_in seen bodies (mapped_parts f ps) ≡ map f (given_in names bodies ps)
-    given_in-mapped seen names bodies same end = refl
-    given_in-mapped seen names bodies same (more p ps) =
+    given_in-mapped : (seen names passed uncaught : ℕ → List Declaration) (bodies : ℕ → Bool) → ((i : ℕ) → seen i ≡ mapped_declarations f (names i)) → ((i : ℕ) → passed i ≡ mapped_declarations f (uncaught i)) → (ps : Parts) → given_in seen passed bodies (mapped_parts f ps) ≡ map f (given_in names uncaught bodies ps)
+    given_in-mapped seen names passed uncaught bodies same same_uncaught end = refl
+    given_in-mapped seen names passed uncaught bodies same same_uncaught (more p ps) =
         append-mapped f _ _
-        (rw (same 0) (given_at-mapped (names 0) (bodies 0) p))
-        (given_in-mapped (λ i. seen (suc i)) (λ i. names (suc i)) (λ i. bodies (suc i)) (λ i. same (suc i)) ps)
+        (rw (same 0, same_uncaught 0) (given_at-mapped (names 0) (uncaught 0) (bodies 0) p))
+        (given_in-mapped (λ i. seen (suc i)) (λ i. names (suc i)) (λ i. passed (suc i)) (λ i. uncaught (suc i)) (λ i. bodies (suc i)) (λ i. same (suc i)) (λ i. same_uncaught (suc i)) ps)
 
-    given_at-mapped : (names : List Declaration) (is_body : Bool) (p : Part) → given_at (mapped_declarations f names) is_body (mapped_part f p) ≡ map f (given_at names is_body p)
-    given_at-mapped names is_body (child t) = given_around-mapped names is_body t
-    given_at-mapped names is_body (list ps) = given_of-mapped names ps
-    given_at-mapped names is_body p = refl
+    given_at-mapped : (names uncaught : List Declaration) (is_body : Bool) (p : Part) → given_at (mapped_declarations f names) (mapped_declarations f uncaught) is_body (mapped_part f p) ≡ map f (given_at names uncaught is_body p)
+    given_at-mapped names uncaught is_body (child t) = given_around-mapped names uncaught is_body t
+    given_at-mapped names uncaught is_body (list ps) = given_of-mapped names uncaught ps
+    given_at-mapped names uncaught is_body p = refl
 
-    given_of-mapped : (names : List Declaration) (ps : Parts) → given_of (mapped_declarations f names) (mapped_parts f ps) ≡ map f (given_of names ps)
-    given_of-mapped names end = refl
-    given_of-mapped names (more p ps) = append-mapped f _ _ (given_at-mapped names false p) (given_of-mapped names ps)
+    given_of-mapped : (names uncaught : List Declaration) (ps : Parts) → given_of (mapped_declarations f names) (mapped_declarations f uncaught) (mapped_parts f ps) ≡ map f (given_of names uncaught ps)
+    given_of-mapped names uncaught end = refl
+    given_of-mapped names uncaught (more p ps) = append-mapped f _ _ (given_at-mapped names uncaught false p) (given_of-mapped names uncaught ps)
 
   changed_otherwise-mapped : (t : Tree) → changed_otherwise (mapped f t) ≡ map f (changed_otherwise t)
   changed_otherwise-mapped t =
-      append-mapped f (changing_in (preorder t)) (caught_again_in (preorder t) ++ given_around [] false t)
+      append-mapped f (changing_in (preorder t)) (caught_again_in (preorder t) ++ given_around [] [] false t)
       (ap changing_in (preorder-mapped f t) ∙ changing_in-mapped (preorder t))
-      (append-mapped f (caught_again_in (preorder t)) (given_around [] false t) (ap caught_again_in (preorder-mapped f t) ∙ caught_again_in-mapped (preorder t)) (given_around-mapped [] false t))
+      (append-mapped f (caught_again_in (preorder t)) (given_around [] [] false t) (ap caught_again_in (preorder-mapped f t) ∙ caught_again_in-mapped (preorder t)) (given_around-mapped [] [] false t))
 
   pub varying-mapped : (t : Tree) → varying (mapped f t) ≡ map f (varying t)
   varying-mapped t = append-mapped f (written t) (changed_otherwise t) (written-mapped t) (changed_otherwise-mapped t)

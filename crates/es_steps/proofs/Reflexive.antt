@@ -197,7 +197,7 @@ export-same p = both (string-same p.0) (exported-same p.1)
 pub meaning-same : (m : Meaning) → same_meaning m m ≡ true
 meaning-same m =
     both (string-same m.source_type) (both (listed-same m.program) (both (numbered_list-same same_entry entry-same m.entries) (both (numbered_list-same same_member member-same m.members)
-    (both (numbered_list-same nat_eq number-same m.functions) (both (numbered_list-same same_declaration declaration-same m.bindings) (both (numbered_list-same bytes_eq string-same m.globals) (both (numbered_list-same nat_eq number-same m.shared) (both (numbered_list-same nat_eq number-same m.places) (both (list-same same_link link-same m.links) (list-same same_export export-same m.exports))))))))))
+    (both (numbered_list-same nat_eq number-same m.functions) (both (numbered_list-same same_declaration declaration-same m.bindings) (both (numbered_list-same bytes_eq string-same m.globals) (both (numbered_list-same nat_eq number-same m.shared) (both (numbered_list-same nat_eq number-same m.places) (both (numbered_list-same nat_eq number-same m.branches) (both (list-same same_link link-same m.links) (list-same same_export export-same m.exports)))))))))))
 
 -- meanings that are found to differ are not equal
 pub differ : (a b : Option Meaning) → same_meanings a b ≡ false → a ≡ b → ⊥

@@ -6,13 +6,15 @@ use Rattle.es_base.specs.Carried.{stripped, stripped_part, stripped_parts}
 use Rattle.es_base.specs.Numbered.{is_old, new_numbers}
 use Rattle.es_base.specs.Preorder.{preorder, nodes, nodes_of, nodes_of_part, renumbered}
 use Rattle.es_base.specs.Tree.{Tree, Part, Parts, Node, end, more, child, list}
+use Rattle.es_steps.specs.ClassHeads.{named_classes}
 use Rattle.es_steps.specs.Law.{SemanticIdsLaw, SourceSemanticIdsLaw, PrivateSemanticIdsLaw, RenumberingLaw}
 use Rattle.es_steps.specs.Meaning.{Meaning, Terms, source_terms, means, source_means}
 use Rattle.es_steps.specs.PrivateNames.{PrivateMember, PrivateUse, seen_members, members_of_all, private_members, declared_member, used, class_of, is_private_identifier, is_element, private_uses, uses_in, part_uses, item_uses, resolve_privates}
 use Rattle.es_steps.specs.Parts.{at, string_of}
 use Rattle.es_steps.specs.Standing.{meaning_numbers, terms_numbers, all_pass}
 use Rattle.es_steps.specs.declared.options.Options.{Options}
-use Rattle.es_steps.proofs.Mapped.{Renames, mapped, mapped_part, mapped_parts, mapped_option, mapped_privates, mapped_private, mapped_meaning}
+use Rattle.es_steps.proofs.ClassHeadsMapped.{named_classes-mapped}
+use Rattle.es_steps.proofs.Mapped.{Renames, mapped, mapped_part, mapped_parts, mapped_option, mapped_pair, mapped_privates, mapped_private, mapped_meaning}
 use Rattle.es_steps.proofs.MeaningMapped.{means-same}
 use Rattle.es_steps.proofs.PartsMapped.{cond-mapped, append-mapped, string_at-mapped, preorder-mapped}
 use Rattle.es_steps.proofs.PrivatesMapped.{members_at-mapped, seen_members-mapped, declared_member-mapped}
@@ -72,6 +74,13 @@ privates-unchanged (x ∷ xs) = ap (λ rest. x ∷ rest) (privates-unchanged xs)
 private_members-bare : (t : Tree) → private_members (mapped same t) ≡ private_members t
 private_members-bare t = ap members_of_all (preorder-mapped same t) ∙ members_of_all-mapped same (preorder t) ∙ privates-unchanged (private_members t)
 
+pairs-unchanged : (xs : List (ℕ × ℕ)) → map (mapped_pair same) xs ≡ xs
+pairs-unchanged [] = refl
+pairs-unchanged (x ∷ xs) = ap (λ rest. x ∷ rest) (pairs-unchanged xs)
+
+named_classes-bare : (t : Tree) → named_classes (mapped same t) ≡ named_classes t
+named_classes-bare t = named_classes-mapped same t ∙ pairs-unchanged (named_classes t)
+
 mutual
   nodes-bare : (t : Tree) → nodes (mapped same t) ≡ nodes t
   nodes-bare (Node kind m span semantic_id ps) = ap (λ n. 1 + n) (nodes_of-bare ps)
@@ -86,7 +95,7 @@ mutual
   nodes_of-bare (more p ps) = ap₂ (λ a b. a + b) (nodes_of_part-bare p) (nodes_of-bare ps)
 
 source_terms-bare : (o : Options) (t : Tree) → source_terms o (mapped same t) ≡ source_terms o t
-source_terms-bare o t = rw (nodes-bare t, private_members-bare t) refl
+source_terms-bare o t = rw (nodes-bare t, private_members-bare t, named_classes-bare t) refl
 
 source_means-bare : (o : Options) (t : Tree) → source_means o (mapped same t) ≡ source_means o t
 source_means-bare o t = ap (λ x. means x (mapped same t)) (source_terms-bare o t) ∙ bare (source_terms o t) t

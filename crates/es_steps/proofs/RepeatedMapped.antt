@@ -9,9 +9,9 @@ use Rattle.es_base.specs.declared.ledger.LedgerEntry.{LedgerEntry}
 use Rattle.es_steps.specs.Context.{generated_as, is_constructor, is_function, name_in}
 use Rattle.es_steps.specs.Parts.{at, items, string_of, is_true, has_pattern}
 use Rattle.es_steps.specs.PrivateNames.{is_class}
-use Rattle.es_steps.specs.References.{has_number}
+use Rattle.es_steps.specs.References.{has_number, takes_vars}
 use Rattle.es_steps.specs.Scopes.{is_binding_identifier}
-use Rattle.es_steps.specs.Repeated.{Surroundings, is_loop, is_arrow, super_function, if_here, constructs_at, function_place, is_parameters_part, first_number, parameters_place, once_place, loop_place, place_in, around_program, takes_vars, hoisted_in, in_var_at, surroundings_in, is_placed, own_place, place_of, places, places_in, places_at, places_of, all_places}
+use Rattle.es_steps.specs.Repeated.{Surroundings, is_loop, is_arrow, super_function, if_here, constructs_at, function_place, is_parameters_part, first_number, parameters_place, once_place, loop_place, place_in, around_program, hoisted_in, in_var_at, surroundings_in, is_placed, own_place, place_of, declaration_place, head_place, places, places_in, places_at, places_of, all_places}
 use Rattle.es_steps.proofs.ContextMapped.{generated_as-mapped, name_in-mapped}
 use Rattle.es_steps.proofs.Mapped.{Renames, mapped, mapped_part, mapped_parts, mapped_option, mapped_generated, mapped_ledger, mapped_pair}
 use Rattle.es_steps.proofs.PartsMapped.{cond-mapped, append-mapped, at-mapped, items_at-mapped, string_at-mapped, is_true_at-mapped, has_pattern-mapped, number_of-mapped}
@@ -102,10 +102,19 @@ module _ {first : ℕ} {f : ℕ → ℕ} (r : Renames first f) (ledger : List Le
         rw (r.new m, has_number-mapped r m functions, class_or-mapped f (is_binding_identifier kind && s.in_var) s.hoisted s.place)
         (cond-mapped (map (mapped_pair f)) (is_placed kind && not (is_new first m || has_number m functions)) ((m, own_place s kind) ∷ []) [] refl refl)
 
+    declaration_place-mapped : (s : Surroundings) (p : Part) → declaration_place first (mapped_ledger f ledger) (map f functions) (there s) (mapped_part f p) ≡ map (mapped_pair f) (declaration_place first ledger functions s p)
+    declaration_place-mapped s (child (Node Kind.VariableDeclaration m span semantic_id ps)) = rw (r.new m) (cond-mapped (map (mapped_pair f)) (is_new first m) [] ((m, s.place) ∷ []) refl refl)
+    declaration_place-mapped s p = refl
+
+    head_place-mapped : (s : Surroundings) (kind : Kind) (ps : Parts) → head_place first (mapped_ledger f ledger) (map f functions) (there s) kind (mapped_parts f ps) ≡ map (mapped_pair f) (head_place first ledger functions s kind ps)
+    head_place-mapped s Kind.ForStatement ps = ap (declaration_place first (mapped_ledger f ledger) (map f functions) (there s)) (at-mapped f 0 ps) ∙ declaration_place-mapped s (at 0 ps)
+    head_place-mapped s kind ps = refl
+
     mutual
       places-mapped : (s : Surroundings) (t : Tree) → places first (mapped_ledger f ledger) (map f functions) (there s) (mapped f t) ≡ map (mapped_pair f) (places first ledger functions s t)
       places-mapped s (Node kind m span semantic_id ps) =
-          append-mapped (mapped_pair f) _ _ (place_of-mapped s kind m) (places_in-mapped _ (surroundings_in first ledger s kind m ps) (surroundings_in-mapped s kind m ps) ps)
+          append-mapped (mapped_pair f) _ _ (place_of-mapped s kind m)
+          (append-mapped (mapped_pair f) _ _ (head_place-mapped s kind ps) (places_in-mapped _ (surroundings_in first ledger s kind m ps) (surroundings_in-mapped s kind m ps) ps))
 
       places_in-mapped : (x s : ℕ → Surroundings) → ((i : ℕ) → x i ≡ there (s i)) → (ps : Parts) → places_in first (mapped_ledger f ledger) (map f functions) x (mapped_parts f ps) ≡ map (mapped_pair f) (places_in first ledger functions s ps)
       places_in-mapped x s same end = refl

@@ -1,9 +1,10 @@
 -- The codes of statements, patterns, functions and classes follow a change of numbers.
-use Rattle.std.specs.Prelude.{◌≡◌, ℕ, suc, List, [], ◌∷◌, Bool, true, false, cond, not, ◌&&◌, ◌||◌, nat_eq, Option, Some, None}
+use Rattle.std.specs.Prelude.{◌≡◌, ℕ, suc, List, [], ◌∷◌, map, Bool, true, false, cond, not, ◌&&◌, ◌||◌, nat_eq, Option, Some, None}
 use Rattle.std.proofs.Common.{refl, ap, ap₂, ◌∙◌}
 use Rattle.es_base.specs.Numbered.{is_new}
 use Rattle.es_base.specs.declared.kind.Kind.{Kind}
 use Rattle.es_base.specs.declared.ledger.GeneratedKind.{GeneratedKind}
+use Rattle.es_steps.specs.ClassHeads.{named_as}
 use Rattle.es_steps.specs.Code.{Code, Codes, Target, FunctionForm, no_rule, value, spelled, private_name, binding, rest, assign, operation, pattern, takes, steps, gives_to, new_return, field, private_field, method, private_method, generated_element, no_target, done, and, one, joined}
 use Rattle.es_steps.specs.Context.{Context, Fixed, Changing, Generated, StaticMethod, MeansClass, is_constructor, is_generated_private}
 use Rattle.es_steps.specs.Events.{Detail, Operand, Empty, Index, Rest, OfKind, Take}
@@ -15,6 +16,7 @@ use Rattle.es_steps.specs.GeneratedForms.{opened_body}
 use Rattle.es_steps.specs.References.{declared}
 use Rattle.es_steps.specs.Scopes.{Declaration}
 use Rattle.es_steps.specs.Values.{String, StringOf, ConstantOf}
+use Rattle.es_steps.proofs.ClassHeadsMapped.{named_as-mapped}
 use Rattle.es_steps.proofs.ContextMapped.{is_generated_private-mapped}
 use Rattle.es_steps.proofs.ExpressionsMapped.{the_code_at-mapped, key_code-mapped, key_details-mapped, target_of-mapped, target_at-mapped}
 use Rattle.es_steps.proofs.FormsMapped.{code-cond, cond-code, here, given-mapped, opened_body-mapped}
@@ -283,9 +285,9 @@ module _ {first : ℕ} {f : ℕ → ℕ} (r : Renames first f) (c : Context) (e 
   pub method_code-mapped : (ps : Members) → method_code there (mapped_members f ps) ≡ mapped_code f (method_code c ps)
   method_code-mapped ps = ap (method_of there (mapped_members f ps)) (the_code_at-mapped f 0 ps) ∙ method_of-mapped ps (the_code (at 0 ps))
 
-  pub declared_by_let-mapped : (n : ℕ) (p : Option (ℕ × ℕ)) → declared_by_let (f n) (mapped_option (mapped_pair f) p) ≡ mapped_option f (declared_by_let n p)
-  declared_by_let-mapped n None = refl
-  declared_by_let-mapped n (Some p) = rw (r.apart n p.0) (cond-mapped (mapped_option f) (nat_eq n p.0) (Some p.1) None refl refl)
+  pub declared_by_let-mapped : (n : ℕ) (named : List (ℕ × ℕ)) (p : Option (ℕ × ℕ)) → declared_by_let (f n) (map (mapped_pair f) named) (mapped_option (mapped_pair f) p) ≡ mapped_option f (declared_by_let n named p)
+  declared_by_let-mapped n named None = named_as-mapped r n named
+  declared_by_let-mapped n named (Some p) = rw (r.apart n p.0) (cond-mapped (mapped_option f) (nat_eq n p.0) (Some p.1) (named_as n named) refl (named_as-mapped r n named))
 
   private_element-mapped : (is_static : Bool) (d : ℕ) (s : String) (q : Code) → private_element there is_static (f d) s (mapped_code f q) ≡ mapped_code f (private_element c is_static d s q)
   private_element-mapped is_static d s q =

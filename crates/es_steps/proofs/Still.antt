@@ -234,10 +234,12 @@ module _ (f : ℕ → ℕ) (test : ℕ → Bool) (still : (n : ℕ) → test n �
       let globals : List ℕ = all_numbers name_numbers m.globals in
       let shared : List ℕ = all_numbers pair_numbers m.shared in
       let places : List ℕ = all_numbers pair_numbers m.places in
-      let behind = in_four test (listed_numbers m.program ++ entries ++ members ++ functions ++ bindings ++ globals ++ shared) places links exports all in
-      let middle = in_four test (listed_numbers m.program ++ entries ++ members ++ functions) bindings globals shared behind.0 in
+      let branches : List ℕ = all_numbers pair_numbers m.branches in
+      let behind = in_four test (listed_numbers m.program ++ entries ++ members ++ functions ++ bindings ++ globals ++ shared ++ places) branches links exports all in
+      let standing = in_two test (listed_numbers m.program ++ entries ++ members ++ functions ++ bindings ++ globals ++ shared) places behind.0 in
+      let middle = in_four test (listed_numbers m.program ++ entries ++ members ++ functions) bindings globals shared standing.0 in
       let front = in_four test (listed_numbers m.program) entries members functions middle.0 in
-      rw (listed-still m.program front.0, all-still numbered_entry_numbers (mapped_numbered_entry f) numbered_entry-still m.entries front.1.0, all-still numbered_member_numbers (mapped_numbered_member f) numbered_member-still m.members front.1.1.0, all-still pair_numbers (mapped_pair f) pair-still m.functions front.1.1.1, all-still binding_numbers (mapped_binding f) binding-still m.bindings middle.1.0, all-still name_numbers (mapped_name f) name-still m.globals middle.1.1.0, all-still pair_numbers (mapped_pair f) pair-still m.shared middle.1.1.1, all-still pair_numbers (mapped_pair f) pair-still m.places behind.1.0, all-still link_numbers (mapped_link f) link-still m.links behind.1.1.0, all-still named_export_numbers (mapped_named_export f) named_export-still m.exports behind.1.1.1) refl
+      rw (listed-still m.program front.0, all-still numbered_entry_numbers (mapped_numbered_entry f) numbered_entry-still m.entries front.1.0, all-still numbered_member_numbers (mapped_numbered_member f) numbered_member-still m.members front.1.1.0, all-still pair_numbers (mapped_pair f) pair-still m.functions front.1.1.1, all-still binding_numbers (mapped_binding f) binding-still m.bindings middle.1.0, all-still name_numbers (mapped_name f) name-still m.globals middle.1.1.0, all-still pair_numbers (mapped_pair f) pair-still m.shared middle.1.1.1, all-still pair_numbers (mapped_pair f) pair-still m.places standing.1, all-still pair_numbers (mapped_pair f) pair-still m.branches behind.1.0, all-still link_numbers (mapped_link f) link-still m.links behind.1.1.0, all-still named_export_numbers (mapped_named_export f) named_export-still m.exports behind.1.1.1) refl
 
   id-still : (n : NodeId) (ns : List ℕ) → Pass (n.0 ∷ ns) → record { 0 = f n.0 } ≡ n
   id-still n ns all = ap (λ (k : ℕ). record { 0 = k }) (number-still n.0 ns all)
@@ -267,5 +269,5 @@ module _ (f : ℕ → ℕ) (test : ℕ → Bool) (still : (n : ℕ) → test n �
 
   pub terms-still : (o : Terms) → Pass (terms_numbers o) → mapped_terms f o ≡ o
   terms-still o all =
-      let ps = in_three test (all_numbers ledger_numbers o.ledger) (all_numbers private_numbers o.members) o.late all in
-      rw (all-still ledger_numbers (mapped_ledger_entry f) ledger_entry-still o.ledger ps.0, all-still private_numbers (mapped_private f) private-still o.members ps.1.0, numbers-still o.late ps.1.1) refl
+      let ps = in_four test (all_numbers ledger_numbers o.ledger) (all_numbers private_numbers o.members) (all_numbers pair_numbers o.named) o.late all in
+      rw (all-still ledger_numbers (mapped_ledger_entry f) ledger_entry-still o.ledger ps.0, all-still private_numbers (mapped_private f) private-still o.members ps.1.0, all-still pair_numbers (mapped_pair f) pair-still o.named ps.1.1.0, numbers-still o.late ps.1.1.1) refl

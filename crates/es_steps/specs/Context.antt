@@ -9,7 +9,7 @@ use Rattle.es_base.specs.declared.ledger.GeneratedKind.{GeneratedKind}
 use Rattle.es_base.specs.declared.ledger.LedgerEntry.{LedgerEntry}
 use Rattle.es_steps.specs.Parts.{at, items, block_items, string_of, is_true, is_present}
 use Rattle.es_steps.specs.PrivateNames.{PrivateMember, seen_members}
-use Rattle.es_steps.specs.References.{declared, has_number, names_around}
+use Rattle.es_steps.specs.References.{declared, has_number, uncaught_at}
 use Rattle.es_steps.specs.Scopes.{ClassName, no_class, declares, own_name, let_names, Declaration, bound_part, names_at, is_body_part, class_in}
 use Rattle.es_steps.specs.Values.{String, Value, Undefined, ClassOf, ThisOf, ArgumentsOf, NewTargetOf, Referent, Bound, Free, Home, OfClass, OfPrototype, OfObject}
 use Rattle.es_steps.specs.declared.options.Options.{Options}
@@ -39,6 +39,8 @@ pub record Context : Type 0 where
   pub options : Options
   -- the private members of the source
   pub members : List PrivateMember
+  -- the class expressions of the source whose heritage or keys read their name, with their identifiers
+  pub named : List (ℕ × ℕ)
   -- the bindings that are written anywhere or change otherwise in the program, and whether a free `arguments` is written
   pub varying : List ℕ
   pub writes_arguments : Bool
@@ -67,7 +69,7 @@ pub record Context : Type 0 where
   pub let_class : Option (ℕ × ℕ)
   -- whether a block here is the body of a function
   pub is_body : Bool
-  -- those of `names` that no catch declares as a name, and what of them is seen around the block, the cases or the `if` that
+  -- those of `names` that no catch in the function around declares as a name, and what of them is seen around the block, the cases or the `if` that
   -- a function which is declared here stands in (B.3.2, B.3.4)
   pub uncaught : List Declaration
   pub around : Option (List Declaration)
@@ -271,4 +273,4 @@ around_inside c kind = None
 
 -- the context of the i-th part of a node
 abbrev pub inside : Context → Kind → ℕ → Parts → ℕ → Context
-inside c kind m ps i = record (framed (frame_of kind) m ps i c) { names = inner_name kind m ps i ++ names_at c.is_body kind m ps i ++ c.names; privates = seen_members kind m ps i ++ c.privates; role = role_in (frame_of kind) ps i c; is_body = is_body_part kind i; uncaught = names_around c.is_body kind m ps i ++ c.uncaught; around = around_inside c kind }
+inside c kind m ps i = record (framed (frame_of kind) m ps i c) { names = inner_name kind m ps i ++ names_at c.is_body kind m ps i ++ c.names; privates = seen_members kind m ps i ++ c.privates; role = role_in (frame_of kind) ps i c; is_body = is_body_part kind i; uncaught = uncaught_at c.names c.uncaught c.is_body kind m ps i; around = around_inside c kind }

@@ -309,7 +309,7 @@ abbrev pub brand_first : Bool → ℕ → Evaluation
 brand_first true n = event (AddBrand n (ThisOf n)) Undefined
 brand_first false n = gives Undefined
 
--- a class that is declared gets its name before its static elements
+-- a class that is declared, or whose heritage or keys read its name, gets it before its static elements (15.7.14)
 abbrev pub declared_first : Option ℕ → ℕ → Evaluation
 declared_first None n = gives Undefined
 declared_first (Some b) n = event (InitializeClass n) Undefined

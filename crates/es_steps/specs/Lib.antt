@@ -1,3 +1,5 @@
+pub mod Branches
+pub mod ClassHeads
 pub mod Code
 pub mod Context
 pub mod Entries

@@ -7,6 +7,8 @@ use Rattle.es_base.specs.Tree.{Tree, Part, Parts, Node, end, more, child, absent
 use Rattle.es_base.specs.declared.kind.Kind.{Kind}
 use Rattle.es_base.specs.declared.ledger.GeneratedKind.{GeneratedKind}
 use Rattle.es_base.specs.declared.ledger.LedgerEntry.{LedgerEntry}
+use Rattle.es_steps.specs.Branches.{around_branches}
+use Rattle.es_steps.specs.ClassHeads.{named_classes}
 use Rattle.es_steps.specs.Code.{Code, Opened, private_method, give_function, function}
 use Rattle.es_steps.specs.Context.{Context, a_function, generated_as, inside}
 use Rattle.es_steps.specs.Entries.{Entry, Entries, Listed, listed, after_run, entries}
@@ -185,18 +187,22 @@ pub record Meaning : Type 0 where
   pub globals : List (ℕ × String)
   -- declaring identifiers of one binding
   pub shared : List (ℕ × ℕ)
-  -- where functions, classes and declaring identifiers stand
+  -- where functions, classes, declaring identifiers and declarations that a `for` begins with stand
   pub places : List (ℕ × ℕ)
+  -- the names around the functions that are branches of an `if`
+  pub branches : List (ℕ × ℕ)
   pub links : List ModuleLink
   pub exports : List (String × Exported)
 
 -- what a tree is read under: the number of the first new node, the options, the generated names, the private members of
--- the source, and the classes whose parameters come before their fields
+-- the source, its class expressions whose heritage or keys read their name, and the classes whose parameters come before their
+-- fields
 pub record Terms : Type 0 where
   pub first_new : ℕ
   pub options : Options
   pub ledger : List LedgerEntry
   pub members : List PrivateMember
+  pub named : List (ℕ × ℕ)
   pub late : List ℕ
 
 abbrev pub start : Terms → Tree → Context
@@ -205,6 +211,7 @@ start o t = record {
   ledger = o.ledger;
   options = o.options;
   members = o.members;
+  named = o.named;
   varying = varying t;
   writes_arguments = changes_free (codes "arguments") t;
   names = [];
@@ -253,6 +260,7 @@ with_all o t d (Some l) (Some es) (Some ms) (Some xs) = Some (record {
   globals = by_number (globals o.first_new t);
   shared = by_number (shared false t);
   places = by_number (all_places o.first_new o.ledger (second_numbers d) t);
+  branches = by_number (around_branches [] t);
   links = links_in (body_of t);
   exports = xs;
 })
@@ -274,14 +282,14 @@ means o t = means_of o t (read (start o t) t)
 
 -- a source program has no new node and no generated name
 abbrev pub source_terms : Options → Tree → Terms
-source_terms options t = record { first_new = nodes t; options = options; ledger = []; members = private_members t; late = [] }
+source_terms options t = record { first_new = nodes t; options = options; ledger = []; members = private_members t; named = named_classes t; late = [] }
 
 abbrev pub source_means : Options → Tree → Option Meaning
 source_means options t = means (source_terms options t) t
 
 -- the meaning of what the source p was lowered to, with these generated names
 abbrev pub lowered_terms : Options → List LedgerEntry → Tree → Terms
-lowered_terms options ledger p = record { first_new = nodes p; options = options; ledger = ledger; members = private_members p; late = [] }
+lowered_terms options ledger p = record { first_new = nodes p; options = options; ledger = ledger; members = private_members p; named = named_classes p; late = [] }
 
 abbrev pub lowered_means : Options → List LedgerEntry → Tree → Tree → Option Meaning
 lowered_means options ledger p q = means (lowered_terms options ledger p) q

@@ -1,6 +1,6 @@
 -- Which expressions are quiet: have no events where they stand, told by their form and by what their names mean. What is
--- quiet here is, in a program that has a meaning, what evaluation gives no events of. (Our own; docs/DECISIONS.md says why
--- it is told by form.)
+-- quiet here is, in a program that has a meaning, what evaluation gives no events of, but for what tells where a class expression
+-- gets its name. (Our own; docs/DECISIONS.md says why it is told by form.)
 use Rattle.std.specs.Prelude.{ℕ, suc, List, [], ◌∷◌, ◌++◌, Bool, true, false, cond, not, ◌&&◌, ◌||◌, nat_eq, codes, bytes_eq, Option, Some}
 use Rattle.es_base.specs.Tree.{Tree, Part, Parts, Node, end, more, child, list}
 use Rattle.es_base.specs.declared.kind.Kind.{Kind}

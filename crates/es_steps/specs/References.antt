@@ -7,7 +7,7 @@ use Rattle.es_base.specs.Conforms.{is_target_place, is_among}
 use Rattle.es_base.specs.Preorder.{preorder}
 use Rattle.es_base.specs.declared.kind.Kind.{Kind}
 use Rattle.es_base.specs.declared.table.Sort.{Sort}
-use Rattle.es_steps.specs.Parts.{at, items, string_of, is_true}
+use Rattle.es_steps.specs.Parts.{at, items, string_of}
 use Rattle.es_steps.specs.Scopes.{Declaration, no_class, bound_part, names_at, is_body_part, is_declaring, scope_form, scope_names, var_part}
 use Rattle.es_steps.specs.Values.{String, Referent, Bound, Free}
 
@@ -161,22 +161,34 @@ catches_a_name kind ps = false
 abbrev pub names_around : Bool → Kind → ℕ → Parts → ℕ → List Declaration
 names_around is_body kind m ps i = cond (catches_a_name kind ps) [] (names_at is_body kind m ps i)
 
+-- what a `var` is hoisted to: a function, an arrow or a static block
+abbrev pub takes_vars : Kind → Bool
+takes_vars Kind.FunctionDeclaration = true
+takes_vars Kind.FunctionExpression = true
+takes_vars Kind.ArrowFunctionExpression = true
+takes_vars Kind.StaticBlock = true
+takes_vars kind = false
+
+-- of the names around, those that are caught in the function, the arrow or the static block around are passed alone
+abbrev pub uncaught_at : List Declaration → List Declaration → Bool → Kind → ℕ → Parts → ℕ → List Declaration
+uncaught_at names uncaught is_body kind m ps i = names_around is_body kind m ps i ++ cond (takes_vars kind) names uncaught
+
 abbrev mutual
-  pub given_around : List Declaration → Bool → Tree → List ℕ
-  given_around names is_body (Node kind m span semantic_id ps) = meant names (inner_functions is_body kind ps) ++ given_in (λ i. names_around is_body kind m ps i ++ names) (is_body_part kind) ps
+  pub given_around : List Declaration → List Declaration → Bool → Tree → List ℕ
+  given_around names uncaught is_body (Node kind m span semantic_id ps) = meant uncaught (inner_functions is_body kind ps) ++ given_in (λ i. names_at is_body kind m ps i ++ names) (uncaught_at names uncaught is_body kind m ps) (is_body_part kind) ps
 
-  pub given_in : (ℕ → List Declaration) → (ℕ → Bool) → Parts → List ℕ
-  given_in names bodies end = []
-  given_in names bodies (more p ps) = given_at (names 0) (bodies 0) p ++ given_in (λ i. names (suc i)) (λ i. bodies (suc i)) ps
+  pub given_in : (ℕ → List Declaration) → (ℕ → List Declaration) → (ℕ → Bool) → Parts → List ℕ
+  given_in names uncaught bodies end = []
+  given_in names uncaught bodies (more p ps) = given_at (names 0) (uncaught 0) (bodies 0) p ++ given_in (λ i. names (suc i)) (λ i. uncaught (suc i)) (λ i. bodies (suc i)) ps
 
-  pub given_at : List Declaration → Bool → Part → List ℕ
-  given_at names is_body (child t) = given_around names is_body t
-  given_at names is_body (list ps) = given_of names ps
-  given_at names is_body p = []
+  pub given_at : List Declaration → List Declaration → Bool → Part → List ℕ
+  given_at names uncaught is_body (child t) = given_around names uncaught is_body t
+  given_at names uncaught is_body (list ps) = given_of names uncaught ps
+  given_at names uncaught is_body p = []
 
-  pub given_of : List Declaration → Parts → List ℕ
-  given_of names end = []
-  given_of names (more p ps) = given_at names false p ++ given_of names ps
+  pub given_of : List Declaration → List Declaration → Parts → List ℕ
+  given_of names uncaught end = []
+  given_of names uncaught (more p ps) = given_at names uncaught false p ++ given_of names uncaught ps
 
 -- an identifier `arguments` that is declared: each function inside has another one (10.2.11)
 abbrev pub named_arguments : List Declaration → List ℕ
@@ -199,7 +211,7 @@ changing_in [] = []
 changing_in (t ∷ ts) = changing_by t ++ changing_in ts
 
 abbrev pub changed_otherwise : Tree → List ℕ
-changed_otherwise t = changing_in (preorder t) ++ (caught_again_in (preorder t) ++ given_around [] false t)
+changed_otherwise t = changing_in (preorder t) ++ (caught_again_in (preorder t) ++ given_around [] [] false t)
 
 -- the bindings that are written anywhere, and those that change without
 abbrev pub varying : Tree → List ℕ

@@ -11,7 +11,7 @@ use Rattle.es_base.specs.declared.ledger.LedgerEntry.{LedgerEntry}
 use Rattle.es_steps.specs.Context.{generated_as, is_constructor, is_function, name_in}
 use Rattle.es_steps.specs.Parts.{at, items, string_of, is_true, has_pattern}
 use Rattle.es_steps.specs.PrivateNames.{is_class}
-use Rattle.es_steps.specs.References.{has_number}
+use Rattle.es_steps.specs.References.{has_number, takes_vars}
 use Rattle.es_steps.specs.Scopes.{is_binding_identifier, is_var}
 
 -- around a part: the nearest function or loop, the class whose construction it is, or the parameters; the place of what a `var`
@@ -89,10 +89,6 @@ place_in first s Kind.PropertyDefinition m ps i = cond (nat_eq i 1 && not (is_tr
 place_in first s kind m ps i = cond (is_function kind || is_arrow kind) (parameters_place (is_parameters_part kind i) (items (at i ps)) (function_place (is_new first m) s.constructs m s.place)) (cond (is_loop kind) (loop_place kind m ps i s.place) s.place)
 
 -- where a `var` in the i-th part is hoisted to
-abbrev pub takes_vars : Kind → Bool
-takes_vars Kind.StaticBlock = true
-takes_vars kind = is_function kind || is_arrow kind
-
 abbrev pub hoisted_in : ℕ → Surroundings → Kind → ℕ → Parts → ℕ → ℕ
 hoisted_in first s kind m ps i = cond (takes_vars kind) (place_in first s kind m ps i) s.hoisted
 
@@ -119,9 +115,18 @@ module _ (first : ℕ) (ledger : List LedgerEntry) (private_functions : List ℕ
   abbrev pub place_of : Surroundings → Kind → ℕ → List (ℕ × ℕ)
   place_of s kind m = cond (is_placed kind && not (is_new first m || has_number m private_functions)) ((m, own_place s kind) ∷ []) []
 
+  -- an old declaration that a `for` begins with, which is a place of its own
+  abbrev pub declaration_place : Surroundings → Part → List (ℕ × ℕ)
+  declaration_place s (child (Node Kind.VariableDeclaration m span semantic_id ps)) = cond (is_new first m) [] ((m, s.place) ∷ [])
+  declaration_place s p = []
+
+  abbrev pub head_place : Surroundings → Kind → Parts → List (ℕ × ℕ)
+  head_place s Kind.ForStatement ps = declaration_place s (at 0 ps)
+  head_place s kind ps = []
+
   abbrev mutual
     pub places : Surroundings → Tree → List (ℕ × ℕ)
-    places s (Node kind m span semantic_id ps) = place_of s kind m ++ places_in (surroundings_in first ledger s kind m ps) ps
+    places s (Node kind m span semantic_id ps) = place_of s kind m ++ (head_place s kind ps ++ places_in (surroundings_in first ledger s kind m ps) ps)
 
     pub places_in : (ℕ → Surroundings) → Parts → List (ℕ × ℕ)
     places_in s end = []

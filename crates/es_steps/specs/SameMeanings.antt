@@ -171,7 +171,7 @@ same_export p q = bytes_eq p.0 q.0 && same_exported p.1 q.1
 abbrev pub same_meaning : Meaning → Meaning → Bool
 same_meaning a b =
     bytes_eq a.source_type b.source_type && (same_listed a.program b.program && (same_list (same_numbered same_entry) a.entries b.entries && (same_list (same_numbered same_member) a.members b.members
-    && (same_list (same_numbered nat_eq) a.functions b.functions && (same_list (same_numbered same_declaration) a.bindings b.bindings && (same_list (same_numbered bytes_eq) a.globals b.globals && (same_list (same_numbered nat_eq) a.shared b.shared && (same_list (same_numbered nat_eq) a.places b.places && (same_list same_link a.links b.links && same_list same_export a.exports b.exports)))))))))
+    && (same_list (same_numbered nat_eq) a.functions b.functions && (same_list (same_numbered same_declaration) a.bindings b.bindings && (same_list (same_numbered bytes_eq) a.globals b.globals && (same_list (same_numbered nat_eq) a.shared b.shared && (same_list (same_numbered nat_eq) a.places b.places && (same_list (same_numbered nat_eq) a.branches b.branches && (same_list same_link a.links b.links && same_list same_export a.exports b.exports))))))))))
 
 abbrev pub same_meanings : Option Meaning → Option Meaning → Bool
 same_meanings a b = same_option same_meaning a b

@@ -141,7 +141,7 @@ named_export_numbers x = exported_numbers x.1
 abbrev pub meaning_numbers : Meaning → List ℕ
 meaning_numbers m =
     listed_numbers m.program ++ all_numbers numbered_entry_numbers m.entries ++ all_numbers numbered_member_numbers m.members ++ all_numbers pair_numbers m.functions
-    ++ all_numbers binding_numbers m.bindings ++ all_numbers name_numbers m.globals ++ all_numbers pair_numbers m.shared ++ all_numbers pair_numbers m.places ++ all_numbers link_numbers m.links ++ all_numbers named_export_numbers m.exports
+    ++ all_numbers binding_numbers m.bindings ++ all_numbers name_numbers m.globals ++ all_numbers pair_numbers m.shared ++ all_numbers pair_numbers m.places ++ all_numbers pair_numbers m.branches ++ all_numbers link_numbers m.links ++ all_numbers named_export_numbers m.exports
 
 -- ---- what a tree is read under
 
@@ -166,7 +166,7 @@ abbrev pub private_numbers : PrivateMember → List ℕ
 private_numbers x = x.number ∷ x.class ∷ []
 
 abbrev pub terms_numbers : Terms → List ℕ
-terms_numbers o = all_numbers ledger_numbers o.ledger ++ all_numbers private_numbers o.members ++ o.late
+terms_numbers o = all_numbers ledger_numbers o.ledger ++ all_numbers private_numbers o.members ++ all_numbers pair_numbers o.named ++ o.late
 
 -- all of these numbers pass the test
 abbrev pub all_pass : (ℕ → Bool) → List ℕ → Bool

@@ -2,6 +2,7 @@
 use Rattle.std.specs.Prelude.{ℕ, suc, List, [], ◌∷◌, Bool, true, false, cond, not, ◌&&◌, ◌||◌, nat_eq, codes, bytes_eq, Option, Some, None}
 use Rattle.es_base.specs.declared.kind.Kind.{Kind}
 use Rattle.es_base.specs.declared.ledger.GeneratedKind.{GeneratedKind}
+use Rattle.es_steps.specs.ClassHeads.{named_as}
 use Rattle.es_steps.specs.Code.{Code, Codes, Target, FunctionForm, FieldForm, defines, sets, leaves_out, nothing, no_rule, value, spelled, private_name, binding, rest, assign, operation, pattern, takes, steps, gives_to, export_default, function, new_function, new_return, class_code, field, private_field, method, private_method, constructor, generated_element, give_function, give_class, to_name, to_member, to_private, to_super, to_setter, to_pattern, to_default, no_target, done, and, one, joined}
 use Rattle.es_steps.specs.Context.{Context, Generated, MeansClass, Changing, new_here, is_constructor, is_generated_private}
 use Rattle.es_steps.specs.Events.{Detail, Operand, Empty, Index, Rest, OfKind, Take}
@@ -215,10 +216,10 @@ declared_by (code (binding b s (Generated g))) = None
 declared_by (code (binding b s kind)) = Some b
 declared_by p = None
 
--- that of a `let` which names the class
-abbrev pub declared_by_let : ℕ → Option (ℕ × ℕ) → Option ℕ
-declared_by_let n None = None
-declared_by_let n (Some p) = cond (nat_eq n p.0) (Some p.1) None
+-- that of a `let` which names the class; or its own, where its heritage or a key reads it
+abbrev pub declared_by_let : ℕ → List (ℕ × ℕ) → Option (ℕ × ℕ) → Option ℕ
+declared_by_let n named None = named_as n named
+declared_by_let n named (Some p) = cond (nat_eq n p.0) (Some p.1) (named_as n named)
 
 abbrev pub elements_of : Member → Codes
 elements_of (code (steps cs)) = cs

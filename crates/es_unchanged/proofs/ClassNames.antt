@@ -28,7 +28,7 @@ unmoved (t ∷ ts) = rw (unmoved-at t, unmoved ts) refl
 -- ---- numbers in lists
 
 module _ (m : ℕ) where
-  in-left : (ks ls : List ℕ) → has_number m ks ≡ true → has_number m (ks ++ ls) ≡ true
+  pub in-left : (ks ls : List ℕ) → has_number m ks ≡ true → has_number m (ks ++ ls) ≡ true
   in-left [] ls h = no_false h
   in-left (k ∷ ks) ls h = here (nat_eq m k) h (in-left ks ls)
     where
@@ -36,7 +36,7 @@ module _ (m : ℕ) where
       here true i rest = refl
       here false i rest = rest i
 
-  in-right : (ks ls : List ℕ) → has_number m ls ≡ true → has_number m (ks ++ ls) ≡ true
+  pub in-right : (ks ls : List ℕ) → has_number m ls ≡ true → has_number m (ks ++ ls) ≡ true
   in-right [] ls h = h
   in-right (k ∷ ks) ls h = or_right (nat_eq m k) (has_number m (ks ++ ls)) (in-right ks ls h)
 

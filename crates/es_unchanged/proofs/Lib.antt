@@ -1,8 +1,10 @@
 pub mod Carried
+pub mod ClassLets
 pub mod ClassNames
 pub mod Names
 pub mod Placed
 pub mod References
 pub mod Standing
+pub mod StatementOrder
 pub mod Unchanged
 pub mod Unmarked

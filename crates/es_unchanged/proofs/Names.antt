@@ -85,7 +85,7 @@ names-stay t once = both (none-loses (preorder t) (preorder t) (resolve t) once 
 
 -- ---- strict code
 
-new-or-among : (first : ℕ) (strict ns : List ℕ) → ((k : ℕ) → has_number k ns ≡ true → has_number k strict ≡ true) → are_new_or_among first strict ns ≡ true
+pub new-or-among : (first : ℕ) (strict ns : List ℕ) → ((k : ℕ) → has_number k ns ≡ true → has_number k strict ≡ true) → are_new_or_among first strict ns ≡ true
 new-or-among first strict [] h = refl
 new-or-among first strict (n ∷ ns) h =
     rw (or_right (is_new first n) (has_number n strict) (h n (rw (number-same n) refl)))

@@ -1,4 +1,4 @@
-use Rattle.std.proofs.Common.{ap, arith, sym, ◌∙◌, ◌++◌}
+use Rattle.std.proofs.Common.{ap, append_assoc, arith, sym, ◌∙◌, ◌++◌}
 use Rattle.es_base.specs.Preorder.{nodes, nodes_of_part}
 use Rattle.es_base.specs.Tree.{nullable}
 use Rattle.es_binding_faults.proofs.Appending.{OnOk-map, appended_twice}
@@ -6,7 +6,7 @@ use Rattle.es_by_number.specs.Numbered.{pairs}
 use Rattle.es_node.specs.View.{kind_of, number_in, part_of, parts_in}
 use Rattle.es_node.proofs.Below.{part_below, tree_below, hole_below}
 use Rattle.es_places.proofs.Placed.{places_node}
-use Rattle.es_places.specs.Placing.{place_of, places_from, surroundings_of, surroundings_within}
+use Rattle.es_places.specs.Placing.{head_place, place_of, places_from, surroundings_of, surroundings_within}
 use Rattle.es_places.proofs.places.+places.Goals as goal
 
 pub add_places_in-add_places_at-requires : goal.add_places_in-add_places_at-requires
@@ -25,6 +25,10 @@ add_places-returns t c =
     let n = c.args.node.now in
     let within = surroundings_within o.first_new o.ledger.now s n in
     OnOk-map c.add_places_in.result _ _ (λ e.
-    appended_twice (pairs c.args.found.now.items) (pairs c.add_place.new.found.items) (pairs c.add_places_in.new.found.items) (place_of o s (kind_of n) (number_in n)) (places_from o within 0 (parts_in n)) c.in_ok-add_place.ensures
-    (e ∙ ap (λ ps. pairs c.add_place.new.found.items ++ places_from o within 0 ps) (sym c.parts.ensures.list))
+    let own = place_of o s (kind_of n) (number_in n) in
+    let head = head_place o s (kind_of n) (parts_in n) in
+    appended_twice (pairs c.args.found.now.items) (pairs c.add_head_place.new.found.items) (pairs c.add_places_in.new.found.items) (own ++ head) (places_from o within 0 (parts_in n))
+    (appended_twice (pairs c.args.found.now.items) (pairs c.add_place.new.found.items) (pairs c.add_head_place.new.found.items) own head c.in_ok-add_place.ensures c.in_ok-add_head_place.ensures)
+    (e ∙ ap (λ ps. pairs c.add_head_place.new.found.items ++ places_from o within 0 ps) (sym c.parts.ensures.list))
+    ∙ ap (λ hs. pairs c.args.found.now.items ++ hs) (append_assoc own head (places_from o within 0 (parts_in n)))
     ∙ ap (λ hs. pairs c.args.found.now.items ++ hs) (sym (places_node o s n))) c.add_places_in.ensures

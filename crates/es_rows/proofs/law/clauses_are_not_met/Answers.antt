@@ -1,6 +1,9 @@
 use Rattle.std.specs.Prelude.{refl}
 use Rattle.es_rows.proofs.law.clauses_are_not_met.Goals as goal
 
+pub returns-clause-accessor_given_behind_a_key : goal.returns-clause-accessor_given_behind_a_key
+returns-clause-accessor_given_behind_a_key c = refl
+
 pub returns-clause-another_literal_of_a_written_class : goal.returns-clause-another_literal_of_a_written_class
 returns-clause-another_literal_of_a_written_class c = refl
 
@@ -72,6 +75,9 @@ returns-clause-break_in_an_arrow_beside_await c = refl
 
 pub returns-clause-call_in_a_super_function_that_nothing_calls : goal.returns-clause-call_in_a_super_function_that_nothing_calls
 returns-clause-call_in_a_super_function_that_nothing_calls c = refl
+
+pub returns-clause-call_in_the_let_of_a_class : goal.returns-clause-call_in_the_let_of_a_class
+returns-clause-call_in_the_let_of_a_class c = refl
 
 pub returns-clause-call_of_a_private_element : goal.returns-clause-call_of_a_private_element
 returns-clause-call_of_a_private_element c = refl
@@ -259,6 +265,12 @@ returns-clause-declaration_without_its_names c = refl
 pub returns-clause-declarator_in_a_const : goal.returns-clause-declarator_in_a_const
 returns-clause-declarator_in_a_const c = refl
 
+pub returns-clause-default_export_behind_a_call : goal.returns-clause-default_export_behind_a_call
+returns-clause-default_export_behind_a_call c = refl
+
+pub returns-clause-default_value_behind_a_call : goal.returns-clause-default_value_behind_a_call
+returns-clause-default_value_behind_a_call c = refl
+
 pub returns-clause-defaults_exchanged_behind_an_error : goal.returns-clause-defaults_exchanged_behind_an_error
 returns-clause-defaults_exchanged_behind_an_error c = refl
 
@@ -360,6 +372,9 @@ returns-clause-labelled_function_in_a_branch c = refl
 
 pub returns-clause-let_behind_a_call : goal.returns-clause-let_behind_a_call
 returns-clause-let_behind_a_call c = refl
+
+pub returns-clause-let_behind_a_closure : goal.returns-clause-let_behind_a_closure
+returns-clause-let_behind_a_closure c = refl
 
 pub returns-clause-let_behind_a_constructor : goal.returns-clause-let_behind_a_constructor
 returns-clause-let_behind_a_constructor c = refl
@@ -489,6 +504,9 @@ returns-clause-own_name_in_a_heritage c = refl
 
 pub returns-clause-own_name_in_a_key : goal.returns-clause-own_name_in_a_key
 returns-clause-own_name_in_a_key c = refl
+
+pub returns-clause-own_name_that_becomes_a_let : goal.returns-clause-own_name_that_becomes_a_let
+returns-clause-own_name_that_becomes_a_let c = refl
 
 pub returns-clause-own_name_that_is_meant : goal.returns-clause-own_name_that_is_meant
 returns-clause-own_name_that_is_meant c = refl

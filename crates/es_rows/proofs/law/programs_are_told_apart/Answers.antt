@@ -13,6 +13,15 @@ returns-clause-arguments_of_an_inner_function c = (refl, refl, refl)
 pub returns-clause-async_function_around_a_function_in_a_case : goal.returns-clause-async_function_around_a_function_in_a_case
 returns-clause-async_function_around_a_function_in_a_case c = (refl, refl, refl)
 
+pub returns-clause-branch_that_names_itself : goal.returns-clause-branch_that_names_itself
+returns-clause-branch_that_names_itself c = (refl, refl, refl)
+
+pub returns-clause-caught_name_around_a_branch : goal.returns-clause-caught_name_around_a_branch
+returns-clause-caught_name_around_a_branch c = (refl, refl, refl)
+
+pub returns-clause-caught_name_around_a_second_branch : goal.returns-clause-caught_name_around_a_second_branch
+returns-clause-caught_name_around_a_second_branch c = (refl, refl, refl)
+
 pub returns-clause-caught_names_exchanged : goal.returns-clause-caught_names_exchanged
 returns-clause-caught_names_exchanged c = (refl, refl, refl)
 
@@ -24,6 +33,9 @@ returns-clause-default_function c = (refl, refl, refl)
 
 pub returns-clause-delete_of_a_name : goal.returns-clause-delete_of_a_name
 returns-clause-delete_of_a_name c = (refl, refl, refl)
+
+pub returns-clause-function_in_a_block_inside_of_what_catches : goal.returns-clause-function_in_a_block_inside_of_what_catches
+returns-clause-function_in_a_block_inside_of_what_catches c = (refl, refl, refl)
 
 pub returns-clause-function_in_a_block_of_another_name : goal.returns-clause-function_in_a_block_of_another_name
 returns-clause-function_in_a_block_of_another_name c = (refl, refl, refl)
@@ -58,6 +70,9 @@ returns-clause-getter_or_method c = (refl, refl, refl)
 pub returns-clause-global_renamed : goal.returns-clause-global_renamed
 returns-clause-global_renamed c = (refl, refl, refl)
 
+pub returns-clause-heads_of_loops_exchanged : goal.returns-clause-heads_of_loops_exchanged
+returns-clause-heads_of_loops_exchanged c = (refl, refl, refl)
+
 pub returns-clause-hole_in_a_pattern : goal.returns-clause-hole_in_a_pattern
 returns-clause-hole_in_a_pattern c = (refl, refl, refl)
 
@@ -72,6 +87,12 @@ returns-clause-key_heads_exchanged c = (refl, refl, refl)
 
 pub returns-clause-labelled_function_in_a_block : goal.returns-clause-labelled_function_in_a_block
 returns-clause-labelled_function_in_a_block c = (refl, refl, refl)
+
+pub returns-clause-let_at_the_head_of_a_loop : goal.returns-clause-let_at_the_head_of_a_loop
+returns-clause-let_at_the_head_of_a_loop c = (refl, refl, refl)
+
+pub returns-clause-let_inside_of_what_catches : goal.returns-clause-let_inside_of_what_catches
+returns-clause-let_inside_of_what_catches c = (refl, refl, refl)
 
 pub returns-clause-let_of_a_head : goal.returns-clause-let_of_a_head
 returns-clause-let_of_a_head c = (refl, refl, refl)

@@ -55,11 +55,26 @@ returns-clause-binding_not_renamed c = refl
 pub returns-clause-block_behind_fields : goal.returns-clause-block_behind_fields
 returns-clause-block_behind_fields c = refl
 
+pub returns-clause-block_in_front_of_a_class_with_a_heritage : goal.returns-clause-block_in_front_of_a_class_with_a_heritage
+returns-clause-block_in_front_of_a_class_with_a_heritage c = refl
+
 pub returns-clause-body_dropped : goal.returns-clause-body_dropped
 returns-clause-body_dropped c = refl
 
 pub returns-clause-bound_before_its_test : goal.returns-clause-bound_before_its_test
 returns-clause-bound_before_its_test c = refl
+
+pub returns-clause-call_in_front_of_a_class : goal.returns-clause-call_in_front_of_a_class
+returns-clause-call_in_front_of_a_class c = refl
+
+pub returns-clause-call_in_front_of_a_class_with_a_block : goal.returns-clause-call_in_front_of_a_class_with_a_block
+returns-clause-call_in_front_of_a_class_with_a_block c = refl
+
+pub returns-clause-call_in_front_of_a_class_with_a_heritage : goal.returns-clause-call_in_front_of_a_class_with_a_heritage
+returns-clause-call_in_front_of_a_class_with_a_heritage c = refl
+
+pub returns-clause-call_on_a_literal_in_front_of_a_class : goal.returns-clause-call_on_a_literal_in_front_of_a_class
+returns-clause-call_on_a_literal_in_front_of_a_class c = refl
 
 pub returns-clause-class_in_front_of_its_use : goal.returns-clause-class_in_front_of_its_use
 returns-clause-class_in_front_of_its_use c = refl
@@ -252,6 +267,9 @@ returns-clause-static_field_before_its_class c = refl
 
 pub returns-clause-static_key_read_late : goal.returns-clause-static_key_read_late
 returns-clause-static_key_read_late c = refl
+
+pub returns-clause-static_value_in_front_of_a_class : goal.returns-clause-static_value_in_front_of_a_class
+returns-clause-static_value_in_front_of_a_class c = refl
 
 pub returns-clause-super_assignment_in_a_heritage : goal.returns-clause-super_assignment_in_a_heritage
 returns-clause-super_assignment_in_a_heritage c = refl
