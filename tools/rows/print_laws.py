@@ -108,7 +108,23 @@ NOT_MET = {
     'accessor_given_behind_a_key': TIMELY,
     'default_export_behind_a_call': REFERENCES,
     'default_value_behind_a_call': REFERENCES,
-    'let_behind_a_closure': REFERENCES,
+    'default_class_expression_under_a_name': REFERENCES,
+    'class_in_front_of_what_its_heritage_reads': REFERENCES,
+    'class_in_front_of_what_its_key_reads': REFERENCES,
+    'key_in_front_of_what_it_reads': REFERENCES,
+    'this_in_front_of_super': REFERENCES,
+    'this_in_front_of_an_arrow_with_super': REFERENCES,
+    'class_in_front_of_an_await': REFERENCES,
+    'class_out_of_a_branch': REFERENCES,
+    'this_in_a_new_constructor': REFERENCES,
+    'this_in_an_arrow': REFERENCES,
+    'class_name_in_front_of_an_await': REFERENCES,
+    'reading_that_is_new': REFERENCES,
+    'class_out_of_a_chain': REFERENCES,
+    'this_out_of_an_arrow': REFERENCES,
+    'reading_of_another_function': REFERENCES,
+    'name_of_a_key_in_front_of_an_await': REFERENCES,
+    'class_in_front_of_a_return': REFERENCES,
     'call_in_the_let_of_a_class': REFERENCES,
     'own_name_that_becomes_a_let': REFERENCES,
     'directive_behind_a_name': PRINTABLE,
@@ -332,7 +348,7 @@ SHAPES = {'regular_expression_before_a_heritage': ('1 ∷ []', '[]'), 'changing_
 # outputs that mean what their sources mean
 RIGHT = ('private_name_beside_a_name', 'branch_of_a_key', 'class_in_a_case', 'key_of_a_binding_for_a_name', 'function_named_by_an_element')
 # outputs that owe nothing either
-OWING_NOTHING = ('number_as_a_key', 'method_around_a_class_without_elements', 'static_field_that_takes_a_block', 'template_that_is_copied', 'class_named_by_a_key_of_an_object', 'class_named_by_a_number_of_an_object', 'class_with_the_name_of_a_prototype', 'tested_name_of_a_class', 'block_of_a_binding', 'own_name_that_nothing_means', 'strict_function_of_a_method', 'block_of_an_arrow', 'class_named_await', 'class_that_suspends', 'classes_that_suspend', 'nameless_class_that_suspends', 'string_in_parentheses', 'directive_with_an_escape', 'hexadecimal_bigint', 'let_in_front_of_a_function', 'private_method_that_reads_a_field', 'private_method_that_reads_itself', 'static_private_method_that_reads_a_field', 'map_in_front_of_a_key_that_asks', 'arrow_that_names_await', 'regular_expression_as_a_key', 'regular_expression_as_a_static_key', 'tests_of_two_keys', 'class_in_a_closure', 'block_that_names_another_class', 'private_field_of_a_named_class', 'class_in_a_super_function', 'private_method_of_a_class_in_a_branch', 'super_function_in_front_of_a_map', 'private_method_behind_a_class', 'converted_assignment', 'converted_sequence', 'argument_behind_a_throw')
+OWING_NOTHING = ('number_as_a_key', 'static_key_that_is_a_constant', 'method_around_a_class_without_elements', 'static_field_that_takes_a_block', 'template_that_is_copied', 'class_named_by_a_key_of_an_object', 'class_named_by_a_number_of_an_object', 'class_with_the_name_of_a_prototype', 'tested_name_of_a_class', 'block_of_a_binding', 'own_name_that_nothing_means', 'strict_function_of_a_method', 'block_of_an_arrow', 'class_named_await', 'class_that_suspends', 'classes_that_suspend', 'nameless_class_that_suspends', 'string_in_parentheses', 'directive_with_an_escape', 'hexadecimal_bigint', 'let_in_front_of_a_function', 'private_method_that_reads_a_field', 'private_method_that_reads_itself', 'static_private_method_that_reads_a_field', 'map_in_front_of_a_key_that_asks', 'arrow_that_names_await', 'regular_expression_as_a_key', 'regular_expression_as_a_static_key', 'tests_of_two_keys', 'class_in_a_closure', 'block_that_names_another_class', 'private_field_of_a_named_class', 'class_in_a_super_function', 'private_method_of_a_class_in_a_branch', 'super_function_in_front_of_a_map', 'private_method_behind_a_class', 'converted_assignment', 'converted_sequence', 'argument_behind_a_throw')
 # wrong outputs that have a meaning, and those of programs whose parameters come before their fields
 OTHER = ('branch_of_a_key_of_another', 'elements_dropped', 'static_field_dropped', 'block_dropped', 'block_behind_a_kept_field', 'read_moved', 'import_read_early', 'statements_of_a_case_exchanged', 'statement_of_another_case', 'arrow_moved_into_parameters', 'functions_of_a_block_exchanged', 'default_function_expression', 'let_out_of_a_head', 'class_of_a_head', 'class_of_a_right_side', 'conversions_of_a_template', 'let_beside_a_caught_name', 'arguments_of_a_function_around', 'question_for_another_field', 'regular_expression_of_another_argument', 'regular_expressions_exchanged')
 AFTER = ('field_behind_parameters_dropped', 'field_behind_parameters_doubled', 'fields_behind_parameters_exchanged', 'another_literal_behind_parameters')

@@ -41,7 +41,7 @@ leaves (more p ps) (a_class n span semantic_id id body (a_name i ispan i_semanti
 
 -- ---- references, each of which is free
 
-abbrev AreFree : List Reference → Type 0
+abbrev pub AreFree : List Reference → Type 0
 AreFree [] = Unit
 AreFree (r ∷ rs) = (r.to ≡ Free r.spelling) × AreFree rs
 
@@ -86,7 +86,7 @@ module _ (classes : List String) (names : List Declaration) (l : Leaves classes 
       rw (two_ends (item_references names false (lowered_elements k es)) (item_references names false (lowered_statements next ps)))
       (free-append (item_references names false (lowered_elements k es)) (item_references names false (lowered_statements next ps)) (elements-free es he inside.1 k) (classes-free behind ps h free.1 next))
 
-lowered-free : (k : ℕ) (t : Tree) → IsProgram t → is_first_form t [] ≡ true → AreFree (resolve (lowered_from k t))
+pub lowered-free : (k : ℕ) (t : Tree) → IsProgram t → is_first_form t [] ≡ true → AreFree (resolve (lowered_from k t))
 lowered-free k t (a_program m span semantic_id s all h) f =
     let names : List Declaration = body_names all ++ [] in
     let plain : no_numbers (breaches t) ≡ true = (both_empty (breaches t) [] f).0 in

@@ -5,6 +5,7 @@ pub mod Conforming
 pub mod Constructions
 pub mod Declared
 pub mod Defining
+pub mod Early
 pub mod Entering
 pub mod Fitting
 pub mod FreeNames

@@ -8,9 +8,9 @@ use Rattle.es_base.specs.declared.kind.Kind.{Kind}
 use Rattle.es_steps.specs.FirstForm.{is_first_form}
 use Rattle.es_steps.specs.KeptNodes.{is_constructor_part}
 use Rattle.es_lowered.specs.ClassLets.{class_lets_fit, class_lets_fit_in}
+use Rattle.es_lowered.specs.DefaultExport.{holds, is_default, default_stays}
 use Rattle.es_lowered.specs.FunctionsAround.{functions_in, placed_reference, placed_references, placed_in, placed_at, placed_of}
 use Rattle.es_lowered.specs.KeptReferences.{plain_targets, writing_numbers, writes_fit, references_stay}
-use Rattle.es_lowered.specs.StatementOrder.{holds, is_default, lets_of_blocks_in, order_stays}
 use Rattle.es_lowered.specs.StrayNames.{has_stray_name, stray_name_of}
 use Rattle.es_lowered.specs.Supers.{SuperPlace, no_place, has_stray_super, stray_super_of}
 use Rattle.es_steps.specs.Parts.{at, string_of}
@@ -18,6 +18,7 @@ use Rattle.es_steps.specs.PrivateNames.{PrivateMember}
 use Rattle.es_steps.specs.References.{Reference, resolve, gives_inside}
 use Rattle.es_steps.specs.Values.{String}
 use Rattle.class_properties.proofs.Declared.{writing-none, inside-none}
+use Rattle.class_properties.proofs.Early.{dead_zones-stay}
 use Rattle.class_properties.proofs.FreeNames.{classes-timely}
 use Rattle.class_properties.proofs.Numbered.{definitions_from, lowered_elements, lowered_statements, statement_size, lowered_from}
 use Rattle.class_properties.proofs.Shaped.{no_value, a_literal, a_reference, a_key, a_field, AreFields, a_body, a_name, a_class, AreClasses, IsProgram, a_program}
@@ -98,19 +99,12 @@ no-default : (ps : Parts) → AreClasses ps → (k : ℕ) → holds is_default (
 no-default end h k = refl
 no-default (more p ps) (a_class n span semantic_id id body hid hbody, h) k = no-default ps h _
 
-fields-without_lets : (es : Parts) → AreFields es → lets_of_blocks_in es ≡ []
-fields-without_lets end h = refl
-fields-without_lets (more p es) (a_field m span semantic_id key v (a_key i ispan i_semantic_id x) no_value, h) = fields-without_lets es h
-fields-without_lets (more p es) (a_field m span semantic_id key v (a_key i ispan i_semantic_id x) (a_literal l lspan l_semantic_id w fine), h) = fields-without_lets es h
-fields-without_lets (more p es) (a_field m span semantic_id key v (a_key i ispan i_semantic_id x) (a_reference r rspan r_semantic_id y), h) = fields-without_lets es h
+classes-without_default : (ps : Parts) → AreClasses ps → holds is_default ps ≡ false
+classes-without_default end h = refl
+classes-without_default (more p ps) (a_class n span semantic_id id body hid hbody, h) = classes-without_default ps h
 
-classes-without_lets : (ps : Parts) → AreClasses ps → lets_of_blocks_in ps ≡ []
-classes-without_lets end h = refl
-classes-without_lets (more p ps) (a_class n span semantic_id id body (a_name i ispan i_semantic_id x free) (a_body m bspan b_semantic_id es he), h) =
-    rw (fields-without_lets es he, classes-without_lets ps h) refl
-
-order-stays : (first k : ℕ) (t : Tree) → IsProgram t → order_stays first t (lowered_from k t) ≡ true
-order-stays first k t (a_program m span semantic_id s all h) = rw (no-default all h k, classes-without_lets all h) refl
+default-stays : (first k : ℕ) (t : Tree) → IsProgram t → default_stays first t (lowered_from k t) ≡ true
+default-stays first k t (a_program m span semantic_id s all h) = rw (no-default all h k, classes-without_default all h) refl
 
 -- ps are nodes
 module _ (first : ℕ) (ps : List Tree) where
@@ -134,4 +128,4 @@ module _ (first : ℕ) (ps : List Tree) where
 
 pub references-stay : (first k : ℕ) (t : Tree) → IsProgram t → is_first_form t [] ≡ true → references_stay first [] t (lowered_from k t) ≡ true
 references-stay first k t p f =
-    rw (classes-timely first k t p f, stay-without (has_stray_super no_place t) (has_stray_super no_place (lowered_from k t)) (program-without k t p), stay-without (has_stray_name [] t) (has_stray_name [] (lowered_from k t)) (program-named k t p), tree-none first (λ m s. gives_inside s (preorder t)) (λ m s. inside-none t p s) false [] (lowered_from k t), unwriting first (plain_targets (preorder (lowered_from k t))) (writing_numbers (resolve t)) (resolve (lowered_from k t)) (writing-none k t p), order-stays first k t p, class_lets-fit first (preorder t) k t p) refl
+    rw (classes-timely first k t p f, stay-without (has_stray_super no_place t) (has_stray_super no_place (lowered_from k t)) (program-without k t p), stay-without (has_stray_name [] t) (has_stray_name [] (lowered_from k t)) (program-named k t p), tree-none first (λ m s. gives_inside s (preorder t)) (λ m s. inside-none t p s) false [] (lowered_from k t), unwriting first (plain_targets (preorder (lowered_from k t))) (writing_numbers (resolve t)) (resolve (lowered_from k t)) (writing-none k t p), default-stays first k t p, class_lets-fit first (preorder t) k t p, dead_zones-stay first k t p f) refl

@@ -11,8 +11,8 @@ use Rattle.es_base.specs.declared.kind.Kind.{Kind}
 use Rattle.es_base.specs.declared.table.Place.{Place}
 use Rattle.es_steps.proofs.FirstMeaning.{joined-done, not_generated-found, plain-name, plain-literal}
 use Rattle.es_steps.proofs.PlainClasses.{IsNotGenerated, fixed, changing, means_class, IsPlain, a_value}
-use Rattle.es_steps.specs.ClassHeads.{named_classes}
-use Rattle.es_steps.specs.Code.{Code, Codes, value, spelled, field, define, steps, new_function, constructor, done, and}
+use Rattle.es_steps.specs.ClassHeads.{declared_or_named, named_classes}
+use Rattle.es_steps.specs.Code.{Code, Codes, value, spelled, field, define, steps, new_function, class_code, constructor, done, and}
 use Rattle.es_steps.specs.Context.{Context, NameKind, found_kind, name_kind, inside}
 use Rattle.es_steps.specs.Evaluation.{settle_run, ev}
 use Rattle.es_steps.specs.Entries.{Entry, Listed, plain_form, listed, after_run, entries}
@@ -35,7 +35,7 @@ use Rattle.es_steps.specs.Statements.{value_or_undefined, field_form}
 use Rattle.es_steps.specs.Values.{String, ConstantOf, StringOf, Undefined, ThisOf, ArgumentsOf, Bound, Free}
 use Rattle.es_steps.specs.declared.options.Options.{Options}
 use Rattle.class_properties.proofs.Defining.{defining, is_defining}
-use Rattle.class_properties.proofs.Constructions.{Fields, no_fields, with_field, ArePlain, field_codes, Defines, none_defined, defined, AreLowered, no_constructor, one_constructor, pair_of_classes, ArePairs, RunAlike, ran, value_behind-undefined, pairs-run}
+use Rattle.class_properties.proofs.Constructions.{Fields, no_fields, with_field, ArePlain, field_codes, Defines, none_defined, defined, AreLowered, no_constructor, one_constructor, pair_of_classes, IsPair, ArePairs, RunAlike, ran, value_behind-undefined, pairs-run}
 use Rattle.class_properties.proofs.Declared.{HasNone, source-none, lowered-none, names-definitions, names-lowered, varying-lowered, declaring-lowered, globals-lowered, shared-lowered, places-lowered, branches-lowered}
 use Rattle.class_properties.proofs.FreeNames.{leaves}
 use Rattle.class_properties.proofs.Shaped.{IsValue, no_value, a_literal, a_reference, a_key, a_field, AreFields, a_body, a_name as a_class_name, a_class, AreClasses, IsProgram, a_program, first_form-shaped}
@@ -149,6 +149,7 @@ module _ (asked : Options) where
     pub varying : d.varying ≡ c.varying
     pub writes_arguments : d.writes_arguments ≡ c.writes_arguments
     pub names : d.names ≡ c.names
+    pub named : d.named ≡ c.named
     pub class : d.class ≡ c.class
 
   -- in the constructor k with these statements
@@ -185,6 +186,9 @@ module _ (asked : Options) where
   name_kind-same : (c d : Context) (s : String) → c.ledger ≡ [] → AreAlike c d → name_kind d s ≡ name_kind c s
   name_kind-same c d s l a = rw (l, a.ledger, a.first_new, a.varying, a.names) refl
 
+  pair-named : (n : ℕ) (declared : Option ℕ) (named there : List (ℕ × ℕ)) → there ≡ named → (fs : Fields) (cs : Codes) → ArePlain fs → AreLowered n fs cs → IsPair (class_code n (declared_or_named n named declared) done (field_codes fs)) (class_code n (declared_or_named n there declared) done cs)
+  pair-named n declared named there e fs cs plain low = rw e (pair_of_classes n (declared_or_named n named declared) fs cs plain low)
+
   classes-read : (c d : Context) (ps : Parts) → IsPlainContext c → AreAlike c d → AreClasses ps → (k : ℕ) → c.first_new ≤ k → ArePairs (codes_in (read_items c ps)) (codes_in (read_items d (lowered_statements k ps)))
   classes-read c d tree.end x a h k new = tt
   classes-read c d (tree.more p ps) x a (a_class n span semantic_id id body (a_class_name i ispan i_semantic_id s other) (a_body j bspan b_semantic_id es he), h) k new =
@@ -195,10 +199,10 @@ module _ (asked : Options) where
       let e : Context = inside (inside c Kind.ClassDeclaration n parts 2) Kind.ClassBody j elements 0 in
       let f : Context = inside (inside d Kind.ClassDeclaration n lowered_parts 2) Kind.ClassBody j lowered 0 in
       let own : Declaration = record { spelling = s; number = i; class_name = own_name n } in
-      let alike : AreAlike e f = record { ledger = a.ledger; first_new = a.first_new; varying = a.varying; writes_arguments = a.writes_arguments; names = ap (λ ns. own ∷ ns) a.names; class = refl } in
+      let alike : AreAlike e f = record { ledger = a.ledger; first_new = a.first_new; varying = a.varying; writes_arguments = a.writes_arguments; names = ap (λ ns. own ∷ ns) a.names; named = a.named; class = refl } in
       let helpers : declared (codes "babelHelpers") e.names ≡ None = rw (or_false (bytes_eq (codes "babelHelpers") s) _ other) x.helpers in (
         rw (joined-done (codes_in (read_items e es)), joined-done (codes_in (read_items f (lowered_elements k es))), fields-read e es x.options he, name_kind-same c d s x.ledger a)
-            (pair_of_classes n _ (fields_of e es) _ (fields-plain e es x.ledger he) (elements-read e f es x.ledger helpers alike he k new)),
+            (pair-named n _ c.named d.named a.named (fields_of e es) _ (fields-plain e es x.ledger he) (elements-read e f es x.ledger helpers alike he k new)),
         classes-read c d ps x a h _ (still_new k _ new),
       )
 
@@ -245,7 +249,7 @@ module _ (asked : Options) where
       let np : HasNone t = source-none t p in
       let nq : HasNone q = lowered-none first t p in
       let plain : IsPlainContext c = record { ledger = refl; options = refl; helpers = (leaves all h).helpers } in
-      let alike : AreAlike c d = record { ledger = refl; first_new = refl; varying = varying-lowered first t p; writes_arguments = nq.free ∙ sym np.free; names = ap (λ ns. ns ++ []) (names-lowered all h first); class = refl } in
+      let alike : AreAlike c d = record { ledger = refl; first_new = refl; varying = varying-lowered first t p; writes_arguments = nq.free ∙ sym np.free; names = ap (λ ns. ns ++ []) (names-lowered all h first); named = refl; class = refl } in
       let here : Codes = codes_in (read_items c all) in
       let there : Codes = codes_in (read_items d low) in
       ap (λ cs. means_of o q (steps cs)) (joined-done there)

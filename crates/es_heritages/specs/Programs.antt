@@ -237,15 +237,15 @@ options_set_fields = options_of false (Some (record { loose = true })) false
 abbrev pub heritages_set_fields : List (ℕ × Bool)
 heritages_set_fields = (1, true) ∷ (8, false) ∷ []
 
--- `class A0 extends (class { static {} }) {} class A1 extends (class { static { f(); } }) {} class A2 extends (class { static { 1; ; {} } }) {} class A3 extends (class { static { var x; let y; function g() {} } }) {} class A4 extends (class { static { var x = 1; } }) {} class A5 extends (class { static { let { a } = b; } }) {}`
+-- `class A0 extends (class { static {} }) {} class A1 extends (class { static { f(); } }) {} class A2 extends (class { static { 1; ; {} } }) {} class A3 extends (class { static { var x; function g() {} } }) {} class A4 extends (class { static { var x = 1; } }) {} class A5 extends (class { static { let { a } = b; } }) {}`
 abbrev pub source_blocks : Tree
-source_blocks = node Kind.Program 0 (more (string (codes "script")) (more (list (trees (node Kind.ClassDeclaration 1 (more (child (node Kind.BindingIdentifier 2 (more (string (codes "A0")) end))) (more (child (node Kind.ClassExpression 3 (more absent (more absent (more (child (node Kind.ClassBody 4 (more (list (trees (node Kind.StaticBlock 5 (more (list end) end) ∷ []))) end))) end))))) (more (child (node Kind.ClassBody 6 (more (list end) end))) end))) ∷ node Kind.ClassDeclaration 7 (more (child (node Kind.BindingIdentifier 8 (more (string (codes "A1")) end))) (more (child (node Kind.ClassExpression 9 (more absent (more absent (more (child (node Kind.ClassBody 10 (more (list (trees (node Kind.StaticBlock 11 (more (list (trees (node Kind.ExpressionStatement 12 (more (child (node Kind.CallExpression 13 (more (child (node Kind.IdentifierReference 14 (more (string (codes "f")) end))) (more (list end) (more (boolean false) end))))) (more no_string end)) ∷ []))) end) ∷ []))) end))) end))))) (more (child (node Kind.ClassBody 15 (more (list end) end))) end))) ∷ node Kind.ClassDeclaration 16 (more (child (node Kind.BindingIdentifier 17 (more (string (codes "A2")) end))) (more (child (node Kind.ClassExpression 18 (more absent (more absent (more (child (node Kind.ClassBody 19 (more (list (trees (node Kind.StaticBlock 20 (more (list (trees (node Kind.ExpressionStatement 21 (more (child (node Kind.Literal 22 (more (literal (literal_value.Number (codes "1"))) end))) (more no_string end)) ∷ node Kind.EmptyStatement 23 end ∷ node Kind.BlockStatement 24 (more (list end) end) ∷ []))) end) ∷ []))) end))) end))))) (more (child (node Kind.ClassBody 25 (more (list end) end))) end))) ∷ node Kind.ClassDeclaration 26 (more (child (node Kind.BindingIdentifier 27 (more (string (codes "A3")) end))) (more (child (node Kind.ClassExpression 28 (more absent (more absent (more (child (node Kind.ClassBody 29 (more (list (trees (node Kind.StaticBlock 30 (more (list (trees (node Kind.VariableDeclaration 31 (more (string (codes "var")) (more (list (trees (node Kind.VariableDeclarator 32 (more (child (node Kind.BindingIdentifier 33 (more (string (codes "x")) end))) (more absent end)) ∷ []))) end)) ∷ node Kind.VariableDeclaration 34 (more (string (codes "let")) (more (list (trees (node Kind.VariableDeclarator 35 (more (child (node Kind.BindingIdentifier 36 (more (string (codes "y")) end))) (more absent end)) ∷ []))) end)) ∷ node Kind.FunctionDeclaration 37 (more (child (node Kind.BindingIdentifier 38 (more (string (codes "g")) end))) (more (list end) (more (child (node Kind.BlockStatement 39 (more (list end) end))) (more (boolean false) (more (boolean false) end))))) ∷ []))) end) ∷ []))) end))) end))))) (more (child (node Kind.ClassBody 40 (more (list end) end))) end))) ∷ node Kind.ClassDeclaration 41 (more (child (node Kind.BindingIdentifier 42 (more (string (codes "A4")) end))) (more (child (node Kind.ClassExpression 43 (more absent (more absent (more (child (node Kind.ClassBody 44 (more (list (trees (node Kind.StaticBlock 45 (more (list (trees (node Kind.VariableDeclaration 46 (more (string (codes "var")) (more (list (trees (node Kind.VariableDeclarator 47 (more (child (node Kind.BindingIdentifier 48 (more (string (codes "x")) end))) (more (child (node Kind.Literal 49 (more (literal (literal_value.Number (codes "1"))) end))) end)) ∷ []))) end)) ∷ []))) end) ∷ []))) end))) end))))) (more (child (node Kind.ClassBody 50 (more (list end) end))) end))) ∷ node Kind.ClassDeclaration 51 (more (child (node Kind.BindingIdentifier 52 (more (string (codes "A5")) end))) (more (child (node Kind.ClassExpression 53 (more absent (more absent (more (child (node Kind.ClassBody 54 (more (list (trees (node Kind.StaticBlock 55 (more (list (trees (node Kind.VariableDeclaration 56 (more (string (codes "let")) (more (list (trees (node Kind.VariableDeclarator 57 (more (child (node Kind.ObjectPattern 58 (more (list (trees (node Kind.BindingProperty 59 (more (child (node Kind.IdentifierName 60 (more (string (codes "a")) end))) (more (child (node Kind.BindingIdentifier 61 (more (string (codes "a")) end))) (more (string (codes "init")) (more (boolean false) (more (boolean true) (more (boolean false) end)))))) ∷ []))) end))) (more (child (node Kind.IdentifierReference 62 (more (string (codes "b")) end))) end)) ∷ []))) end)) ∷ []))) end) ∷ []))) end))) end))))) (more (child (node Kind.ClassBody 63 (more (list end) end))) end))) ∷ []))) end))
+source_blocks = node Kind.Program 0 (more (string (codes "script")) (more (list (trees (node Kind.ClassDeclaration 1 (more (child (node Kind.BindingIdentifier 2 (more (string (codes "A0")) end))) (more (child (node Kind.ClassExpression 3 (more absent (more absent (more (child (node Kind.ClassBody 4 (more (list (trees (node Kind.StaticBlock 5 (more (list end) end) ∷ []))) end))) end))))) (more (child (node Kind.ClassBody 6 (more (list end) end))) end))) ∷ node Kind.ClassDeclaration 7 (more (child (node Kind.BindingIdentifier 8 (more (string (codes "A1")) end))) (more (child (node Kind.ClassExpression 9 (more absent (more absent (more (child (node Kind.ClassBody 10 (more (list (trees (node Kind.StaticBlock 11 (more (list (trees (node Kind.ExpressionStatement 12 (more (child (node Kind.CallExpression 13 (more (child (node Kind.IdentifierReference 14 (more (string (codes "f")) end))) (more (list end) (more (boolean false) end))))) (more no_string end)) ∷ []))) end) ∷ []))) end))) end))))) (more (child (node Kind.ClassBody 15 (more (list end) end))) end))) ∷ node Kind.ClassDeclaration 16 (more (child (node Kind.BindingIdentifier 17 (more (string (codes "A2")) end))) (more (child (node Kind.ClassExpression 18 (more absent (more absent (more (child (node Kind.ClassBody 19 (more (list (trees (node Kind.StaticBlock 20 (more (list (trees (node Kind.ExpressionStatement 21 (more (child (node Kind.Literal 22 (more (literal (literal_value.Number (codes "1"))) end))) (more no_string end)) ∷ node Kind.EmptyStatement 23 end ∷ node Kind.BlockStatement 24 (more (list end) end) ∷ []))) end) ∷ []))) end))) end))))) (more (child (node Kind.ClassBody 25 (more (list end) end))) end))) ∷ node Kind.ClassDeclaration 26 (more (child (node Kind.BindingIdentifier 27 (more (string (codes "A3")) end))) (more (child (node Kind.ClassExpression 28 (more absent (more absent (more (child (node Kind.ClassBody 29 (more (list (trees (node Kind.StaticBlock 30 (more (list (trees (node Kind.VariableDeclaration 31 (more (string (codes "var")) (more (list (trees (node Kind.VariableDeclarator 32 (more (child (node Kind.BindingIdentifier 33 (more (string (codes "x")) end))) (more absent end)) ∷ []))) end)) ∷ node Kind.FunctionDeclaration 34 (more (child (node Kind.BindingIdentifier 35 (more (string (codes "g")) end))) (more (list end) (more (child (node Kind.BlockStatement 36 (more (list end) end))) (more (boolean false) (more (boolean false) end))))) ∷ []))) end) ∷ []))) end))) end))))) (more (child (node Kind.ClassBody 37 (more (list end) end))) end))) ∷ node Kind.ClassDeclaration 38 (more (child (node Kind.BindingIdentifier 39 (more (string (codes "A4")) end))) (more (child (node Kind.ClassExpression 40 (more absent (more absent (more (child (node Kind.ClassBody 41 (more (list (trees (node Kind.StaticBlock 42 (more (list (trees (node Kind.VariableDeclaration 43 (more (string (codes "var")) (more (list (trees (node Kind.VariableDeclarator 44 (more (child (node Kind.BindingIdentifier 45 (more (string (codes "x")) end))) (more (child (node Kind.Literal 46 (more (literal (literal_value.Number (codes "1"))) end))) end)) ∷ []))) end)) ∷ []))) end) ∷ []))) end))) end))))) (more (child (node Kind.ClassBody 47 (more (list end) end))) end))) ∷ node Kind.ClassDeclaration 48 (more (child (node Kind.BindingIdentifier 49 (more (string (codes "A5")) end))) (more (child (node Kind.ClassExpression 50 (more absent (more absent (more (child (node Kind.ClassBody 51 (more (list (trees (node Kind.StaticBlock 52 (more (list (trees (node Kind.VariableDeclaration 53 (more (string (codes "let")) (more (list (trees (node Kind.VariableDeclarator 54 (more (child (node Kind.ObjectPattern 55 (more (list (trees (node Kind.BindingProperty 56 (more (child (node Kind.IdentifierName 57 (more (string (codes "a")) end))) (more (child (node Kind.BindingIdentifier 58 (more (string (codes "a")) end))) (more (string (codes "init")) (more (boolean false) (more (boolean true) (more (boolean false) end)))))) ∷ []))) end))) (more (child (node Kind.IdentifierReference 59 (more (string (codes "b")) end))) end)) ∷ []))) end)) ∷ []))) end) ∷ []))) end))) end))))) (more (child (node Kind.ClassBody 60 (more (list end) end))) end))) ∷ []))) end))
 
 abbrev pub options_blocks : Options
 options_blocks = options_of false (Some (record { loose = false })) false
 
 abbrev pub heritages_blocks : List (ℕ × Bool)
-heritages_blocks = (1, false) ∷ (7, true) ∷ (16, false) ∷ (26, false) ∷ (41, true) ∷ (51, true) ∷ []
+heritages_blocks = (1, false) ∷ (7, true) ∷ (16, false) ∷ (26, false) ∷ (38, true) ∷ (48, true) ∷ []
 
 -- `class A0 extends (class { static { { function g() {} } } }) {} class A1 extends (class { static { { async function g() {} function* h() {} } } }) {} class A2 extends (class { static { { { let x; } } } }) {}`
 abbrev pub source_functions_in_blocks : Tree
@@ -255,7 +255,7 @@ abbrev pub options_functions_in_blocks : Options
 options_functions_in_blocks = options_of false (Some (record { loose = false })) false
 
 abbrev pub heritages_functions_in_blocks : List (ℕ × Bool)
-heritages_functions_in_blocks = (1, true) ∷ (11, true) ∷ (24, false) ∷ []
+heritages_functions_in_blocks = (1, true) ∷ (11, true) ∷ (24, true) ∷ []
 
 -- `class A0 extends (class { static { class D {} } }) {} class A1 extends (class { static { (class D {}); } }) {} class A2 extends (class { static { debugger; } }) {} class A3 extends (class { static { if (1) 2; } }) {} class A4 extends (class { static { l: 1; } }) {} class A5 extends (class { static { for (;;) {} } }) {} class A6 extends (class { static { (class { static x = 1; }); } }) {} class A7 extends (class { static { throw 1; } }) {} class A8 extends (class { static { try {} catch {} } }) {}`
 abbrev pub source_statements_in_blocks : Tree

@@ -8,16 +8,13 @@ use Rattle.es_base.specs.declared.kind.Kind.{Kind}
 use Rattle.es_lowered.specs.Bound.{BoundPlace, is_bound, is_nested_item, depends_on_function, body_around, has_body, place_inside, bound_to, bound_node, bound_block, bound_nodes, bound_in, bound_at, bound_of, all_bound, bound_stay}
 use Rattle.es_steps.specs.KeptNodes.{pair_stands, all_pairs_stand}
 use Rattle.es_steps.proofs.KeptNodesMapped.{function_around-mapped}
-use Rattle.es_steps.proofs.Mapped.{Renames, mapped, mapped_part, mapped_parts}
+use Rattle.es_steps.proofs.Mapped.{Renames, mapped, mapped_part, mapped_parts, mapped_pair}
 use Rattle.es_steps.specs.Parts.{at}
 use Rattle.es_steps.proofs.PrintableMapped.{name_of_part-mapped}
 use Rattle.es_steps.proofs.PartsMapped.{at-mapped, cond-mapped, append-mapped, number_of-mapped, is_true_at-mapped}
 
 abbrev mapped_place : (ℕ → ℕ) → BoundPlace → BoundPlace
 mapped_place f x = record { kind = x.kind; number = f x.number; of_function = f x.of_function; in_parameters = x.in_parameters }
-
-abbrev mapped_pair : (ℕ → ℕ) → ℕ × ℕ → ℕ × ℕ
-mapped_pair f p = (f p.0, f p.1)
 
 module _ {first : ℕ} {f : ℕ → ℕ} (r : Renames first f) where
   body_around-mapped : (home : ℕ) (kind : Kind) (m i : ℕ) → body_around (f home) kind (f m) i ≡ f (body_around home kind m i)

@@ -135,7 +135,7 @@ module _ {first : ℕ} {f : ℕ → ℕ} (r : Renames first f) where
   common-mapped ns [] = refl
   common-mapped ns (m ∷ ms) = append-mapped f _ _ (rw (has_number-mapped r m ns) (cond-mapped (map f) (has_number m ns) (m ∷ []) [] refl refl)) (common-mapped ns ms)
 
-  head_numbers-mapped : (n : ℕ) (ts : List Tree) → head_numbers (f n) (map (mapped f) ts) ≡ map f (head_numbers n ts)
+  pub head_numbers-mapped : (n : ℕ) (ts : List Tree) → head_numbers (f n) (map (mapped f) ts) ≡ map f (head_numbers n ts)
   head_numbers-mapped n ts = ap₂ without (numbers_inside-mapped n ts) (numbers_of_class-mapped n ts) ∙ without-mapped (numbers_inside n ts) (numbers_of_class n ts)
 
   free_naming-mapped : (runs : Bool) (n : ℕ) (ps qs : List Tree) (names : List ℕ) → free_naming runs (f n) (map (mapped f) ps) (map (mapped f) qs) (map f names) ≡ map f (free_naming runs n ps qs names)

@@ -12,9 +12,10 @@ use Rattle.es_steps.specs.References.{Reference, resolve, gives_inside}
 use Rattle.es_lowered.proofs.ClassLetsMapped.{class_lets_fit-mapped}
 use Rattle.es_lowered.proofs.ClassNamesMapped.{classes_timely-mapped}
 use Rattle.es_steps.proofs.ContextMapped.{is_generated-mapped}
+use Rattle.es_lowered.proofs.DeadZonesMapped.{dead_zones_stay-mapped}
+use Rattle.es_lowered.proofs.DefaultExportMapped.{default_stays-mapped}
 use Rattle.es_lowered.proofs.FunctionsAroundMapped.{mapped_placed, placed_references-mapped, all_stand_where-mapped}
 use Rattle.es_lowered.proofs.HelperCallsMapped.{part_number-mapped}
-use Rattle.es_lowered.proofs.StatementOrderMapped.{order_stays-mapped}
 use Rattle.es_lowered.proofs.StrayNamesMapped.{private_names_stay-mapped}
 use Rattle.es_lowered.proofs.SupersMapped.{supers_stay-mapped}
 use Rattle.es_steps.proofs.Mapped.{Renames, mapped, mapped_parts, mapped_reference, mapped_ledger}
@@ -60,4 +61,4 @@ module _ {first : ℕ} {f : ℕ → ℕ} (r : Renames first f) where
       ap₂ (λ a b. a && b) (ap₂ (λ a b. a && b) (classes_timely-mapped r ledger p q) (ap₂ (λ a b. a && b) (supers_stay-mapped f p q) (private_names_stay-mapped f p q)))
       (ap₂ (λ a b. a && b)
       (rw (preorder-mapped f q, plain_targets-mapped f (preorder q), resolve-mapped f p, writing_numbers-mapped (resolve p), resolve-mapped f q) (writes_fit-mapped ledger (plain_targets (preorder q)) (writing_numbers (resolve p)) (resolve q)))
-      (ap₂ (λ a b. a && b) (inner_names_stay-mapped p q) (ap₂ (λ a b. a && b) (order_stays-mapped r p q) (rw (preorder-mapped f p) (class_lets_fit-mapped r (preorder p) q)))))
+      (ap₂ (λ a b. a && b) (inner_names_stay-mapped p q) (ap₂ (λ a b. a && b) (default_stays-mapped r p q) (ap₂ (λ a b. a && b) (rw (preorder-mapped f p) (class_lets_fit-mapped r (preorder p) q)) (dead_zones_stay-mapped r p q)))))

@@ -5,8 +5,9 @@ pub mod TextsMapped
 pub mod TimelyMapped
 pub mod FunctionsAroundMapped
 pub mod ClassNamesMapped
-pub mod StatementOrderMapped
+pub mod DefaultExportMapped
 pub mod ClassLetsMapped
+pub mod DeadZonesMapped
 pub mod KeptWordsMapped
 pub mod StrayNamesMapped
 pub mod SupersMapped

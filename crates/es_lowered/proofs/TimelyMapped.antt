@@ -118,7 +118,7 @@ module _ {first : ℕ} {f : ℕ → ℕ} (r : Renames first f) where
   is_held_arrow-mapped : (x : Around) (kind : Kind) (m : ℕ) → is_held_arrow first (mapped_around f x) kind (f m) ≡ is_held_arrow first x kind m
   is_held_arrow-mapped x kind m = rw (r.new m) refl
 
-  is_held-mapped : (kind : Kind) (ps : Parts) (i : ℕ) → is_held kind (mapped_parts f ps) i ≡ is_held kind ps i
+  pub is_held-mapped : (kind : Kind) (ps : Parts) (i : ℕ) → is_held kind (mapped_parts f ps) i ≡ is_held kind ps i
   is_held-mapped Kind.AssignmentExpression ps i = ap (λ s. nat_eq i 2 && is_logical s) (string_at-mapped f 0 ps)
   is_held-mapped kind ps i = refl
 

@@ -7,9 +7,10 @@ use Rattle.es_base.specs.declared.kind.Kind.{Kind}
 use Rattle.es_base.specs.declared.ledger.LedgerEntry.{LedgerEntry}
 use Rattle.es_lowered.specs.ClassLets.{class_lets_fit}
 use Rattle.es_lowered.specs.ClassNames.{classes_timely}
+use Rattle.es_lowered.specs.DeadZones.{dead_zones_stay}
+use Rattle.es_lowered.specs.DefaultExport.{default_stays}
 use Rattle.es_lowered.specs.FunctionsAround.{PlacedReference, placed_references, all_stand_where}
 use Rattle.es_lowered.specs.HelperCalls.{part_number}
-use Rattle.es_lowered.specs.StatementOrder.{order_stays}
 use Rattle.es_lowered.specs.StrayNames.{private_names_stay}
 use Rattle.es_lowered.specs.Supers.{supers_stay}
 use Rattle.es_steps.specs.Context.{is_generated}
@@ -49,4 +50,4 @@ abbrev pub inner_names_stay : ℕ → Tree → Tree → Bool
 inner_names_stay first p q = all_stand_where first (inner_references first (preorder p) q) (inner_references first (preorder p) p)
 
 abbrev pub references_stay : ℕ → List LedgerEntry → Tree → Tree → Bool
-references_stay first ledger p q = (classes_timely first ledger p q && (supers_stay p q && private_names_stay p q)) && (writes_fit first ledger (plain_targets (preorder q)) (writing_numbers (resolve p)) (resolve q) && (inner_names_stay first p q && (order_stays first p q && class_lets_fit first (preorder p) q)))
+references_stay first ledger p q = (classes_timely first ledger p q && (supers_stay p q && private_names_stay p q)) && (writes_fit first ledger (plain_targets (preorder q)) (writing_numbers (resolve p)) (resolve q) && (inner_names_stay first p q && (default_stays first p q && (class_lets_fit first (preorder p) q && dead_zones_stay first p q))))

@@ -4,6 +4,7 @@ use Rattle.std.proofs.Common.{◌∙◌, ap, ap₂, sym}
 use Rattle.es_base.specs.Tree as tree
 use Rattle.es_base.specs.Tree.{Tree, Part, Parts, Node}
 use Rattle.es_base.specs.declared.kind.Kind.{Kind}
+use Rattle.es_steps.specs.ClassHeads.{declared_or_named}
 use Rattle.es_steps.specs.Code.{Code, Codes, sequence, spelled, static_block, steps, chain, tested, from_member, initializers, done, and}
 use Rattle.es_steps.specs.Context.{Context, Frame, function_frame, arrow_frame, class_frame, field_frame, method_frame, static_block_frame, object_frame, property_frame, assignment_frame, declarator_frame, same_frame, FunctionRole, a_function, constructor_of, method_on, super_function_of, in_function, new_here, framed, frame_of, inside}
 use Rattle.es_steps.specs.Expressions.{the_code, ended_alone, spliced}
@@ -17,7 +18,7 @@ use Rattle.es_replacement.proofs.Closed.{EndsClosed, ends_closed, code_of-closed
 use Rattle.es_replacement.proofs.Environments.{untrue}
 use Rattle.es_replacement.proofs.ExpressionsFilled.{operation_of-filled, literal_at-filled, name_code-filled, template_string_code-filled, template_code-filled, meta_code-filled, member_code-filled, private_field_code-filled, private_in_code-filled, assignment_code-filled, update_code-filled, unary_code-filled, binary_code-filled, logical_code-filled, chain_code-filled, call_code-filled, tag_code-filled, new_code-filled, property_code-filled}
 use Rattle.es_replacement.proofs.MembersFilled.{filled_member, filled_members, codes_in-filled, word_at-filled, codes_at-filled, the_code_at-filled, closed_part}
-use Rattle.es_replacement.proofs.StatementsFilled.{held_from-filled, case_code-filled, catch_code-filled, for_each_code-filled, expression_code-filled, declarator_code-filled, return_code-filled, suspension_code-filled, default_export_code-filled, default_code-filled, rest_code-filled, pattern_property_code-filled, array_pattern_code-filled, object_pattern_code-filled, function_expression_code-filled, function_declaration_code-filled, arrow_code-filled, class_of-filled, declared_at-filled, field_code-filled, method_code-filled}
+use Rattle.es_replacement.proofs.StatementsFilled.{held_from-filled, case_code-filled, catch_code-filled, for_each_code-filled, expression_code-filled, declarator_code-filled, declaration_code-filled, return_code-filled, suspension_code-filled, default_export_code-filled, default_code-filled, rest_code-filled, pattern_property_code-filled, array_pattern_code-filled, object_pattern_code-filled, function_expression_code-filled, function_declaration_code-filled, arrow_code-filled, class_of-filled, declared_at-filled, field_code-filled, method_code-filled}
 use Rattle.es_replacement.specs.Holes.{filled, filled_all}
 use Rattle.es_replacement.specs.TreeHoles.{PartHole, the_child, an_item, TreeHole, top, within, behind, further, inside_with, joined_members, read_place, read_with, code_around, is_head, is_at, is_part, ReadsThrough, IsApart}
 use Rattle.es_replacement.specs.Law.{UnaskedLaw}
@@ -30,7 +31,7 @@ module _ (c : Context) (fill : ℕ → Code) (unasked : (n : ℕ) → is_unasked
   statement_code-filled Kind.Program m ps closed heads = ap steps (codes_in-filled fill ps)
   statement_code-filled Kind.ExpressionStatement m ps closed heads = expression_code-filled c fill unasked m ps
   statement_code-filled Kind.BlockStatement m ps closed heads = ap steps (codes_in-filled fill ps)
-  statement_code-filled Kind.VariableDeclaration m ps closed heads = ap steps (codes_in-filled fill ps)
+  statement_code-filled Kind.VariableDeclaration m ps closed heads = declaration_code-filled c.first_new fill unasked ps
   statement_code-filled Kind.CatchClause m ps closed heads = catch_code-filled c.first_new fill unasked m ps closed
   statement_code-filled Kind.VariableDeclarator m ps closed heads = declarator_code-filled c fill unasked m ps closed
   statement_code-filled Kind.LabeledStatement m ps closed heads = held_from-filled c.first_new fill unasked 1 Kind.LabeledStatement m ps
@@ -65,8 +66,10 @@ module _ (c : Context) (fill : ℕ → Code) (unasked : (n : ℕ) → is_unasked
   pattern_code-filled Kind.AssignmentTargetProperty m ps closed heads = pattern_property_code-filled c.first_new fill unasked m ps closed
   pattern_code-filled kind m ps closed heads = statement_code-filled kind m ps closed heads
 
-  class_declaration-filled : (m : ℕ) (ps : Members) → class_of (declared_by (at 0 (filled_members fill ps))) m (filled_members fill ps) ≡ filled fill (class_of (declared_by (at 0 ps)) m ps)
-  class_declaration-filled m ps = ap (λ d. class_of d m (filled_members fill ps)) (declared_at-filled c.first_new fill unasked 0 ps) ∙ class_of-filled c.first_new fill unasked (declared_by (at 0 ps)) m ps
+  class_declaration-filled : (m : ℕ) (ps : Members) → class_of (declared_or_named m c.named (declared_by (at 0 (filled_members fill ps)))) m (filled_members fill ps) ≡ filled fill (class_of (declared_or_named m c.named (declared_by (at 0 ps))) m ps)
+  class_declaration-filled m ps =
+      ap (λ d. class_of (declared_or_named m c.named d) m (filled_members fill ps)) (declared_at-filled c.first_new fill unasked 0 ps)
+      ∙ class_of-filled c.first_new fill unasked (declared_or_named m c.named (declared_by (at 0 ps))) m ps
 
   pub class_form_code-filled : (kind : Kind) (m : ℕ) (ps : Members) → is_closed_at (asked_part kind (word_of (at 0 ps))) ps ≡ true → heads_closed kind ps ≡ true → class_form_code c kind m (filled_members fill ps) ≡ filled fill (class_form_code c kind m ps)
   class_form_code-filled Kind.FunctionDeclaration m ps closed heads = function_declaration_code-filled c fill unasked m ps

@@ -9,7 +9,7 @@ use Rattle.es_steps.specs.Events.{Detail, Operand, Empty, Index, Rest, OfKind, T
 use Rattle.es_steps.specs.Expressions.{the_code, key_code, key_details, target_of}
 use Rattle.es_steps.specs.Members.{Member, Members, code, absent, list, string, more, end, at, from, before, operands, details, codes_in, codes_of, word_of, flag_of}
 use Rattle.es_steps.specs.PrivateNames.{member_at}
-use Rattle.es_steps.specs.Statements.{held_from, case_code, given_codes, catch_code, is_initialized, initialized_first, head_initializers, declared_target, given_targets, head_targets, for_each_code, is_other_directive, expression_code, declarator_of, declarator_code, return_code, suspension_code, default_export_code, default_code, rest_code, pattern_property_code, target_number, taken, taken_element, elements_from, members_of_list, array_pattern_code, taken_properties, object_pattern_code, form_of, function_or_new, own_name_of, function_code, function_expression_code, hoisted_function, declared_function, is_new_return, ends_with_return, arrow_body, function_declaration_code, arrow_code, declared_by, elements_of, class_of, value_or_undefined, is_name_or_length, is_absent, field_form, private_element, field_of, field_code, is_constructor_key, method_or_constructor, is_declared_as, method_of, method_code}
+use Rattle.es_steps.specs.Statements.{held_from, case_code, given_codes, catch_code, is_initialized, initialized_first, head_initializers, declared_target, given_targets, head_targets, undefined_let, undefined_lets, is_let_word, declaration_code, for_each_code, is_other_directive, expression_code, declarator_of, declarator_code, return_code, suspension_code, default_export_code, default_code, rest_code, pattern_property_code, target_number, taken, taken_element, elements_from, members_of_list, array_pattern_code, taken_properties, object_pattern_code, form_of, function_or_new, own_name_of, function_code, function_expression_code, hoisted_function, declared_function, is_new_return, ends_with_return, arrow_body, function_declaration_code, arrow_code, declared_by, elements_of, class_of, value_or_undefined, is_name_or_length, is_absent, field_form, private_element, field_of, field_code, is_constructor_key, method_or_constructor, is_declared_as, method_of, method_code}
 use Rattle.es_steps.specs.GeneratedForms.{opened_body}
 use Rattle.es_steps.specs.References.{declared}
 use Rattle.es_steps.specs.Scopes.{Declaration}
@@ -56,8 +56,15 @@ module _ (first : ℕ) (fill : ℕ → Code) (unasked : (n : ℕ) → is_unasked
   head_initializers-filled (initializers n) closed heads = absurd (cc)
   head_initializers-filled q closed heads = refl
 
+  -- what holds no declaration at its head
+  head-unasked : (q : Code) (cs : Codes) → is_unasked first q ≡ true → declared_target (steps (and q cs)) ≡ target_of (steps (and q cs))
+  head-unasked (binding b s kind) cs h = absurd (cc)
+  head-unasked q cs h = refl
+
   declared_target-filled : (q : Code) → ends_open q ≡ false → declared_target (filled fill q) ≡ filled_target fill (declared_target q)
   declared_target-filled (assign to e) closed = refl
+  declared_target-filled (steps (and (binding b s kind) cs)) closed = refl
+  declared_target-filled (steps (and (initializers n) cs)) closed = head-unasked (fill n) (filled_all fill cs) (unasked n)
   declared_target-filled (initializers n) closed = absurd (cc)
   declared_target-filled q closed = target_of-filled first fill unasked q closed
 
@@ -73,6 +80,31 @@ module _ (first : ℕ) (fill : ℕ → Code) (unasked : (n : ℕ) → is_unasked
       twice false h = sym h
   head_targets-filled m (initializers n) closed heads = absurd (cc)
   head_targets-filled m q closed heads = ap (λ to. one (gives_to m to)) (target_of-filled first fill unasked q closed)
+
+  undefined-unasked : (q : Code) → is_unasked first q ≡ true → undefined_let q ≡ q
+  undefined-unasked (binding b s kind) h = absurd (cc)
+  undefined-unasked q h = refl
+
+  undefined_let-filled : (q : Code) → undefined_let (filled fill q) ≡ filled fill (undefined_let q)
+  undefined_let-filled (binding b s kind) = refl
+  undefined_let-filled (initializers n) = undefined-unasked (fill n) (unasked n)
+  undefined_let-filled q = refl
+
+  undefined_lets-filled : (cs : Codes) → undefined_lets (filled_all fill cs) ≡ filled_all fill (undefined_lets cs)
+  undefined_lets-filled done = refl
+  undefined_lets-filled (and q cs) = ap₂ and (undefined_let-filled q) (undefined_lets-filled cs)
+
+  is_let_word-filled : (p : Member) → is_let_word (filled_member fill p) ≡ is_let_word p
+  is_let_word-filled (string s) = refl
+  is_let_word-filled p = refl
+
+  pub declaration_code-filled : (ps : Members) → declaration_code (filled_members fill ps) ≡ filled fill (declaration_code ps)
+  declaration_code-filled ps =
+      rw (at-filled fill 0 ps, is_let_word-filled (at 0 ps), codes_in-filled fill ps, undefined_lets-filled (codes_in ps)) (ap steps (by_word (is_let_word (at 0 ps))))
+    where
+      by_word : (b : Bool) → cond b (filled_all fill (undefined_lets (codes_in ps))) (filled_all fill (codes_in ps)) ≡ filled_all fill (cond b (undefined_lets (codes_in ps)) (codes_in ps))
+      by_word true = refl
+      by_word false = refl
 
   is_other_directive-filled : (p : Member) → is_other_directive (filled_member fill p) ≡ is_other_directive p
   is_other_directive-filled (string s) = refl

@@ -82,7 +82,12 @@ pub mod ClassInAClosure
 pub mod ClassInAConstructor
 pub mod ClassInASuperFunction
 pub mod ClassInFrontOfALet
+pub mod ClassInFrontOfAReturn
+pub mod ClassInFrontOfAnAwait
 pub mod ClassInFrontOfItsUse
+pub mod ClassInFrontOfWhatItsHeritageReads
+pub mod ClassInFrontOfWhatItsKeyReads
+pub mod ClassNameInFrontOfAnAwait
 pub mod ClassNamedArguments
 pub mod ClassNamedAwait
 pub mod ClassNamedAwaitInAnAsyncFunction
@@ -97,6 +102,8 @@ pub mod ClassNamedOtherwise
 pub mod ClassOfAHead
 pub mod ClassOfARightSide
 pub mod ClassOutOfABlock
+pub mod ClassOutOfABranch
+pub mod ClassOutOfAChain
 pub mod ClassReadWhileItsBlockRuns
 pub mod ClassRenamed
 pub mod ClassTemporaryBeforeItsClass
@@ -156,6 +163,8 @@ pub mod DeclarationWithoutItsNameInAMethod
 pub mod DeclarationWithoutItsNames
 pub mod DeclaratorInAConst
 pub mod DeclaratorOutOfItsBlock
+pub mod DefaultClassBehindAKey
+pub mod DefaultClassExpressionUnderAName
 pub mod DefaultExportBehindACall
 pub mod DefaultExports
 pub mod DefaultFunction
@@ -230,6 +239,7 @@ pub mod KeyGivenBehindTheFields
 pub mod KeyGivenInItsValue
 pub mod KeyHeadsExchanged
 pub mod KeyInFrontOfAThrow
+pub mod KeyInFrontOfWhatItReads
 pub mod KeyKeptBesideAConversion
 pub mod KeyKeptByACall
 pub mod KeyKeptByALogicalAssignment
@@ -257,6 +267,7 @@ pub mod LetBehindACall
 pub mod LetBehindAClosure
 pub mod LetBehindAConstructor
 pub mod LetBehindAField
+pub mod LetBehindAKey
 pub mod LetBehindAnArrow
 pub mod LetBesideACaughtName
 pub mod LetInFrontOfAFunction
@@ -269,6 +280,7 @@ pub mod LetOutOfALoop
 pub mod LetOutOfItsBlock
 pub mod LetReadInAMethod
 pub mod LetReadInItsValue
+pub mod LetWithoutAValueBehindACall
 pub mod LoopHeadsExchanged
 pub mod LooseMemberReadOnce
 pub mod MapBehindAKey
@@ -295,6 +307,7 @@ pub mod NameGivenBehindAField
 pub mod NameGivenInAClosure
 pub mod NameInAStaticBlock
 pub mod NameOfAClassWithABlock
+pub mod NameOfAKeyInFrontOfAnAwait
 pub mod NameOfANamedClass
 pub mod NameOfAnotherCharacter
 pub mod NameOfNoMember
@@ -372,6 +385,8 @@ pub mod RawOfATemplate
 pub mod ReadBehindAFunctionInABlock
 pub mod ReadInFrontOfABlock
 pub mod ReadMoved
+pub mod ReadingOfAnotherFunction
+pub mod ReadingThatIsNew
 pub mod ReceiverOfAConditional
 pub mod ReceiverOfAPrivateCall
 pub mod ReceiverOfASuperCall
@@ -406,6 +421,7 @@ pub mod StaticFieldDropped
 pub mod StaticFieldThatTakesABlock
 pub mod StaticGetterOrMethod
 pub mod StaticKeyReadLate
+pub mod StaticKeyThatIsAConstant
 pub mod StaticPrivateMethodOfAnotherClass
 pub mod StaticPrivateMethodThatReadsAField
 pub mod StaticValueInFrontOfAClass
@@ -455,6 +471,11 @@ pub mod TestedName
 pub mod TestedNameOfAClass
 pub mod TestsOfTwoKeys
 pub mod TextOfADirective
+pub mod ThisInANewConstructor
+pub mod ThisInAnArrow
+pub mod ThisInFrontOfAnArrowWithSuper
+pub mod ThisInFrontOfSuper
+pub mod ThisOutOfAnArrow
 pub mod TwoBrands
 pub mod TwoConstructors
 pub mod TwoFunctions

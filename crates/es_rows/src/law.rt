@@ -187,7 +187,12 @@ ghost use Rattle.es_rows.specs.witnesses.ClassInAClosure.{source_class_in_a_clos
 ghost use Rattle.es_rows.specs.witnesses.ClassInAConstructor.{source_class_in_a_constructor, output_class_in_a_constructor, generated_class_in_a_constructor, options_class_in_a_constructor};
 ghost use Rattle.es_rows.specs.witnesses.ClassInASuperFunction.{source_class_in_a_super_function, output_class_in_a_super_function, generated_class_in_a_super_function, options_class_in_a_super_function};
 ghost use Rattle.es_rows.specs.witnesses.ClassInFrontOfALet.{source_class_in_front_of_a_let, output_class_in_front_of_a_let, generated_class_in_front_of_a_let, options_class_in_front_of_a_let};
+ghost use Rattle.es_rows.specs.witnesses.ClassInFrontOfAReturn.{source_class_in_front_of_a_return, output_class_in_front_of_a_return, generated_class_in_front_of_a_return, options_class_in_front_of_a_return};
+ghost use Rattle.es_rows.specs.witnesses.ClassInFrontOfAnAwait.{source_class_in_front_of_an_await, output_class_in_front_of_an_await, generated_class_in_front_of_an_await, options_class_in_front_of_an_await};
 ghost use Rattle.es_rows.specs.witnesses.ClassInFrontOfItsUse.{source_class_in_front_of_its_use, output_class_in_front_of_its_use, generated_class_in_front_of_its_use, options_class_in_front_of_its_use};
+ghost use Rattle.es_rows.specs.witnesses.ClassInFrontOfWhatItsHeritageReads.{source_class_in_front_of_what_its_heritage_reads, output_class_in_front_of_what_its_heritage_reads, generated_class_in_front_of_what_its_heritage_reads, options_class_in_front_of_what_its_heritage_reads};
+ghost use Rattle.es_rows.specs.witnesses.ClassInFrontOfWhatItsKeyReads.{source_class_in_front_of_what_its_key_reads, output_class_in_front_of_what_its_key_reads, generated_class_in_front_of_what_its_key_reads, options_class_in_front_of_what_its_key_reads};
+ghost use Rattle.es_rows.specs.witnesses.ClassNameInFrontOfAnAwait.{source_class_name_in_front_of_an_await, output_class_name_in_front_of_an_await, generated_class_name_in_front_of_an_await, options_class_name_in_front_of_an_await};
 ghost use Rattle.es_rows.specs.witnesses.ClassNamedArguments.{source_class_named_arguments, output_class_named_arguments, generated_class_named_arguments, options_class_named_arguments};
 ghost use Rattle.es_rows.specs.witnesses.ClassNamedAwait.{source_class_named_await, output_class_named_await, generated_class_named_await, options_class_named_await};
 ghost use Rattle.es_rows.specs.witnesses.ClassNamedAwaitInAnAsyncFunction.{source_class_named_await_in_an_async_function, output_class_named_await_in_an_async_function, generated_class_named_await_in_an_async_function, options_class_named_await_in_an_async_function};
@@ -202,6 +207,8 @@ ghost use Rattle.es_rows.specs.witnesses.ClassNamedOtherwise.{first_class_named_
 ghost use Rattle.es_rows.specs.witnesses.ClassOfAHead.{source_class_of_a_head, output_class_of_a_head, generated_class_of_a_head, options_class_of_a_head};
 ghost use Rattle.es_rows.specs.witnesses.ClassOfARightSide.{source_class_of_a_right_side, output_class_of_a_right_side, generated_class_of_a_right_side, options_class_of_a_right_side};
 ghost use Rattle.es_rows.specs.witnesses.ClassOutOfABlock.{source_class_out_of_a_block, output_class_out_of_a_block, generated_class_out_of_a_block, options_class_out_of_a_block};
+ghost use Rattle.es_rows.specs.witnesses.ClassOutOfABranch.{source_class_out_of_a_branch, output_class_out_of_a_branch, generated_class_out_of_a_branch, options_class_out_of_a_branch};
+ghost use Rattle.es_rows.specs.witnesses.ClassOutOfAChain.{source_class_out_of_a_chain, output_class_out_of_a_chain, generated_class_out_of_a_chain, options_class_out_of_a_chain};
 ghost use Rattle.es_rows.specs.witnesses.ClassReadWhileItsBlockRuns.{source_class_read_while_its_block_runs, output_class_read_while_its_block_runs, generated_class_read_while_its_block_runs, options_class_read_while_its_block_runs};
 ghost use Rattle.es_rows.specs.witnesses.ClassRenamed.{source_class_renamed, output_class_renamed, generated_class_renamed, options_class_renamed};
 ghost use Rattle.es_rows.specs.witnesses.ClassTemporaryBeforeItsClass.{source_class_temporary_before_its_class, output_class_temporary_before_its_class, generated_class_temporary_before_its_class, options_class_temporary_before_its_class};
@@ -260,6 +267,8 @@ ghost use Rattle.es_rows.specs.witnesses.DeclarationWithoutItsNameInAMethod.{sou
 ghost use Rattle.es_rows.specs.witnesses.DeclarationWithoutItsNames.{source_declaration_without_its_names, output_declaration_without_its_names, generated_declaration_without_its_names, options_declaration_without_its_names};
 ghost use Rattle.es_rows.specs.witnesses.DeclaratorInAConst.{source_declarator_in_a_const, output_declarator_in_a_const, generated_declarator_in_a_const, options_declarator_in_a_const};
 ghost use Rattle.es_rows.specs.witnesses.DeclaratorOutOfItsBlock.{source_declarator_out_of_its_block, output_declarator_out_of_its_block, generated_declarator_out_of_its_block, options_declarator_out_of_its_block};
+ghost use Rattle.es_rows.specs.witnesses.DefaultClassBehindAKey.{source_default_class_behind_a_key, output_default_class_behind_a_key, generated_default_class_behind_a_key, options_default_class_behind_a_key};
+ghost use Rattle.es_rows.specs.witnesses.DefaultClassExpressionUnderAName.{source_default_class_expression_under_a_name, output_default_class_expression_under_a_name, generated_default_class_expression_under_a_name, options_default_class_expression_under_a_name};
 ghost use Rattle.es_rows.specs.witnesses.DefaultExportBehindACall.{source_default_export_behind_a_call, output_default_export_behind_a_call, generated_default_export_behind_a_call, options_default_export_behind_a_call};
 ghost use Rattle.es_rows.specs.witnesses.DefaultExports.{first_default_exports, second_default_exports, options_default_exports};
 ghost use Rattle.es_rows.specs.witnesses.DefaultFunction.{first_default_function, second_default_function, options_default_function};
@@ -333,6 +342,7 @@ ghost use Rattle.es_rows.specs.witnesses.KeyGivenBehindTheFields.{source_key_giv
 ghost use Rattle.es_rows.specs.witnesses.KeyGivenInItsValue.{source_key_given_in_its_value, output_key_given_in_its_value, generated_key_given_in_its_value, options_key_given_in_its_value};
 ghost use Rattle.es_rows.specs.witnesses.KeyHeadsExchanged.{first_key_heads_exchanged, second_key_heads_exchanged, options_key_heads_exchanged};
 ghost use Rattle.es_rows.specs.witnesses.KeyInFrontOfAThrow.{source_key_in_front_of_a_throw, output_key_in_front_of_a_throw, generated_key_in_front_of_a_throw, options_key_in_front_of_a_throw};
+ghost use Rattle.es_rows.specs.witnesses.KeyInFrontOfWhatItReads.{source_key_in_front_of_what_it_reads, output_key_in_front_of_what_it_reads, generated_key_in_front_of_what_it_reads, options_key_in_front_of_what_it_reads};
 ghost use Rattle.es_rows.specs.witnesses.KeyKeptBesideAConversion.{source_key_kept_beside_a_conversion, output_key_kept_beside_a_conversion, generated_key_kept_beside_a_conversion, options_key_kept_beside_a_conversion};
 ghost use Rattle.es_rows.specs.witnesses.KeyKeptByACall.{source_key_kept_by_a_call, output_key_kept_by_a_call, generated_key_kept_by_a_call, options_key_kept_by_a_call};
 ghost use Rattle.es_rows.specs.witnesses.KeyKeptByALogicalAssignment.{source_key_kept_by_a_logical_assignment, output_key_kept_by_a_logical_assignment, generated_key_kept_by_a_logical_assignment, options_key_kept_by_a_logical_assignment};
@@ -360,6 +370,7 @@ ghost use Rattle.es_rows.specs.witnesses.LetBehindACall.{source_let_behind_a_cal
 ghost use Rattle.es_rows.specs.witnesses.LetBehindAClosure.{source_let_behind_a_closure, output_let_behind_a_closure, generated_let_behind_a_closure, options_let_behind_a_closure};
 ghost use Rattle.es_rows.specs.witnesses.LetBehindAConstructor.{source_let_behind_a_constructor, output_let_behind_a_constructor, generated_let_behind_a_constructor, options_let_behind_a_constructor};
 ghost use Rattle.es_rows.specs.witnesses.LetBehindAField.{source_let_behind_a_field, output_let_behind_a_field, generated_let_behind_a_field, options_let_behind_a_field};
+ghost use Rattle.es_rows.specs.witnesses.LetBehindAKey.{source_let_behind_a_key, output_let_behind_a_key, generated_let_behind_a_key, options_let_behind_a_key};
 ghost use Rattle.es_rows.specs.witnesses.LetBehindAnArrow.{source_let_behind_an_arrow, output_let_behind_an_arrow, generated_let_behind_an_arrow, options_let_behind_an_arrow};
 ghost use Rattle.es_rows.specs.witnesses.LetBesideACaughtName.{source_let_beside_a_caught_name, output_let_beside_a_caught_name, generated_let_beside_a_caught_name, options_let_beside_a_caught_name};
 ghost use Rattle.es_rows.specs.witnesses.LetInFrontOfAFunction.{source_let_in_front_of_a_function, output_let_in_front_of_a_function, generated_let_in_front_of_a_function, options_let_in_front_of_a_function};
@@ -372,6 +383,7 @@ ghost use Rattle.es_rows.specs.witnesses.LetOutOfALoop.{first_let_out_of_a_loop,
 ghost use Rattle.es_rows.specs.witnesses.LetOutOfItsBlock.{source_let_out_of_its_block, output_let_out_of_its_block, generated_let_out_of_its_block, options_let_out_of_its_block};
 ghost use Rattle.es_rows.specs.witnesses.LetReadInAMethod.{source_let_read_in_a_method, output_let_read_in_a_method, generated_let_read_in_a_method, options_let_read_in_a_method};
 ghost use Rattle.es_rows.specs.witnesses.LetReadInItsValue.{source_let_read_in_its_value, output_let_read_in_its_value, generated_let_read_in_its_value, options_let_read_in_its_value};
+ghost use Rattle.es_rows.specs.witnesses.LetWithoutAValueBehindACall.{source_let_without_a_value_behind_a_call, output_let_without_a_value_behind_a_call, generated_let_without_a_value_behind_a_call, options_let_without_a_value_behind_a_call};
 ghost use Rattle.es_rows.specs.witnesses.LoopHeadsExchanged.{first_loop_heads_exchanged, second_loop_heads_exchanged, options_loop_heads_exchanged};
 ghost use Rattle.es_rows.specs.witnesses.LooseMemberReadOnce.{first_loose_member_read_once, second_loose_member_read_once, options_loose_member_read_once};
 ghost use Rattle.es_rows.specs.witnesses.MapBehindAKey.{source_map_behind_a_key, output_map_behind_a_key, generated_map_behind_a_key, options_map_behind_a_key};
@@ -398,6 +410,7 @@ ghost use Rattle.es_rows.specs.witnesses.NameGivenBehindAField.{source_name_give
 ghost use Rattle.es_rows.specs.witnesses.NameGivenInAClosure.{source_name_given_in_a_closure, output_name_given_in_a_closure, generated_name_given_in_a_closure, options_name_given_in_a_closure};
 ghost use Rattle.es_rows.specs.witnesses.NameInAStaticBlock.{source_name_in_a_static_block, output_name_in_a_static_block, generated_name_in_a_static_block, options_name_in_a_static_block};
 ghost use Rattle.es_rows.specs.witnesses.NameOfAClassWithABlock.{source_name_of_a_class_with_a_block, output_name_of_a_class_with_a_block, generated_name_of_a_class_with_a_block, options_name_of_a_class_with_a_block};
+ghost use Rattle.es_rows.specs.witnesses.NameOfAKeyInFrontOfAnAwait.{source_name_of_a_key_in_front_of_an_await, output_name_of_a_key_in_front_of_an_await, generated_name_of_a_key_in_front_of_an_await, options_name_of_a_key_in_front_of_an_await};
 ghost use Rattle.es_rows.specs.witnesses.NameOfANamedClass.{source_name_of_a_named_class, output_name_of_a_named_class, generated_name_of_a_named_class, options_name_of_a_named_class};
 ghost use Rattle.es_rows.specs.witnesses.NameOfAnotherCharacter.{source_name_of_another_character, output_name_of_another_character, generated_name_of_another_character, options_name_of_another_character};
 ghost use Rattle.es_rows.specs.witnesses.NameOfNoMember.{source_name_of_no_member, output_name_of_no_member, generated_name_of_no_member, options_name_of_no_member};
@@ -474,6 +487,8 @@ ghost use Rattle.es_rows.specs.witnesses.RawOfATemplate.{source_raw_of_a_templat
 ghost use Rattle.es_rows.specs.witnesses.ReadBehindAFunctionInABlock.{first_read_behind_a_function_in_a_block, second_read_behind_a_function_in_a_block, options_read_behind_a_function_in_a_block};
 ghost use Rattle.es_rows.specs.witnesses.ReadInFrontOfABlock.{first_read_in_front_of_a_block, second_read_in_front_of_a_block, options_read_in_front_of_a_block};
 ghost use Rattle.es_rows.specs.witnesses.ReadMoved.{source_read_moved, output_read_moved, generated_read_moved, options_read_moved};
+ghost use Rattle.es_rows.specs.witnesses.ReadingOfAnotherFunction.{source_reading_of_another_function, output_reading_of_another_function, generated_reading_of_another_function, options_reading_of_another_function};
+ghost use Rattle.es_rows.specs.witnesses.ReadingThatIsNew.{source_reading_that_is_new, output_reading_that_is_new, generated_reading_that_is_new, options_reading_that_is_new};
 ghost use Rattle.es_rows.specs.witnesses.ReceiverOfAConditional.{source_receiver_of_a_conditional, output_receiver_of_a_conditional, generated_receiver_of_a_conditional, options_receiver_of_a_conditional};
 ghost use Rattle.es_rows.specs.witnesses.ReceiverOfAPrivateCall.{source_receiver_of_a_private_call, output_receiver_of_a_private_call, generated_receiver_of_a_private_call, options_receiver_of_a_private_call};
 ghost use Rattle.es_rows.specs.witnesses.ReceiverOfASuperCall.{source_receiver_of_a_super_call, output_receiver_of_a_super_call, generated_receiver_of_a_super_call, options_receiver_of_a_super_call};
@@ -508,6 +523,7 @@ ghost use Rattle.es_rows.specs.witnesses.StaticFieldDropped.{source_static_field
 ghost use Rattle.es_rows.specs.witnesses.StaticFieldThatTakesABlock.{source_static_field_that_takes_a_block, output_static_field_that_takes_a_block, generated_static_field_that_takes_a_block, options_static_field_that_takes_a_block};
 ghost use Rattle.es_rows.specs.witnesses.StaticGetterOrMethod.{first_static_getter_or_method, second_static_getter_or_method, options_static_getter_or_method};
 ghost use Rattle.es_rows.specs.witnesses.StaticKeyReadLate.{source_static_key_read_late, output_static_key_read_late, generated_static_key_read_late, options_static_key_read_late};
+ghost use Rattle.es_rows.specs.witnesses.StaticKeyThatIsAConstant.{source_static_key_that_is_a_constant, output_static_key_that_is_a_constant, generated_static_key_that_is_a_constant, options_static_key_that_is_a_constant};
 ghost use Rattle.es_rows.specs.witnesses.StaticPrivateMethodOfAnotherClass.{first_static_private_method_of_another_class, second_static_private_method_of_another_class, options_static_private_method_of_another_class};
 ghost use Rattle.es_rows.specs.witnesses.StaticPrivateMethodThatReadsAField.{source_static_private_method_that_reads_a_field, output_static_private_method_that_reads_a_field, generated_static_private_method_that_reads_a_field, options_static_private_method_that_reads_a_field};
 ghost use Rattle.es_rows.specs.witnesses.StaticValueInFrontOfAClass.{source_static_value_in_front_of_a_class, output_static_value_in_front_of_a_class, generated_static_value_in_front_of_a_class, options_static_value_in_front_of_a_class};
@@ -557,6 +573,11 @@ ghost use Rattle.es_rows.specs.witnesses.TestedName.{first_tested_name, second_t
 ghost use Rattle.es_rows.specs.witnesses.TestedNameOfAClass.{source_tested_name_of_a_class, output_tested_name_of_a_class, generated_tested_name_of_a_class, options_tested_name_of_a_class};
 ghost use Rattle.es_rows.specs.witnesses.TestsOfTwoKeys.{source_tests_of_two_keys, output_tests_of_two_keys, generated_tests_of_two_keys, options_tests_of_two_keys};
 ghost use Rattle.es_rows.specs.witnesses.TextOfADirective.{source_text_of_a_directive, output_text_of_a_directive, generated_text_of_a_directive, options_text_of_a_directive};
+ghost use Rattle.es_rows.specs.witnesses.ThisInANewConstructor.{source_this_in_a_new_constructor, output_this_in_a_new_constructor, generated_this_in_a_new_constructor, options_this_in_a_new_constructor};
+ghost use Rattle.es_rows.specs.witnesses.ThisInAnArrow.{source_this_in_an_arrow, output_this_in_an_arrow, generated_this_in_an_arrow, options_this_in_an_arrow};
+ghost use Rattle.es_rows.specs.witnesses.ThisInFrontOfAnArrowWithSuper.{source_this_in_front_of_an_arrow_with_super, output_this_in_front_of_an_arrow_with_super, generated_this_in_front_of_an_arrow_with_super, options_this_in_front_of_an_arrow_with_super};
+ghost use Rattle.es_rows.specs.witnesses.ThisInFrontOfSuper.{source_this_in_front_of_super, output_this_in_front_of_super, generated_this_in_front_of_super, options_this_in_front_of_super};
+ghost use Rattle.es_rows.specs.witnesses.ThisOutOfAnArrow.{source_this_out_of_an_arrow, output_this_out_of_an_arrow, generated_this_out_of_an_arrow, options_this_out_of_an_arrow};
 ghost use Rattle.es_rows.specs.witnesses.TwoBrands.{source_two_brands, output_two_brands, generated_two_brands, options_two_brands};
 ghost use Rattle.es_rows.specs.witnesses.TwoConstructors.{source_two_constructors, output_two_constructors, generated_two_constructors, options_two_constructors};
 ghost use Rattle.es_rows.specs.witnesses.TwoFunctions.{source_two_functions, output_two_functions, generated_two_functions, options_two_functions};
@@ -779,6 +800,7 @@ pub fn wrong_outputs_are_told_apart()
     ensures conversion_of_an_assignment_of_another_name { Refused options_conversion_of_an_assignment_of_another_name generated_conversion_of_an_assignment_of_another_name source_conversion_of_an_assignment_of_another_name output_conversion_of_an_assignment_of_another_name }
     ensures conversion_of_another_assignment { Refused options_conversion_of_another_assignment generated_conversion_of_another_assignment source_conversion_of_another_assignment output_conversion_of_another_assignment }
     ensures declarator_out_of_its_block { Refused options_declarator_out_of_its_block generated_declarator_out_of_its_block source_declarator_out_of_its_block output_declarator_out_of_its_block }
+    ensures default_class_behind_a_key { Refused options_default_class_behind_a_key generated_default_class_behind_a_key source_default_class_behind_a_key output_default_class_behind_a_key }
     ensures definitions_nested { Refused options_definitions_nested generated_definitions_nested source_definitions_nested output_definitions_nested }
     ensures deleted_key { Refused options_deleted_key generated_deleted_key source_deleted_key output_deleted_key }
     ensures elements_of_a_written_class_dropped { Refused options_elements_of_a_written_class_dropped generated_elements_of_a_written_class_dropped source_elements_of_a_written_class_dropped output_elements_of_a_written_class_dropped }
@@ -801,6 +823,9 @@ pub fn wrong_outputs_are_told_apart()
     ensures key_of_a_binding_in_a_temporary { Refused options_key_of_a_binding_in_a_temporary generated_key_of_a_binding_in_a_temporary source_key_of_a_binding_in_a_temporary output_key_of_a_binding_in_a_temporary }
     ensures key_read_late { Refused options_key_read_late generated_key_read_late source_key_read_late output_key_read_late }
     ensures key_read_twice { Refused options_key_read_twice generated_key_read_twice source_key_read_twice output_key_read_twice }
+    ensures let_behind_a_closure { Refused options_let_behind_a_closure generated_let_behind_a_closure source_let_behind_a_closure output_let_behind_a_closure }
+    ensures let_behind_a_key { Refused options_let_behind_a_key generated_let_behind_a_key source_let_behind_a_key output_let_behind_a_key }
+    ensures let_without_a_value_behind_a_call { Refused options_let_without_a_value_behind_a_call generated_let_without_a_value_behind_a_call source_let_without_a_value_behind_a_call output_let_without_a_value_behind_a_call }
     ensures maps_in_loose_mode { Refused options_maps_in_loose_mode generated_maps_in_loose_mode source_maps_in_loose_mode output_maps_in_loose_mode }
     ensures member_of_an_object { Refused options_member_of_an_object generated_member_of_an_object source_member_of_an_object output_member_of_an_object }
     ensures method_without_brand { Refused options_method_without_brand generated_method_without_brand source_method_without_brand output_method_without_brand }
@@ -920,6 +945,11 @@ pub fn clauses_are_not_met()
     ensures class_behind_its_use { lists_kept options_class_behind_its_use source_class_behind_its_use output_class_behind_its_use ≡ false }
     ensures class_in_a_constructor { lists_kept options_class_in_a_constructor source_class_in_a_constructor output_class_in_a_constructor ≡ false }
     ensures class_in_front_of_a_let { references_stay (nodes source_class_in_front_of_a_let) generated_class_in_front_of_a_let source_class_in_front_of_a_let output_class_in_front_of_a_let ≡ false }
+    ensures class_in_front_of_a_return { references_stay (nodes source_class_in_front_of_a_return) generated_class_in_front_of_a_return source_class_in_front_of_a_return output_class_in_front_of_a_return ≡ false }
+    ensures class_in_front_of_an_await { references_stay (nodes source_class_in_front_of_an_await) generated_class_in_front_of_an_await source_class_in_front_of_an_await output_class_in_front_of_an_await ≡ false }
+    ensures class_in_front_of_what_its_heritage_reads { references_stay (nodes source_class_in_front_of_what_its_heritage_reads) generated_class_in_front_of_what_its_heritage_reads source_class_in_front_of_what_its_heritage_reads output_class_in_front_of_what_its_heritage_reads ≡ false }
+    ensures class_in_front_of_what_its_key_reads { references_stay (nodes source_class_in_front_of_what_its_key_reads) generated_class_in_front_of_what_its_key_reads source_class_in_front_of_what_its_key_reads output_class_in_front_of_what_its_key_reads ≡ false }
+    ensures class_name_in_front_of_an_await { references_stay (nodes source_class_name_in_front_of_an_await) generated_class_name_in_front_of_an_await source_class_name_in_front_of_an_await output_class_name_in_front_of_an_await ≡ false }
     ensures class_named_arguments { stays_printable source_class_named_arguments output_class_named_arguments ≡ false }
     ensures class_named_await_in_an_async_function { stays_printable source_class_named_await_in_an_async_function output_class_named_await_in_an_async_function ≡ false }
     ensures class_named_behind_its_block { references_stay (nodes source_class_named_behind_its_block) generated_class_named_behind_its_block source_class_named_behind_its_block output_class_named_behind_its_block ≡ false }
@@ -928,6 +958,8 @@ pub fn clauses_are_not_met()
     ensures class_named_in_front_of_it { references_stay (nodes source_class_named_in_front_of_it) generated_class_named_in_front_of_it source_class_named_in_front_of_it output_class_named_in_front_of_it ≡ false }
     ensures class_named_let { stays_printable source_class_named_let output_class_named_let ≡ false }
     ensures class_out_of_a_block { references_stay (nodes source_class_out_of_a_block) generated_class_out_of_a_block source_class_out_of_a_block output_class_out_of_a_block ≡ false }
+    ensures class_out_of_a_branch { references_stay (nodes source_class_out_of_a_branch) generated_class_out_of_a_branch source_class_out_of_a_branch output_class_out_of_a_branch ≡ false }
+    ensures class_out_of_a_chain { references_stay (nodes source_class_out_of_a_chain) generated_class_out_of_a_chain source_class_out_of_a_chain output_class_out_of_a_chain ≡ false }
     ensures class_read_while_its_block_runs { references_stay (nodes source_class_read_while_its_block_runs) generated_class_read_while_its_block_runs source_class_read_while_its_block_runs output_class_read_while_its_block_runs ≡ false }
     ensures class_temporary_before_its_class { names_timely (nodes source_class_temporary_before_its_class) generated_class_temporary_before_its_class (private_members source_class_temporary_before_its_class) output_class_temporary_before_its_class ≡ false }
     ensures class_temporary_behind_a_called_arrow { initializations_stand (nodes source_class_temporary_behind_a_called_arrow) generated_class_temporary_behind_a_called_arrow source_class_temporary_behind_a_called_arrow output_class_temporary_behind_a_called_arrow generated_class_temporary_behind_a_called_arrow ≡ false }
@@ -975,6 +1007,7 @@ pub fn clauses_are_not_met()
     ensures declaration_without_its_name_in_a_method { own_names_stay generated_declaration_without_its_name_in_a_method source_declaration_without_its_name_in_a_method output_declaration_without_its_name_in_a_method ≡ false }
     ensures declaration_without_its_names { stays_printable source_declaration_without_its_names output_declaration_without_its_names ≡ false }
     ensures declarator_in_a_const { declarations_accounted (nodes source_declarator_in_a_const) generated_declarator_in_a_const source_declarator_in_a_const output_declarator_in_a_const ≡ false }
+    ensures default_class_expression_under_a_name { references_stay (nodes source_default_class_expression_under_a_name) generated_default_class_expression_under_a_name source_default_class_expression_under_a_name output_default_class_expression_under_a_name ≡ false }
     ensures default_export_behind_a_call { references_stay (nodes source_default_export_behind_a_call) generated_default_export_behind_a_call source_default_export_behind_a_call output_default_export_behind_a_call ≡ false }
     ensures default_value_behind_a_call { references_stay (nodes source_default_value_behind_a_call) generated_default_value_behind_a_call source_default_value_behind_a_call output_default_value_behind_a_call ≡ false }
     ensures defaults_exchanged_behind_an_error { numbers_carried (nodes source_defaults_exchanged_behind_an_error) source_defaults_exchanged_behind_an_error output_defaults_exchanged_behind_an_error ≡ false }
@@ -999,6 +1032,7 @@ pub fn clauses_are_not_met()
     ensures import_meta_behind_an_error { numbers_carried (nodes source_import_meta_behind_an_error) source_import_meta_behind_an_error output_import_meta_behind_an_error ≡ false }
     ensures initialized_head_behind_an_error { numbers_carried (nodes source_initialized_head_behind_an_error) source_initialized_head_behind_an_error output_initialized_head_behind_an_error ≡ false }
     ensures key_given_again { initializations_stand (nodes source_key_given_again) generated_key_given_again source_key_given_again output_key_given_again generated_key_given_again ≡ false }
+    ensures key_in_front_of_what_it_reads { references_stay (nodes source_key_in_front_of_what_it_reads) generated_key_in_front_of_what_it_reads source_key_in_front_of_what_it_reads output_key_in_front_of_what_it_reads ≡ false }
     ensures key_kept_beside_a_conversion { helper_calls_fit (nodes source_key_kept_beside_a_conversion) generated_key_kept_beside_a_conversion (keys_that_stay (nodes source_key_kept_beside_a_conversion) generated_key_kept_beside_a_conversion source_key_kept_beside_a_conversion output_key_kept_beside_a_conversion) output_key_kept_beside_a_conversion ≡ false }
     ensures key_kept_by_a_call { helper_calls_fit (nodes source_key_kept_by_a_call) generated_key_kept_by_a_call (keys_that_stay (nodes source_key_kept_by_a_call) generated_key_kept_by_a_call source_key_kept_by_a_call output_key_kept_by_a_call) output_key_kept_by_a_call ≡ false }
     ensures key_kept_by_a_logical_assignment { helper_calls_fit (nodes source_key_kept_by_a_logical_assignment) generated_key_kept_by_a_logical_assignment (keys_that_stay (nodes source_key_kept_by_a_logical_assignment) generated_key_kept_by_a_logical_assignment source_key_kept_by_a_logical_assignment output_key_kept_by_a_logical_assignment) output_key_kept_by_a_logical_assignment ≡ false }
@@ -1011,7 +1045,6 @@ pub fn clauses_are_not_met()
     ensures label_word_behind_an_error { numbers_carried (nodes source_label_word_behind_an_error) source_label_word_behind_an_error output_label_word_behind_an_error ≡ false }
     ensures labelled_function_in_a_branch { numbers_carried (nodes source_labelled_function_in_a_branch) source_labelled_function_in_a_branch output_labelled_function_in_a_branch ≡ false }
     ensures let_behind_a_call { names_timely (nodes source_let_behind_a_call) generated_let_behind_a_call (private_members source_let_behind_a_call) output_let_behind_a_call ≡ false }
-    ensures let_behind_a_closure { references_stay (nodes source_let_behind_a_closure) generated_let_behind_a_closure source_let_behind_a_closure output_let_behind_a_closure ≡ false }
     ensures let_behind_a_constructor { names_timely (nodes source_let_behind_a_constructor) generated_let_behind_a_constructor (private_members source_let_behind_a_constructor) output_let_behind_a_constructor ≡ false }
     ensures let_behind_a_field { names_timely (nodes source_let_behind_a_field) generated_let_behind_a_field (private_members source_let_behind_a_field) output_let_behind_a_field ≡ false }
     ensures let_behind_an_arrow { names_timely (nodes source_let_behind_an_arrow) generated_let_behind_an_arrow (private_members source_let_behind_an_arrow) output_let_behind_an_arrow ≡ false }
@@ -1039,6 +1072,7 @@ pub fn clauses_are_not_met()
     ensures name_given_in_a_closure { helper_calls_fit (nodes source_name_given_in_a_closure) generated_name_given_in_a_closure (keys_that_stay (nodes source_name_given_in_a_closure) generated_name_given_in_a_closure source_name_given_in_a_closure output_name_given_in_a_closure) output_name_given_in_a_closure ≡ false }
     ensures name_in_a_static_block { classes_kept (nodes source_name_in_a_static_block) source_name_in_a_static_block output_name_in_a_static_block ≡ false }
     ensures name_of_a_class_with_a_block { helper_calls_fit (nodes source_name_of_a_class_with_a_block) generated_name_of_a_class_with_a_block (keys_that_stay (nodes source_name_of_a_class_with_a_block) generated_name_of_a_class_with_a_block source_name_of_a_class_with_a_block output_name_of_a_class_with_a_block) output_name_of_a_class_with_a_block ≡ false }
+    ensures name_of_a_key_in_front_of_an_await { references_stay (nodes source_name_of_a_key_in_front_of_an_await) generated_name_of_a_key_in_front_of_an_await source_name_of_a_key_in_front_of_an_await output_name_of_a_key_in_front_of_an_await ≡ false }
     ensures name_of_a_named_class { helper_calls_fit (nodes source_name_of_a_named_class) generated_name_of_a_named_class (keys_that_stay (nodes source_name_of_a_named_class) generated_name_of_a_named_class source_name_of_a_named_class output_name_of_a_named_class) output_name_of_a_named_class ≡ false }
     ensures name_of_another_character { texts_stay (nodes source_name_of_another_character) source_name_of_another_character output_name_of_another_character ≡ false }
     ensures name_of_no_member { initializations_stand (nodes source_name_of_no_member) generated_name_of_no_member source_name_of_no_member output_name_of_no_member generated_name_of_no_member ≡ false }
@@ -1076,6 +1110,8 @@ pub fn clauses_are_not_met()
     ensures question_on_a_static_field { numbers_carried (nodes source_question_on_a_static_field) source_question_on_a_static_field output_question_on_a_static_field ≡ false }
     ensures raw_of_a_string { texts_stay (nodes source_raw_of_a_string) source_raw_of_a_string output_raw_of_a_string ≡ false }
     ensures raw_of_a_template { texts_stay (nodes source_raw_of_a_template) source_raw_of_a_template output_raw_of_a_template ≡ false }
+    ensures reading_of_another_function { references_stay (nodes source_reading_of_another_function) generated_reading_of_another_function source_reading_of_another_function output_reading_of_another_function ≡ false }
+    ensures reading_that_is_new { references_stay (nodes source_reading_that_is_new) generated_reading_that_is_new source_reading_that_is_new output_reading_that_is_new ≡ false }
     ensures regular_expression_read_twice { temporaries_steady (nodes source_regular_expression_read_twice) generated_regular_expression_read_twice (private_members source_regular_expression_read_twice) output_regular_expression_read_twice ≡ false }
     ensures rests_exchanged_behind_an_error { numbers_carried (nodes source_rests_exchanged_behind_an_error) source_rests_exchanged_behind_an_error output_rests_exchanged_behind_an_error ≡ false }
     ensures second_string_that_a_printer_makes_a_directive { stays_printable source_second_string_that_a_printer_makes_a_directive output_second_string_that_a_printer_makes_a_directive ≡ false }
@@ -1106,6 +1142,11 @@ pub fn clauses_are_not_met()
     ensures test_dropped_behind_an_error { numbers_carried (nodes source_test_dropped_behind_an_error) source_test_dropped_behind_an_error output_test_dropped_behind_an_error ≡ false }
     ensures test_of_a_member_of_the_source { helper_calls_fit (nodes source_test_of_a_member_of_the_source) generated_test_of_a_member_of_the_source (keys_that_stay (nodes source_test_of_a_member_of_the_source) generated_test_of_a_member_of_the_source source_test_of_a_member_of_the_source output_test_of_a_member_of_the_source) output_test_of_a_member_of_the_source ≡ false }
     ensures text_of_a_directive { texts_stay (nodes source_text_of_a_directive) source_text_of_a_directive output_text_of_a_directive ≡ false }
+    ensures this_in_a_new_constructor { references_stay (nodes source_this_in_a_new_constructor) generated_this_in_a_new_constructor source_this_in_a_new_constructor output_this_in_a_new_constructor ≡ false }
+    ensures this_in_an_arrow { references_stay (nodes source_this_in_an_arrow) generated_this_in_an_arrow source_this_in_an_arrow output_this_in_an_arrow ≡ false }
+    ensures this_in_front_of_an_arrow_with_super { references_stay (nodes source_this_in_front_of_an_arrow_with_super) generated_this_in_front_of_an_arrow_with_super source_this_in_front_of_an_arrow_with_super output_this_in_front_of_an_arrow_with_super ≡ false }
+    ensures this_in_front_of_super { references_stay (nodes source_this_in_front_of_super) generated_this_in_front_of_super source_this_in_front_of_super output_this_in_front_of_super ≡ false }
+    ensures this_out_of_an_arrow { references_stay (nodes source_this_out_of_an_arrow) generated_this_out_of_an_arrow source_this_out_of_an_arrow output_this_out_of_an_arrow ≡ false }
     ensures two_brands { names_declared (nodes source_two_brands) generated_two_brands output_two_brands ≡ false }
     ensures two_functions { names_declared (nodes source_two_functions) generated_two_functions output_two_functions ≡ false }
     ensures two_maps { names_declared (nodes source_two_maps) generated_two_maps output_two_maps ≡ false }
@@ -1163,6 +1204,7 @@ pub fn outputs_owe_nothing()
     ensures regular_expression_as_a_key { Kept options_regular_expression_as_a_key generated_regular_expression_as_a_key source_regular_expression_as_a_key output_regular_expression_as_a_key [] }
     ensures regular_expression_as_a_static_key { Kept options_regular_expression_as_a_static_key generated_regular_expression_as_a_static_key source_regular_expression_as_a_static_key output_regular_expression_as_a_static_key [] }
     ensures static_field_that_takes_a_block { Kept options_static_field_that_takes_a_block generated_static_field_that_takes_a_block source_static_field_that_takes_a_block output_static_field_that_takes_a_block [] }
+    ensures static_key_that_is_a_constant { Kept options_static_key_that_is_a_constant generated_static_key_that_is_a_constant source_static_key_that_is_a_constant output_static_key_that_is_a_constant [] }
     ensures static_private_method_that_reads_a_field { Kept options_static_private_method_that_reads_a_field generated_static_private_method_that_reads_a_field source_static_private_method_that_reads_a_field output_static_private_method_that_reads_a_field [] }
     ensures strict_function_of_a_method { Kept options_strict_function_of_a_method generated_strict_function_of_a_method source_strict_function_of_a_method output_strict_function_of_a_method [] }
     ensures string_in_parentheses { Kept options_string_in_parentheses generated_string_in_parentheses source_string_in_parentheses output_string_in_parentheses [] }

@@ -16,7 +16,6 @@ is_quiet_kind Kind.ClassExpression = true
 is_quiet_kind Kind.ClassBody = true
 is_quiet_kind Kind.MethodDefinition = true
 is_quiet_kind Kind.StaticBlock = true
-is_quiet_kind Kind.VariableDeclaration = true
 is_quiet_kind Kind.ExpressionStatement = true
 is_quiet_kind Kind.BlockStatement = true
 is_quiet_kind Kind.EmptyStatement = true

@@ -10,6 +10,7 @@ ghost use Rattle.es_steps.specs.Parts.{at, is_true, string_of};
 ghost use Rattle.es_steps.specs.Quiet as spec;
 ghost use Rattle.es_steps.specs.Quiet.{is_new, is_this, is_constant};
 ghost use Rattle.es_steps.specs.References.{resolve, varying, changes_free};
+ghost use Rattle.es_steps.specs.Scopes.{is_let};
 ghost use Rattle.es_shapes.specs.Around.{ids_in, around};
 ghost use Rattle.es_shapes.specs.Quiet as kinds;
 
@@ -20,7 +21,7 @@ use crate::facts::NameFacts;
 use es_base::kind::Kind;
 use es_base::literal::LiteralValue;
 use es_base::name::Name;
-use es_base::operator::UnaryOperator;
+use es_base::operator::{UnaryOperator, VariableDeclarationKind};
 use es_base::strings::is_word;
 use es_node::node::Node;
 use es_steps::options::Options;
@@ -28,7 +29,7 @@ use es_tree::class::{ClassDeclarationRef, MethodDefinitionRef, PropertyDefinitio
 use es_tree::expression::{MetaPropertyRef, TemplateLiteralRef, UnaryExpressionRef};
 use es_tree::identifier::{IdentifierNameRef, IdentifierReferenceRef};
 use es_tree::literal::LiteralRef;
-use es_tree::statement::VariableDeclaratorRef;
+use es_tree::statement::{VariableDeclarationRef, VariableDeclaratorRef};
 
 /// Whether the node has an event by itself, whatever its parts do.
 #[tactic(auto, using(crate::proofs::ByKind::acts_by_kind))]
@@ -56,12 +57,25 @@ pub fn acts<F: NameFacts>(
         Kind::ClassDeclaration => ClassDeclarationRef::from_node(node).id.is_some(),
         // { function f() {} }
         Kind::FunctionDeclaration => standing.in_block,
+        // let x;
+        Kind::VariableDeclaration => declares_by_let(node),
         // var x;
         Kind::VariableDeclarator => {
             let declarator = VariableDeclaratorRef::from_node(node);
             declarator.init.is_some() || !is_identifier(declarator.id)
         }
         kind => !is_quiet_kind(kind),
+    }
+}
+
+/// Whether a variable declaration is one by `let`, whose names are given values, or undefined (ECMA-262, 14.3.1.2).
+fn declares_by_let(node: &Node) -> bool
+    requires { kind_of node.now ≡ Kind.VariableDeclaration }
+    ensures { result ≡ is_let (parts_in node.now) }
+{
+    match VariableDeclarationRef::from_node(node).kind {
+        VariableDeclarationKind::Let => true,
+        VariableDeclarationKind::Var | VariableDeclarationKind::Const => false,
     }
 }
 
@@ -79,7 +93,6 @@ fn is_quiet_kind(kind: Kind) -> bool
             | Kind::ClassBody
             | Kind::MethodDefinition
             | Kind::StaticBlock
-            | Kind::VariableDeclaration
             | Kind::ExpressionStatement
             | Kind::BlockStatement
             | Kind::EmptyStatement

@@ -1,10 +1,10 @@
 -- Class expressions whose heritage or keys read their name follow a change of numbers.
-use Rattle.std.specs.Prelude.{◌≡◌, ℕ, List, [], ◌∷◌, map, nat_eq, Some}
+use Rattle.std.specs.Prelude.{◌≡◌, ℕ, List, [], ◌∷◌, map, nat_eq, Option, Some, None}
 use Rattle.std.proofs.Common.{refl, ap, ◌∙◌}
 use Rattle.es_base.specs.Preorder.{preorder, preorder_of_part}
-use Rattle.es_base.specs.Tree.{Tree, Part, Parts, Node, end, more, child, string}
+use Rattle.es_base.specs.Tree.{Tree, Part, Parts, Node, end, more, child, absent, string}
 use Rattle.es_base.specs.declared.kind.Kind.{Kind}
-use Rattle.es_steps.specs.ClassHeads.{key_nodes, body_keys, head_nodes, reads_spelling, named_by, named_among, named_classes, named_as}
+use Rattle.es_steps.specs.ClassHeads.{key_nodes, body_keys, head_nodes, reads_spelling, named_by, unnamed_class, named_among, named_classes, named_as, declared_or_named}
 use Rattle.es_steps.specs.Parts.{at, items}
 use Rattle.es_steps.specs.PrivateNames.{is_element}
 use Rattle.es_steps.specs.Values.{String}
@@ -37,8 +37,14 @@ module _ (f : ℕ → ℕ) where
       rw (reads_spelling-mapped s heads) (cond-mapped (map (mapped_pair f)) (reads_spelling s heads) ((n, b) ∷ []) [] refl refl)
   named_by-mapped n p heads = refl
 
+  unnamed_class-mapped : (n : ℕ) (p : Part) → unnamed_class (f n) (mapped_part f p) ≡ map (mapped_pair f) (unnamed_class n p)
+  unnamed_class-mapped n absent = refl
+  unnamed_class-mapped n p = refl
+
   named_among-mapped : (ts : List Tree) → named_among (map (mapped f) ts) ≡ map (mapped_pair f) (named_among ts)
   named_among-mapped [] = refl
+  named_among-mapped (Node Kind.ClassDeclaration n span semantic_id ps ∷ ts) =
+      append-mapped (mapped_pair f) _ _ (ap (unnamed_class (f n)) (at-mapped f 0 ps) ∙ unnamed_class-mapped n (at 0 ps)) (named_among-mapped ts)
   named_among-mapped (Node Kind.ClassExpression n span semantic_id ps ∷ ts) =
       append-mapped (mapped_pair f) _ _ (rw (at-mapped f 0 ps, head_nodes-mapped ps) (named_by-mapped n (at 0 ps) (head_nodes ps))) (named_among-mapped ts)
   named_among-mapped (t ∷ ts) = named_among-mapped ts
@@ -49,3 +55,7 @@ module _ (f : ℕ → ℕ) where
 pub named_as-mapped : {first : ℕ} {f : ℕ → ℕ} → Renames first f → (n : ℕ) (ps : List (ℕ × ℕ)) → named_as (f n) (map (mapped_pair f) ps) ≡ mapped_option f (named_as n ps)
 named_as-mapped r n [] = refl
 named_as-mapped {f = f} r n (p ∷ ps) = rw (r.apart n p.0) (cond-mapped (mapped_option f) (nat_eq n p.0) (Some p.1) (named_as n ps) refl (named_as-mapped r n ps))
+
+pub declared_or_named-mapped : {first : ℕ} {f : ℕ → ℕ} → Renames first f → (n : ℕ) (ps : List (ℕ × ℕ)) (d : Option ℕ) → declared_or_named (f n) (map (mapped_pair f) ps) (mapped_option f d) ≡ mapped_option f (declared_or_named n ps d)
+declared_or_named-mapped r n ps None = named_as-mapped r n ps
+declared_or_named-mapped r n ps (Some b) = refl

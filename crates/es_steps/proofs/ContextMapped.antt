@@ -37,7 +37,7 @@ module _ (f : ℕ → ℕ) where
 
   -- ---- which `super(..)` runs the initializers
 
-  is_super_call-mapped : (kind : Kind) (ps : Parts) → is_super_call kind (mapped_parts f ps) ≡ is_super_call kind ps
+  pub is_super_call-mapped : (kind : Kind) (ps : Parts) → is_super_call kind (mapped_parts f ps) ≡ is_super_call kind ps
   is_super_call-mapped Kind.CallExpression (more (child (Node Kind.Super m span semantic_id ps)) rest) = refl
   is_super_call-mapped kind ps = refl
 

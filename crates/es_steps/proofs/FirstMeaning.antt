@@ -31,6 +31,7 @@ use Rattle.es_steps.specs.Members.{Member, code, absent, boolean, end, more, cod
 use Rattle.es_steps.specs.Reading.{read, read_part, read_parts, read_items}
 use Rattle.es_steps.specs.References.{has_number, declared}
 use Rattle.es_steps.specs.Scopes.{ClassName, no_class, declares, own_name, let_names, Declaration}
+use Rattle.es_steps.specs.ClassHeads.{declared_or_named}
 use Rattle.es_steps.specs.Statements.{value_or_undefined, field_code, declared_by, elements_of, class_of}
 use Rattle.es_steps.specs.Values.{String, StringOf, NumberOf, BooleanOf, Null, Value, ConstantOf, Undefined, ArgumentsOf, Bound, Free}
 use Rattle.es_steps.proofs.PlainClasses.{IsNotGenerated, fixed, changing, means_class, IsPlain, a_value, a_name, IsField, plain_field, AreFields, IsClass, plain_class, AreClasses, classes-run, all-there}
@@ -163,7 +164,7 @@ statement-read earlier names c (Node Kind.ClassDeclaration n span semantic_id (t
     let free = both_empty (unless (is_new_name earlier id && true) n) (body_breaches names body) h in
     let ps : Parts = tree.more id (tree.more tree.absent (tree.more body tree.end)) in
     let name : Member = read_part (inside c Kind.ClassDeclaration n ps 0) id in
-    class-read names (inside c Kind.ClassDeclaration n ps 2) computed n name body l (and_parts (part_conforms computed (Sort.Child Place.ClassBody) body) true fits.1).0 free.1 (declared_by name)
+    class-read names (inside c Kind.ClassDeclaration n ps 2) computed n name body l (and_parts (part_conforms computed (Sort.Child Place.ClassBody) body) true fits.1).0 free.1 (declared_or_named n c.named (declared_by name))
 statement-read earlier names c (Node Kind.ClassDeclaration n span semantic_id (tree.more id (tree.more heritage (tree.more body tree.end)))) l f h =
     let free = both_empty (unless (is_new_name earlier id && false) n) (body_breaches names body) h in
     no_false (and_parts (is_new_name earlier id) false (unless_true (is_new_name earlier id && false) n free.0)).1

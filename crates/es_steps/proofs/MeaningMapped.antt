@@ -106,7 +106,7 @@ module _ (f : ℕ → ℕ) where
   source_type_of-mapped : (t : Tree) → source_type_of (mapped f t) ≡ source_type_of t
   source_type_of-mapped (Node kind m span semantic_id ps) = string_at-mapped f 0 ps
 
-  body_of-mapped : (t : Tree) → body_of (mapped f t) ≡ mapped_parts f (body_of t)
+  pub body_of-mapped : (t : Tree) → body_of (mapped f t) ≡ mapped_parts f (body_of t)
   body_of-mapped (Node kind m span semantic_id ps) = items_at-mapped f 1 ps
 
   unless_generated-mapped : (g : Option GeneratedKind) (p : ℕ × ℕ) → unless_generated (mapped_option (mapped_generated f) g) (mapped_pair f p) ≡ map (mapped_pair f) (unless_generated g p)

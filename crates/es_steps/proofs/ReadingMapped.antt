@@ -1,19 +1,21 @@
 -- Reading a tree into codes follows a change of numbers.
-use Rattle.std.specs.Prelude.{◌≡◌, ℕ, suc}
+use Rattle.std.specs.Prelude.{◌≡◌, ℕ, suc, map}
 use Rattle.std.proofs.Common.{refl, ap, ap₂, ◌∙◌}
 use Rattle.es_base.specs.Tree as tree
 use Rattle.es_base.specs.Tree.{Tree, Part, Parts, Node}
 use Rattle.es_base.specs.declared.kind.Kind.{Kind}
+use Rattle.es_steps.specs.ClassHeads.{declared_or_named}
 use Rattle.es_steps.specs.Code.{sequence, spelled, static_block, steps}
 use Rattle.es_steps.specs.Context.{Context, inside}
 use Rattle.es_steps.specs.Members.{Members, code, list, more, at, word_of}
 use Rattle.es_steps.specs.Reading.{statement_code, pattern_code, class_form_code, code_of, read, read_parts, read_part, read_items}
 use Rattle.es_steps.specs.Statements.{class_of, declared_by, declared_by_let}
+use Rattle.es_steps.proofs.ClassHeadsMapped.{declared_or_named-mapped}
 use Rattle.es_steps.proofs.ContextMapped.{name_kind-mapped, inside-mapped, inside-first}
 use Rattle.es_steps.proofs.ExpressionsMapped.{operation_of-mapped, literal_at-mapped, name_code-mapped, private_name_code-mapped, template_string_code-mapped, template_code-mapped, meta_code-mapped, member_code-mapped, private_field_code-mapped, private_in_code-mapped, assignment_code-mapped, update_code-mapped, unary_code-mapped, binary_code-mapped, logical_code-mapped, chain_code-mapped, call_code-mapped, tag_code-mapped, new_code-mapped, conditional_code-mapped, property_code-mapped}
-use Rattle.es_steps.proofs.Mapped.{Renames, mapped, mapped_part, mapped_parts, mapped_context, mapped_code, mapped_member, mapped_members}
+use Rattle.es_steps.proofs.Mapped.{Renames, mapped, mapped_part, mapped_parts, mapped_context, mapped_code, mapped_member, mapped_members, mapped_pair}
 use Rattle.es_steps.proofs.MembersMapped.{codes_in-mapped, word_at-mapped, codes_at-mapped}
-use Rattle.es_steps.proofs.StatementsMapped.{held_from-mapped, case_code-mapped, catch_code-mapped, for_each_code-mapped, expression_code-mapped, declarator_code-mapped, return_code-mapped, suspension_code-mapped, default_export_code-mapped, default_code-mapped, rest_code-mapped, pattern_property_code-mapped, array_pattern_code-mapped, object_pattern_code-mapped, function_expression_code-mapped, function_declaration_code-mapped, arrow_code-mapped, declared_at-mapped, declared_by_let-mapped, class_of-mapped, field_code-mapped, method_code-mapped}
+use Rattle.es_steps.proofs.StatementsMapped.{held_from-mapped, case_code-mapped, catch_code-mapped, for_each_code-mapped, expression_code-mapped, declarator_code-mapped, declaration_code-mapped, return_code-mapped, suspension_code-mapped, default_export_code-mapped, default_code-mapped, rest_code-mapped, pattern_property_code-mapped, array_pattern_code-mapped, object_pattern_code-mapped, function_expression_code-mapped, function_declaration_code-mapped, arrow_code-mapped, declared_at-mapped, declared_by_let-mapped, class_of-mapped, field_code-mapped, method_code-mapped}
 
 -- ---- by the rule of a kind
 
@@ -22,7 +24,7 @@ module _ {first : ℕ} {f : ℕ → ℕ} (r : Renames first f) (c : Context) (e 
   statement_code-mapped Kind.Program m ps = ap steps (codes_in-mapped f ps)
   statement_code-mapped Kind.ExpressionStatement m ps = expression_code-mapped r c e m ps
   statement_code-mapped Kind.BlockStatement m ps = ap steps (codes_in-mapped f ps)
-  statement_code-mapped Kind.VariableDeclaration m ps = ap steps (codes_in-mapped f ps)
+  statement_code-mapped Kind.VariableDeclaration m ps = declaration_code-mapped f ps
   statement_code-mapped Kind.CatchClause m ps = catch_code-mapped f m ps
   statement_code-mapped Kind.VariableDeclarator m ps = declarator_code-mapped r c e m ps
   statement_code-mapped Kind.LabeledStatement m ps = held_from-mapped f 1 Kind.LabeledStatement m ps
@@ -57,8 +59,11 @@ module _ {first : ℕ} {f : ℕ → ℕ} (r : Renames first f) (c : Context) (e 
   pattern_code-mapped Kind.AssignmentTargetProperty m ps = pattern_property_code-mapped f m ps
   pattern_code-mapped kind m ps = statement_code-mapped kind m ps
 
-  class_declaration-mapped : (m : ℕ) (ps : Members) → class_of (declared_by (at 0 (mapped_members f ps))) (f m) (mapped_members f ps) ≡ mapped_code f (class_of (declared_by (at 0 ps)) m ps)
-  class_declaration-mapped m ps = ap (λ d. class_of d (f m) (mapped_members f ps)) (declared_at-mapped f 0 ps) ∙ class_of-mapped f (declared_by (at 0 ps)) m ps
+  class_declaration-mapped : (m : ℕ) (ps : Members) → class_of (declared_or_named (f m) (map (mapped_pair f) c.named) (declared_by (at 0 (mapped_members f ps)))) (f m) (mapped_members f ps) ≡ mapped_code f (class_of (declared_or_named m c.named (declared_by (at 0 ps))) m ps)
+  class_declaration-mapped m ps =
+      ap (λ d. class_of (declared_or_named (f m) (map (mapped_pair f) c.named) d) (f m) (mapped_members f ps)) (declared_at-mapped f 0 ps)
+      ∙ ap (λ d. class_of d (f m) (mapped_members f ps)) (declared_or_named-mapped r m c.named (declared_by (at 0 ps)))
+      ∙ class_of-mapped f (declared_or_named m c.named (declared_by (at 0 ps))) m ps
 
   class_form_code-mapped : (kind : Kind) (m : ℕ) (ps : Members) → class_form_code (mapped_context f c) kind (f m) (mapped_members f ps) ≡ mapped_code f (class_form_code c kind m ps)
   class_form_code-mapped Kind.FunctionDeclaration m ps = function_declaration_code-mapped r c e m ps

@@ -11,7 +11,7 @@ use Rattle.es_steps.specs.Events.{Detail, Operand, Empty, Index, Rest, OfKind, T
 use Rattle.es_steps.specs.Expressions.{the_code, key_code, key_details, target_of}
 use Rattle.es_steps.specs.Members.{Member, Members, code, absent, list, string, more, end, at, from, before, operands, details, codes_in, codes_of, word_of, flag_of}
 use Rattle.es_steps.specs.PrivateNames.{PrivateMember, member_at}
-use Rattle.es_steps.specs.Statements.{held_from, case_code, given_codes, catch_code, is_initialized, initialized_first, head_initializers, declared_target, given_targets, head_targets, for_each_code, is_other_directive, expression_code, declarator_of, declarator_code, return_code, suspension_code, default_export_code, default_code, rest_code, pattern_property_code, target_number, taken, taken_element, elements_from, members_of_list, array_pattern_code, taken_properties, object_pattern_code, form_of, function_or_new, own_name_of, function_code, function_expression_code, hoisted_function, declared_function, is_new_return, ends_with_return, arrow_body, function_declaration_code, arrow_code, declared_by, declared_by_let, elements_of, class_of, value_or_undefined, is_name_or_length, is_absent, field_form, private_element, field_of, field_code, is_constructor_key, method_or_constructor, is_declared_as, method_of, method_code}
+use Rattle.es_steps.specs.Statements.{held_from, case_code, given_codes, catch_code, is_initialized, initialized_first, head_initializers, declared_target, given_targets, head_targets, undefined_let, undefined_lets, is_let_word, declaration_code, for_each_code, is_other_directive, expression_code, declarator_of, declarator_code, return_code, suspension_code, default_export_code, default_code, rest_code, pattern_property_code, target_number, taken, taken_element, elements_from, members_of_list, array_pattern_code, taken_properties, object_pattern_code, form_of, function_or_new, own_name_of, function_code, function_expression_code, hoisted_function, declared_function, is_new_return, ends_with_return, arrow_body, function_declaration_code, arrow_code, declared_by, declared_by_let, elements_of, class_of, value_or_undefined, is_name_or_length, is_absent, field_form, private_element, field_of, field_code, is_constructor_key, method_or_constructor, is_declared_as, method_of, method_code}
 use Rattle.es_steps.specs.GeneratedForms.{opened_body}
 use Rattle.es_steps.specs.References.{declared}
 use Rattle.es_steps.specs.Scopes.{Declaration}
@@ -56,6 +56,7 @@ module _ (f : ℕ → ℕ) where
 
   declared_target-mapped : (c : Code) → declared_target (mapped_code f c) ≡ mapped_target f (declared_target c)
   declared_target-mapped (assign to e) = refl
+  declared_target-mapped (steps (and (binding b s kind) cs)) = target_of-mapped f (binding b s kind)
   declared_target-mapped c = target_of-mapped f c
 
   given_targets-mapped : (m : ℕ) (cs : Codes) → given_targets (f m) (mapped_codes f cs) ≡ mapped_codes f (given_targets m cs)
@@ -65,6 +66,23 @@ module _ (f : ℕ → ℕ) where
   head_targets-mapped : (m : ℕ) (c : Code) → head_targets (f m) (mapped_code f c) ≡ mapped_codes f (head_targets m c)
   head_targets-mapped m (steps cs) = given_targets-mapped m cs
   head_targets-mapped m c = ap (λ to. one (gives_to (f m) to)) (target_of-mapped f c)
+
+  undefined_let-mapped : (c : Code) → undefined_let (mapped_code f c) ≡ mapped_code f (undefined_let c)
+  undefined_let-mapped (binding b s kind) = refl
+  undefined_let-mapped c = refl
+
+  undefined_lets-mapped : (cs : Codes) → undefined_lets (mapped_codes f cs) ≡ mapped_codes f (undefined_lets cs)
+  undefined_lets-mapped done = refl
+  undefined_lets-mapped (and c cs) = ap₂ and (undefined_let-mapped c) (undefined_lets-mapped cs)
+
+  is_let_word-mapped : (p : Member) → is_let_word (mapped_member f p) ≡ is_let_word p
+  is_let_word-mapped (string s) = refl
+  is_let_word-mapped p = refl
+
+  pub declaration_code-mapped : (ps : Members) → declaration_code (mapped_members f ps) ≡ mapped_code f (declaration_code ps)
+  declaration_code-mapped ps =
+      rw (at-mapped f 0 ps, is_let_word-mapped (at 0 ps), codes_in-mapped f ps, undefined_lets-mapped (codes_in ps))
+      (ap steps (cond-mapped (mapped_codes f) (is_let_word (at 0 ps)) (undefined_lets (codes_in ps)) (codes_in ps) refl refl))
 
   is_other_directive-mapped : (p : Member) → is_other_directive (mapped_member f p) ≡ is_other_directive p
   is_other_directive-mapped (string s) = refl

@@ -1,9 +1,9 @@
 -- Class expressions whose heritage or keys read their name. A function that is given away there may read it later: so where such a
--- class gets its name is told, as it is of a class that is declared. (ECMA-262, 15.7.14: the name is initialized behind the
--- heritage and the keys, and before the static elements.)
+-- class gets its name is told, as it is of a class that is declared, with or without a name. (ECMA-262, 15.7.14: the name is
+-- initialized behind the heritage and the keys, and before the static elements.)
 use Rattle.std.specs.Prelude.{ℕ, List, [], ◌∷◌, ◌++◌, Bool, false, cond, ◌||◌, nat_eq, bytes_eq, Option, Some, None}
 use Rattle.es_base.specs.Preorder.{preorder, preorder_of_part}
-use Rattle.es_base.specs.Tree.{Tree, Part, Parts, Node, end, more, child, string}
+use Rattle.es_base.specs.Tree.{Tree, Part, Parts, Node, end, more, child, absent, string}
 use Rattle.es_base.specs.declared.kind.Kind.{Kind}
 use Rattle.es_steps.specs.Parts.{at, items, string_of}
 use Rattle.es_steps.specs.PrivateNames.{is_element}
@@ -32,8 +32,14 @@ abbrev pub named_by : ℕ → Part → List Tree → List (ℕ × ℕ)
 named_by n (child (Node Kind.BindingIdentifier b span semantic_id (more (string s) end))) heads = cond (reads_spelling s heads) ((n, b) ∷ []) []
 named_by n p heads = []
 
+-- a class declaration without a name is a default export, which has its value where the class is (16.2.3.7)
+abbrev pub unnamed_class : ℕ → Part → List (ℕ × ℕ)
+unnamed_class n absent = (n, n) ∷ []
+unnamed_class n p = []
+
 abbrev pub named_among : List Tree → List (ℕ × ℕ)
 named_among [] = []
+named_among (Node Kind.ClassDeclaration n span semantic_id ps ∷ ts) = unnamed_class n (at 0 ps) ++ named_among ts
 named_among (Node Kind.ClassExpression n span semantic_id ps ∷ ts) = named_by n (at 0 ps) (head_nodes ps) ++ named_among ts
 named_among (t ∷ ts) = named_among ts
 
@@ -44,3 +50,8 @@ named_classes t = named_among (preorder t)
 abbrev pub named_as : ℕ → List (ℕ × ℕ) → Option ℕ
 named_as n [] = None
 named_as n (p ∷ ps) = cond (nat_eq n p.0) (Some p.1) (named_as n ps)
+
+-- the identifier that declares class n, or what names it where none does
+abbrev pub declared_or_named : ℕ → List (ℕ × ℕ) → Option ℕ → Option ℕ
+declared_or_named n named None = named_as n named
+declared_or_named n named (Some b) = Some b

@@ -10,6 +10,7 @@ use Rattle.es_steps.specs.Options.{leaves_out_fields}
 use Rattle.es_steps.specs.Parts.{at, string_of, is_true, is_present}
 use Rattle.es_steps.specs.PrivateNames.{is_class}
 use Rattle.es_steps.specs.References.{has_number, resolve, varying, changes_free}
+use Rattle.es_steps.specs.Scopes.{is_let}
 use Rattle.es_steps.specs.Values.{String, Referent, Bound}
 use Rattle.es_steps.specs.declared.options.Options.{Options}
 
@@ -112,7 +113,8 @@ module _ (o : Options) (program : Tree) where
   acts a Kind.ClassDeclaration m ps = is_present (at 0 ps)
   -- a function in a block is given to a `var` of its name, too (B.3.2)
   acts a Kind.FunctionDeclaration m ps = a.in_block
-  acts a Kind.VariableDeclaration m ps = false
+  -- a name of a `let` is given a value, or undefined
+  acts a Kind.VariableDeclaration m ps = is_let ps
   acts a Kind.VariableDeclarator m ps = is_present (at 1 ps) || not (is_identifier (at 0 ps))
   acts a Kind.ExpressionStatement m ps = false
   acts a Kind.BlockStatement m ps = false

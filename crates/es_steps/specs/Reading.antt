@@ -3,11 +3,12 @@ use Rattle.std.specs.Prelude.{ℕ, suc}
 use Rattle.es_base.specs.Tree as tree
 use Rattle.es_base.specs.Tree.{Tree, Part, Parts, Node}
 use Rattle.es_base.specs.declared.kind.Kind.{Kind}
+use Rattle.es_steps.specs.ClassHeads.{declared_or_named}
 use Rattle.es_steps.specs.Code.{Code, nothing, no_rule, value, spelled, super, binding, sequence, steps, static_block}
 use Rattle.es_steps.specs.Context.{Context, name_kind, inside}
 use Rattle.es_steps.specs.Expressions.{literal_code, name_code, private_name_code, template_string_code, template_code, meta_code, member_code, private_field_code, private_in_code, assignment_code, update_code, unary_code, binary_code, logical_code, chain_code, call_code, tag_code, new_code, conditional_code, property_code, operation_of}
 use Rattle.es_steps.specs.Members.{Member, Members, code, absent, list, string, no_string, boolean, literal, end, more, at, codes_in, codes_of, word_of}
-use Rattle.es_steps.specs.Statements.{held_from, case_code, catch_code, expression_code, for_each_code, declarator_code, return_code, suspension_code, default_export_code, default_code, rest_code, pattern_property_code, array_pattern_code, object_pattern_code, function_expression_code, function_declaration_code, arrow_code, declared_by, declared_by_let, class_of, field_code, method_code}
+use Rattle.es_steps.specs.Statements.{held_from, case_code, catch_code, expression_code, for_each_code, declarator_code, declaration_code, return_code, suspension_code, default_export_code, default_code, rest_code, pattern_property_code, array_pattern_code, object_pattern_code, function_expression_code, function_declaration_code, arrow_code, declared_by, declared_by_let, class_of, field_code, method_code}
 
 -- statements that are their parts in order, and those with parts that may run or not, or again; `with` and nodes outside
 -- the table have no rule
@@ -15,7 +16,7 @@ abbrev pub statement_code : Context → Kind → ℕ → Members → Code
 statement_code c Kind.Program m ps = steps (codes_in ps)
 statement_code c Kind.ExpressionStatement m ps = expression_code c m ps
 statement_code c Kind.BlockStatement m ps = steps (codes_in ps)
-statement_code c Kind.VariableDeclaration m ps = steps (codes_in ps)
+statement_code c Kind.VariableDeclaration m ps = declaration_code ps
 statement_code c Kind.CatchClause m ps = catch_code m ps
 statement_code c Kind.EmptyStatement m ps = nothing
 statement_code c Kind.VariableDeclarator m ps = declarator_code c m ps
@@ -59,7 +60,7 @@ abbrev pub class_form_code : Context → Kind → ℕ → Members → Code
 class_form_code c Kind.FunctionDeclaration m ps = function_declaration_code c m ps
 class_form_code c Kind.FunctionExpression m ps = function_expression_code c m ps
 class_form_code c Kind.ArrowFunctionExpression m ps = arrow_code c m ps
-class_form_code c Kind.ClassDeclaration m ps = class_of (declared_by (at 0 ps)) m ps
+class_form_code c Kind.ClassDeclaration m ps = class_of (declared_or_named m c.named (declared_by (at 0 ps))) m ps
 class_form_code c Kind.ClassExpression m ps = class_of (declared_by_let m c.named c.let_class) m ps
 class_form_code c Kind.ClassBody m ps = steps (codes_in ps)
 class_form_code c Kind.PropertyDefinition m ps = field_code c ps

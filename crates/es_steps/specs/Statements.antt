@@ -50,6 +50,7 @@ head_initializers c = done
 
 abbrev pub declared_target : Code → Target
 declared_target (assign to e) = to
+declared_target (steps (and (binding b s kind) cs)) = target_of (binding b s kind)
 declared_target c = target_of c
 
 abbrev pub given_targets : ℕ → Codes → Codes
@@ -87,6 +88,22 @@ declarator_of c m false d p = no_rule
 
 abbrev pub declarator_code : Context → ℕ → Members → Code
 declarator_code c m ps = declarator_of c m (new_here c m) (the_code (at 0 ps)) (at 1 ps)
+
+-- a name that a `let` gives no value is initialized with undefined (14.3.1.2), but in the head of a for-in or for-of
+abbrev pub undefined_let : Code → Code
+undefined_let (binding b s kind) = steps (and (binding b s kind) (one (assign (target_of (binding b s kind)) (value Undefined))))
+undefined_let c = c
+
+abbrev pub undefined_lets : Codes → Codes
+undefined_lets done = done
+undefined_lets (and c cs) = and (undefined_let c) (undefined_lets cs)
+
+abbrev pub is_let_word : Member → Bool
+is_let_word (string s) = bytes_eq s (codes "let")
+is_let_word p = false
+
+abbrev pub declaration_code : Members → Code
+declaration_code ps = steps (cond (is_let_word (at 0 ps)) (undefined_lets (codes_in ps)) (codes_in ps))
 
 -- a `return` of the source does not leave a function that is opened, nor does a new one leave a function of the source
 abbrev pub return_code : Context → ℕ → Members → Code

@@ -7,6 +7,7 @@ use Rattle.es_base.specs.declared.kind.Kind.{Kind}
 use Rattle.es_lowered.specs.ClassLets.{names_expression, nodes_of_declared, initializer_fits, declarator_fits, class_lets_fit, class_lets_fit_in, class_lets_fit_at}
 use Rattle.es_lowered.specs.ClassNames.{numbers_of}
 use Rattle.es_steps.specs.References.{has_number}
+use Rattle.es_steps.specs.Scopes.{class_in}
 use Rattle.es_left.proofs.Booleans.{both}
 use Rattle.es_steps.proofs.Reflexive.{number-same}
 use Rattle.es_unchanged.proofs.Standing.{or_right, In, here, later, Among, in-left, in-right}
@@ -22,7 +23,7 @@ module _ (first : ℕ) (us : List Tree) where
 
   declarator-fits : (kind : Kind) (m : ℕ) (qs : Parts) → has_number m (numbers_of us) ≡ true → declarator_fits first us kind m qs ≡ true
   declarator-fits Kind.VariableDeclarator m (more (child t) (more e end)) i =
-      standing i (not (names_expression (number_of t) us) && initializer_fits first us (nodes_of_declared (number_of t) us) (numbers_of (preorder_of_part e)))
+      standing i (not (names_expression (number_of t) us) && initializer_fits first us (nodes_of_declared (number_of t) (class_in e) us) (numbers_of (preorder_of_part e)))
   declarator-fits kind m qs i = refl
 
   mutual

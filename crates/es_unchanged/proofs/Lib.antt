@@ -1,10 +1,11 @@
 pub mod Carried
 pub mod ClassLets
 pub mod ClassNames
+pub mod DeadZones
+pub mod DefaultExport
 pub mod Names
 pub mod Placed
 pub mod References
 pub mod Standing
-pub mod StatementOrder
 pub mod Unchanged
 pub mod Unmarked

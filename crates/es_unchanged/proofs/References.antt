@@ -12,9 +12,10 @@ use Rattle.es_lowered.specs.Supers.{no_place, has_stray_super}
 use Rattle.es_steps.specs.References.{Reference, resolve, has_number}
 use Rattle.es_unchanged.proofs.ClassLets.{class_lets-fit}
 use Rattle.es_unchanged.proofs.ClassNames.{classes-timely}
+use Rattle.es_unchanged.proofs.DeadZones.{dead_zones-stay}
+use Rattle.es_unchanged.proofs.DefaultExport.{default-stays}
 use Rattle.es_unchanged.proofs.Placed.{stand-where}
 use Rattle.es_unchanged.proofs.Standing.{or_right}
-use Rattle.es_unchanged.proofs.StatementOrder.{order-stays}
 
 -- old are numbers of references that write
 writes-own : (first : ℕ) (targets old : List ℕ) (rs : List Reference) → ((m : ℕ) → has_number m (writing_numbers rs) ≡ true → has_number m old ≡ true) → writes_fit first [] targets old rs ≡ true
@@ -36,4 +37,4 @@ none-comes false = refl
 pub references-stay : (first : ℕ) (t : Tree) → references_stay first [] t t ≡ true
 references-stay first t =
     let inner : List PlacedReference = inner_references first (preorder t) t in
-    both (both (classes-timely first t) (both (none-comes (has_stray_super no_place t)) (none-comes (has_stray_name [] t)))) (both (writes-own first (plain_targets (preorder t)) (writing_numbers (resolve t)) (resolve t) (λ m i. i)) (both (stand-where first inner inner (λ r i. i)) (both (order-stays first t) (class_lets-fit first (preorder t) t (λ u i. i)))))
+    both (both (classes-timely first t) (both (none-comes (has_stray_super no_place t)) (none-comes (has_stray_name [] t)))) (both (writes-own first (plain_targets (preorder t)) (writing_numbers (resolve t)) (resolve t) (λ m i. i)) (both (stand-where first inner inner (λ r i. i)) (both (default-stays first t) (both (class_lets-fit first (preorder t) t (λ u i. i)) (dead_zones-stay first t)))))

@@ -25,6 +25,10 @@ pub or_right : (a b : Bool) → b ≡ true → a || b ≡ true
 or_right true b h = refl
 or_right false b h = h
 
+pub or_with : (b : Bool) {x y : Bool} → (x ≡ true → y ≡ true) → (b || x) ≡ true → (b || y) ≡ true
+or_with true f e = refl
+or_with false f e = f e
+
 pub still_new : {first : ℕ} (k j : ℕ) → first ≤ k → first ≤ k + j
 still_new k j new = omega (arith, new)
 

@@ -100,6 +100,21 @@ returns-clause-class_in_a_constructor c = refl
 pub returns-clause-class_in_front_of_a_let : goal.returns-clause-class_in_front_of_a_let
 returns-clause-class_in_front_of_a_let c = refl
 
+pub returns-clause-class_in_front_of_a_return : goal.returns-clause-class_in_front_of_a_return
+returns-clause-class_in_front_of_a_return c = refl
+
+pub returns-clause-class_in_front_of_an_await : goal.returns-clause-class_in_front_of_an_await
+returns-clause-class_in_front_of_an_await c = refl
+
+pub returns-clause-class_in_front_of_what_its_heritage_reads : goal.returns-clause-class_in_front_of_what_its_heritage_reads
+returns-clause-class_in_front_of_what_its_heritage_reads c = refl
+
+pub returns-clause-class_in_front_of_what_its_key_reads : goal.returns-clause-class_in_front_of_what_its_key_reads
+returns-clause-class_in_front_of_what_its_key_reads c = refl
+
+pub returns-clause-class_name_in_front_of_an_await : goal.returns-clause-class_name_in_front_of_an_await
+returns-clause-class_name_in_front_of_an_await c = refl
+
 pub returns-clause-class_named_arguments : goal.returns-clause-class_named_arguments
 returns-clause-class_named_arguments c = refl
 
@@ -123,6 +138,12 @@ returns-clause-class_named_let c = refl
 
 pub returns-clause-class_out_of_a_block : goal.returns-clause-class_out_of_a_block
 returns-clause-class_out_of_a_block c = refl
+
+pub returns-clause-class_out_of_a_branch : goal.returns-clause-class_out_of_a_branch
+returns-clause-class_out_of_a_branch c = refl
+
+pub returns-clause-class_out_of_a_chain : goal.returns-clause-class_out_of_a_chain
+returns-clause-class_out_of_a_chain c = refl
 
 pub returns-clause-class_read_while_its_block_runs : goal.returns-clause-class_read_while_its_block_runs
 returns-clause-class_read_while_its_block_runs c = refl
@@ -265,6 +286,9 @@ returns-clause-declaration_without_its_names c = refl
 pub returns-clause-declarator_in_a_const : goal.returns-clause-declarator_in_a_const
 returns-clause-declarator_in_a_const c = refl
 
+pub returns-clause-default_class_expression_under_a_name : goal.returns-clause-default_class_expression_under_a_name
+returns-clause-default_class_expression_under_a_name c = refl
+
 pub returns-clause-default_export_behind_a_call : goal.returns-clause-default_export_behind_a_call
 returns-clause-default_export_behind_a_call c = refl
 
@@ -337,6 +361,9 @@ returns-clause-initialized_head_behind_an_error c = refl
 pub returns-clause-key_given_again : goal.returns-clause-key_given_again
 returns-clause-key_given_again c = refl
 
+pub returns-clause-key_in_front_of_what_it_reads : goal.returns-clause-key_in_front_of_what_it_reads
+returns-clause-key_in_front_of_what_it_reads c = refl
+
 pub returns-clause-key_kept_beside_a_conversion : goal.returns-clause-key_kept_beside_a_conversion
 returns-clause-key_kept_beside_a_conversion c = refl
 
@@ -372,9 +399,6 @@ returns-clause-labelled_function_in_a_branch c = refl
 
 pub returns-clause-let_behind_a_call : goal.returns-clause-let_behind_a_call
 returns-clause-let_behind_a_call c = refl
-
-pub returns-clause-let_behind_a_closure : goal.returns-clause-let_behind_a_closure
-returns-clause-let_behind_a_closure c = refl
 
 pub returns-clause-let_behind_a_constructor : goal.returns-clause-let_behind_a_constructor
 returns-clause-let_behind_a_constructor c = refl
@@ -456,6 +480,9 @@ returns-clause-name_in_a_static_block c = refl
 
 pub returns-clause-name_of_a_class_with_a_block : goal.returns-clause-name_of_a_class_with_a_block
 returns-clause-name_of_a_class_with_a_block c = refl
+
+pub returns-clause-name_of_a_key_in_front_of_an_await : goal.returns-clause-name_of_a_key_in_front_of_an_await
+returns-clause-name_of_a_key_in_front_of_an_await c = refl
 
 pub returns-clause-name_of_a_named_class : goal.returns-clause-name_of_a_named_class
 returns-clause-name_of_a_named_class c = refl
@@ -568,6 +595,12 @@ returns-clause-raw_of_a_string c = refl
 pub returns-clause-raw_of_a_template : goal.returns-clause-raw_of_a_template
 returns-clause-raw_of_a_template c = refl
 
+pub returns-clause-reading_of_another_function : goal.returns-clause-reading_of_another_function
+returns-clause-reading_of_another_function c = refl
+
+pub returns-clause-reading_that_is_new : goal.returns-clause-reading_that_is_new
+returns-clause-reading_that_is_new c = refl
+
 pub returns-clause-regular_expression_read_twice : goal.returns-clause-regular_expression_read_twice
 returns-clause-regular_expression_read_twice c = refl
 
@@ -657,6 +690,21 @@ returns-clause-test_of_a_member_of_the_source c = refl
 
 pub returns-clause-text_of_a_directive : goal.returns-clause-text_of_a_directive
 returns-clause-text_of_a_directive c = refl
+
+pub returns-clause-this_in_a_new_constructor : goal.returns-clause-this_in_a_new_constructor
+returns-clause-this_in_a_new_constructor c = refl
+
+pub returns-clause-this_in_an_arrow : goal.returns-clause-this_in_an_arrow
+returns-clause-this_in_an_arrow c = refl
+
+pub returns-clause-this_in_front_of_an_arrow_with_super : goal.returns-clause-this_in_front_of_an_arrow_with_super
+returns-clause-this_in_front_of_an_arrow_with_super c = refl
+
+pub returns-clause-this_in_front_of_super : goal.returns-clause-this_in_front_of_super
+returns-clause-this_in_front_of_super c = refl
+
+pub returns-clause-this_out_of_an_arrow : goal.returns-clause-this_out_of_an_arrow
+returns-clause-this_out_of_an_arrow c = refl
 
 pub returns-clause-two_brands : goal.returns-clause-two_brands
 returns-clause-two_brands c = refl

@@ -95,6 +95,9 @@ returns-clause-regular_expression_as_a_static_key c = (refl, refl, lowered refl,
 pub returns-clause-static_field_that_takes_a_block : goal.returns-clause-static_field_that_takes_a_block
 returns-clause-static_field_that_takes_a_block c = (refl, refl, lowered refl, refl)
 
+pub returns-clause-static_key_that_is_a_constant : goal.returns-clause-static_key_that_is_a_constant
+returns-clause-static_key_that_is_a_constant c = (refl, refl, lowered refl, refl)
+
 pub returns-clause-static_private_method_that_reads_a_field : goal.returns-clause-static_private_method_that_reads_a_field
 returns-clause-static_private_method_that_reads_a_field c = (refl, refl, lowered refl, refl)
 

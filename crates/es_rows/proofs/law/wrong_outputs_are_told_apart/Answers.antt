@@ -94,6 +94,9 @@ returns-clause-conversion_of_another_assignment c = refl
 pub returns-clause-declarator_out_of_its_block : goal.returns-clause-declarator_out_of_its_block
 returns-clause-declarator_out_of_its_block c = refl
 
+pub returns-clause-default_class_behind_a_key : goal.returns-clause-default_class_behind_a_key
+returns-clause-default_class_behind_a_key c = refl
+
 pub returns-clause-definitions_nested : goal.returns-clause-definitions_nested
 returns-clause-definitions_nested c = refl
 
@@ -159,6 +162,15 @@ returns-clause-key_read_late c = refl
 
 pub returns-clause-key_read_twice : goal.returns-clause-key_read_twice
 returns-clause-key_read_twice c = refl
+
+pub returns-clause-let_behind_a_closure : goal.returns-clause-let_behind_a_closure
+returns-clause-let_behind_a_closure c = refl
+
+pub returns-clause-let_behind_a_key : goal.returns-clause-let_behind_a_key
+returns-clause-let_behind_a_key c = refl
+
+pub returns-clause-let_without_a_value_behind_a_call : goal.returns-clause-let_without_a_value_behind_a_call
+returns-clause-let_without_a_value_behind_a_call c = refl
 
 pub returns-clause-maps_in_loose_mode : goal.returns-clause-maps_in_loose_mode
 returns-clause-maps_in_loose_mode c = refl

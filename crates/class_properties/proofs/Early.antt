@@ -1,0 +1,264 @@
+-- In what a program of the first form is lowered to classes stand as they stood, and nothing else is read without an event.
+use Rattle.std.specs.Prelude.{◌≡◌, ℕ, suc, ◌+◌, List, [], ◌∷◌, ◌++◌, Bool, true, false, cond, not, ◌&&◌, ◌||◌, nat_eq, Option, None}
+use Rattle.std.proofs.Common.{refl, ap, ap₂, sym, ◌∙◌}
+use Rattle.std.proofs.lemmas.Bool.{and_parts}
+use Rattle.std.proofs.lemmas.List.{append-nil, append_assoc}
+use Rattle.std.proofs.Math.Bool.{and-false}
+use Rattle.es_base.specs.Numbered.{is_new}
+use Rattle.es_base.specs.Preorder.{preorder, preorder_of, preorder_of_part}
+use Rattle.es_base.specs.Tree.{Tree, Part, Parts, Node, end, more, child, absent, list, trees, string, no_string, boolean, literal}
+use Rattle.es_base.specs.declared.kind.Kind.{Kind}
+use Rattle.es_left.proofs.Booleans.{both}
+use Rattle.es_lowered.specs.DeadZones.{TouchForm, Touch, Body, ClassParts, variables, class_names, touch, call_form, is_still, is_turned, Spot, nothing_around, in_no_chain, held_behind, spot_in, is_apart, read_form, reference_touches, own_touches, touches, inner_touches, touches_in, touches_at, touches_of, turned, class_touches, keys_touched, value_touches, values_touched, derived_constructor, derived_constructors, constructs, derived_arrows, bodies_by, bodies, super_calls, class_parts, is_asked, is_this, is_behind_super, stands_in_any, reads_key, touches_fit, bodies_fit, bodies_of, dead_zones_stay, another, makes_class}
+use Rattle.es_steps.specs.Context.{is_super_call}
+use Rattle.es_steps.specs.FirstForm.{is_first_form}
+use Rattle.es_steps.specs.NameScopes.{is_any_function}
+use Rattle.es_steps.specs.Printable.{has_optional}
+use Rattle.es_steps.specs.PrivateNames.{is_class}
+use Rattle.es_steps.specs.References.{Reference, resolve, has_number}
+use Rattle.es_steps.specs.Values.{Referent, Bound, Free}
+use Rattle.es_unchanged.proofs.DeadZones.{or-first, touches-fit}
+use Rattle.class_properties.proofs.Declared.{two_ends, four_ends}
+use Rattle.class_properties.proofs.FreeNames.{AreFree, lowered-free}
+use Rattle.class_properties.proofs.Numbered.{definitions_from, lowered_elements, lowered_statements, statement_size, lowered_from}
+use Rattle.class_properties.proofs.Shaped.{no_value, a_literal, a_reference, a_key, a_field, AreFields, a_body, a_name, a_class, AreClasses, IsProgram, a_program}
+
+-- ---- where each name is free, and no class stands, nothing is read without an event
+
+abbrev no_classes : List Tree → Bool
+no_classes [] = true
+no_classes (Node kind m span semantic_id ps ∷ ts) = not (is_class kind) && no_classes ts
+
+classes-parts : (xs ys : List Tree) → no_classes (xs ++ ys) ≡ true → (no_classes xs ≡ true) × (no_classes ys ≡ true)
+classes-parts [] ys h = (refl, h)
+classes-parts (Node kind m span semantic_id ps ∷ xs) ys h =
+    let parts = and_parts (not (is_class kind)) (no_classes (xs ++ ys)) h in
+    let rest = classes-parts xs ys parts.1 in
+    (both parts.0 rest.0, rest.1)
+
+abbrev all_quiet : List Touch → Bool
+all_quiet [] = true
+all_quiet (t ∷ ts) = not (is_asked false t.form) && all_quiet ts
+
+append-quiet : (xs ys : List Touch) → all_quiet xs ≡ true → all_quiet ys ≡ true → all_quiet (xs ++ ys) ≡ true
+append-quiet [] ys e f = f
+append-quiet (t ∷ xs) ys e f =
+    let parts = and_parts (not (is_asked false t.form)) (all_quiet xs) e in
+    both parts.0 (append-quiet xs ys parts.1 f)
+
+cond-quiet : (c : Bool) (xs ys : List Touch) → all_quiet xs ≡ true → all_quiet ys ≡ true → all_quiet (cond c xs ys) ≡ true
+cond-quiet true xs ys e f = e
+cond-quiet false xs ys e f = f
+
+unless-quiet : (c : Bool) (xs ys : List Touch) → not c ≡ true → all_quiet ys ≡ true → all_quiet (cond c xs ys) ≡ true
+unless-quiet true xs ys e f = absurd (cc)
+unless-quiet false xs ys e f = f
+
+module _ (first : ℕ) (asked named : List ℕ) (rs : List Reference) (free : AreFree rs) where
+  reference-quiet : (held : List (ℕ × ℕ)) (m : ℕ) (xs : List Reference) → AreFree xs → all_quiet (reference_touches first asked named rs held m xs) ≡ true
+  reference-quiet held m [] e = refl
+  reference-quiet held m (x ∷ xs) e =
+      append-quiet (cond (nat_eq m x.number) (touch held m (read_form first asked named rs m x.to)) []) (reference_touches first asked named rs held m xs) (cond-quiet (nat_eq m x.number) (touch held m (read_form first asked named rs m x.to)) [] (rw e.0 refl) refl) (reference-quiet held m xs e.1)
+
+  call-quiet : (held : List (ℕ × ℕ)) (m : ℕ) (b : Bool) → all_quiet (touch held m (call_form b)) ≡ true
+  call-quiet held m true = refl
+  call-quiet held m false = refl
+
+  own-quiet : (held : List (ℕ × ℕ)) (kind : Kind) (m : ℕ) (ps : Parts) → all_quiet (own_touches first asked named rs held kind m ps) ≡ true
+  own-quiet held Kind.IdentifierReference m ps = reference-quiet held m rs free
+  own-quiet held Kind.ThisExpression m ps = refl
+  own-quiet held Kind.BindingIdentifier m ps = refl
+  own-quiet held Kind.CallExpression m ps = call-quiet held m (is_super_call Kind.CallExpression ps)
+  own-quiet held kind m ps = cond-quiet (is_still kind) [] (touch held m another) refl refl
+
+  mutual
+    tree-quiet : (x : Spot) (t : Tree) → no_classes (preorder t) ≡ true → all_quiet (touches first asked named rs x t) ≡ true
+    tree-quiet x (Node kind m span semantic_id ps) h =
+        let parts = and_parts (not (is_class kind)) (no_classes (preorder_of ps)) h in
+        let optional : Bool = has_optional (Node kind m span semantic_id ps) in
+        let own : List Touch = own_touches first asked named rs (held_behind x.chain optional x.held) kind m ps in
+        let inside : ℕ → Spot = spot_in x optional kind m ps in
+        let inner : List Touch = inner_touches first asked named rs kind (in_no_chain x) inside ps in
+        let other_way : List Touch = cond (is_turned kind) (turned first asked named rs inside ps) inner in
+        cond-quiet (is_apart first asked named rs kind m) [] (cond (is_class kind) (class_touches first asked named rs (in_no_chain x) m ps) other_way ++ own) refl
+        (append-quiet (cond (is_class kind) (class_touches first asked named rs (in_no_chain x) m ps) other_way) own
+        (unless-quiet (is_class kind) (class_touches first asked named rs (in_no_chain x) m ps) other_way parts.0
+        (cond-quiet (is_turned kind) (turned first asked named rs inside ps) inner (turned-quiet inside ps parts.1) (inner-quiet kind (in_no_chain x) inside ps parts.1)))
+        (own-quiet (held_behind x.chain optional x.held) kind m ps))
+
+    inner-quiet : (kind : Kind) (x : Spot) (inside : ℕ → Spot) (ps : Parts) → no_classes (preorder_of ps) ≡ true → all_quiet (inner_touches first asked named rs kind x inside ps) ≡ true
+    inner-quiet Kind.CallExpression x inside (more (child (Node Kind.ArrowFunctionExpression k span semantic_id ps)) rest) h =
+        let split = classes-parts (preorder_of ps) (preorder_of rest) h in
+        append-quiet (touches_in first asked named rs (λ i. inside (suc i)) rest) (cond (is_new first k) (touches_of first asked named rs x ps) []) (parts-quiet (λ i. inside (suc i)) rest split.1)
+        (cond-quiet (is_new first k) (touches_of first asked named rs x ps) [] (list-quiet x ps split.0) refl)
+    inner-quiet kind x inside (more p rest) h =
+        let split = classes-parts (preorder_of_part p) (preorder_of rest) h in
+        append-quiet (touches_at first asked named rs (inside 0) p) (touches_in first asked named rs (λ i. inside (suc i)) rest) (part-quiet (inside 0) p split.0) (parts-quiet (λ i. inside (suc i)) rest split.1)
+    inner-quiet kind x inside end h = refl
+
+    parts-quiet : (x : ℕ → Spot) (ps : Parts) → no_classes (preorder_of ps) ≡ true → all_quiet (touches_in first asked named rs x ps) ≡ true
+    parts-quiet x end h = refl
+    parts-quiet x (more p ps) h =
+        let split = classes-parts (preorder_of_part p) (preorder_of ps) h in
+        append-quiet (touches_at first asked named rs (x 0) p) (touches_in first asked named rs (λ i. x (suc i)) ps) (part-quiet (x 0) p split.0) (parts-quiet (λ i. x (suc i)) ps split.1)
+
+    part-quiet : (x : Spot) (p : Part) → no_classes (preorder_of_part p) ≡ true → all_quiet (touches_at first asked named rs x p) ≡ true
+    part-quiet x (child t) h = tree-quiet x t h
+    part-quiet x (list ps) h = list-quiet x ps h
+    part-quiet x p h = refl
+
+    list-quiet : (x : Spot) (ps : Parts) → no_classes (preorder_of ps) ≡ true → all_quiet (touches_of first asked named rs x ps) ≡ true
+    list-quiet x end h = refl
+    list-quiet x (more p ps) h =
+        let split = classes-parts (preorder_of_part p) (preorder_of ps) h in
+        append-quiet (touches_at first asked named rs x p) (touches_of first asked named rs x ps) (part-quiet x p split.0) (list-quiet x ps split.1)
+
+    turned-quiet : (x : ℕ → Spot) (ps : Parts) → no_classes (preorder_of ps) ≡ true → all_quiet (turned first asked named rs x ps) ≡ true
+    turned-quiet x (more p (more q ps)) h =
+        let one = classes-parts (preorder_of_part p) (preorder_of_part q ++ preorder_of ps) h in
+        let rest = classes-parts (preorder_of_part q) (preorder_of ps) one.1 in
+        append-quiet (touches_at first asked named rs (x 1) q) (touches_at first asked named rs (x 0) p ++ touches_in first asked named rs (λ i. x (suc (suc i))) ps) (part-quiet (x 1) q rest.0)
+        (append-quiet (touches_at first asked named rs (x 0) p) (touches_in first asked named rs (λ i. x (suc (suc i))) ps) (part-quiet (x 0) p one.0) (parts-quiet (λ i. x (suc (suc i))) ps rest.1))
+    turned-quiet x (more p end) h = part-quiet (x 0) p (classes-parts (preorder_of_part p) [] h).0
+    turned-quiet x end h = refl
+
+-- ---- the constructor of a class
+
+definitions-no_classes : (es : Parts) → AreFields es → (k : ℕ) → no_classes (preorder_of (trees (definitions_from k es))) ≡ true
+definitions-no_classes end h k = refl
+definitions-no_classes (more p es) (a_field m span semantic_id key v (a_key i ispan i_semantic_id x) no_value, h) k = definitions-no_classes es h (k + 9)
+definitions-no_classes (more p es) (a_field m span semantic_id key v (a_key i ispan i_semantic_id x) (a_literal l lspan l_semantic_id w fine), h) k = definitions-no_classes es h (k + 7)
+definitions-no_classes (more p es) (a_field m span semantic_id key v (a_key i ispan i_semantic_id x) (a_reference r rspan r_semantic_id y), h) k = definitions-no_classes es h (k + 7)
+
+module _ (first : ℕ) (asked named : List ℕ) (rs : List Reference) (nodes : List Tree) where
+  definitions-bodies : (es : Parts) → AreFields es → (k : ℕ) → bodies first asked named rs [] nodes (preorder_of (trees (definitions_from k es))) ≡ []
+  definitions-bodies end h k = refl
+  definitions-bodies (more p es) (a_field m span semantic_id key v (a_key i ispan i_semantic_id x) no_value, h) k = definitions-bodies es h (k + 9)
+  definitions-bodies (more p es) (a_field m span semantic_id key v (a_key i ispan i_semantic_id x) (a_literal l lspan l_semantic_id w fine), h) k = definitions-bodies es h (k + 7)
+  definitions-bodies (more p es) (a_field m span semantic_id key v (a_key i ispan i_semantic_id x) (a_reference r rspan r_semantic_id y), h) k = definitions-bodies es h (k + 7)
+
+  bodies-append : (xs ys : List Tree) → bodies first asked named rs [] nodes (xs ++ ys) ≡ bodies first asked named rs [] nodes xs ++ bodies first asked named rs [] nodes ys
+  bodies-append [] ys = refl
+  bodies-append (Node kind m span semantic_id ps ∷ xs) ys =
+      ap (λ bs. bodies_by first asked named rs [] nodes kind m ps ++ bs) (bodies-append xs ys) ∙ sym (append_assoc (bodies_by first asked named rs [] nodes kind m ps) (bodies first asked named rs [] nodes xs) (bodies first asked named rs [] nodes ys))
+
+no-fields : (first : ℕ) (asked named : List ℕ) (rs : List Reference) (m : ℕ) (span : Option (ℕ × ℕ)) (semantic_id : Option ℕ) (es : Parts) (k : ℕ) → value_touches first asked named rs false nothing_around (child (Node Kind.ClassBody m span semantic_id (more (list (lowered_elements k es)) end))) ≡ []
+no-fields first asked named rs m span semantic_id end k = refl
+no-fields first asked named rs m span semantic_id (more e es) k = refl
+
+keys-untouched : (first : ℕ) (asked named : List ℕ) (rs : List Reference) (es : Parts) → AreFields es → keys_touched first asked named rs nothing_around es ≡ []
+keys-untouched first asked named rs end h = refl
+keys-untouched first asked named rs (more p es) (a_field m span semantic_id key v (a_key i ispan i_semantic_id x) hv, h) = keys-untouched first asked named rs es h
+
+values-untouched : (first : ℕ) (asked named : List ℕ) (rs : List Reference) (es : Parts) → AreFields es → values_touched first asked named rs true nothing_around es ≡ []
+values-untouched first asked named rs end h = refl
+values-untouched first asked named rs (more p es) (a_field m span semantic_id key v hk hv, h) = values-untouched first asked named rs es h
+
+-- the program touches its classes, as it did
+touches-same : (first : ℕ) (asked named : List ℕ) (xs rs : List Reference) (ps : Parts) → AreClasses ps → (k : ℕ) → touches_of first asked named xs nothing_around (lowered_statements k ps) ≡ touches_of first asked named rs nothing_around ps
+touches-same first asked named xs rs end h k = refl
+touches-same first asked named xs rs (more p ps) (a_class n span semantic_id id body (a_name i ispan i_semantic_id x free) (a_body m bspan b_semantic_id end he), h) k =
+    ap (λ ts. touch [] n makes_class ++ ts) (touches-same first asked named xs rs ps h (k + statement_size p))
+touches-same first asked named xs rs (more p ps) (a_class n span semantic_id id body (a_name i ispan i_semantic_id x free) (a_body m bspan b_semantic_id (more e es) (a_field l lspan l_semantic_id key v (a_key j jspan j_semantic_id y) hv, he)), h) k =
+    rw (keys-untouched first asked named rs es he, values-untouched first asked named rs es he) (ap (λ ts. touch [] n makes_class ++ ts) (touches-same first asked named xs rs ps h (k + statement_size p)))
+
+-- ---- each body fits
+
+module _ (first : ℕ) (supers : List ℕ) (classes : List ClassParts) (sources : List Body) where
+  quiet-fit : (b : Body) → b.derives ≡ false → (front ts : List Touch) → all_quiet ts ≡ true → touches_fit first supers classes sources b front ts ≡ true
+  quiet-fit b e front [] h = refl
+  quiet-fit b e front (t ∷ ts) h =
+      let parts = and_parts (not (is_asked false t.form)) (all_quiet ts) h in
+      both
+      (or-first (rw e parts.0) (cond (is_this t.form) (is_behind_super first supers classes sources t front) (reads_key first supers classes sources b.of_class t.form classes) || stands_in_any first supers classes sources b t ts sources))
+      (quiet-fit b e (t ∷ front) ts parts.1)
+
+  append-fit : (bs cs : List Body) → bodies_fit first supers classes sources bs ≡ true → bodies_fit first supers classes sources cs ≡ true → bodies_fit first supers classes sources (bs ++ cs) ≡ true
+  append-fit [] cs e f = f
+  append-fit (b ∷ bs) cs e f =
+      let parts = and_parts (touches_fit first supers classes sources b [] b.touches) (bodies_fit first supers classes sources bs) e in
+      both parts.0 (append-fit bs cs parts.1 f)
+
+  module _ (asked named : List ℕ) (rs : List Reference) (free : AreFree rs) (nodes : List Tree) where
+    constructor-fits : (b : Body) → b.derives ≡ false → (m k : ℕ) (ts : Parts) → no_classes (preorder_of ts) ≡ true → b.touches ≡ touch [] m another ++ touches first asked named rs nothing_around (Node Kind.BlockStatement k None None (more (list ts) end)) → bodies_fit first supers classes sources (b ∷ []) ≡ true
+    constructor-fits b e m k ts h same =
+        both (quiet-fit b e [] b.touches (rw same (both refl (tree-quiet first asked named rs free nothing_around (Node Kind.BlockStatement k None None (more (list ts) end)) (rw (append-nil (preorder_of ts)) h))))) refl
+
+    elements-fit : (es : Parts) → AreFields es → (k : ℕ) → bodies_fit first supers classes sources (bodies first asked named rs [] nodes (preorder_of (lowered_elements k es))) ≡ true
+    elements-fit end h k = refl
+    elements-fit (more p es) h k =
+        let ts : Parts = trees (definitions_from (k + 4) (more p es)) in
+        rw (four_ends (preorder_of ts), definitions-bodies first asked named rs nodes (more p es) h (k + 4)) (constructor-fits (record { number = k + 2; is_of_fields = false; of_class = constructs (k + 2) nodes; derives = false; touches = touch [] (k + 2) another ++ touches first asked named rs nothing_around (Node Kind.BlockStatement (k + 3) None None (more (list ts) end)) }) refl (k + 2) (k + 3) ts (definitions-no_classes (more p es) h (k + 4)) refl)
+
+    classes-fit : (ps : Parts) → AreClasses ps → (k : ℕ) → bodies_fit first supers classes sources (bodies first asked named rs [] nodes (preorder_of (lowered_statements k ps))) ≡ true
+    classes-fit end h k = refl
+    classes-fit (more p ps) (a_class n span semantic_id id body (a_name i ispan i_semantic_id x other) (a_body m bspan b_semantic_id es he), h) k =
+        let elements : List Tree = preorder_of (lowered_elements k es) in
+        let rest : List Tree = preorder_of (lowered_statements (k + statement_size p) ps) in
+        rw (two_ends elements rest, bodies-append first asked named rs nodes elements rest, no-fields first asked named rs m bspan b_semantic_id es k)
+        (append-fit (bodies first asked named rs [] nodes elements) (bodies first asked named rs [] nodes rest) (elements-fit es he k) (classes-fit ps h (k + statement_size p)))
+
+-- ---- no class has a heritage
+
+constructors-append : (xs ys : List Tree) → derived_constructors (xs ++ ys) ≡ derived_constructors xs ++ derived_constructors ys
+constructors-append [] ys = refl
+constructors-append (Node kind m span semantic_id ps ∷ xs) ys = ap (λ ns. derived_constructor kind ps ++ ns) (constructors-append xs ys) ∙ sym (append_assoc (derived_constructor kind ps) (derived_constructors xs) (derived_constructors ys))
+
+fields-underived : (es : Parts) → AreFields es → derived_constructors (preorder_of es) ≡ []
+fields-underived end h = refl
+fields-underived (more p es) (a_field m span semantic_id key v (a_key i ispan i_semantic_id x) no_value, h) = fields-underived es h
+fields-underived (more p es) (a_field m span semantic_id key v (a_key i ispan i_semantic_id x) (a_literal l lspan l_semantic_id w fine), h) = fields-underived es h
+fields-underived (more p es) (a_field m span semantic_id key v (a_key i ispan i_semantic_id x) (a_reference r rspan r_semantic_id y), h) = fields-underived es h
+
+classes-underived : (ps : Parts) → AreClasses ps → derived_constructors (preorder_of ps) ≡ []
+classes-underived end h = refl
+classes-underived (more p ps) (a_class n span semantic_id id body (a_name i ispan i_semantic_id x free) (a_body m bspan b_semantic_id es he), h) =
+    rw (two_ends (preorder_of es) (preorder_of ps), constructors-append (preorder_of es) (preorder_of ps), fields-underived es he) (classes-underived ps h)
+
+definitions-underived : (es : Parts) → AreFields es → (k : ℕ) → derived_constructors (preorder_of (trees (definitions_from k es))) ≡ []
+definitions-underived end h k = refl
+definitions-underived (more p es) (a_field m span semantic_id key v (a_key i ispan i_semantic_id x) no_value, h) k = definitions-underived es h (k + 9)
+definitions-underived (more p es) (a_field m span semantic_id key v (a_key i ispan i_semantic_id x) (a_literal l lspan l_semantic_id w fine), h) k = definitions-underived es h (k + 7)
+definitions-underived (more p es) (a_field m span semantic_id key v (a_key i ispan i_semantic_id x) (a_reference r rspan r_semantic_id y), h) k = definitions-underived es h (k + 7)
+
+elements-underived : (es : Parts) → AreFields es → (k : ℕ) → derived_constructors (preorder_of (lowered_elements k es)) ≡ []
+elements-underived end h k = refl
+elements-underived (more p es) h k = rw (four_ends (preorder_of (trees (definitions_from (k + 4) (more p es))))) (definitions-underived (more p es) h (k + 4))
+
+lowered-underived : (ps : Parts) → AreClasses ps → (k : ℕ) → derived_constructors (preorder_of (lowered_statements k ps)) ≡ []
+lowered-underived end h k = refl
+lowered-underived (more p ps) (a_class n span semantic_id id body (a_name i ispan i_semantic_id x free) (a_body m bspan b_semantic_id es he), h) k =
+    let elements : List Tree = preorder_of (lowered_elements k es) in
+    let rest : List Tree = preorder_of (lowered_statements (k + statement_size p) ps) in
+    rw (two_ends elements rest, constructors-append elements rest, elements-underived es he k) (lowered-underived ps h (k + statement_size p))
+
+no-arrows : (ts : List Tree) → derived_arrows [] ts ≡ []
+no-arrows [] = refl
+no-arrows (Node kind m span semantic_id ps ∷ ts) = rw (and-false (is_any_function kind), no-arrows ts) refl
+
+-- ---- the program
+
+bodies-plain : (first : ℕ) (ps : List Tree) (t : Tree) → derived_constructors ps ≡ [] → derived_constructors (preorder t) ≡ [] → bodies_of first ps t ≡ bodies first (variables ps) (class_names ps) (resolve t) [] (preorder t) (preorder t)
+bodies-plain first ps t c d = rw (c, d, no-arrows ps) refl
+
+pub dead_zones-stay : (first k : ℕ) (t : Tree) → IsProgram t → is_first_form t [] ≡ true → dead_zones_stay first t (lowered_from k t) ≡ true
+dead_zones-stay first k t (a_program m span semantic_id s all h) f =
+    let p : Tree = Node Kind.Program m span semantic_id (more (string s) (more (list all) end)) in
+    let low : Parts = lowered_statements k all in
+    let q : Tree = Node Kind.Program m span semantic_id (more (string s) (more (list low) end)) in
+    let ps : List Tree = preorder p in
+    let asked : List ℕ = variables ps in
+    let named : List ℕ = class_names ps in
+    let supers : List ℕ = super_calls ps in
+    let classes : List ClassParts = class_parts ps ps in
+    let own : Body = record { number = m; is_of_fields = false; of_class = []; derives = false; touches = touches_of first asked named (resolve p) nothing_around all } in
+    let later : List Body = bodies first asked named (resolve p) [] ps (preorder_of all ++ []) in
+    let sources : List Body = own ∷ later in
+    let free : AreFree (resolve q) = lowered-free k p (a_program m span semantic_id s all h) f in
+    let source_plain : derived_constructors ps ≡ [] = constructors-append (preorder_of all) [] ∙ rw (classes-underived all h) refl in
+    let low_plain : derived_constructors (preorder q) ≡ [] = constructors-append (preorder_of low) [] ∙ rw (lowered-underived all h k) refl in
+    ap₂ (bodies_fit first supers classes) (bodies-plain first ps p source_plain source_plain) (bodies-plain first ps q source_plain low_plain)
+    ∙ both
+    (ap (λ ts. touches_fit first supers classes sources (record { number = m; is_of_fields = false; of_class = []; derives = false; touches = ts }) [] ts) (touches-same first asked named (resolve q) (resolve p) all h k)
+    ∙ touches-fit first supers classes sources own [] [] own.touches refl [] later refl)
+    (rw (bodies-append first asked named (resolve q) (preorder q) (preorder_of low) []) (append-fit first supers classes sources (bodies first asked named (resolve q) [] (preorder q) (preorder_of low)) [] (classes-fit first supers classes sources asked named (resolve q) free (preorder q) all h k) refl))
