@@ -61,4 +61,4 @@ module _ {first : ℕ} {f : ℕ → ℕ} (r : Renames first f) where
       ap₂ (λ a b. a && b) (ap₂ (λ a b. a && b) (classes_timely-mapped r ledger p q) (ap₂ (λ a b. a && b) (supers_stay-mapped f p q) (private_names_stay-mapped f p q)))
       (ap₂ (λ a b. a && b)
       (rw (preorder-mapped f q, plain_targets-mapped f (preorder q), resolve-mapped f p, writing_numbers-mapped (resolve p), resolve-mapped f q) (writes_fit-mapped ledger (plain_targets (preorder q)) (writing_numbers (resolve p)) (resolve q)))
-      (ap₂ (λ a b. a && b) (inner_names_stay-mapped p q) (ap₂ (λ a b. a && b) (default_stays-mapped r p q) (ap₂ (λ a b. a && b) (rw (preorder-mapped f p) (class_lets_fit-mapped r (preorder p) q)) (dead_zones_stay-mapped r p q)))))
+      (ap₂ (λ a b. a && b) (inner_names_stay-mapped p q) (ap₂ (λ a b. a && b) (default_stays-mapped r p q) (ap₂ (λ a b. a && b) (rw (preorder-mapped f p) (class_lets_fit-mapped r (preorder p) q)) (dead_zones_stay-mapped r ledger p q)))))

@@ -22,7 +22,7 @@ use Rattle.es_steps.specs.Values.{String}
 use Rattle.es_steps.proofs.ContextMapped.{generated_as-mapped, is_generated-mapped}
 use Rattle.es_lowered.proofs.DefinitionsMapped.{spelling-mapped}
 use Rattle.es_lowered.proofs.HelperCallsMapped.{runs_with_class-mapped, body_runs-mapped}
-use Rattle.es_steps.proofs.Mapped.{Renames, mapped, mapped_part, mapped_parts, mapped_option, mapped_generated, mapped_ledger, mapped_privates, mapped_private}
+use Rattle.es_steps.proofs.Mapped.{Renames, mapped, mapped_part, mapped_parts, mapped_pair, mapped_option, mapped_generated, mapped_ledger, mapped_privates, mapped_private}
 use Rattle.es_steps.proofs.PartsMapped.{cond-mapped, append-mapped, at-mapped, items_at-mapped, string_at-mapped, is_true_at-mapped, is_present_at-mapped, preorder-mapped, number_of-mapped}
 use Rattle.es_steps.proofs.PrivatesMapped.{member_at-mapped}
 
@@ -385,42 +385,39 @@ module _ {first : ℕ} {f : ℕ → ℕ} (r : Renames first f) where
       ap (λ (hs : List (ℕ × ℕ)). record (mapped_mark f m) { around = record (mapped_around f m.around) { held = hs } })
       (append-mapped (mapped_held f) (held_by ms m.around.later fs) m.around.held (held_by-mapped ms m.around.later fs) refl)
 
-  abbrev mapped_super : ℕ × ℕ → ℕ × ℕ
-  mapped_super p = (f p.0, f p.1)
-
-  super_function-mapped : (g : Option GeneratedKind) (p : Part) → super_function (mapped_option (mapped_generated f) g) (mapped_part f p) ≡ map mapped_super (super_function g p)
+  super_function-mapped : (g : Option GeneratedKind) (p : Part) → super_function (mapped_option (mapped_generated f) g) (mapped_part f p) ≡ map (mapped_pair f) (super_function g p)
   super_function-mapped (Some (GeneratedKind.SuperFn n)) (child t) = rw (number_of-mapped f t) refl
   super_function-mapped (Some (GeneratedKind.SuperFn n)) p = refl
   super_function-mapped g p = refl
 
-  super_functions-mapped : (ledger : List LedgerEntry) (ts : List Tree) → super_functions (mapped_ledger f ledger) (map (mapped f) ts) ≡ map mapped_super (super_functions ledger ts)
+  pub super_functions-mapped : (ledger : List LedgerEntry) (ts : List Tree) → super_functions (mapped_ledger f ledger) (map (mapped f) ts) ≡ map (mapped_pair f) (super_functions ledger ts)
   super_functions-mapped ledger [] = refl
   super_functions-mapped ledger (Node Kind.VariableDeclarator m span semantic_id ps ∷ ts) =
-      append-mapped mapped_super _ _
+      append-mapped (mapped_pair f) _ _
       (rw (spelling_at-mapped f 0 ps, generated_as-mapped f (spelling (at 0 ps)) ledger, at-mapped f 1 ps) (super_function-mapped (generated_as (spelling (at 0 ps)) ledger) (at 1 ps)))
       (super_functions-mapped ledger ts)
   super_functions-mapped ledger (Node Kind.AssignmentExpression m span semantic_id ps ∷ ts) =
-      append-mapped mapped_super _ _
+      append-mapped (mapped_pair f) _ _
       (rw (spelling_at-mapped f 1 ps, generated_as-mapped f (spelling (at 1 ps)) ledger, at-mapped f 2 ps) (super_function-mapped (generated_as (spelling (at 1 ps)) ledger) (at 2 ps)))
       (super_functions-mapped ledger ts)
   super_functions-mapped ledger (t ∷ ts) = super_functions-mapped ledger ts
 
-  is_given_with-mapped : (ledger : List LedgerEntry) (members : List PrivateMember) (m : Mark) (gs : List (ℕ × ℕ)) → is_given_with (mapped_ledger f ledger) (mapped_privates f members) (mapped_mark f m) (map mapped_super gs) ≡ is_given_with ledger members m gs
+  is_given_with-mapped : (ledger : List LedgerEntry) (members : List PrivateMember) (m : Mark) (gs : List (ℕ × ℕ)) → is_given_with (mapped_ledger f ledger) (mapped_privates f members) (mapped_mark f m) (map (mapped_pair f) gs) ≡ is_given_with ledger members m gs
   is_given_with-mapped ledger members m [] = refl
   is_given_with-mapped ledger members m (g ∷ gs) =
       ap₂ (λ a b. a || b)
       (ap₂ (λ a (ns : List String). a && is_among m.name ns) (is_around-mapped g.0 m.around.later) (needed_names-mapped g.1 members ledger))
       (is_given_with-mapped ledger members m gs)
 
-  with_super-mapped : (ledger : List LedgerEntry) (members : List PrivateMember) (gs : List (ℕ × ℕ)) (m : Mark) → with_super (mapped_ledger f ledger) (mapped_privates f members) (map mapped_super gs) (mapped_mark f m) ≡ mapped_mark f (with_super ledger members gs m)
+  with_super-mapped : (ledger : List LedgerEntry) (members : List PrivateMember) (gs : List (ℕ × ℕ)) (m : Mark) → with_super (mapped_ledger f ledger) (mapped_privates f members) (map (mapped_pair f) gs) (mapped_mark f m) ≡ mapped_mark f (with_super ledger members gs m)
   with_super-mapped ledger members gs m =
       rw (is_given_with-mapped ledger members m gs) (cond-mapped (mapped_mark f) (is_needed m.form && is_given_with ledger members m gs) (record m { form = uses }) m refl refl)
 
-  all_given-mapped : (ledger : List LedgerEntry) (members : List PrivateMember) (fs : List (ℕ × String)) (gs : List (ℕ × ℕ)) (all ms : List Mark) → map (λ m. with_super (mapped_ledger f ledger) (mapped_privates f members) (map mapped_super gs) (with_class (map (mapped_running f) fs) (map (mapped_mark f) all) m)) (map (mapped_mark f) ms) ≡ map (mapped_mark f) (map (λ m. with_super ledger members gs (with_class fs all m)) ms)
+  all_given-mapped : (ledger : List LedgerEntry) (members : List PrivateMember) (fs : List (ℕ × String)) (gs : List (ℕ × ℕ)) (all ms : List Mark) → map (λ m. with_super (mapped_ledger f ledger) (mapped_privates f members) (map (mapped_pair f) gs) (with_class (map (mapped_running f) fs) (map (mapped_mark f) all) m)) (map (mapped_mark f) ms) ≡ map (mapped_mark f) (map (λ m. with_super ledger members gs (with_class fs all m)) ms)
   all_given-mapped ledger members fs gs all [] = refl
   all_given-mapped ledger members fs gs all (m ∷ ms) =
       ap₂ (λ x (xs : List Mark). x ∷ xs)
-      (ap (with_super (mapped_ledger f ledger) (mapped_privates f members) (map mapped_super gs)) (with_class-mapped fs all m) ∙ with_super-mapped ledger members gs (with_class fs all m))
+      (ap (with_super (mapped_ledger f ledger) (mapped_privates f members) (map (mapped_pair f) gs)) (with_class-mapped fs all m) ∙ with_super-mapped ledger members gs (with_class fs all m))
       (all_given-mapped ledger members fs gs all ms)
 
   pub names_timely-mapped : (ledger : List LedgerEntry) (members : List PrivateMember) (q : Tree) → names_timely first (mapped_ledger f ledger) (mapped_privates f members) (mapped f q) ≡ names_timely first ledger members q

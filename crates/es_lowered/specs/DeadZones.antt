@@ -1,24 +1,27 @@
 -- What reads a name or `this` without an event, and what makes a class of such, stands behind what it stood behind in the source: a name
 -- may be in its dead zone there (ECMA-262, 9.1.1.1.6), and in a constructor of a class with a heritage `this` is there behind `super(..)`
 -- (9.1.1.3.4). (Our own.)
-use Rattle.std.specs.Prelude.{ℕ, suc, List, [], ◌∷◌, ◌++◌, Bool, true, false, cond, not, ◌&&◌, ◌||◌, nat_eq}
+use Rattle.std.specs.Prelude.{ℕ, suc, List, [], ◌∷◌, ◌++◌, Bool, true, false, map, cond, not, ◌&&◌, ◌||◌, nat_eq, bytes_eq, codes, Option, Some, None}
 use Rattle.es_base.specs.Numbered.{is_new}
 use Rattle.es_base.specs.Preorder.{preorder, preorder_of, preorder_of_part}
 use Rattle.es_base.specs.Tree.{Tree, Part, Parts, Node, end, more, child, list}
 use Rattle.es_base.specs.declared.kind.Kind.{Kind}
-use Rattle.es_lowered.specs.ClassNames.{numbers_of, head_numbers, is_none}
+use Rattle.es_base.specs.declared.ledger.GeneratedKind.{GeneratedKind}
+use Rattle.es_base.specs.declared.ledger.LedgerEntry.{LedgerEntry}
+use Rattle.es_lowered.specs.ClassNames.{numbers_of}
+use Rattle.es_lowered.specs.Definitions.{spelling, is_bound_among}
 use Rattle.es_lowered.specs.HelperCalls.{part_number, is_class_body, runs_with_class}
-use Rattle.es_lowered.specs.Timely.{is_same, is_held}
-use Rattle.es_steps.specs.Context.{is_function, is_super_call}
+use Rattle.es_lowered.specs.Timely.{is_same, is_held, super_functions}
+use Rattle.es_steps.specs.Context.{generated_as, is_function, is_super_call}
 use Rattle.es_steps.specs.KeptNodes.{all_pairs_stand}
 use Rattle.es_steps.specs.LoweredClasses.{constructor_in}
 use Rattle.es_steps.specs.NameScopes.{is_any_function}
-use Rattle.es_steps.specs.Parts.{at, is_present}
+use Rattle.es_steps.specs.Parts.{at, items, is_present, string_of}
 use Rattle.es_steps.specs.Printable.{has_optional}
 use Rattle.es_steps.specs.PrivateNames.{is_class, is_element}
 use Rattle.es_steps.specs.References.{Reference, resolve, has_number}
 use Rattle.es_steps.specs.Repeated.{is_arrow}
-use Rattle.es_steps.specs.Values.{Referent, Bound, Free}
+use Rattle.es_steps.specs.Values.{String, Referent, Bound, Free}
 
 pub data TouchForm : Type 0 where
   -- a reference to identifier b, which is a variable
@@ -28,6 +31,8 @@ pub data TouchForm : Type 0 where
   reads_this : TouchForm
   makes_class : TouchForm
   calls_super : TouchForm
+  -- a call of the closure that arrow k is
+  runs_closure : (k : ℕ) → TouchForm
   -- any other reference, an identifier that declares, and what runs other code
   another : TouchForm
 
@@ -38,7 +43,7 @@ pub record Touch : Type 0 where
   pub held : List (ℕ × ℕ)
 
 -- what a program, a function or the fields of a class touch in the order of evaluation: its number, with that of the class whose
--- constructor it is, and whether `this` is there behind `super(..)` alone
+-- constructor it is, or for whose `super(..)` it stands, and whether `this` is there behind `super(..)` alone
 pub record Body : Type 0 where
   pub number : ℕ
   pub is_of_fields : Bool
@@ -55,6 +60,7 @@ bound_numbers (t ∷ ts) = bound_numbers ts
 
 abbrev pub variables_by : Kind → Parts → List ℕ
 variables_by Kind.VariableDeclarator ps = bound_numbers (preorder_of_part (at 0 ps))
+variables_by Kind.CatchClause ps = bound_numbers (preorder_of_part (at 0 ps))
 variables_by Kind.ArrowFunctionExpression ps = bound_numbers (preorder_of_part (at 0 ps))
 variables_by Kind.FunctionDeclaration ps = bound_numbers (preorder_of_part (at 1 ps))
 variables_by Kind.FunctionExpression ps = bound_numbers (preorder_of_part (at 1 ps))
@@ -95,13 +101,41 @@ is_still Kind.ExportNamedDeclaration = true
 is_still Kind.ExportDefaultDeclaration = true
 is_still kind = is_any_function kind
 
-abbrev pub call_form : Bool → TouchForm
-call_form true = calls_super
-call_form false = another
+-- the closures of generated names, each with its arrow, which runs where the name is called
+abbrev pub is_closure : Option GeneratedKind → Bool
+is_closure (Some GeneratedKind.Closure) = true
+is_closure (Some (GeneratedKind.SuperFn n)) = true
+is_closure g = false
+
+abbrev pub Closures : Type 0
+Closures = List (String × ℕ)
+
+abbrev pub closure : List LedgerEntry → String → Part → Closures
+closure ledger s (child (Node Kind.ArrowFunctionExpression k span semantic_id ps)) = cond (is_closure (generated_as s ledger)) ((s, k) ∷ []) []
+closure ledger s p = []
+
+abbrev pub closures_by : List LedgerEntry → Kind → Parts → Closures
+closures_by ledger Kind.AssignmentExpression ps = closure ledger (spelling (at 1 ps)) (at 2 ps)
+closures_by ledger Kind.VariableDeclarator ps = closure ledger (spelling (at 0 ps)) (at 1 ps)
+closures_by ledger kind ps = []
+
+abbrev pub closures : List LedgerEntry → List Tree → Closures
+closures ledger [] = []
+closures ledger (Node kind m span semantic_id ps ∷ ts) = closures_by ledger kind ps ++ closures ledger ts
+
+abbrev pub call_form : Bool → String → Closures → TouchForm
+call_form true s cs = calls_super
+call_form false s [] = another
+call_form false s (c ∷ cs) = cond (bytes_eq s c.0) (runs_closure c.1) (call_form false s cs)
 
 abbrev pub is_chain : Kind → Bool
 is_chain Kind.ChainExpression = true
 is_chain kind = false
+
+-- a function in a block is given to a name where it stands (B.3.2)
+abbrev pub is_function_declaration : Kind → Bool
+is_function_declaration Kind.FunctionDeclaration = true
+is_function_declaration kind = false
 
 -- what a chain goes through: members and calls
 abbrev pub is_link : Kind → Bool
@@ -145,7 +179,7 @@ abbrev pub spot_in : Spot → Bool → Kind → ℕ → Parts → ℕ → Spot
 spot_in x optional kind m ps i = record { held = held_in x optional kind m ps i; chain = chain_in x kind m i }
 
 -- asked are variables, named the names of classes
-module _ (first : ℕ) (asked named : List ℕ) (references : List Reference) where
+module _ (first : ℕ) (called : Closures) (asked named : List ℕ) (references : List Reference) where
   -- what runs later or elsewhere; the body of a new arrow is touched where the arrow stands, which is called behind that
   abbrev pub is_apart : Kind → ℕ → Bool
   is_apart Kind.ImportDeclaration m = true
@@ -164,13 +198,13 @@ module _ (first : ℕ) (asked named : List ℕ) (references : List Reference) wh
   own_touches held Kind.IdentifierReference m ps = reference_touches held m references
   own_touches held Kind.ThisExpression m ps = touch held m reads_this
   own_touches held Kind.BindingIdentifier m ps = touch held m another
-  own_touches held Kind.CallExpression m ps = touch held m (call_form (is_super_call Kind.CallExpression ps))
+  own_touches held Kind.CallExpression m ps = touch held m (call_form (is_super_call Kind.CallExpression ps) (spelling (at 0 ps)) called)
   own_touches held kind m ps = cond (is_still kind) [] (touch held m another)
 
   abbrev mutual
     pub touches : Spot → Tree → List Touch
     touches x (Node kind m span semantic_id ps) =
-        cond (is_apart kind m) [] (cond (is_class kind) (class_touches (in_no_chain x) m ps) (cond (is_turned kind) (turned (spot_in x (has_optional (Node kind m span semantic_id ps)) kind m ps) ps) (inner_touches kind (in_no_chain x) (spot_in x (has_optional (Node kind m span semantic_id ps)) kind m ps) ps)) ++ own_touches (held_behind x.chain (has_optional (Node kind m span semantic_id ps)) x.held) kind m ps)
+        cond (is_apart kind m) (cond (is_function_declaration kind) (touch x.held m another) []) (cond (is_class kind) (class_touches (in_no_chain x) m ps) (cond (is_turned kind) (turned (spot_in x (has_optional (Node kind m span semantic_id ps)) kind m ps) ps) (inner_touches kind (in_no_chain x) (spot_in x (has_optional (Node kind m span semantic_id ps)) kind m ps) ps)) ++ own_touches (held_behind x.chain (has_optional (Node kind m span semantic_id ps)) x.held) kind m ps)
 
     -- a new arrow that is called where it stands runs behind its arguments
     pub inner_touches : Kind → Spot → (ℕ → Spot) → Parts → List Touch
@@ -264,23 +298,48 @@ abbrev pub derived_arrows : List ℕ → List Tree → List ℕ
 derived_arrows constructors [] = []
 derived_arrows constructors (Node kind m span semantic_id ps ∷ ts) = cond (is_any_function kind && has_number m constructors) (arrows_in ps) [] ++ derived_arrows constructors ts
 
+abbrev pub is_call_of_super : TouchForm → Bool
+is_call_of_super calls_super = true
+is_call_of_super form = false
+
+-- the class that a new function for `super(..)` is of; given are such functions, each with its class
+abbrev pub classes_given : ℕ → List (ℕ × ℕ) → List ℕ
+classes_given m [] = []
+classes_given m (p ∷ ps) = cond (nat_eq m p.0) (p.1 ∷ []) [] ++ classes_given m ps
+
 -- the parameters of a function, and its body
 abbrev pub parameters_at : Kind → ℕ
 parameters_at Kind.ArrowFunctionExpression = 0
 parameters_at kind = 1
 
 -- nodes are those of the program, derived the functions and arrows where `this` is there behind `super(..)` alone
-module _ (first : ℕ) (asked named : List ℕ) (references : List Reference) (derived : List ℕ) (nodes : List Tree) where
-  -- a generator stands still between its parameters and its body
-  abbrev pub function_touches : Kind → ℕ → Parts → List Touch
-  function_touches kind m ps =
-      touches_at first asked named references nothing_around (at (parameters_at kind) ps) ++ (touch [] m another ++ touches_at first asked named references nothing_around (at (suc (parameters_at kind)) ps))
+module _ (first : ℕ) (called : Closures) (asked named : List ℕ) (references : List Reference) (derived : List ℕ) (given : List (ℕ × ℕ)) (nodes : List Tree) where
+  abbrev pub field_touches : List ℕ → List Tree → List Touch
+  field_touches ns [] = []
+  field_touches ns (Node kind n span semantic_id ps ∷ ts) = cond (is_class kind && has_number n ns) (value_touches first called asked named references false nothing_around (at 2 ps)) (field_touches ns ts)
+
+  abbrev pub held_with : List (ℕ × ℕ) → List Touch → List Touch
+  held_with held ts = map (λ t. record { number = t.number; form = t.form; held = t.held ++ held }) ts
+
+  -- the fields of a class with a heritage are defined behind each `super(..)`
+  abbrev pub with_fields : List Touch → List Touch → List Touch
+  with_fields fields [] = []
+  with_fields fields (t ∷ ts) = (t ∷ cond (is_call_of_super t.form) (held_with t.held fields) []) ++ with_fields fields ts
+
+  -- a generator stands still between its parameters and its body; the fields of a class without a heritage are defined first
+  abbrev pub function_touches : Bool → List Touch → Kind → ℕ → Parts → List Touch
+  function_touches derives fields kind m ps =
+      touches_at first called asked named references nothing_around (at (parameters_at kind) ps)
+      ++ (touch [] m another ++ (cond derives [] fields ++ touches_at first called asked named references nothing_around (at (suc (parameters_at kind)) ps)))
+
+  abbrev pub body_touches : Bool → List Touch → Kind → ℕ → Parts → List Touch
+  body_touches derives fields kind m ps = cond derives (with_fields fields (function_touches derives fields kind m ps)) (function_touches derives fields kind m ps)
 
   abbrev pub bodies_by : Kind → ℕ → Parts → List Body
-  bodies_by Kind.Program m ps = record { number = m; is_of_fields = false; of_class = []; derives = false; touches = touches_at first asked named references nothing_around (at 1 ps) } ∷ []
+  bodies_by Kind.Program m ps = record { number = m; is_of_fields = false; of_class = []; derives = false; touches = touches_at first called asked named references nothing_around (at 1 ps) } ∷ []
   bodies_by kind m ps =
-      cond (is_any_function kind && is_apart first asked named references kind m) (record { number = m; is_of_fields = false; of_class = constructs m nodes; derives = has_number m derived; touches = function_touches kind m ps } ∷ [])
-      (cond (is_class kind) (record { number = m; is_of_fields = true; of_class = []; derives = false; touches = value_touches first asked named references false nothing_around (at 2 ps) } ∷ []) [])
+      cond (is_any_function kind && is_apart first called asked named references kind m) (record { number = m; is_of_fields = false; of_class = constructs m nodes ++ classes_given m given; derives = has_number m derived; touches = body_touches (has_number m derived) (field_touches (constructs m nodes) nodes) kind m ps } ∷ [])
+      (cond (is_class kind) (record { number = m; is_of_fields = true; of_class = []; derives = false; touches = value_touches first called asked named references false nothing_around (at 2 ps) } ∷ []) [])
 
   abbrev pub bodies : List Tree → List Body
   bodies [] = []
@@ -292,17 +351,36 @@ abbrev pub super_calls : List Tree → List ℕ
 super_calls [] = []
 super_calls (Node kind m span semantic_id ps ∷ ts) = cond (is_super_call kind ps) (m ∷ []) [] ++ super_calls ts
 
--- the nodes of a class: of its heritage, of that and its keys, and all that stand in it
+-- the nodes of a class: of its heritage; of its keys that are references; of its computed keys and static blocks
 pub record ClassParts : Type 0 where
   pub number : ℕ
   pub heritage : List ℕ
-  pub heads : List ℕ
-  pub inside : List ℕ
+  pub keys : List ℕ
+  pub moving : List ℕ
 
-abbrev pub class_parts : List Tree → List Tree → List ClassParts
-class_parts all [] = []
-class_parts all (Node kind n span semantic_id ps ∷ ts) =
-    cond (is_class kind) (record { number = n; heritage = numbers_of (preorder_of_part (at 1 ps)); heads = head_numbers n all; inside = numbers_of (preorder_of ps) } ∷ []) [] ++ class_parts all ts
+abbrev pub reference_number : Part → List ℕ
+reference_number (child (Node Kind.IdentifierReference m span semantic_id ps)) = m ∷ []
+reference_number p = []
+
+abbrev pub key_references : Parts → List ℕ
+key_references end = []
+key_references (more (child (Node kind m span semantic_id (more k ps))) es) = cond (is_element kind) (reference_number k) [] ++ key_references es
+key_references (more p es) = key_references es
+
+abbrev pub moving_numbers : Parts → List ℕ
+moving_numbers end = []
+moving_numbers (more (child (Node Kind.StaticBlock m span semantic_id ps)) es) = numbers_of (preorder_of ps) ++ moving_numbers es
+moving_numbers (more (child (Node kind m span semantic_id (more k ps))) es) = cond (is_element kind) (numbers_of (preorder_of_part k)) [] ++ moving_numbers es
+moving_numbers (more p es) = moving_numbers es
+
+abbrev pub class_elements : Part → Parts
+class_elements (child (Node Kind.ClassBody m span semantic_id ps)) = items (at 0 ps)
+class_elements p = end
+
+abbrev pub class_parts : List Tree → List ClassParts
+class_parts [] = []
+class_parts (Node kind n span semantic_id ps ∷ ts) =
+    cond (is_class kind) (record { number = n; heritage = numbers_of (preorder_of_part (at 1 ps)); keys = key_references (class_elements (at 2 ps)); moving = moving_numbers (class_elements (at 2 ps)) } ∷ []) [] ++ class_parts ts
 
 -- ---- what stands behind
 
@@ -317,10 +395,6 @@ stands_behind m n (t ∷ ts) = (nat_eq m t.number && is_touched n ts) || stands_
 abbrev pub is_this : TouchForm → Bool
 is_this reads_this = true
 is_this form = false
-
-abbrev pub is_call_of_super : TouchForm → Bool
-is_call_of_super calls_super = true
-is_call_of_super form = false
 
 abbrev pub is_same_form : TouchForm → TouchForm → Bool
 is_same_form (reads b) (reads c) = nat_eq b c
@@ -337,13 +411,49 @@ is_asked derives reads_this = derives
 is_asked derives makes_class = true
 is_asked derives form = false
 
--- what is in a class may get in front of its heritage, of which a shape tells, if that has events
+-- what is in a computed key or a static block of a class may get in front of its heritage, of which a shape tells, if that has events
 abbrev pub is_excepted : ℕ → ℕ → List ClassParts → Bool
 is_excepted m n [] = false
-is_excepted m n (c ∷ cs) = (has_number m c.inside && has_number n c.heritage) || is_excepted m n cs
+is_excepted m n (c ∷ cs) = (has_number m c.moving && has_number n c.heritage) || is_excepted m n cs
 
--- sources are the bodies of the source, supers its calls of `super`
-module _ (first : ℕ) (supers : List ℕ) (classes : List ClassParts) (sources : List Body) where
+-- ---- what a closure does, which was made in front of t and was not run yet, is behind t, too
+
+abbrev pub stands_in_node : ℕ → List (ℕ × ℕ) → Bool
+stands_in_node k [] = false
+stands_in_node k (p ∷ ps) = nat_eq k p.0 || stands_in_node k ps
+
+abbrev pub is_run : ℕ → TouchForm → Bool
+is_run k (runs_closure n) = nat_eq k n
+is_run k form = false
+
+abbrev pub was_run : ℕ → List Touch → Bool
+was_run k [] = false
+was_run k (t ∷ ts) = is_run k t.form || was_run k ts
+
+-- whether u stands in each of these closures that t stands in
+abbrev pub is_in_same : Closures → Touch → Touch → Bool
+is_in_same [] t u = true
+is_in_same (c ∷ cs) t u = (not (stands_in_node c.1 t.held) || stands_in_node c.1 u.held) && is_in_same cs t u
+
+abbrev pub is_arrow_of : ℕ → Closures → Bool
+is_arrow_of k [] = false
+is_arrow_of k (c ∷ cs) = nat_eq k c.1 || is_arrow_of k cs
+
+-- whether a call runs a closure in which u stands
+abbrev pub is_run_by : Closures → Touch → TouchForm → Bool
+is_run_by cs u (runs_closure k) = is_arrow_of k cs && stands_in_node k u.held
+is_run_by cs u form = false
+
+abbrev pub is_put_off : Closures → List Touch → Touch → Touch → Bool
+is_put_off [] front t u = false
+is_put_off (c ∷ cs) front t u = (stands_in_node c.1 u.held && (not (stands_in_node c.1 t.held) && not (was_run c.1 front))) || is_put_off cs front t u
+
+abbrev pub put_off : Closures → List Touch → Touch → List Touch → List Touch
+put_off called front t [] = []
+put_off called front t (u ∷ us) = cond (is_put_off called front t u) (u ∷ []) [] ++ put_off called front t us
+
+-- sources are the bodies of the source, supers its calls of `super`, called the closures of the lowered program
+module _ (first : ℕ) (supers : List ℕ) (classes : List ClassParts) (called : Closures) (sources : List Body) where
   -- what stands behind, has events and is touched by a body of the source, there, stands behind m there
   abbrev pub all_behind : List Touch → ℕ → List Touch → Bool
   all_behind there m [] = true
@@ -358,13 +468,13 @@ module _ (first : ℕ) (supers : List ℕ) (classes : List ClassParts) (sources 
   stands_like t ts there [] = false
   stands_like t ts there (u ∷ us) = (is_like t u && (all_behind there u.number ts && all_pairs_stand u.held t.held)) || stands_like t ts there us
 
-  -- the body of the source, or the fields of a class: of that whose constructor body b is, or where b is a new function for `super(..)`
-  abbrev pub is_of_body : Body → Body → Bool
-  is_of_body b c = nat_eq b.number c.number || cond (is_none b.of_class) (is_new first b.number && c.is_of_fields) (has_number c.number b.of_class)
+  -- the body of the source, or where b is new, the fields of its class, if they may be defined
+  abbrev pub is_of_body : Bool → Body → Body → Bool
+  is_of_body ready b c = nat_eq b.number c.number || (is_new first b.number && (c.is_of_fields && (ready && has_number c.number b.of_class)))
 
-  abbrev pub stands_in_any : Body → Touch → List Touch → List Body → Bool
-  stands_in_any b t ts [] = false
-  stands_in_any b t ts (c ∷ cs) = (is_of_body b c && ((c.derives || not (is_this t.form)) && stands_like t ts c.touches c.touches)) || stands_in_any b t ts cs
+  abbrev pub stands_in_any : Bool → Body → Touch → List Touch → List Body → Bool
+  stands_in_any ready b t ts [] = false
+  stands_in_any ready b t ts (c ∷ cs) = (is_of_body ready b c && ((c.derives || not (is_this t.form)) && stands_like t ts c.touches c.touches)) || stands_in_any ready b t ts cs
 
   -- a constructor reads the keys of fields again
   abbrev pub is_touched_as : List ℕ → TouchForm → List Touch → Bool
@@ -377,7 +487,7 @@ module _ (first : ℕ) (supers : List ℕ) (classes : List ClassParts) (sources 
 
   abbrev pub reads_key : List ℕ → TouchForm → List ClassParts → Bool
   reads_key of_class form [] = false
-  reads_key of_class form (c ∷ cs) = (has_number c.number of_class && is_touched_in c.heads form sources) || reads_key of_class form cs
+  reads_key of_class form (c ∷ cs) = (has_number c.number of_class && is_touched_in c.keys form sources) || reads_key of_class form cs
 
   abbrev pub is_behind_super : Touch → List Touch → Bool
   is_behind_super t [] = false
@@ -385,20 +495,68 @@ module _ (first : ℕ) (supers : List ℕ) (classes : List ClassParts) (sources 
 
   abbrev pub touch_fits : Body → List Touch → Touch → List Touch → Bool
   touch_fits b front t ts =
-      not (is_asked b.derives t.form) || (cond (is_this t.form) (is_behind_super t front) (reads_key b.of_class t.form classes) || stands_in_any b t ts sources)
+      not (is_asked b.derives t.form) || (cond (is_this t.form) (is_behind_super t front) (reads_key b.of_class t.form classes) || stands_in_any (not b.derives || is_behind_super t front) b t (put_off called front t front ++ ts) sources)
+
+  -- what stands in the same closures as t
+  abbrev pub in_same : Touch → List Touch → List Touch
+  in_same t [] = []
+  in_same t (u ∷ us) = cond (is_in_same called t u) (u ∷ []) [] ++ in_same t us
+
+  -- what t runs of these
+  abbrev pub run_with : Touch → List Touch → List Touch
+  run_with t [] = []
+  run_with t (u ∷ us) = cond (is_run_by called u t.form) (u ∷ []) [] ++ run_with t us
+
+  -- what a closure reads is read where it runs
+  abbrev pub runs_fit : Body → List Touch → Touch → List Touch → List Touch → Bool
+  runs_fit b front t ts [] = true
+  runs_fit b front t ts (u ∷ us) = (not (is_run_by called u t.form) || touch_fits b (t ∷ front) (record { number = u.number; form = u.form; held = t.held }) (run_with t us ++ ts)) && runs_fit b front t ts us
 
   -- what is in front, and what is touched from here on
   abbrev pub touches_fit : Body → List Touch → List Touch → Bool
   touches_fit b front [] = true
-  touches_fit b front (t ∷ ts) = touch_fits b front t ts && touches_fit b (t ∷ front) ts
+  touches_fit b front (t ∷ ts) = (touch_fits b front t (in_same t ts) && runs_fit b front t ts b.touches) && touches_fit b (t ∷ front) ts
 
   abbrev pub bodies_fit : List Body → Bool
   bodies_fit [] = true
   bodies_fit (b ∷ bs) = touches_fit b [] b.touches && bodies_fit bs
 
 -- the bodies of t, where ps are the nodes of the source
-abbrev pub bodies_of : ℕ → List Tree → Tree → List Body
-bodies_of first ps t = bodies first (variables ps) (class_names ps) (resolve t) (derived_constructors (preorder t) ++ derived_arrows (derived_constructors ps) ps) (preorder t) (preorder t)
+abbrev pub bodies_of : ℕ → List LedgerEntry → Closures → List Tree → Tree → List Body
+bodies_of first ledger called ps t =
+    bodies first called (variables ps) (class_names ps) (resolve t) (derived_constructors (preorder t) ++ derived_arrows (derived_constructors ps) ps) (super_functions ledger (preorder t)) (preorder t) (preorder t)
 
-abbrev pub dead_zones_stay : ℕ → Tree → Tree → Bool
-dead_zones_stay first p q = bodies_fit first (super_calls (preorder p)) (class_parts (preorder p) (preorder p)) (bodies_of first (preorder p) p) (bodies_of first (preorder p) q)
+-- ---- a new reference to the name of a class is not read for nothing, but in front of a helper that throws
+
+abbrev pub throws_always : Part → Bool
+throws_always (child (Node Kind.CallExpression m span semantic_id (more (child (Node Kind.MemberExpression k kspan k_semantic_id (more o (more (child (Node Kind.IdentifierName n nspan n_semantic_id ns)) rest)))) arguments))) =
+    bytes_eq (string_of (at 0 ns)) (codes "readOnlyError") || bytes_eq (string_of (at 0 ns)) (codes "writeOnlyError")
+throws_always p = false
+
+-- all but the last
+abbrev pub dropped_in : Parts → List ℕ
+dropped_in end = []
+dropped_in (more p end) = []
+dropped_in (more p (more q ps)) = cond (throws_always q) [] (reference_number p) ++ dropped_in (more q ps)
+
+abbrev pub dropped_by : Kind → Parts → List ℕ
+dropped_by Kind.ExpressionStatement ps = reference_number (at 0 ps)
+dropped_by Kind.SequenceExpression ps = dropped_in (items (at 0 ps))
+dropped_by kind ps = []
+
+abbrev pub dropped : List Tree → List ℕ
+dropped [] = []
+dropped (Node kind m span semantic_id ps ∷ ts) = dropped_by kind ps ++ dropped ts
+
+-- old are those that are dropped in the source
+abbrev pub drops_name : ℕ → List ℕ → List ℕ → List ℕ → Reference → Bool
+drops_name first named old ns r = is_bound_among named (Some r.to) && ((is_new first r.number && has_number r.number ns) && not (has_number r.number old))
+
+abbrev pub none_drops : ℕ → List ℕ → List ℕ → List ℕ → List Reference → Bool
+none_drops first named old ns [] = true
+none_drops first named old ns (r ∷ rs) = not (drops_name first named old ns r) && none_drops first named old ns rs
+
+abbrev pub dead_zones_stay : ℕ → List LedgerEntry → Tree → Tree → Bool
+dead_zones_stay first ledger p q =
+    none_drops first (class_names (preorder p)) (dropped (preorder p)) (dropped (preorder q)) (resolve q)
+    && bodies_fit first (super_calls (preorder p)) (class_parts (preorder p)) (closures ledger (preorder q)) (bodies_of first [] [] (preorder p) p) (bodies_of first ledger (closures ledger (preorder q)) (preorder p) q)

@@ -50,4 +50,4 @@ abbrev pub inner_names_stay : ℕ → Tree → Tree → Bool
 inner_names_stay first p q = all_stand_where first (inner_references first (preorder p) q) (inner_references first (preorder p) p)
 
 abbrev pub references_stay : ℕ → List LedgerEntry → Tree → Tree → Bool
-references_stay first ledger p q = (classes_timely first ledger p q && (supers_stay p q && private_names_stay p q)) && (writes_fit first ledger (plain_targets (preorder q)) (writing_numbers (resolve p)) (resolve q) && (inner_names_stay first p q && (default_stays first p q && (class_lets_fit first (preorder p) q && dead_zones_stay first p q))))
+references_stay first ledger p q = (classes_timely first ledger p q && (supers_stay p q && private_names_stay p q)) && (writes_fit first ledger (plain_targets (preorder q)) (writing_numbers (resolve p)) (resolve q) && (inner_names_stay first p q && (default_stays first p q && (class_lets_fit first (preorder p) q && dead_zones_stay first ledger p q))))
