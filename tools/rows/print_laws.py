@@ -90,7 +90,7 @@ STRICT = 'none_becomes_strict (nodes source_{n}) source_{n} output_{n}'
 TEXTS = 'texts_stay (nodes source_{n}) source_{n} output_{n}'
 OWN_NAMES = 'own_names_stay generated_{n} source_{n} output_{n}'
 CARRIERS = 'numbers_carried (nodes source_{n}) source_{n} output_{n}'
-REFERENCES = 'references_stay (nodes source_{n}) generated_{n} source_{n} output_{n}'
+REFERENCES = 'references_stay (nodes source_{n}) options_{n} generated_{n} source_{n} output_{n}'
 NOT_MET = {
     'temporary_given_again': STEADY,
     'temporary_given_again_in_a_loop': STEADY,
@@ -340,6 +340,20 @@ NOT_MET = {
     'super_logical_assignment_that_becomes_strict': CARRIERS,
     'class_updated_by_a_temporary': REFERENCES,
     'class_updated_by_a_temporary_beside_a_field': REFERENCES,
+    'arrow_in_the_head_of_a_loop': REFERENCES,
+    'key_of_a_class_in_front_of_its_heritage': REFERENCES,
+    'name_in_front_of_a_conversion_in_a_template': REFERENCES,
+    'this_in_front_of_the_conversion_of_a_key': REFERENCES,
+    'name_in_front_of_a_class_declaration': REFERENCES,
+    'name_in_front_of_a_default_export': REFERENCES,
+    'name_of_a_class_that_goes_nowhere': REFERENCES,
+    'name_in_front_of_a_write_that_throws': REFERENCES,
+    'name_in_front_of_a_class_that_names_itself': REFERENCES,
+    'name_in_front_of_a_definition': REFERENCES,
+    'name_in_front_of_the_fields': REFERENCES,
+    'name_of_a_key_in_a_constructor': REFERENCES,
+    'name_in_front_of_a_function_in_a_block': REFERENCES,
+    'name_of_a_pattern_in_front_of_its_key': REFERENCES,
 }
 # of those that the clause on definitions finds: whose meaning is that of the source
 MEANT = ('call_in_a_super_function_that_nothing_calls', 'super_function_of_a_static_block', 'map_without_class_properties', 'super_function_without_fields')
@@ -348,9 +362,9 @@ SHAPES = {'regular_expression_before_a_heritage': ('1 ∷ []', '[]'), 'changing_
 # outputs that mean what their sources mean
 RIGHT = ('private_name_beside_a_name', 'branch_of_a_key', 'class_in_a_case', 'key_of_a_binding_for_a_name', 'function_named_by_an_element')
 # outputs that owe nothing either
-OWING_NOTHING = ('number_as_a_key', 'static_key_that_is_a_constant', 'method_around_a_class_without_elements', 'static_field_that_takes_a_block', 'template_that_is_copied', 'class_named_by_a_key_of_an_object', 'class_named_by_a_number_of_an_object', 'class_with_the_name_of_a_prototype', 'tested_name_of_a_class', 'block_of_a_binding', 'own_name_that_nothing_means', 'strict_function_of_a_method', 'block_of_an_arrow', 'class_named_await', 'class_that_suspends', 'classes_that_suspend', 'nameless_class_that_suspends', 'string_in_parentheses', 'directive_with_an_escape', 'hexadecimal_bigint', 'let_in_front_of_a_function', 'private_method_that_reads_a_field', 'private_method_that_reads_itself', 'static_private_method_that_reads_a_field', 'map_in_front_of_a_key_that_asks', 'arrow_that_names_await', 'regular_expression_as_a_key', 'regular_expression_as_a_static_key', 'tests_of_two_keys', 'class_in_a_closure', 'block_that_names_another_class', 'private_field_of_a_named_class', 'class_in_a_super_function', 'private_method_of_a_class_in_a_branch', 'super_function_in_front_of_a_map', 'private_method_behind_a_class', 'converted_assignment', 'converted_sequence', 'argument_behind_a_throw')
+OWING_NOTHING = ('number_as_a_key', 'static_key_that_is_a_constant', 'method_around_a_class_without_elements', 'static_field_that_takes_a_block', 'template_that_is_copied', 'class_named_by_a_key_of_an_object', 'class_named_by_a_number_of_an_object', 'class_with_the_name_of_a_prototype', 'tested_name_of_a_class', 'block_of_a_binding', 'own_name_that_nothing_means', 'strict_function_of_a_method', 'block_of_an_arrow', 'class_named_await', 'class_that_suspends', 'classes_that_suspend', 'nameless_class_that_suspends', 'string_in_parentheses', 'directive_with_an_escape', 'hexadecimal_bigint', 'let_in_front_of_a_function', 'private_method_that_reads_a_field', 'private_method_that_reads_itself', 'static_private_method_that_reads_a_field', 'map_in_front_of_a_key_that_asks', 'arrow_that_names_await', 'regular_expression_as_a_key', 'regular_expression_as_a_static_key', 'tests_of_two_keys', 'class_in_a_closure', 'block_that_names_another_class', 'private_field_of_a_named_class', 'class_in_a_super_function', 'private_method_of_a_class_in_a_branch', 'super_function_in_front_of_a_map', 'private_method_behind_a_class', 'converted_assignment', 'converted_sequence', 'argument_behind_a_throw', 'class_in_the_head_of_a_loop', 'logical_write_to_a_private_method', 'compound_write_to_a_private_method', 'name_in_a_field_behind_two_calls_of_super')
 # wrong outputs that have a meaning, and those of programs whose parameters come before their fields
-OTHER = ('branch_of_a_key_of_another', 'elements_dropped', 'static_field_dropped', 'block_dropped', 'block_behind_a_kept_field', 'read_moved', 'import_read_early', 'statements_of_a_case_exchanged', 'statement_of_another_case', 'arrow_moved_into_parameters', 'functions_of_a_block_exchanged', 'default_function_expression', 'let_out_of_a_head', 'class_of_a_head', 'class_of_a_right_side', 'conversions_of_a_template', 'let_beside_a_caught_name', 'arguments_of_a_function_around', 'question_for_another_field', 'regular_expression_of_another_argument', 'regular_expressions_exchanged')
+OTHER = ('branch_of_a_key_of_another', 'elements_dropped', 'static_field_dropped', 'block_dropped', 'block_behind_a_kept_field', 'read_moved', 'import_read_early', 'statements_of_a_case_exchanged', 'statement_of_another_case', 'arrow_moved_into_parameters', 'functions_of_a_block_exchanged', 'default_function_expression', 'let_out_of_a_head', 'conversions_of_a_template', 'let_beside_a_caught_name', 'arguments_of_a_function_around', 'question_for_another_field', 'regular_expression_of_another_argument', 'regular_expressions_exchanged')
 AFTER = ('field_behind_parameters_dropped', 'field_behind_parameters_doubled', 'fields_behind_parameters_exchanged', 'another_literal_behind_parameters')
 pairs, wrong, kept, not_met, shaped, right, owing_nothing, other, after = [], [], [], [], [], [], [], [], []
 folder = f'{CRATE}/specs/witnesses'

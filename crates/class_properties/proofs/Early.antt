@@ -1,25 +1,28 @@
 -- In what a program of the first form is lowered to classes stand as they stood, and nothing else is read without an event.
-use Rattle.std.specs.Prelude.{◌≡◌, ℕ, suc, ◌+◌, List, [], ◌∷◌, ◌++◌, Bool, true, false, cond, not, ◌&&◌, ◌||◌, nat_eq, Option, None}
+use Rattle.std.specs.Prelude.{◌≡◌, ℕ, suc, ◌+◌, List, [], ◌∷◌, ◌++◌, map, Bool, true, false, cond, not, ◌&&◌, ◌||◌, nat_eq, Option, None}
 use Rattle.std.proofs.Common.{refl, ap, ap₂, sym, ◌∙◌}
 use Rattle.std.proofs.lemmas.Bool.{and_parts}
 use Rattle.std.proofs.lemmas.List.{append-nil, append_assoc}
 use Rattle.std.proofs.Math.Bool.{and-false}
 use Rattle.es_base.specs.Numbered.{is_new}
 use Rattle.es_base.specs.Preorder.{preorder, preorder_of, preorder_of_part}
-use Rattle.es_base.specs.Tree.{Tree, Part, Parts, Node, end, more, child, absent, list, trees, string, no_string, boolean, literal}
+use Rattle.es_base.specs.Tree.{Tree, Part, Parts, Node, end, more, child, list, trees, string}
 use Rattle.es_base.specs.declared.kind.Kind.{Kind}
 use Rattle.es_left.proofs.Booleans.{both}
-use Rattle.es_lowered.specs.Definitions.{spelling}
-use Rattle.es_lowered.specs.DeadZones.{touches, variables, class_names, touch, is_still, call_form, is_function_declaration, is_turned, nothing_around, in_no_chain, held_behind, spot_in, is_apart, read_form, reference_touches, own_touches, inner_touches, touches_in, touches_at, touches_of, turned, class_touches, keys_touched, value_touches, values_touched, derived_constructor, derived_constructors, constructs, derived_arrows, classes_given, field_touches, bodies_by, bodies, super_calls, class_parts, is_asked, is_run_by, runs_fit, touches_fit, bodies_fit, bodies_of, dropped, none_drops, dead_zones_stay, TouchForm, Touch, Body, Spot, ClassParts, makes_class, runs_closure, another}
+use Rattle.es_lowered.specs.ClassNames.{any_among, numbers_of}
+use Rattle.es_lowered.specs.Definitions.{spelling, is_assignment}
+use Rattle.es_lowered.specs.DeadZones.{touches, variables, class_names, touch, is_still, call_form, is_function_declaration, is_turned, nothing_around, in_no_chain, held_behind, spot_in, is_apart, read_form, reference_touches, own_touches, is_keyed, keyed, is_member, is_pattern, converted, touch_around, defines, sets_member, ends_in_throw, inner_touches, joined, touches_in, touches_at, touches_of, turned, class_touches, keys_touched, value_touches, values_touched, derived_constructor, derived_constructors, constructs, derived_arrows, classes_given, field_touches, bodies_by, bodies, super_calls, class_parts, is_asked, is_run_by, runs_fit, touches_fit, bodies_fit, bodies_of, private_updates, right_operands, throws_at, new_throws, all_throws, dead_zones_stay, TouchForm, Touch, Body, Spot, ClassParts, makes_class, runs_closure, defines_field, between_parts, another}
 use Rattle.es_steps.specs.Context.{is_super_call}
 use Rattle.es_steps.specs.FirstForm.{is_first_form}
 use Rattle.es_steps.specs.NameScopes.{is_any_function}
 use Rattle.es_steps.specs.Printable.{has_optional}
 use Rattle.es_steps.specs.PrivateNames.{is_class}
-use Rattle.es_steps.specs.References.{Reference, resolve, has_number}
+use Rattle.es_steps.specs.KeptNodes.{is_within}
+use Rattle.es_steps.specs.References.{Reference, resolve, has_number, written}
+use Rattle.es_steps.specs.declared.options.Options.{Options}
 use Rattle.es_lowered.specs.Timely.{super_functions}
-use Rattle.es_steps.specs.Parts.{at}
-use Rattle.es_steps.specs.Values.{String, Referent, Bound, Free}
+use Rattle.es_steps.specs.Parts.{at, items}
+use Rattle.es_steps.specs.Values.{String}
 use Rattle.es_unchanged.proofs.DeadZones.{closures-none, or-first, touches-fit}
 use Rattle.class_properties.proofs.Declared.{two_ends, four_ends}
 use Rattle.class_properties.proofs.FreeNames.{AreFree, lowered-free}
@@ -57,43 +60,91 @@ unless-quiet : (c : Bool) (xs ys : List Touch) → not c ≡ true → all_quiet 
 unless-quiet true xs ys e f = absurd (cc)
 unless-quiet false xs ys e f = f
 
+swap-quiet : (c : Bool) (xs ys : List Touch) → all_quiet xs ≡ true → all_quiet ys ≡ true → all_quiet (cond c (xs ++ ys) (ys ++ xs)) ≡ true
+swap-quiet c xs ys h i = cond-quiet c (xs ++ ys) (ys ++ xs) (append-quiet xs ys h i) (append-quiet ys xs i h)
+
 module _ (first : ℕ) (asked named : List ℕ) (rs : List Reference) (free : AreFree rs) where
   reference-quiet : (held : List (ℕ × ℕ)) (m : ℕ) (xs : List Reference) → AreFree xs → all_quiet (reference_touches first [] asked named rs held m xs) ≡ true
   reference-quiet held m [] e = refl
   reference-quiet held m (x ∷ xs) e =
       append-quiet (cond (nat_eq m x.number) (touch held m (read_form first [] asked named rs m x.to)) []) (reference_touches first [] asked named rs held m xs) (cond-quiet (nat_eq m x.number) (touch held m (read_form first [] asked named rs m x.to)) [] (rw e.0 refl) refl) (reference-quiet held m xs e.1)
 
-  call-quiet : (held : List (ℕ × ℕ)) (m : ℕ) (b : Bool) (s : String) → all_quiet (touch held m (call_form b s [])) ≡ true
-  call-quiet held m true s = refl
-  call-quiet held m false s = refl
+  call-quiet : (held : List (ℕ × ℕ)) (m : ℕ) (d b : Bool) (s : String) → all_quiet (touch held m (cond d defines_field (call_form b s []))) ≡ true
+  call-quiet held m true b s = refl
+  call-quiet held m false true s = refl
+  call-quiet held m false false s = refl
 
-  own-quiet : (held : List (ℕ × ℕ)) (kind : Kind) (m : ℕ) (ps : Parts) → all_quiet (own_touches first [] asked named rs held kind m ps) ≡ true
-  own-quiet held Kind.IdentifierReference m ps = reference-quiet held m rs free
-  own-quiet held Kind.ThisExpression m ps = refl
-  own-quiet held Kind.BindingIdentifier m ps = refl
-  own-quiet held Kind.CallExpression m ps = call-quiet held m (is_super_call Kind.CallExpression ps) (spelling (at 0 ps))
-  own-quiet held kind m ps = cond-quiet (is_still kind) [] (touch held m another) refl refl
+  assignment-quiet : (held : List (ℕ × ℕ)) (m : ℕ) (b : Bool) → all_quiet (touch held m (cond b defines_field another)) ≡ true
+  assignment-quiet held m true = refl
+  assignment-quiet held m false = refl
+
+  around-quiet : (x : Spot) → all_quiet (touch_around x) ≡ true
+  around-quiet x = each x.around
+    where
+      each : (ns : List ℕ) → all_quiet (map (λ n. record { number = n; form = between_parts; held = x.held }) ns) ≡ true
+      each [] = refl
+      each (n ∷ ns) = each ns
+
+  converted-quiet : (x : Spot) (kind : Kind) (m : ℕ) → all_quiet (converted x kind m) ≡ true
+  converted-quiet x Kind.Property m = around-quiet x
+  converted-quiet x kind m = refl
+
+  own-quiet : (x : Spot) (held : List (ℕ × ℕ)) (kind : Kind) (m : ℕ) (ps : Parts) → all_quiet (own_touches first [] asked named rs x held kind m ps) ≡ true
+  own-quiet x held Kind.IdentifierReference m ps = reference-quiet held m rs free
+  own-quiet x held Kind.ThisExpression m ps = refl
+  own-quiet x held Kind.BindingIdentifier m ps = refl
+  own-quiet x held Kind.CallExpression m ps = call-quiet held m (defines (at 0 ps) (items (at 1 ps))) (is_super_call Kind.CallExpression ps) (spelling (at 0 ps))
+  own-quiet x held Kind.AssignmentExpression m ps = assignment-quiet held m (is_new first m && (is_assignment ps && sets_member (at 1 ps)))
+  own-quiet x held Kind.SpreadElement m ps = around-quiet x
+  own-quiet x held Kind.SequenceExpression m ps = cond-quiet (ends_in_throw (items (at 0 ps))) (touch held m another) [] refl refl
+  own-quiet x held kind m ps = cond-quiet (is_still kind) [] (touch held m another) refl refl
 
   mutual
     tree-quiet : (x : Spot) (t : Tree) → no_classes (preorder t) ≡ true → all_quiet (touches first [] asked named rs x t) ≡ true
     tree-quiet x (Node kind m span semantic_id ps) h =
         let parts = and_parts (not (is_class kind)) (no_classes (preorder_of ps)) h in
         let optional : Bool = has_optional (Node kind m span semantic_id ps) in
-        let own : List Touch = own_touches first [] asked named rs (held_behind x.chain optional x.held) kind m ps in
+        let own : List Touch = own_touches first [] asked named rs x (held_behind x.chain optional x.held) kind m ps in
         let inside : ℕ → Spot = spot_in x optional kind m ps in
-        let inner : List Touch = inner_touches first [] asked named rs kind (in_no_chain x) inside ps in
+        let straight : List Touch = inner_touches first [] asked named rs kind (in_no_chain x) inside ps in
+        let inner : List Touch = cond (is_keyed kind) (keyed first [] asked named rs (converted x kind m) inside ps) straight in
         let other_way : List Touch = cond (is_turned kind) (turned first [] asked named rs inside ps) inner in
         cond-quiet (is_apart first [] asked named rs kind m) (cond (is_function_declaration kind) (touch x.held m another) []) (cond (is_class kind) (class_touches first [] asked named rs (in_no_chain x) m ps) other_way ++ own) (cond-quiet (is_function_declaration kind) (touch x.held m another) [] refl refl)
         (append-quiet (cond (is_class kind) (class_touches first [] asked named rs (in_no_chain x) m ps) other_way) own
         (unless-quiet (is_class kind) (class_touches first [] asked named rs (in_no_chain x) m ps) other_way parts.0
-        (cond-quiet (is_turned kind) (turned first [] asked named rs inside ps) inner (turned-quiet inside ps parts.1) (inner-quiet kind (in_no_chain x) inside ps parts.1)))
-        (own-quiet (held_behind x.chain optional x.held) kind m ps))
+        (cond-quiet (is_turned kind) (turned first [] asked named rs inside ps) inner (turned-quiet inside ps parts.1)
+        (cond-quiet (is_keyed kind) (keyed first [] asked named rs (converted x kind m) inside ps) straight (keyed-quiet (converted x kind m) (converted-quiet x kind m) inside ps parts.1) (inner-quiet kind (in_no_chain x) inside ps parts.1))))
+        (own-quiet x (held_behind x.chain optional x.held) kind m ps))
+
+    keyed-quiet : (c : List Touch) → all_quiet c ≡ true → (x : ℕ → Spot) (ps : Parts) → no_classes (preorder_of ps) ≡ true → all_quiet (keyed first [] asked named rs c x ps) ≡ true
+    keyed-quiet c e x (more p ps) h =
+        let split = classes-parts (preorder_of_part p) (preorder_of ps) h in
+        append-quiet (touches_at first [] asked named rs (x 0) p) (c ++ touches_in first [] asked named rs (λ i. x (suc i)) ps) (part-quiet (x 0) p split.0)
+        (append-quiet c (touches_in first [] asked named rs (λ i. x (suc i)) ps) e (parts-quiet (λ i. x (suc i)) ps split.1))
+    keyed-quiet c e x end h = refl
+
+    joined-quiet : (x : Spot) (es : Parts) → no_classes (preorder_of es) ≡ true → all_quiet (joined first [] asked named rs x es) ≡ true
+    joined-quiet x end h = refl
+    joined-quiet x (more p es) h =
+        let split = classes-parts (preorder_of_part p) (preorder_of es) h in
+        append-quiet (touches_at first [] asked named rs x p) (touch_around x ++ joined first [] asked named rs x es) (part-quiet x p split.0)
+        (append-quiet (touch_around x) (joined first [] asked named rs x es) (around-quiet x) (joined-quiet x es split.1))
 
     inner-quiet : (kind : Kind) (x : Spot) (inside : ℕ → Spot) (ps : Parts) → no_classes (preorder_of ps) ≡ true → all_quiet (inner_touches first [] asked named rs kind x inside ps) ≡ true
     inner-quiet Kind.CallExpression x inside (more (child (Node Kind.ArrowFunctionExpression k span semantic_id ps)) rest) h =
         let split = classes-parts (preorder_of ps) (preorder_of rest) h in
         append-quiet (touches_in first [] asked named rs (λ i. inside (suc i)) rest) (cond (is_new first k) (touches_of first [] asked named rs x ps) []) (parts-quiet (λ i. inside (suc i)) rest split.1)
         (cond-quiet (is_new first k) (touches_of first [] asked named rs x ps) [] (list-quiet x ps split.0) refl)
+    inner-quiet Kind.TemplateLiteral x inside (more quasis (more (list es) rest)) h =
+        let one = classes-parts (preorder_of_part quasis) (preorder_of es ++ preorder_of rest) h in
+        joined-quiet (inside 1) es (classes-parts (preorder_of es) (preorder_of rest) one.1).0
+    inner-quiet Kind.AssignmentTargetWithDefault x inside (more l (more v rest)) h =
+        let one = classes-parts (preorder_of_part l) (preorder_of_part v ++ preorder_of rest) h in
+        swap-quiet (is_member l) (touches_at first [] asked named rs (inside 0) l) (touches_at first [] asked named rs (inside 1) v) (part-quiet (inside 0) l one.0) (part-quiet (inside 1) v (classes-parts (preorder_of_part v) (preorder_of rest) one.1).0)
+    inner-quiet Kind.AssignmentExpression x inside (more operator (more l (more v rest))) h =
+        let one = classes-parts (preorder_of_part operator) (preorder_of_part l ++ (preorder_of_part v ++ preorder_of rest)) h in
+        let two = classes-parts (preorder_of_part l) (preorder_of_part v ++ preorder_of rest) one.1 in
+        swap-quiet (is_pattern l) (touches_at first [] asked named rs (inside 2) v) (touches_at first [] asked named rs (inside 1) l) (part-quiet (inside 2) v (classes-parts (preorder_of_part v) (preorder_of rest) two.1).0) (part-quiet (inside 1) l two.0)
     inner-quiet kind x inside (more p rest) h =
         let split = classes-parts (preorder_of_part p) (preorder_of rest) h in
         append-quiet (touches_at first [] asked named rs (inside 0) p) (touches_in first [] asked named rs (λ i. inside (suc i)) rest) (part-quiet (inside 0) p split.0) (parts-quiet (λ i. inside (suc i)) rest split.1)
@@ -210,9 +261,9 @@ values-untouched first asked named rs (more p es) (a_field m span semantic_id ke
 touches-same : (first : ℕ) (asked named : List ℕ) (xs rs : List Reference) (ps : Parts) → AreClasses ps → (k : ℕ) → touches_of first [] asked named xs nothing_around (lowered_statements k ps) ≡ touches_of first [] asked named rs nothing_around ps
 touches-same first asked named xs rs end h k = refl
 touches-same first asked named xs rs (more p ps) (a_class n span semantic_id id body (a_name i ispan i_semantic_id x free) (a_body m bspan b_semantic_id end he), h) k =
-    ap (λ ts. touch [] n makes_class ++ ts) (touches-same first asked named xs rs ps h (k + statement_size p))
+    ap (λ ts. touch [] n makes_class ++ (touch [] n another ++ ts)) (touches-same first asked named xs rs ps h (k + statement_size p))
 touches-same first asked named xs rs (more p ps) (a_class n span semantic_id id body (a_name i ispan i_semantic_id x free) (a_body m bspan b_semantic_id (more e es) (a_field l lspan l_semantic_id key v (a_key j jspan j_semantic_id y) hv, he)), h) k =
-    rw (keys-untouched first asked named rs es he, values-untouched first asked named rs es he) (ap (λ ts. touch [] n makes_class ++ ts) (touches-same first asked named xs rs ps h (k + statement_size p)))
+    rw (keys-untouched first asked named rs es he, values-untouched first asked named rs es he) (ap (λ ts. touch [] n makes_class ++ (touch [] n another ++ ts)) (touches-same first asked named xs rs ps h (k + statement_size p)))
 
 -- ---- each body fits
 
@@ -301,12 +352,34 @@ no-arrows (Node kind m span semantic_id ps ∷ ts) = rw (and-false (is_any_funct
 bodies-plain : (first : ℕ) (ps : List Tree) (t : Tree) → derived_constructors ps ≡ [] → derived_constructors (preorder t) ≡ [] → bodies_of first [] [] ps t ≡ bodies first [] (variables ps) (class_names ps) (resolve t) [] (super_functions [] (preorder t)) (preorder t) (preorder t)
 bodies-plain first ps t c d = rw (c, d, no-arrows ps) refl
 
-none-dropped : (first : ℕ) (named old ns : List ℕ) (rs : List Reference) → AreFree rs → none_drops first named old ns rs ≡ true
-none-dropped first named old ns [] e = refl
-none-dropped first named old ns (r ∷ rs) e = rw e.0 (none-dropped first named old ns rs e.1)
+-- ---- nothing throws always
 
-pub dead_zones-stay : (first k : ℕ) (t : Tree) → IsProgram t → is_first_form t [] ≡ true → dead_zones_stay first [] t (lowered_from k t) ≡ true
-dead_zones-stay first k t (a_program m span semantic_id s all h) f =
+module _ (first : ℕ) (updates rights : List ℕ) where
+  throws-append : (xs ys : List Tree) → new_throws first updates rights (xs ++ ys) ≡ new_throws first updates rights xs ++ new_throws first updates rights ys
+  throws-append [] ys = refl
+  throws-append (Node kind m span semantic_id ps ∷ xs) ys =
+      let own : List ℕ = cond (throws_at kind ps && (is_new first m && not (has_number m rights || any_among updates (numbers_of (preorder_of ps))))) (m ∷ []) [] in
+      ap (λ ns. own ++ ns) (throws-append xs ys) ∙ sym (append_assoc own (new_throws first updates rights xs) (new_throws first updates rights ys))
+
+  definitions-throwless : (es : Parts) → AreFields es → (k : ℕ) → new_throws first updates rights (preorder_of (trees (definitions_from k es))) ≡ []
+  definitions-throwless end h k = refl
+  definitions-throwless (more p es) (a_field m span semantic_id key v (a_key i ispan i_semantic_id x) no_value, h) k = definitions-throwless es h (k + 9)
+  definitions-throwless (more p es) (a_field m span semantic_id key v (a_key i ispan i_semantic_id x) (a_literal l lspan l_semantic_id w fine), h) k = definitions-throwless es h (k + 7)
+  definitions-throwless (more p es) (a_field m span semantic_id key v (a_key i ispan i_semantic_id x) (a_reference r rspan r_semantic_id y), h) k = definitions-throwless es h (k + 7)
+
+  elements-throwless : (es : Parts) → AreFields es → (k : ℕ) → new_throws first updates rights (preorder_of (lowered_elements k es)) ≡ []
+  elements-throwless end h k = refl
+  elements-throwless (more p es) h k = rw (four_ends (preorder_of (trees (definitions_from (k + 4) (more p es))))) (definitions-throwless (more p es) h (k + 4))
+
+  lowered-throwless : (ps : Parts) → AreClasses ps → (k : ℕ) → new_throws first updates rights (preorder_of (lowered_statements k ps)) ≡ []
+  lowered-throwless end h k = refl
+  lowered-throwless (more p ps) (a_class n span semantic_id id body (a_name i ispan i_semantic_id x free) (a_body m bspan b_semantic_id es he), h) k =
+      let elements : List Tree = preorder_of (lowered_elements k es) in
+      let rest : List Tree = preorder_of (lowered_statements (k + statement_size p) ps) in
+      rw (two_ends elements rest, throws-append elements rest, elements-throwless es he k) (lowered-throwless ps h (k + statement_size p))
+
+pub dead_zones-stay : (first k : ℕ) (o : Options) (t : Tree) → IsProgram t → is_first_form t [] ≡ true → dead_zones_stay first o [] t (lowered_from k t) ≡ true
+dead_zones-stay first k o t (a_program m span semantic_id s all h) f =
     let p : Tree = Node Kind.Program m span semantic_id (more (string s) (more (list all) end)) in
     let low : Parts = lowered_statements k all in
     let q : Tree = Node Kind.Program m span semantic_id (more (string s) (more (list low) end)) in
@@ -314,7 +387,7 @@ dead_zones-stay first k t (a_program m span semantic_id s all h) f =
     let asked : List ℕ = variables ps in
     let named : List ℕ = class_names ps in
     let supers : List ℕ = super_calls ps in
-    let classes : List ClassParts = class_parts ps in
+    let classes : List ClassParts = class_parts o (written p) (resolve p) ps in
     let given : List (ℕ × ℕ) = super_functions [] (preorder q) in
     let own : Body = record { number = m; is_of_fields = false; of_class = []; derives = false; touches = touches_of first [] asked named (resolve p) nothing_around all } in
     let later : List Body = bodies first [] asked named (resolve p) [] (super_functions [] ps) ps (preorder_of all ++ []) in
@@ -323,7 +396,10 @@ dead_zones-stay first k t (a_program m span semantic_id s all h) f =
     let source_plain : derived_constructors ps ≡ [] = constructors-append (preorder_of all) [] ∙ rw (classes-underived all h) refl in
     let low_plain : derived_constructors (preorder q) ≡ [] = constructors-append (preorder_of low) [] ∙ rw (lowered-underived all h k) refl in
     let none : fields_none first asked named (resolve q) (preorder q) ≡ true = fields-append first asked named (resolve q) (preorder_of low) [] (classes-fieldless first asked named (resolve q) all h k) refl in
-    both (none-dropped first named (dropped ps) (dropped (preorder q)) (resolve q) free)
+    let updates : List ℕ = private_updates ps in
+    let rights : List ℕ = right_operands updates (preorder q) in
+    let throwless : all_throws first updates (preorder q) ≡ [] = throws-append first updates rights (preorder_of low) [] ∙ rw (lowered-throwless first updates rights all h k) refl in
+    both (ap (λ ns. is_within ns (all_throws first updates ps)) throwless)
     (ap (λ cs. bodies_fit first supers classes cs (bodies_of first [] [] ps p) (bodies_of first [] cs ps q)) (closures-none (preorder q))
     ∙ (ap₂ (bodies_fit first supers classes []) (bodies-plain first ps p source_plain source_plain) (bodies-plain first ps q source_plain low_plain)
     ∙ both

@@ -132,7 +132,7 @@ module _ (asked : Options) where
           declared = refl;
           accounted = laid-accounted (own_name_numbers t (resolve q) (preorder q)) laid;
           names = both (laid-named (preorder t) (resolve q) laid) (laid-unread [] (moved_functions [] (preorder q)) (preorder t) (preorder q) (resolve q) laid);
-          references = references-stay first first t p f;
+          references = references-stay first first (defining asked) t p f;
           strict = numbered-strict t p e;
           texts = texts-stay t p e;
           initialized = refl;

@@ -16,8 +16,10 @@ use Rattle.es_lowered.specs.Supers.{SuperPlace, no_place, has_stray_super, stray
 use Rattle.es_steps.specs.Parts.{at, string_of}
 use Rattle.es_steps.specs.PrivateNames.{PrivateMember}
 use Rattle.es_steps.specs.References.{Reference, resolve, gives_inside}
+use Rattle.es_steps.specs.declared.options.Options.{Options}
 use Rattle.es_steps.specs.Values.{String}
 use Rattle.class_properties.proofs.Declared.{writing-none, inside-none}
+use Rattle.es_unchanged.proofs.HeadValues.{head_values-stay}
 use Rattle.class_properties.proofs.Early.{dead_zones-stay}
 use Rattle.class_properties.proofs.FreeNames.{classes-timely}
 use Rattle.class_properties.proofs.Numbered.{definitions_from, lowered_elements, lowered_statements, statement_size, lowered_from}
@@ -126,6 +128,6 @@ module _ (first : ℕ) (ps : List Tree) where
   class_lets-fit : (k : ℕ) (t : Tree) → IsProgram t → class_lets_fit first ps (lowered_from k t) ≡ true
   class_lets-fit k t (a_program m span semantic_id s all h) = rw (classes-without_variables all h k) refl
 
-pub references-stay : (first k : ℕ) (t : Tree) → IsProgram t → is_first_form t [] ≡ true → references_stay first [] t (lowered_from k t) ≡ true
-references-stay first k t p f =
-    rw (classes-timely first k t p f, stay-without (has_stray_super no_place t) (has_stray_super no_place (lowered_from k t)) (program-without k t p), stay-without (has_stray_name [] t) (has_stray_name [] (lowered_from k t)) (program-named k t p), tree-none first (λ m s. gives_inside s (preorder t)) (λ m s. inside-none t p s) false [] (lowered_from k t), unwriting first (plain_targets (preorder (lowered_from k t))) (writing_numbers (resolve t)) (resolve (lowered_from k t)) (writing-none k t p), default-stays first k t p, class_lets-fit first (preorder t) k t p, dead_zones-stay first k t p f) refl
+pub references-stay : (first k : ℕ) (o : Options) (t : Tree) → IsProgram t → is_first_form t [] ≡ true → references_stay first o [] t (lowered_from k t) ≡ true
+references-stay first k o t p f =
+    rw (classes-timely first k t p f, stay-without (has_stray_super no_place t) (has_stray_super no_place (lowered_from k t)) (program-without k t p), stay-without (has_stray_name [] t) (has_stray_name [] (lowered_from k t)) (program-named k t p), tree-none first (λ m s. gives_inside s (preorder t)) (λ m s. inside-none t p s) false [] (lowered_from k t), unwriting first (plain_targets (preorder (lowered_from k t))) (writing_numbers (resolve t)) (resolve (lowered_from k t)) (writing-none k t p), default-stays first k t p, class_lets-fit first (preorder t) k t p, dead_zones-stay first k o t p f, head_values-stay (resolve (lowered_from k t)) (preorder (lowered_from k t))) refl

@@ -199,7 +199,7 @@ impl Value {
         self.key_depth > 0
     }
 
-    /// Whether it is no value of a temporary: what a binding holds, or the key of one.
+    /// Whether it is no value of a temporary: what a binding holds, a class, or the key of one.
     #[tactic(auto, using(crate::proofs::Keys::binding_keyed))]
     pub fn is_of_binding(&self) -> bool
         ensures { result ≡ is_binding_value self.now }
@@ -209,7 +209,7 @@ impl Value {
             Origin::BindingOf(_) => true,
             Origin::Undefined => false,
             Origin::FunctionOf(_) => false,
-            Origin::ClassOf(_) => false,
+            Origin::ClassOf(_) => true,
             Origin::ThisOf(_) => false,
             Origin::ArgumentsOf(_) => false,
             Origin::NewTargetOf(_) => false,

@@ -207,6 +207,16 @@ options_keys = options_of false (Some (record { loose = false })) false
 abbrev pub heritages_keys : List (ℕ × Bool)
 heritages_keys = (1, false) ∷ (10, true) ∷ (20, false) ∷ (29, true) ∷ (38, false) ∷ (47, true) ∷ (57, false) ∷ (69, false) ∷ []
 
+-- `class A0 extends (class D { [() => D]() {} }) {} class A1 extends (class D { m() { return D; } }) {} class A2 extends (class D extends (() => D) {}) {} class A3 extends (class D { static [0]() { return D; } }) {}`
+abbrev pub source_names_in_heads : Tree
+source_names_in_heads = node Kind.Program 0 (more (string (codes "script")) (more (list (trees (node Kind.ClassDeclaration 1 (more (child (node Kind.BindingIdentifier 2 (more (string (codes "A0")) end))) (more (child (node Kind.ClassExpression 3 (more (child (node Kind.BindingIdentifier 4 (more (string (codes "D")) end))) (more absent (more (child (node Kind.ClassBody 5 (more (list (trees (node Kind.MethodDefinition 6 (more (child (node Kind.ArrowFunctionExpression 7 (more (list end) (more (child (node Kind.IdentifierReference 8 (more (string (codes "D")) end))) (more (boolean false) end))))) (more (child (node Kind.FunctionExpression 9 (more absent (more (list end) (more (child (node Kind.BlockStatement 10 (more (list end) end))) (more (boolean false) (more (boolean false) end))))))) (more (string (codes "method")) (more (boolean true) (more (boolean false) end))))) ∷ []))) end))) end))))) (more (child (node Kind.ClassBody 11 (more (list end) end))) end))) ∷ node Kind.ClassDeclaration 12 (more (child (node Kind.BindingIdentifier 13 (more (string (codes "A1")) end))) (more (child (node Kind.ClassExpression 14 (more (child (node Kind.BindingIdentifier 15 (more (string (codes "D")) end))) (more absent (more (child (node Kind.ClassBody 16 (more (list (trees (node Kind.MethodDefinition 17 (more (child (node Kind.IdentifierName 18 (more (string (codes "m")) end))) (more (child (node Kind.FunctionExpression 19 (more absent (more (list end) (more (child (node Kind.BlockStatement 20 (more (list (trees (node Kind.ReturnStatement 21 (more (child (node Kind.IdentifierReference 22 (more (string (codes "D")) end))) end) ∷ []))) end))) (more (boolean false) (more (boolean false) end))))))) (more (string (codes "method")) (more (boolean false) (more (boolean false) end))))) ∷ []))) end))) end))))) (more (child (node Kind.ClassBody 23 (more (list end) end))) end))) ∷ node Kind.ClassDeclaration 24 (more (child (node Kind.BindingIdentifier 25 (more (string (codes "A2")) end))) (more (child (node Kind.ClassExpression 26 (more (child (node Kind.BindingIdentifier 27 (more (string (codes "D")) end))) (more (child (node Kind.ArrowFunctionExpression 28 (more (list end) (more (child (node Kind.IdentifierReference 29 (more (string (codes "D")) end))) (more (boolean false) end))))) (more (child (node Kind.ClassBody 30 (more (list end) end))) end))))) (more (child (node Kind.ClassBody 31 (more (list end) end))) end))) ∷ node Kind.ClassDeclaration 32 (more (child (node Kind.BindingIdentifier 33 (more (string (codes "A3")) end))) (more (child (node Kind.ClassExpression 34 (more (child (node Kind.BindingIdentifier 35 (more (string (codes "D")) end))) (more absent (more (child (node Kind.ClassBody 36 (more (list (trees (node Kind.MethodDefinition 37 (more (child (node Kind.Literal 38 (more (literal (literal_value.Number (codes "0"))) end))) (more (child (node Kind.FunctionExpression 39 (more absent (more (list end) (more (child (node Kind.BlockStatement 40 (more (list (trees (node Kind.ReturnStatement 41 (more (child (node Kind.IdentifierReference 42 (more (string (codes "D")) end))) end) ∷ []))) end))) (more (boolean false) (more (boolean false) end))))))) (more (string (codes "method")) (more (boolean true) (more (boolean true) end))))) ∷ []))) end))) end))))) (more (child (node Kind.ClassBody 43 (more (list end) end))) end))) ∷ []))) end))
+
+abbrev pub options_names_in_heads : Options
+options_names_in_heads = options_of false (Some (record { loose = false })) false
+
+abbrev pub heritages_names_in_heads : List (ℕ × Bool)
+heritages_names_in_heads = (1, true) ∷ (12, false) ∷ (24, true) ∷ (26, false) ∷ (32, false) ∷ []
+
 -- `class A0 extends (class { x = f(); #y = g(); #m() {} static #s() {} get #g() { return 1; } constructor() { h(); } }) {} class A1 extends (class { static x = 1; }) {} class A2 extends (class { static x; }) {} class A3 extends (class { static #x; }) {} class A4 extends (class { x; }) {}`
 abbrev pub source_elements : Tree
 source_elements = node Kind.Program 0 (more (string (codes "script")) (more (list (trees (node Kind.ClassDeclaration 1 (more (child (node Kind.BindingIdentifier 2 (more (string (codes "A0")) end))) (more (child (node Kind.ClassExpression 3 (more absent (more absent (more (child (node Kind.ClassBody 4 (more (list (trees (node Kind.PropertyDefinition 5 (more (child (node Kind.IdentifierName 6 (more (string (codes "x")) end))) (more (child (node Kind.CallExpression 7 (more (child (node Kind.IdentifierReference 8 (more (string (codes "f")) end))) (more (list end) (more (boolean false) end))))) (more (boolean false) (more (boolean false) end)))) ∷ node Kind.PropertyDefinition 9 (more (child (node Kind.PrivateIdentifier 10 (more (string (codes "y")) end))) (more (child (node Kind.CallExpression 11 (more (child (node Kind.IdentifierReference 12 (more (string (codes "g")) end))) (more (list end) (more (boolean false) end))))) (more (boolean false) (more (boolean false) end)))) ∷ node Kind.MethodDefinition 13 (more (child (node Kind.PrivateIdentifier 14 (more (string (codes "m")) end))) (more (child (node Kind.FunctionExpression 15 (more absent (more (list end) (more (child (node Kind.BlockStatement 16 (more (list end) end))) (more (boolean false) (more (boolean false) end))))))) (more (string (codes "method")) (more (boolean false) (more (boolean false) end))))) ∷ node Kind.MethodDefinition 17 (more (child (node Kind.PrivateIdentifier 18 (more (string (codes "s")) end))) (more (child (node Kind.FunctionExpression 19 (more absent (more (list end) (more (child (node Kind.BlockStatement 20 (more (list end) end))) (more (boolean false) (more (boolean false) end))))))) (more (string (codes "method")) (more (boolean false) (more (boolean true) end))))) ∷ node Kind.MethodDefinition 21 (more (child (node Kind.PrivateIdentifier 22 (more (string (codes "g")) end))) (more (child (node Kind.FunctionExpression 23 (more absent (more (list end) (more (child (node Kind.BlockStatement 24 (more (list (trees (node Kind.ReturnStatement 25 (more (child (node Kind.Literal 26 (more (literal (literal_value.Number (codes "1"))) end))) end) ∷ []))) end))) (more (boolean false) (more (boolean false) end))))))) (more (string (codes "get")) (more (boolean false) (more (boolean false) end))))) ∷ node Kind.MethodDefinition 27 (more (child (node Kind.IdentifierName 28 (more (string (codes "constructor")) end))) (more (child (node Kind.FunctionExpression 29 (more absent (more (list end) (more (child (node Kind.BlockStatement 30 (more (list (trees (node Kind.ExpressionStatement 31 (more (child (node Kind.CallExpression 32 (more (child (node Kind.IdentifierReference 33 (more (string (codes "h")) end))) (more (list end) (more (boolean false) end))))) (more no_string end)) ∷ []))) end))) (more (boolean false) (more (boolean false) end))))))) (more (string (codes "constructor")) (more (boolean false) (more (boolean false) end))))) ∷ []))) end))) end))))) (more (child (node Kind.ClassBody 34 (more (list end) end))) end))) ∷ node Kind.ClassDeclaration 35 (more (child (node Kind.BindingIdentifier 36 (more (string (codes "A1")) end))) (more (child (node Kind.ClassExpression 37 (more absent (more absent (more (child (node Kind.ClassBody 38 (more (list (trees (node Kind.PropertyDefinition 39 (more (child (node Kind.IdentifierName 40 (more (string (codes "x")) end))) (more (child (node Kind.Literal 41 (more (literal (literal_value.Number (codes "1"))) end))) (more (boolean false) (more (boolean true) end)))) ∷ []))) end))) end))))) (more (child (node Kind.ClassBody 42 (more (list end) end))) end))) ∷ node Kind.ClassDeclaration 43 (more (child (node Kind.BindingIdentifier 44 (more (string (codes "A2")) end))) (more (child (node Kind.ClassExpression 45 (more absent (more absent (more (child (node Kind.ClassBody 46 (more (list (trees (node Kind.PropertyDefinition 47 (more (child (node Kind.IdentifierName 48 (more (string (codes "x")) end))) (more absent (more (boolean false) (more (boolean true) end)))) ∷ []))) end))) end))))) (more (child (node Kind.ClassBody 49 (more (list end) end))) end))) ∷ node Kind.ClassDeclaration 50 (more (child (node Kind.BindingIdentifier 51 (more (string (codes "A3")) end))) (more (child (node Kind.ClassExpression 52 (more absent (more absent (more (child (node Kind.ClassBody 53 (more (list (trees (node Kind.PropertyDefinition 54 (more (child (node Kind.PrivateIdentifier 55 (more (string (codes "x")) end))) (more absent (more (boolean false) (more (boolean true) end)))) ∷ []))) end))) end))))) (more (child (node Kind.ClassBody 56 (more (list end) end))) end))) ∷ node Kind.ClassDeclaration 57 (more (child (node Kind.BindingIdentifier 58 (more (string (codes "A4")) end))) (more (child (node Kind.ClassExpression 59 (more absent (more absent (more (child (node Kind.ClassBody 60 (more (list (trees (node Kind.PropertyDefinition 61 (more (child (node Kind.IdentifierName 62 (more (string (codes "x")) end))) (more absent (more (boolean false) (more (boolean false) end)))) ∷ []))) end))) end))))) (more (child (node Kind.ClassBody 63 (more (list end) end))) end))) ∷ []))) end))

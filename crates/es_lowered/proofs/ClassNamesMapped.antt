@@ -6,10 +6,10 @@ use Rattle.es_base.specs.Tree.{Tree, Part, Parts, Node, end, more, child}
 use Rattle.es_base.specs.declared.kind.Kind.{Kind}
 use Rattle.es_base.specs.declared.ledger.GeneratedKind.{GeneratedKind}
 use Rattle.es_base.specs.declared.ledger.LedgerEntry.{LedgerEntry}
-use Rattle.es_lowered.specs.ClassNames.{numbers_of, numbers_of_key, element_numbers, body_numbers, numbers_inside, class_numbers, is_written_at, naming, without, numbers_of_class, head_numbers, common, free_naming, naming_in_source, MovedFunction, function_numbers, names_function, moved_function, moved_at, moved_functions, any_among, outside_class, names_holding, is_reference_to, reading, reaching, without_functions, is_behind, is_class_mark, stand_behind, is_asked, is_none, class_runs, any_name, behind_class, numbered, placed, behind, is_kept_place, kept_places, asked_names, functions_outside, asked_references, stand_in_time, class_timely, all_classes_timely, classes_timely}
+use Rattle.es_lowered.specs.ClassNames.{numbers_of, numbers_of_key, element_numbers, body_numbers, numbers_inside, class_numbers, is_written_at, naming, without, numbers_of_class, head_numbers, common, free_naming, naming_in_source, MovedFunction, function_numbers, names_function, moved_function, moved_at, moved_functions, any_among, outside_class, names_holding, is_reference_to, reading, reaching, without_functions, is_behind, is_class_mark, stand_behind, is_asked, is_none, class_runs, any_name, behind_class, numbered, placed, behind, is_kept_place, kept_places, asked_names, functions_outside, asked_references, stand_in_time, holds_class, are_of_class, all_stand_with_class, new_names_fit, class_timely, all_classes_timely, classes_timely}
 use Rattle.es_steps.specs.Context.{generated_as, is_generated}
 use Rattle.es_lowered.specs.Definitions.{spelling, class_identifiers, names_class}
-use Rattle.es_lowered.specs.FunctionsAround.{PlacedReference}
+use Rattle.es_lowered.specs.FunctionsAround.{PlacedReference, placed_references}
 use Rattle.es_lowered.specs.HelperCalls.{body_runs}
 use Rattle.es_steps.specs.NameScopes.{is_any_function}
 use Rattle.es_steps.specs.Parts.{at, items}
@@ -24,7 +24,7 @@ use Rattle.es_lowered.proofs.HelperCallsMapped.{body_runs-mapped}
 use Rattle.es_steps.proofs.Mapped.{Renames, mapped_option, mapped_generated, mapped, mapped_part, mapped_parts, mapped_reference, mapped_ledger}
 use Rattle.es_steps.proofs.PartsMapped.{cond-mapped, append-mapped, at-mapped, items_at-mapped, string_at-mapped, number_of-mapped, preorder-mapped, preorder_of-mapped, preorder_of_part-mapped}
 use Rattle.es_steps.proofs.ReferencesMapped.{resolve-mapped, has_number-mapped}
-use Rattle.es_lowered.proofs.TimelyMapped.{mapped_mark, marks-mapped, all_pairs_stand-mapped}
+use Rattle.es_lowered.proofs.TimelyMapped.{mapped_held, mapped_mark, marks-mapped, all_pairs_stand-mapped}
 
 module _ (f : ℕ → ℕ) where
   pub numbers_of-mapped : (ts : List Tree) → numbers_of (map (mapped f) ts) ≡ map f (numbers_of ts)
@@ -254,14 +254,41 @@ module _ {first : ℕ} {f : ℕ → ℕ} (r : Renames first f) where
       (ap (stand_behind []) (marks-mapped r [] [] (is_asked (map f (n ∷ asked))) (is_asked (n ∷ asked)) (is_asked-mapped (n ∷ asked)) [] nowhere None q)
       ∙ stand_behind-mapped [] (marks first [] [] (is_asked (n ∷ asked)) [] nowhere None q))
 
+  holds_class-mapped : (k n : ℕ) (ts : List Tree) → holds_class (f k) (f n) (map (mapped f) ts) ≡ holds_class k n ts
+  holds_class-mapped k n [] = refl
+  holds_class-mapped k n (t ∷ ts) =
+      ap₂ (λ a b. a || b)
+      (ap₂ (λ a b. a && b) (ap (nat_eq (f k)) (number_of-mapped f t) ∙ r.apart k (number_of t)) (ap (has_number (f n)) (numbers_of_tree-mapped f t) ∙ has_number-mapped r n (numbers_of (preorder t))))
+      (holds_class-mapped k n ts)
+
+  are_of_class-mapped : (n : ℕ) (inside : List ℕ) (qs : List Tree) (xs : List (ℕ × ℕ)) → are_of_class (f n) (map f inside) (map (mapped f) qs) (map (mapped_held f) xs) ≡ are_of_class n inside qs xs
+  are_of_class-mapped n inside qs [] = refl
+  are_of_class-mapped n inside qs (x ∷ xs) =
+      ap₂ (λ a b. a && b) (ap₂ (λ a b. a || b) (has_number-mapped r x.0 inside) (holds_class-mapped x.0 n qs)) (are_of_class-mapped n inside qs xs)
+
+  all_stand_with_class-mapped : (n : ℕ) (inside : List ℕ) (qs : List Tree) (rs : List PlacedReference) → all_stand_with_class (f n) (map f inside) (map (mapped f) qs) (map (mapped_placed f) rs) ≡ all_stand_with_class n inside qs rs
+  all_stand_with_class-mapped n inside qs [] = refl
+  all_stand_with_class-mapped n inside qs (x ∷ rs) = ap₂ (λ a b. a && b) (are_of_class-mapped n inside qs x.around) (all_stand_with_class-mapped n inside qs rs)
+
+  new_names_fit-mapped : (p q : Tree) (n : ℕ) (names : List ℕ) → new_names_fit first (mapped f p) (mapped f q) (f n) (map f names) ≡ new_names_fit first p q n names
+  new_names_fit-mapped p q n names =
+      let there : List PlacedReference = placed_references first (λ m s. has_number m names) false [] q in
+      ap₂ (λ a b. a || b) (is_none-mapped f names)
+      (rw (preorder-mapped f p, preorder-mapped f q, numbers_of_class-mapped n (preorder p), placed_references-mapped r (λ m s. has_number m (map f names)) (λ m s. has_number m names) (λ m s. has_number-mapped r m names) false [] q)
+      (all_stand_with_class-mapped n (numbers_of_class n (preorder p)) (preorder q) there))
+
+  new_naming-mapped : (p : Tree) (n : ℕ) (names : List ℕ) → without (naming_in_source first (f n) (mapped f p)) (map f names) ≡ map f (without (naming_in_source first n p) names)
+  new_naming-mapped p n names = ap (λ ns. without ns (map f names)) (naming_in-mapped n [] p) ∙ without-mapped (naming_in_source first n p) names
+
   class_timely-mapped : (ledger : List LedgerEntry) (p q : Tree) (n : ℕ) → class_timely first (mapped_ledger f ledger) (mapped f p) (mapped f q) (f n) ≡ class_timely first ledger p q n
   class_timely-mapped ledger p q n =
       let fs : List MovedFunction = functions_outside ledger q n in
       let names : List ℕ = asked_names first ledger p q n in
       rw (functions_outside-mapped ledger q n, asked_names-mapped ledger p q n)
+      (ap₂ (λ a b. a && b) (ap (new_names_fit first (mapped f p) (mapped f q) (f n)) (new_naming-mapped p n names) ∙ new_names_fit-mapped p q n (without (naming_in_source first n p) names))
       (ap₂ (λ a b. not a && b)
       (ap₂ (λ a b. a && b) (ap (class_runs (f n)) (preorder-mapped f q) ∙ class_runs-mapped n (preorder q)) (ap any_name (names_holding-mapped names fs)))
-      (ap (stand_in_time first (mapped f q) (f n)) (asked_references-mapped ledger q n fs names) ∙ stand_in_time-mapped q n (asked_references ledger q n fs names)))
+      (ap (stand_in_time first (mapped f q) (f n)) (asked_references-mapped ledger q n fs names) ∙ stand_in_time-mapped q n (asked_references ledger q n fs names))))
 
   all_classes_timely-mapped : (ledger : List LedgerEntry) (p q : Tree) (ns : List ℕ) → all_classes_timely first (mapped_ledger f ledger) (mapped f p) (mapped f q) (map f ns) ≡ all_classes_timely first ledger p q ns
   all_classes_timely-mapped ledger p q [] = refl

@@ -1,37 +1,41 @@
 -- That what reads without an event stands behind what it stood behind does not depend on numbers.
-use Rattle.std.specs.Prelude.{◌≡◌, ℕ, suc, List, [], ◌∷◌, ◌++◌, map, Bool, true, false, cond, not, ◌&&◌, ◌||◌, nat_eq, bytes_eq, codes, Option, Some, None}
+use Rattle.std.specs.Prelude.{◌≡◌, ℕ, suc, List, [], ◌∷◌, ◌++◌, map, Bool, true, false, cond, not, ◌&&◌, ◌||◌, nat_eq, nat_le, bytes_eq, codes, Option, Some, None}
 use Rattle.std.proofs.Common.{refl, sym, ap, ap₂, ◌∙◌}
 use Rattle.std.proofs.lemmas.List.{map-append}
 use Rattle.es_base.specs.Numbered.{is_new}
 use Rattle.es_base.specs.Preorder.{preorder, preorder_of, preorder_of_part}
-use Rattle.es_base.specs.Tree.{Tree, Part, Parts, Node, end, more, child, list, boolean}
+use Rattle.es_base.specs.Tree.{Tree, Part, Parts, Node, end, more, child, list}
 use Rattle.es_base.specs.declared.kind.Kind.{Kind}
 use Rattle.es_base.specs.declared.ledger.GeneratedKind.{GeneratedKind}
 use Rattle.es_base.specs.declared.ledger.LedgerEntry.{LedgerEntry}
-use Rattle.es_lowered.specs.ClassNames.{numbers_of}
-use Rattle.es_lowered.specs.DeadZones.{touches, bound_numbers, variables_by, variables, class_names, touch, is_still, is_closure, Closures, closure, closures_by, closures, call_form, is_chain, is_function_declaration, is_link, is_turned, nothing_around, in_no_chain, held_behind, held_in, chain_in, spot_in, is_apart, read_form, reference_touches, own_touches, inner_touches, touches_in, touches_at, touches_of, turned, class_touches, key_touches, keys_touched, value_touches, values_touched, derived_constructor, derived_constructors, constructs, arrows, arrows_at, arrows_in, arrows_of_body, arrows_of_keys, derived_arrows, is_call_of_super, classes_given, parameters_at, field_touches, held_with, with_fields, function_touches, body_touches, bodies_by, bodies, super_calls, reference_number, key_references, moving_numbers, class_elements, class_parts, is_touched, stands_behind, is_this, is_same_form, is_asked, is_excepted, stands_in_node, is_run, was_run, is_in_same, is_arrow_of, is_run_by, is_put_off, put_off, all_behind, is_like, stands_like, is_of_body, stands_in_any, is_touched_as, is_touched_in, reads_key, is_behind_super, touch_fits, in_same, run_with, runs_fit, touches_fit, bodies_fit, bodies_of, throws_always, dropped_in, dropped_by, dropped, drops_name, none_drops, dead_zones_stay, TouchForm, Touch, Body, Spot, ClassParts, reads, names_class, makes_class, runs_closure, another}
-use Rattle.es_lowered.specs.Definitions.{spelling}
+use Rattle.es_lowered.specs.ClassNames.{numbers_of, any_among}
+use Rattle.es_lowered.specs.DeadZones.{touches, bound_numbers, variables_by, variables, class_names, touch, is_still, is_closure, Closures, closure, closures_by, closures, call_form, is_chain, is_function_declaration, is_link, is_turned, is_keyed, is_member, is_pattern, converted, touch_around, throws_always, ends_in_throw, defines_by, defines, is_named_or_this, is_value_slot, sets_member, is_property_definition, is_private, updates_private, private_updates, right_of, right_operands, throws_at, new_throws, all_throws, nothing_around, in_no_chain, held_behind, held_in, chain_in, spot_in, is_apart, read_form, reference_touches, assignment_form, own_touches, keyed, inner_touches, joined, touches_in, touches_at, touches_of, turned, class_touches, key_touches, keys_touched, value_touches, values_touched, derived_constructor, derived_constructors, constructs, arrows, arrows_at, arrows_in, arrows_of_body, arrows_of_keys, derived_arrows, is_call_of_super, classes_given, parameters_at, field_touches, held_with, with_fields, function_touches, body_touches, bodies_by, bodies, super_calls, reference_number, key_references, moving_keys, moving_blocks, moving_numbers, class_elements, class_parts, is_touched, times, is_definition, definitions_touched, is_between, is_this, is_same_form, is_asked, is_excepted, stands_in_node, is_run, was_run, stands_in_closure, is_in_same, is_arrow_of, is_run_by, is_put_off, put_off, all_behind, is_like, stands_like, is_of_body, stands_in_any, is_touched_as, is_touched_in, reads_key, is_behind_super, touch_fits, in_same, run_with, runs_fit, touches_fit, bodies_fit, bodies_of, dead_zones_stay, TouchForm, Touch, Body, Spot, ClassParts, reads, names_class, makes_class, runs_closure, defines_field, between_parts, another}
+use Rattle.es_lowered.specs.Definitions.{spelling, is_assignment, writable_part}
 use Rattle.es_lowered.specs.HelperCalls.{part_number, is_class_body, runs_with_class}
 use Rattle.es_lowered.specs.Timely.{is_same, is_held, super_functions}
 use Rattle.es_steps.specs.Context.{generated_as, is_function, is_super_call}
-use Rattle.es_steps.specs.KeptNodes.{all_pairs_stand}
+use Rattle.es_steps.specs.KeptNodes.{is_within}
 use Rattle.es_steps.specs.LoweredClasses.{constructor_in}
 use Rattle.es_steps.specs.NameScopes.{is_any_function}
-use Rattle.es_steps.specs.Parts.{at, items, string_of, is_present}
-use Rattle.es_steps.specs.Printable.{has_optional, part_has_optional}
+use Rattle.es_steps.specs.Parts.{at, items, is_present, string_of}
+use Rattle.es_steps.specs.Printable.{has_optional}
 use Rattle.es_steps.specs.PrivateNames.{is_class, is_element}
-use Rattle.es_steps.specs.References.{Reference, resolve, has_number}
+use Rattle.es_steps.specs.LoweredClasses.{Element, elements_of, any_element, needs_temporary, is_lowered_class}
+use Rattle.es_steps.specs.References.{Reference, resolve, has_number, written}
+use Rattle.es_steps.specs.Shapes.{class_at, is_static_field, runs_before_class}
+use Rattle.es_steps.specs.declared.options.Options.{Options}
 use Rattle.es_steps.specs.Repeated.{is_arrow}
 use Rattle.es_steps.specs.Values.{String, Referent, Bound, Free}
-use Rattle.es_lowered.proofs.ClassNamesMapped.{numbers_of_part-mapped, numbers_of_parts-mapped}
-use Rattle.es_lowered.proofs.DefinitionsMapped.{spelling-mapped, is_bound_among-mapped}
+use Rattle.es_lowered.proofs.ClassNamesMapped.{numbers_of_part-mapped, numbers_of_parts-mapped, any_among-mapped}
+use Rattle.es_lowered.proofs.DefinitionsMapped.{spelling-mapped, writable_part-mapped}
 use Rattle.es_lowered.proofs.HelperCallsMapped.{part_number-mapped, runs_with_class-mapped}
 use Rattle.es_lowered.proofs.TimelyMapped.{mapped_held, is_held-mapped, all_pairs_stand-mapped, super_functions-mapped}
 use Rattle.es_steps.proofs.ContextMapped.{generated_as-mapped, is_super_call-mapped}
-use Rattle.es_steps.proofs.KeptNodesMapped.{constructor_in-mapped}
+use Rattle.es_steps.proofs.KeptNodesMapped.{mapped_element, elements_of-mapped, constructor_in-mapped, is_within-mapped, is_lowered_class-mapped, needs_temporary-mapped}
 use Rattle.es_steps.proofs.Mapped.{Renames, mapped, mapped_part, mapped_parts, mapped_pair, mapped_option, mapped_generated, mapped_ledger, mapped_referent, mapped_reference}
-use Rattle.es_steps.proofs.PartsMapped.{cond-mapped, append-mapped, at-mapped, items_at-mapped, string_at-mapped, is_present_at-mapped, preorder-mapped, preorder_of_part-mapped}
-use Rattle.es_steps.proofs.ReferencesMapped.{resolve-mapped, has_number-mapped}
+use Rattle.es_steps.proofs.PartsMapped.{cond-mapped, append-mapped, at-mapped, items_at-mapped, string_at-mapped, is_present-mapped, is_present_at-mapped, preorder-mapped, preorder_of_part-mapped}
+use Rattle.es_steps.proofs.PrintableMapped.{has_optional-mapped}
+use Rattle.es_steps.proofs.ReferencesMapped.{resolve-mapped, written-mapped, has_number-mapped}
 
 module _ (f : ℕ → ℕ) where
   abbrev mapped_form : TouchForm → TouchForm
@@ -49,7 +53,7 @@ module _ (f : ℕ → ℕ) where
   moved ts = map mapped_touch ts
 
   abbrev mapped_spot : Spot → Spot
-  mapped_spot x = record { held = held_there x.held; chain = map f x.chain }
+  mapped_spot x = record { around = map f x.around; held = held_there x.held; chain = map f x.chain }
 
   abbrev mapped_body : Body → Body
   mapped_body b = record { number = f b.number; is_of_fields = b.is_of_fields; of_class = map f b.of_class; derives = b.derives; touches = moved b.touches }
@@ -70,21 +74,31 @@ module _ (f : ℕ → ℕ) where
   is_call_of_super-mapped (runs_closure k) = refl
   is_call_of_super-mapped form = refl
 
+  is_between-mapped : (form : TouchForm) → is_between (mapped_form form) ≡ is_between form
+  is_between-mapped (reads b) = refl
+  is_between-mapped (runs_closure k) = refl
+  is_between-mapped form = refl
+
+  is_definition-mapped : (form : TouchForm) → is_definition (mapped_form form) ≡ is_definition form
+  is_definition-mapped (reads b) = refl
+  is_definition-mapped (runs_closure k) = refl
+  is_definition-mapped form = refl
+
+  touch_around-mapped : (x : Spot) → touch_around (mapped_spot x) ≡ moved (touch_around x)
+  touch_around-mapped x = around x.around
+    where
+      around : (ns : List ℕ) → map (λ n. record { number = n; form = between_parts; held = held_there x.held }) (map f ns) ≡ moved (map (λ n. record { number = n; form = between_parts; held = x.held }) ns)
+      around [] = refl
+      around (n ∷ ns) = ap (λ ts. record { number = f n; form = between_parts; held = held_there x.held } ∷ ts) (around ns)
+
+  converted-mapped : (x : Spot) (kind : Kind) (m : ℕ) → converted (mapped_spot x) kind (f m) ≡ moved (converted x kind m)
+  converted-mapped x Kind.Property m = touch_around-mapped x
+  converted-mapped x kind m = refl
+
   is_asked-mapped : (derives : Bool) (form : TouchForm) → is_asked derives (mapped_form form) ≡ is_asked derives form
   is_asked-mapped derives (reads b) = refl
   is_asked-mapped derives (runs_closure k) = refl
   is_asked-mapped derives form = refl
-
-  mutual
-    has_optional-mapped : (t : Tree) → has_optional (mapped f t) ≡ has_optional t
-    has_optional-mapped (Node Kind.MemberExpression m span semantic_id (more o (more k (more computed (more (boolean b) end))))) = ap (λ x. b || x) (part_has_optional-mapped o)
-    has_optional-mapped (Node Kind.PrivateField m span semantic_id (more o (more k (more computed (more (boolean b) end))))) = ap (λ x. b || x) (part_has_optional-mapped o)
-    has_optional-mapped (Node Kind.CallExpression m span semantic_id (more g (more arguments (more (boolean b) end)))) = ap (λ x. b || x) (part_has_optional-mapped g)
-    has_optional-mapped t = refl
-
-    part_has_optional-mapped : (p : Part) → part_has_optional (mapped_part f p) ≡ part_has_optional p
-    part_has_optional-mapped (child t) = has_optional-mapped t
-    part_has_optional-mapped p = refl
 
   -- ---- the nodes of classes
 
@@ -100,15 +114,22 @@ module _ (f : ℕ → ℕ) where
       (key_references-mapped es)
   key_references-mapped (more p es) = key_references-mapped es
 
-  moving_numbers-mapped : (es : Parts) → moving_numbers (mapped_parts f es) ≡ map f (moving_numbers es)
-  moving_numbers-mapped end = refl
-  moving_numbers-mapped (more (child (Node Kind.StaticBlock m span semantic_id ps)) es) =
-      append-mapped f (numbers_of (preorder_of ps)) (moving_numbers es) (numbers_of_parts-mapped f ps) (moving_numbers-mapped es)
-  moving_numbers-mapped (more (child (Node kind m span semantic_id (more k ps))) es) =
-      append-mapped f (cond (is_element kind) (numbers_of (preorder_of_part k)) []) (moving_numbers es)
-      (cond-mapped (map f) (is_element kind) (numbers_of (preorder_of_part k)) [] (numbers_of_part-mapped f k) refl)
-      (moving_numbers-mapped es)
-  moving_numbers-mapped (more p es) = moving_numbers-mapped es
+  moving_blocks-mapped : (es : Parts) → moving_blocks (mapped_parts f es) ≡ map f (moving_blocks es)
+  moving_blocks-mapped end = refl
+  moving_blocks-mapped (more (child (Node Kind.StaticBlock m span semantic_id ps)) es) =
+      append-mapped f (numbers_of (preorder_of ps)) (moving_blocks es) (numbers_of_parts-mapped f ps) (moving_blocks-mapped es)
+  moving_blocks-mapped (more p es) = moving_blocks-mapped es
+
+  any_block-mapped : (es : List Element) → any_element (λ e. e.is_block) (map (mapped_element f) es) ≡ any_element (λ e. e.is_block) es
+  any_block-mapped [] = refl
+  any_block-mapped (e ∷ es) = ap (λ b. e.is_block || b) (any_block-mapped es)
+
+  any_static-mapped : (es : List Element) → any_element is_static_field (map (mapped_element f) es) ≡ any_element is_static_field es
+  any_static-mapped [] = refl
+  any_static-mapped (e ∷ es) = ap (λ b. is_static_field e || b) (any_static-mapped es)
+
+  runs_before-mapped : (o : Options) (kind : Kind) (n : ℕ) (ps : Parts) → runs_before_class o (class_at kind (f n) (mapped_parts f ps)) ≡ runs_before_class o (class_at kind n ps)
+  runs_before-mapped o kind n ps = rw (elements_of-mapped f ps, any_block-mapped (elements_of ps), any_static-mapped (elements_of ps)) refl
 
   class_elements-mapped : (p : Part) → class_elements (mapped_part f p) ≡ mapped_parts f (class_elements p)
   class_elements-mapped (child (Node Kind.ClassBody m span semantic_id ps)) = items_at-mapped f 0 ps
@@ -116,37 +137,6 @@ module _ (f : ℕ → ℕ) where
 
   elements_at-mapped : (ps : Parts) → class_elements (at 2 (mapped_parts f ps)) ≡ mapped_parts f (class_elements (at 2 ps))
   elements_at-mapped ps = ap class_elements (at-mapped f 2 ps) ∙ class_elements-mapped (at 2 ps)
-
-  class_parts-mapped : (ts : List Tree) → class_parts (map (mapped f) ts) ≡ map mapped_class (class_parts ts)
-  class_parts-mapped [] = refl
-  class_parts-mapped (Node kind n span semantic_id ps ∷ ts) =
-      let own : List ClassParts = record { number = n; heritage = numbers_of (preorder_of_part (at 1 ps)); keys = key_references (class_elements (at 2 ps)); moving = moving_numbers (class_elements (at 2 ps)) } ∷ [] in
-      rw (at-mapped f 1 ps, numbers_of_part-mapped f (at 1 ps), elements_at-mapped ps, key_references-mapped (class_elements (at 2 ps)), moving_numbers-mapped (class_elements (at 2 ps)))
-      (append-mapped mapped_class (cond (is_class kind) own []) (class_parts ts) (cond-mapped (map mapped_class) (is_class kind) own [] refl refl) (class_parts-mapped ts))
-
-  -- ---- what is read for nothing
-
-  throws_always-mapped : (p : Part) → throws_always (mapped_part f p) ≡ throws_always p
-  throws_always-mapped (child (Node Kind.CallExpression m span semantic_id (more (child (Node Kind.MemberExpression k kspan k_semantic_id (more o (more (child (Node Kind.IdentifierName n nspan n_semantic_id ns)) rest)))) arguments))) =
-      ap (λ s. bytes_eq s (codes "readOnlyError") || bytes_eq s (codes "writeOnlyError")) (string_at-mapped f 0 ns)
-  throws_always-mapped p = refl
-
-  dropped_in-mapped : (ps : Parts) → dropped_in (mapped_parts f ps) ≡ map f (dropped_in ps)
-  dropped_in-mapped end = refl
-  dropped_in-mapped (more p end) = refl
-  dropped_in-mapped (more p (more q ps)) =
-      append-mapped f (cond (throws_always q) [] (reference_number p)) (dropped_in (more q ps))
-      (rw (throws_always-mapped q) (cond-mapped (map f) (throws_always q) [] (reference_number p) refl (reference_number-mapped p)))
-      (dropped_in-mapped (more q ps))
-
-  dropped_by-mapped : (kind : Kind) (ps : Parts) → dropped_by kind (mapped_parts f ps) ≡ map f (dropped_by kind ps)
-  dropped_by-mapped Kind.ExpressionStatement ps = ap reference_number (at-mapped f 0 ps) ∙ reference_number-mapped (at 0 ps)
-  dropped_by-mapped Kind.SequenceExpression ps = ap dropped_in (items_at-mapped f 0 ps) ∙ dropped_in-mapped (items (at 0 ps))
-  dropped_by-mapped kind ps = refl
-
-  dropped-mapped : (ts : List Tree) → dropped (map (mapped f) ts) ≡ map f (dropped ts)
-  dropped-mapped [] = refl
-  dropped-mapped (Node kind m span semantic_id ps ∷ ts) = append-mapped f (dropped_by kind ps) (dropped ts) (dropped_by-mapped kind ps) (dropped-mapped ts)
 
   -- ---- closures
 
@@ -252,6 +242,62 @@ module _ (f : ℕ → ℕ) where
       (cond-mapped (map f) (is_class kind) (part_number (at 0 ps)) [] (ap part_number (at-mapped f 0 ps) ∙ part_number-mapped f (at 0 ps)) refl)
       (class_names-mapped ts)
 
+  is_member-mapped : (p : Part) → is_member (mapped_part f p) ≡ is_member p
+  is_member-mapped (child (Node Kind.MemberExpression m span semantic_id ps)) = refl
+  is_member-mapped (child (Node Kind.PrivateField m span semantic_id ps)) = refl
+  is_member-mapped p = refl
+
+  is_pattern-mapped : (p : Part) → is_pattern (mapped_part f p) ≡ is_pattern p
+  is_pattern-mapped (child (Node Kind.ArrayAssignmentTarget m span semantic_id ps)) = refl
+  is_pattern-mapped (child (Node Kind.ObjectAssignmentTarget m span semantic_id ps)) = refl
+  is_pattern-mapped p = refl
+
+  throws_always-mapped : (p : Part) → throws_always (mapped_part f p) ≡ throws_always p
+  throws_always-mapped (child (Node Kind.CallExpression m span semantic_id (more (child (Node Kind.MemberExpression k kspan k_semantic_id (more o (more (child (Node Kind.IdentifierName n nspan n_semantic_id ns)) rest)))) arguments))) =
+      ap (λ s. bytes_eq s (codes "readOnlyError") || bytes_eq s (codes "writeOnlyError")) (string_at-mapped f 0 ns)
+  throws_always-mapped p = refl
+
+  ends_in_throw-mapped : (ps : Parts) → ends_in_throw (mapped_parts f ps) ≡ ends_in_throw ps
+  ends_in_throw-mapped end = refl
+  ends_in_throw-mapped (more p end) = throws_always-mapped p
+  ends_in_throw-mapped (more p (more q ps)) = ends_in_throw-mapped (more q ps)
+
+  defines_by-mapped : (o h : String) (ps : Parts) → defines_by o h (mapped_parts f ps) ≡ defines_by o h ps
+  defines_by-mapped o h (more object (more k (more v end))) =
+      let helper : Bool = bytes_eq o (codes "babelHelpers") && (bytes_eq h (codes "defineProperty") || bytes_eq h (codes "classPrivateFieldInitSpec")) in
+      ap (λ b. helper || (bytes_eq o (codes "Object") && (bytes_eq h (codes "defineProperty") && b))) (ap is_present (writable_part-mapped f v) ∙ is_present-mapped f (writable_part v))
+  defines_by-mapped o h ps = refl
+
+  defines-mapped : (p : Part) (ps : Parts) → defines (mapped_part f p) (mapped_parts f ps) ≡ defines p ps
+  defines-mapped (child (Node Kind.MemberExpression m span semantic_id (more o (more (child (Node Kind.IdentifierName n nspan n_semantic_id ns)) rest)))) ps =
+      ap₂ (λ x y. defines_by x y (mapped_parts f ps)) (spelling-mapped f o) (string_at-mapped f 0 ns) ∙ defines_by-mapped (spelling o) (string_of (at 0 ns)) ps
+  defines-mapped p ps = refl
+
+  is_named_or_this-mapped : (p : Part) → is_named_or_this (mapped_part f p) ≡ is_named_or_this p
+  is_named_or_this-mapped (child (Node Kind.IdentifierReference m span semantic_id ps)) = refl
+  is_named_or_this-mapped (child (Node Kind.ThisExpression m span semantic_id ps)) = refl
+  is_named_or_this-mapped p = refl
+
+  is_value_slot-mapped : (p : Part) → is_value_slot (mapped_part f p) ≡ is_value_slot p
+  is_value_slot-mapped (child (Node Kind.IdentifierName m span semantic_id ps)) = ap (λ s. bytes_eq s (codes "_")) (string_at-mapped f 0 ps)
+  is_value_slot-mapped p = refl
+
+  sets_member-mapped : (p : Part) → sets_member (mapped_part f p) ≡ sets_member p
+  sets_member-mapped (child (Node Kind.MemberExpression m span semantic_id (more o (more k rest)))) = ap₂ (λ x y. x && not y) (is_named_or_this-mapped o) (is_value_slot-mapped k)
+  sets_member-mapped p = refl
+
+  is_private-mapped : (p : Part) → is_private (mapped_part f p) ≡ is_private p
+  is_private-mapped (child (Node Kind.PrivateField m span semantic_id ps)) = refl
+  is_private-mapped p = refl
+
+  private_at-mapped : (i : ℕ) (ps : Parts) → is_private (at i (mapped_parts f ps)) ≡ is_private (at i ps)
+  private_at-mapped i ps = ap is_private (at-mapped f i ps) ∙ is_private-mapped (at i ps)
+
+  updates_private-mapped : (kind : Kind) (ps : Parts) → updates_private kind (mapped_parts f ps) ≡ updates_private kind ps
+  updates_private-mapped Kind.AssignmentExpression ps = ap₂ (λ s b. not (bytes_eq s (codes "=")) && b) (string_at-mapped f 0 ps) (private_at-mapped 1 ps)
+  updates_private-mapped Kind.UpdateExpression ps = private_at-mapped 1 ps
+  updates_private-mapped kind ps = refl
+
   super_calls-mapped : (ts : List Tree) → super_calls (map (mapped f) ts) ≡ map f (super_calls ts)
   super_calls-mapped [] = refl
   super_calls-mapped (Node kind m span semantic_id ps ∷ ts) =
@@ -260,6 +306,38 @@ module _ (f : ℕ → ℕ) where
       (super_calls-mapped ts)
 
 module _ {first : ℕ} {f : ℕ → ℕ} (r : Renames first f) where
+  moving_keys-mapped : (changed : List ℕ) (rs : List Reference) (es : List Element) → moving_keys (map f changed) (there f rs) (map (mapped_element f) es) ≡ map f (moving_keys changed rs es)
+  moving_keys-mapped changed rs [] = refl
+  moving_keys-mapped changed rs (e ∷ es) =
+      append-mapped f (cond (e.computed && needs_temporary changed rs e.key) (numbers_of (preorder_of_part e.key)) []) (moving_keys changed rs es)
+      (rw (needs_temporary-mapped r changed rs e.key) (cond-mapped (map f) (e.computed && needs_temporary changed rs e.key) (numbers_of (preorder_of_part e.key)) [] (numbers_of_part-mapped f e.key) refl))
+      (moving_keys-mapped changed rs es)
+
+  moving_numbers-mapped : (o : Options) (changed : List ℕ) (rs : List Reference) (kind : Kind) (n : ℕ) (ps : Parts) → moving_numbers o (map f changed) (there f rs) (class_at kind (f n) (mapped_parts f ps)) (at 2 (mapped_parts f ps)) ≡ map f (moving_numbers o changed rs (class_at kind n ps) (at 2 ps))
+  moving_numbers-mapped o changed rs kind n ps =
+      append-mapped f (moving_keys changed rs (elements_of ps)) (cond (runs_before_class o (class_at kind n ps)) (moving_blocks (class_elements (at 2 ps))) [])
+      (ap (moving_keys (map f changed) (there f rs)) (elements_of-mapped f ps) ∙ moving_keys-mapped changed rs (elements_of ps))
+      (rw (runs_before-mapped f o kind n ps) (cond-mapped (map f) (runs_before_class o (class_at kind n ps)) (moving_blocks (class_elements (at 2 ps))) [] (ap moving_blocks (elements_at-mapped f ps) ∙ moving_blocks-mapped f (class_elements (at 2 ps))) refl))
+
+  parts-mapped : (o : Options) (changed : List ℕ) (rs : List Reference) (kind : Kind) (n : ℕ) (ps : Parts)
+      → record { number = f n; heritage = numbers_of (preorder_of_part (at 1 (mapped_parts f ps))); keys = key_references (class_elements (at 2 (mapped_parts f ps))); moving = cond (is_lowered_class o kind (mapped_parts f ps)) (moving_numbers o (map f changed) (there f rs) (class_at kind (f n) (mapped_parts f ps)) (at 2 (mapped_parts f ps))) [] } ∷ []
+      ≡ map (mapped_class f) (record { number = n; heritage = numbers_of (preorder_of_part (at 1 ps)); keys = key_references (class_elements (at 2 ps)); moving = cond (is_lowered_class o kind ps) (moving_numbers o changed rs (class_at kind n ps) (at 2 ps)) [] } ∷ [])
+  parts-mapped o changed rs kind n ps = λ i. record {
+    number = f n;
+    heritage = (ap (λ p. numbers_of (preorder_of_part p)) (at-mapped f 1 ps) ∙ numbers_of_part-mapped f (at 1 ps)) i;
+    keys = (ap key_references (elements_at-mapped f ps) ∙ key_references-mapped f (class_elements (at 2 ps))) i;
+    moving = (ap (λ b. cond b (moving_numbers o (map f changed) (there f rs) (class_at kind (f n) (mapped_parts f ps)) (at 2 (mapped_parts f ps))) []) (is_lowered_class-mapped f o kind ps) ∙ cond-mapped (map f) (is_lowered_class o kind ps) (moving_numbers o changed rs (class_at kind n ps) (at 2 ps)) [] (moving_numbers-mapped o changed rs kind n ps) refl) i;
+  } ∷ []
+
+  class_parts-mapped : (o : Options) (changed : List ℕ) (rs : List Reference) (ts : List Tree) → class_parts o (map f changed) (there f rs) (map (mapped f) ts) ≡ map (mapped_class f) (class_parts o changed rs ts)
+  class_parts-mapped o changed rs [] = refl
+  class_parts-mapped o changed rs (Node kind n span semantic_id ps ∷ ts) =
+      let moved_here : List ℕ = moving_numbers o changed rs (class_at kind n ps) (at 2 ps) in
+      let own : List ClassParts = record { number = n; heritage = numbers_of (preorder_of_part (at 1 ps)); keys = key_references (class_elements (at 2 ps)); moving = cond (is_lowered_class o kind ps) moved_here [] } ∷ [] in
+      append-mapped (mapped_class f) (cond (is_class kind) own []) (class_parts o changed rs ts)
+      (cond-mapped (map (mapped_class f)) (is_class kind) own [] (parts-mapped o changed rs kind n ps) refl)
+      (class_parts-mapped o changed rs ts)
+
   derived_arrows-mapped : (ks : List ℕ) (ts : List Tree) → derived_arrows (map f ks) (map (mapped f) ts) ≡ map f (derived_arrows ks ts)
   derived_arrows-mapped ks [] = refl
   derived_arrows-mapped ks (Node kind m span semantic_id ps ∷ ts) =
@@ -296,7 +374,7 @@ module _ {first : ℕ} {f : ℕ → ℕ} (r : Renames first f) where
       cond-mapped (map f) (is_chain kind) (m ∷ []) (cond (is_link kind && nat_eq i 0) x.chain []) refl (cond-mapped (map f) (is_link kind && nat_eq i 0) x.chain [] refl refl)
 
   spot_in-mapped : (x : Spot) (optional : Bool) (kind : Kind) (m : ℕ) (ps : Parts) (i : ℕ) → spot_in (mapped_spot f x) optional kind (f m) (mapped_parts f ps) i ≡ mapped_spot f (spot_in x optional kind m ps i)
-  spot_in-mapped x optional kind m ps i = ap₂ (λ held chain. record { held = held; chain = chain }) (held_in-mapped x optional kind m ps i) (chain_in-mapped x kind m i)
+  spot_in-mapped x optional kind m ps i = ap₂ (λ held chain. record { around = f m ∷ []; held = held; chain = chain }) (held_in-mapped x optional kind m ps i) (chain_in-mapped x kind m i)
 
   -- ---- what is touched
 
@@ -328,14 +406,28 @@ module _ {first : ℕ} {f : ℕ → ℕ} (r : Renames first f) where
         (rw (r.apart m x.number) (cond-mapped (moved f) (nat_eq m x.number) (touch held m (read_form first called asked named rs m x.to)) [] (ap (touch (held_there f held) (f m)) (read_form-mapped m x.to)) refl))
         (reference_touches-mapped held m xs)
 
-    own_touches-mapped : (held : List (ℕ × ℕ)) (kind : Kind) (m : ℕ) (ps : Parts) → own_touches first called_there asked_there named_there (there f rs) (held_there f held) kind (f m) (mapped_parts f ps) ≡ moved f (own_touches first called asked named rs held kind m ps)
-    own_touches-mapped held Kind.IdentifierReference m ps = reference_touches-mapped held m rs
-    own_touches-mapped held Kind.CallExpression m ps =
-        rw (is_super_call-mapped f Kind.CallExpression ps, at-mapped f 0 ps, spelling-mapped f (at 0 ps))
-        (ap (touch (held_there f held) (f m)) (call_form-mapped f (is_super_call Kind.CallExpression ps) (spelling (at 0 ps)) called))
-    own_touches-mapped held Kind.ThisExpression m ps = refl
-    own_touches-mapped held Kind.BindingIdentifier m ps = refl
-    own_touches-mapped held kind m ps = cond-mapped (moved f) (is_still kind) [] (touch held m another) refl refl
+    assignment_form-mapped : (m : ℕ) (ps : Parts) → assignment_form first called_there asked_there named_there (there f rs) (f m) (mapped_parts f ps) ≡ assignment_form first called asked named rs m ps
+    assignment_form-mapped m ps = rw (r.new m, string_at-mapped f 0 ps, at-mapped f 1 ps, sets_member-mapped f (at 1 ps)) refl
+
+    assignment_form-same : (m : ℕ) (ps : Parts) → mapped_form f (assignment_form first called asked named rs m ps) ≡ assignment_form first called asked named rs m ps
+    assignment_form-same m ps = same (is_new first m && (is_assignment ps && sets_member (at 1 ps)))
+      where
+        same : (b : Bool) → mapped_form f (cond b defines_field another) ≡ cond b defines_field another
+        same true = refl
+        same false = refl
+
+    own_touches-mapped : (x : Spot) (held : List (ℕ × ℕ)) (kind : Kind) (m : ℕ) (ps : Parts) → own_touches first called_there asked_there named_there (there f rs) (mapped_spot f x) (held_there f held) kind (f m) (mapped_parts f ps) ≡ moved f (own_touches first called asked named rs x held kind m ps)
+    own_touches-mapped x held Kind.IdentifierReference m ps = reference_touches-mapped held m rs
+    own_touches-mapped x held Kind.CallExpression m ps =
+        let form : TouchForm = call_form (is_super_call Kind.CallExpression ps) (spelling (at 0 ps)) called in
+        rw (is_super_call-mapped f Kind.CallExpression ps, at-mapped f 0 ps, spelling-mapped f (at 0 ps), items_at-mapped f 1 ps, defines-mapped f (at 0 ps) (items (at 1 ps)))
+        (ap (touch (held_there f held) (f m)) (cond-mapped (mapped_form f) (defines (at 0 ps) (items (at 1 ps))) defines_field form refl (call_form-mapped f (is_super_call Kind.CallExpression ps) (spelling (at 0 ps)) called)))
+    own_touches-mapped x held Kind.AssignmentExpression m ps = ap (touch (held_there f held) (f m)) (assignment_form-mapped m ps ∙ sym (assignment_form-same m ps))
+    own_touches-mapped x held Kind.SpreadElement m ps = touch_around-mapped f x
+    own_touches-mapped x held Kind.ThisExpression m ps = refl
+    own_touches-mapped x held Kind.BindingIdentifier m ps = refl
+    own_touches-mapped x held Kind.SequenceExpression m ps = rw (items_at-mapped f 0 ps, ends_in_throw-mapped f (items (at 0 ps))) (cond-mapped (moved f) (ends_in_throw (items (at 0 ps))) (touch held m another) [] refl refl)
+    own_touches-mapped x held kind m ps = cond-mapped (moved f) (is_still kind) [] (touch held m another) refl refl
 
     mutual
       touches-mapped : (x : Spot) (t : Tree) → touches first called_there asked_there named_there (there f rs) (mapped_spot f x) (mapped f t) ≡ moved f (touches first called asked named rs x t)
@@ -343,22 +435,48 @@ module _ {first : ℕ} {f : ℕ → ℕ} (r : Renames first f) where
           let optional : Bool = has_optional (Node kind m span semantic_id ps) in
           let held : List (ℕ × ℕ) = held_behind x.chain optional x.held in
           let inside : ℕ → Spot = spot_in x optional kind m ps in
-          let inner : List Touch = inner_touches first called asked named rs kind (in_no_chain x) inside ps in
+          let straight : List Touch = inner_touches first called asked named rs kind (in_no_chain x) inside ps in
+          let inner : List Touch = cond (is_keyed kind) (keyed first called asked named rs (converted x kind m) inside ps) straight in
           let other_way : List Touch = cond (is_turned kind) (turned first called asked named rs inside ps) inner in
           let whole : List Touch = cond (is_class kind) (class_touches first called asked named rs (in_no_chain x) m ps) other_way in
           rw (is_apart-mapped kind m, has_optional-mapped f (Node kind m span semantic_id ps), held_behind-mapped x.chain optional x.held)
-          (cond-mapped (moved f) (is_apart first called asked named rs kind m) (cond (is_function_declaration kind) (touch x.held m another) []) (whole ++ own_touches first called asked named rs held kind m ps) (cond-mapped (moved f) (is_function_declaration kind) (touch x.held m another) [] refl refl)
-          (append-mapped (mapped_touch f) whole (own_touches first called asked named rs held kind m ps)
+          (cond-mapped (moved f) (is_apart first called asked named rs kind m) (cond (is_function_declaration kind) (touch x.held m another) []) (whole ++ own_touches first called asked named rs x held kind m ps) (cond-mapped (moved f) (is_function_declaration kind) (touch x.held m another) [] refl refl)
+          (append-mapped (mapped_touch f) whole (own_touches first called asked named rs x held kind m ps)
           (cond-mapped (moved f) (is_class kind) (class_touches first called asked named rs (in_no_chain x) m ps) other_way (class_touches-mapped (in_no_chain x) m ps)
           (cond-mapped (moved f) (is_turned kind) (turned first called asked named rs inside ps) inner (turned-mapped _ inside (spot_in-mapped x optional kind m ps) ps)
-          (inner_touches-mapped kind (in_no_chain x) _ inside (spot_in-mapped x optional kind m ps) ps)))
-          (own_touches-mapped held kind m ps)))
+          (cond-mapped (moved f) (is_keyed kind) (keyed first called asked named rs (converted x kind m) inside ps) straight (keyed-mapped (converted (mapped_spot f x) kind (f m)) (converted x kind m) (converted-mapped f x kind m) _ inside (spot_in-mapped x optional kind m ps) ps)
+          (inner_touches-mapped kind (in_no_chain x) _ inside (spot_in-mapped x optional kind m ps) ps))))
+          (own_touches-mapped x held kind m ps)))
+
+      keyed-mapped : (c d : List Touch) → c ≡ moved f d → (g h : ℕ → Spot) → ((i : ℕ) → g i ≡ mapped_spot f (h i)) → (ps : Parts) → keyed first called_there asked_there named_there (there f rs) c g (mapped_parts f ps) ≡ moved f (keyed first called asked named rs d h ps)
+      keyed-mapped c d e g h same (more k ps) =
+          append-mapped (mapped_touch f) (touches_at first called asked named rs (h 0) k) (d ++ touches_in first called asked named rs (λ i. h (suc i)) ps) (ap (λ y. touches_at first called_there asked_there named_there (there f rs) y (mapped_part f k)) (same 0) ∙ touches_at-mapped (h 0) k)
+          (append-mapped (mapped_touch f) d (touches_in first called asked named rs (λ i. h (suc i)) ps) e (touches_in-mapped (λ i. g (suc i)) (λ i. h (suc i)) (λ i. same (suc i)) ps))
+      keyed-mapped c d e g h same end = refl
+
+      joined-mapped : (x : Spot) (es : Parts) → joined first called_there asked_there named_there (there f rs) (mapped_spot f x) (mapped_parts f es) ≡ moved f (joined first called asked named rs x es)
+      joined-mapped x end = refl
+      joined-mapped x (more e es) =
+          append-mapped (mapped_touch f) (touches_at first called asked named rs x e) (touch_around x ++ joined first called asked named rs x es) (touches_at-mapped x e)
+          (append-mapped (mapped_touch f) (touch_around x) (joined first called asked named rs x es) (touch_around-mapped f x) (joined-mapped x es))
 
       inner_touches-mapped : (kind : Kind) (x : Spot) (g h : ℕ → Spot) → ((i : ℕ) → g i ≡ mapped_spot f (h i)) → (ps : Parts) → inner_touches first called_there asked_there named_there (there f rs) kind (mapped_spot f x) g (mapped_parts f ps) ≡ moved f (inner_touches first called asked named rs kind x h ps)
       inner_touches-mapped Kind.CallExpression x g h same (more (child (Node Kind.ArrowFunctionExpression k span semantic_id ps)) rest) =
           append-mapped (mapped_touch f) (touches_in first called asked named rs (λ i. h (suc i)) rest) (cond (is_new first k) (touches_of first called asked named rs x ps) [])
           (touches_in-mapped (λ i. g (suc i)) (λ i. h (suc i)) (λ i. same (suc i)) rest)
           (rw (r.new k) (cond-mapped (moved f) (is_new first k) (touches_of first called asked named rs x ps) [] (touches_of-mapped x ps) refl))
+      inner_touches-mapped Kind.TemplateLiteral x g h same (more quasis (more (list es) rest)) =
+          ap (λ y. joined first called_there asked_there named_there (there f rs) y (mapped_parts f es)) (same 1) ∙ joined-mapped (h 1) es
+      inner_touches-mapped Kind.AssignmentTargetWithDefault x g h same (more l (more v rest)) =
+          rw (is_member-mapped f l)
+          (cond-mapped (moved f) (is_member l) (touches_at first called asked named rs (h 0) l ++ touches_at first called asked named rs (h 1) v) (touches_at first called asked named rs (h 1) v ++ touches_at first called asked named rs (h 0) l)
+          (append-mapped (mapped_touch f) (touches_at first called asked named rs (h 0) l) (touches_at first called asked named rs (h 1) v) (ap (λ y. touches_at first called_there asked_there named_there (there f rs) y (mapped_part f l)) (same 0) ∙ touches_at-mapped (h 0) l) (ap (λ y. touches_at first called_there asked_there named_there (there f rs) y (mapped_part f v)) (same 1) ∙ touches_at-mapped (h 1) v))
+          (append-mapped (mapped_touch f) (touches_at first called asked named rs (h 1) v) (touches_at first called asked named rs (h 0) l) (ap (λ y. touches_at first called_there asked_there named_there (there f rs) y (mapped_part f v)) (same 1) ∙ touches_at-mapped (h 1) v) (ap (λ y. touches_at first called_there asked_there named_there (there f rs) y (mapped_part f l)) (same 0) ∙ touches_at-mapped (h 0) l)))
+      inner_touches-mapped Kind.AssignmentExpression x g h same (more operator (more l (more v rest))) =
+          rw (is_pattern-mapped f l)
+          (cond-mapped (moved f) (is_pattern l) (touches_at first called asked named rs (h 2) v ++ touches_at first called asked named rs (h 1) l) (touches_at first called asked named rs (h 1) l ++ touches_at first called asked named rs (h 2) v)
+          (append-mapped (mapped_touch f) (touches_at first called asked named rs (h 2) v) (touches_at first called asked named rs (h 1) l) (ap (λ y. touches_at first called_there asked_there named_there (there f rs) y (mapped_part f v)) (same 2) ∙ touches_at-mapped (h 2) v) (ap (λ y. touches_at first called_there asked_there named_there (there f rs) y (mapped_part f l)) (same 1) ∙ touches_at-mapped (h 1) l))
+          (append-mapped (mapped_touch f) (touches_at first called asked named rs (h 1) l) (touches_at first called asked named rs (h 2) v) (ap (λ y. touches_at first called_there asked_there named_there (there f rs) y (mapped_part f l)) (same 1) ∙ touches_at-mapped (h 1) l) (ap (λ y. touches_at first called_there asked_there named_there (there f rs) y (mapped_part f v)) (same 2) ∙ touches_at-mapped (h 2) v)))
       inner_touches-mapped kind x g h same (more p rest) =
           append-mapped (mapped_touch f) (touches_at first called asked named rs (h 0) p) (touches_in first called asked named rs (λ i. h (suc i)) rest)
           (ap (λ y. touches_at first called_there asked_there named_there (there f rs) y (mapped_part f p)) (same 0) ∙ touches_at-mapped (h 0) p)
@@ -393,9 +511,12 @@ module _ {first : ℕ} {f : ℕ → ℕ} (r : Renames first f) where
 
       class_touches-mapped : (x : Spot) (n : ℕ) (ps : Parts) → class_touches first called_there asked_there named_there (there f rs) (mapped_spot f x) (f n) (mapped_parts f ps) ≡ moved f (class_touches first called asked named rs x n ps)
       class_touches-mapped x n (more id (more heritage (more body rest))) =
-          append-mapped (mapped_touch f) (touches_at first called asked named rs x heritage) (key_touches first called asked named rs x body ++ (touch x.held n makes_class ++ value_touches first called asked named rs true x body)) (touches_at-mapped x heritage)
-          (append-mapped (mapped_touch f) (key_touches first called asked named rs x body) (touch x.held n makes_class ++ value_touches first called asked named rs true x body) (key_touches-mapped x body)
-          (append-mapped (mapped_touch f) (touch x.held n makes_class) (value_touches first called asked named rs true x body) refl (value_touches-mapped true x body)))
+          let values : List Touch = value_touches first called asked named rs true x body in
+          let made : List Touch = touch x.held n makes_class ++ (touch x.held n another ++ values) in
+          append-mapped (mapped_touch f) (touches_at first called asked named rs x heritage) (key_touches first called asked named rs x body ++ made) (touches_at-mapped x heritage)
+          (append-mapped (mapped_touch f) (key_touches first called asked named rs x body) made (key_touches-mapped x body)
+          (append-mapped (mapped_touch f) (touch x.held n makes_class) (touch x.held n another ++ values) refl
+          (append-mapped (mapped_touch f) (touch x.held n another) values refl (value_touches-mapped true x body))))
       class_touches-mapped x n (more id (more heritage end)) = refl
       class_touches-mapped x n (more id end) = refl
       class_touches-mapped x n end = refl
@@ -419,13 +540,14 @@ module _ {first : ℕ} {f : ℕ → ℕ} (r : Renames first f) where
       values_touched-mapped : (runs : Bool) (x : Spot) (es : Parts) → values_touched first called_there asked_there named_there (there f rs) runs (mapped_spot f x) (mapped_parts f es) ≡ moved f (values_touched first called asked named rs runs x es)
       values_touched-mapped runs x end = refl
       values_touched-mapped runs x (more (child (Node kind m span semantic_id (more k ps))) es) =
-          let own : List Touch = cond (is_element kind) [] (touches_at first called asked named rs x k) ++ touches_of first called asked named rs x ps in
-          rw (runs_with_class-mapped f (child (Node kind m span semantic_id (more k ps))))
+          let defined : List Touch = cond (is_property_definition kind && not (is_new first m)) (touch x.held m defines_field) [] in
+          let own : List Touch = cond (is_element kind) [] (touches_at first called asked named rs x k) ++ (touches_of first called asked named rs x ps ++ defined) in
+          rw (runs_with_class-mapped f (child (Node kind m span semantic_id (more k ps))), r.new m)
           (append-mapped (mapped_touch f) (cond (is_same runs (runs_with_class (child (Node kind m span semantic_id (more k ps))))) own []) (values_touched first called asked named rs runs x es)
           (cond-mapped (moved f) (is_same runs (runs_with_class (child (Node kind m span semantic_id (more k ps))))) own []
-          (append-mapped (mapped_touch f) (cond (is_element kind) [] (touches_at first called asked named rs x k)) (touches_of first called asked named rs x ps)
+          (append-mapped (mapped_touch f) (cond (is_element kind) [] (touches_at first called asked named rs x k)) (touches_of first called asked named rs x ps ++ defined)
           (cond-mapped (moved f) (is_element kind) [] (touches_at first called asked named rs x k) refl (touches_at-mapped x k))
-          (touches_of-mapped x ps))
+          (append-mapped (mapped_touch f) (touches_of first called asked named rs x ps) defined (touches_of-mapped x ps) (cond-mapped (moved f) (is_property_definition kind && not (is_new first m)) (touch x.held m defines_field) [] refl refl)))
           refl)
           (values_touched-mapped runs x es))
       values_touched-mapped runs x (more p es) = values_touched-mapped runs x es
@@ -505,11 +627,11 @@ module _ {first : ℕ} {f : ℕ → ℕ} (r : Renames first f) where
 
   is_touched-mapped : (m : ℕ) (ts : List Touch) → is_touched (f m) (moved f ts) ≡ is_touched m ts
   is_touched-mapped m [] = refl
-  is_touched-mapped m (t ∷ ts) = ap₂ (λ x y. x || y) (r.apart m t.number) (is_touched-mapped m ts)
+  is_touched-mapped m (t ∷ ts) = ap₂ (λ x y. x || y) (ap₂ (λ x y. x && not y) (r.apart m t.number) (is_asked-mapped f true t.form)) (is_touched-mapped m ts)
 
-  stands_behind-mapped : (m n : ℕ) (ts : List Touch) → stands_behind (f m) (f n) (moved f ts) ≡ stands_behind m n ts
-  stands_behind-mapped m n [] = refl
-  stands_behind-mapped m n (t ∷ ts) = ap₂ (λ x y. x || y) (ap₂ (λ x y. x && y) (r.apart m t.number) (is_touched-mapped n ts)) (stands_behind-mapped m n ts)
+  times-mapped : (m : ℕ) (ts : List Touch) → times (f m) (moved f ts) ≡ times m ts
+  times-mapped m [] = refl
+  times-mapped m (t ∷ ts) = ap₂ (λ b n. cond b (suc n) n) (ap₂ (λ x y. x && not y) (r.apart m t.number) (is_asked-mapped f true t.form)) (times-mapped m ts)
 
   is_excepted-mapped : (m n : ℕ) (cs : List ClassParts) → is_excepted (f m) (f n) (map (mapped_class f) cs) ≡ is_excepted m n cs
   is_excepted-mapped m n [] = refl
@@ -536,9 +658,17 @@ module _ {first : ℕ} {f : ℕ → ℕ} (r : Renames first f) where
   was_run-mapped k [] = refl
   was_run-mapped k (t ∷ ts) = ap₂ (λ x y. x || y) (is_run-mapped k t.form) (was_run-mapped k ts)
 
+  stands_in_closure-mapped : (cs : Closures) (t : Touch) → stands_in_closure (mapped_closures f cs) (mapped_touch f t) ≡ stands_in_closure cs t
+  stands_in_closure-mapped [] t = refl
+  stands_in_closure-mapped (c ∷ cs) t = ap₂ (λ x y. x || y) (stands_in_node-mapped c.1 t.held) (stands_in_closure-mapped cs t)
+
   is_in_same-mapped : (cs : Closures) (t u : Touch) → is_in_same (mapped_closures f cs) (mapped_touch f t) (mapped_touch f u) ≡ is_in_same cs t u
   is_in_same-mapped [] t u = refl
   is_in_same-mapped (c ∷ cs) t u = ap₂ (λ x y. x && y) (ap₂ (λ x y. not x || y) (stands_in_node-mapped c.1 t.held) (stands_in_node-mapped c.1 u.held)) (is_in_same-mapped cs t u)
+
+  definitions_touched-mapped : (cs : Closures) (t : Touch) (es : List Touch) → definitions_touched (mapped_closures f cs) (mapped_touch f t) (moved f es) ≡ definitions_touched cs t es
+  definitions_touched-mapped cs t [] = refl
+  definitions_touched-mapped cs t (e ∷ es) = ap₂ (λ b n. cond b (suc n) n) (ap₂ (λ x y. x && y) (is_definition-mapped f e.form) (is_in_same-mapped cs e t)) (definitions_touched-mapped cs t es)
 
   is_arrow_of-mapped : (k : ℕ) (cs : Closures) → is_arrow_of (f k) (mapped_closures f cs) ≡ is_arrow_of k cs
   is_arrow_of-mapped k [] = refl
@@ -576,12 +706,12 @@ module _ {first : ℕ} {f : ℕ → ℕ} (r : Renames first f) where
     abbrev sources_there : List Body
     sources_there = map (mapped_body f) sources
 
-    all_behind-mapped : (us : List Touch) (m : ℕ) (ts : List Touch) → all_behind first supers_there classes_there closures_there sources_there (moved f us) (f m) (moved f ts) ≡ all_behind first supers classes called sources us m ts
-    all_behind-mapped us m [] = refl
-    all_behind-mapped us m (t ∷ ts) =
+    all_behind-mapped : (here : List Touch) (u : Touch) (us ts es : List Touch) → all_behind first supers_there classes_there closures_there sources_there (moved f here) (mapped_touch f u) (moved f us) (moved f ts) (moved f es) ≡ all_behind first supers classes called sources here u us ts es
+    all_behind-mapped here u us ts [] = refl
+    all_behind-mapped here u us ts (e ∷ es) =
         ap₂ (λ x y. x && y)
-        (ap₂ (λ x y. x || y) (ap₂ (λ x y. x || not y) (is_asked-mapped f true t.form) (is_touched-mapped t.number us)) (ap₂ (λ x y. x || y) (stands_behind-mapped m t.number us) (is_excepted-mapped m t.number classes)))
-        (all_behind-mapped us m ts)
+        (ap₂ (λ x y. x || y) (ap₂ (λ x y. x || not y) (is_asked-mapped f true e.form) (is_touched-mapped e.number here)) (ap₂ (λ x y. x || y) (ap₂ nat_le (times-mapped e.number ts) (times-mapped e.number us)) (is_excepted-mapped u.number e.number classes)))
+        (all_behind-mapped here u us ts es)
 
     is_like-mapped : (t u : Touch) → is_like first supers_there classes_there closures_there sources_there (mapped_touch f t) (mapped_touch f u) ≡ is_like first supers classes called sources t u
     is_like-mapped t u = ap₂ (λ x y. x && y) (ap₂ (λ x y. x || y) (r.new t.number) (r.apart t.number u.number)) (is_same_form-mapped t.form u.form)
@@ -590,17 +720,17 @@ module _ {first : ℕ} {f : ℕ → ℕ} (r : Renames first f) where
     stands_like-mapped t ts here [] = refl
     stands_like-mapped t ts here (u ∷ us) =
         ap₂ (λ x y. x || y)
-        (ap₂ (λ x y. x && y) (is_like-mapped t u) (ap₂ (λ x y. x && y) (all_behind-mapped here u.number ts) (all_pairs_stand-mapped r u.held t.held)))
+        (ap₂ (λ x y. x && y) (is_like-mapped t u) (ap₂ (λ x y. x && y) (all_behind-mapped here u us ts ts) (ap₂ (λ x y. x && y) (ap₂ nat_le (definitions_touched-mapped called t ts) (definitions_touched-mapped called u us)) (all_pairs_stand-mapped r u.held t.held))))
         (stands_like-mapped t ts here us)
 
-    is_of_body-mapped : (ready : Bool) (b c : Body) → is_of_body first supers_there classes_there closures_there sources_there ready (mapped_body f b) (mapped_body f c) ≡ is_of_body first supers classes called sources ready b c
-    is_of_body-mapped ready b c = rw (r.apart b.number c.number, r.new b.number, has_number-mapped r c.number b.of_class) refl
+    is_of_body-mapped : (ready inner : Bool) (b c : Body) → is_of_body first supers_there classes_there closures_there sources_there ready inner (mapped_body f b) (mapped_body f c) ≡ is_of_body first supers classes called sources ready inner b c
+    is_of_body-mapped ready inner b c = rw (r.apart b.number c.number, r.new b.number, has_number-mapped r c.number b.of_class) refl
 
     stands_in_any-mapped : (ready : Bool) (b : Body) (t : Touch) (ts : List Touch) (cs : List Body) → stands_in_any first supers_there classes_there closures_there sources_there ready (mapped_body f b) (mapped_touch f t) (moved f ts) (map (mapped_body f) cs) ≡ stands_in_any first supers classes called sources ready b t ts cs
     stands_in_any-mapped ready b t ts [] = refl
     stands_in_any-mapped ready b t ts (c ∷ cs) =
         ap₂ (λ x y. x || y)
-        (ap₂ (λ x y. x && y) (is_of_body-mapped ready b c) (ap₂ (λ x y. (c.derives || not x) && y) (is_this-mapped f t.form) (stands_like-mapped t ts c.touches c.touches)))
+        (ap₂ (λ x y. x && y) (ap (λ i. is_of_body first supers_there classes_there closures_there sources_there ready i (mapped_body f b) (mapped_body f c)) (stands_in_closure-mapped called t) ∙ is_of_body-mapped ready (stands_in_closure called t) b c) (ap₂ (λ x y. (c.derives || not x) && y) (is_this-mapped f t.form) (stands_like-mapped t ts c.touches c.touches)))
         (stands_in_any-mapped ready b t ts cs)
 
     is_touched_as-mapped : (heads : List ℕ) (form : TouchForm) (us : List Touch) → is_touched_as first supers_there classes_there closures_there sources_there (map f heads) (mapped_form f form) (moved f us) ≡ is_touched_as first supers classes called sources heads form us
@@ -618,7 +748,7 @@ module _ {first : ℕ} {f : ℕ → ℕ} (r : Renames first f) where
     is_behind_super-mapped : (t : Touch) (front : List Touch) → is_behind_super first supers_there classes_there closures_there sources_there (mapped_touch f t) (moved f front) ≡ is_behind_super first supers classes called sources t front
     is_behind_super-mapped t [] = refl
     is_behind_super-mapped t (s ∷ front) =
-        ap₂ (λ x y. x || y) (ap₂ (λ x y. x && y) (ap₂ (λ x y. x || y) (is_call_of_super-mapped f s.form) (has_number-mapped r s.number supers)) (all_pairs_stand-mapped r s.held t.held)) (is_behind_super-mapped t front)
+        ap₂ (λ x y. x || y) (ap₂ (λ x y. x && y) (ap₂ (λ x y. x || y) (is_call_of_super-mapped f s.form) (ap₂ (λ x y. x && not y) (has_number-mapped r s.number supers) (is_between-mapped f s.form))) (all_pairs_stand-mapped r s.held t.held)) (is_behind_super-mapped t front)
 
     touch_fits-mapped : (b : Body) (front : List Touch) (t : Touch) (ts : List Touch) → touch_fits first supers_there classes_there closures_there sources_there (mapped_body f b) (moved f front) (mapped_touch f t) (moved f ts) ≡ touch_fits first supers classes called sources b front t ts
     touch_fits-mapped b front t ts =
@@ -665,22 +795,52 @@ module _ {first : ℕ} {f : ℕ → ℕ} (r : Renames first f) where
       rw (variables-mapped f ps, class_names-mapped f ps, resolve-mapped f t, preorder-mapped f t, super_functions-mapped r ledger (preorder t), append-mapped f constructors behind_super (derived_constructors-mapped f (preorder t)) (ap (λ ks. derived_arrows ks (map (mapped f) ps)) (derived_constructors-mapped f ps) ∙ derived_arrows-mapped (derived_constructors ps) ps))
       (bodies-mapped cs (variables ps) (class_names ps) (resolve t) (constructors ++ behind_super) (super_functions ledger (preorder t)) (preorder t) (preorder t))
 
-  drops_name-mapped : (named old ns : List ℕ) (x : Reference) → drops_name first (map f named) (map f old) (map f ns) (mapped_reference f x) ≡ drops_name first named old ns x
-  drops_name-mapped named old ns x = rw (is_bound_among-mapped r named (Some x.to), r.new x.number, has_number-mapped r x.number ns, has_number-mapped r x.number old) refl
+  throws_at-mapped : (kind : Kind) (ps : Parts) → throws_at kind (mapped_parts f ps) ≡ throws_at kind ps
+  throws_at-mapped Kind.SequenceExpression ps = ap ends_in_throw (items_at-mapped f 0 ps) ∙ ends_in_throw-mapped f (items (at 0 ps))
+  throws_at-mapped kind ps = refl
 
-  none_drops-mapped : (named old ns : List ℕ) (xs : List Reference) → none_drops first (map f named) (map f old) (map f ns) (there f xs) ≡ none_drops first named old ns xs
-  none_drops-mapped named old ns [] = refl
-  none_drops-mapped named old ns (x ∷ xs) = ap₂ (λ a b. not a && b) (drops_name-mapped named old ns x) (none_drops-mapped named old ns xs)
+  private_updates-mapped : (ts : List Tree) → private_updates (map (mapped f) ts) ≡ map f (private_updates ts)
+  private_updates-mapped [] = refl
+  private_updates-mapped (Node kind m span semantic_id ps ∷ ts) =
+      append-mapped f (cond (updates_private kind ps) (m ∷ []) []) (private_updates ts)
+      (rw (updates_private-mapped f kind ps) (cond-mapped (map f) (updates_private kind ps) (m ∷ []) [] refl refl))
+      (private_updates-mapped ts)
 
-  drops-mapped : (p q : Tree) → none_drops first (class_names (preorder (mapped f p))) (dropped (preorder (mapped f p))) (dropped (preorder (mapped f q))) (resolve (mapped f q)) ≡ none_drops first (class_names (preorder p)) (dropped (preorder p)) (dropped (preorder q)) (resolve q)
-  drops-mapped p q =
-      rw (preorder-mapped f p, preorder-mapped f q, resolve-mapped f q, class_names-mapped f (preorder p), dropped-mapped f (preorder p), dropped-mapped f (preorder q))
-      (none_drops-mapped (class_names (preorder p)) (dropped (preorder p)) (dropped (preorder q)) (resolve q))
+  right_of-mapped : (updates : List ℕ) (kind : Kind) (m : ℕ) (ps : Parts) → right_of (map f updates) kind (f m) (mapped_parts f ps) ≡ map f (right_of updates kind m ps)
+  right_of-mapped updates Kind.LogicalExpression m ps =
+      rw (has_number-mapped r m updates) (cond-mapped (map f) (has_number m updates) (part_number (at 2 ps)) [] (ap part_number (at-mapped f 2 ps) ∙ part_number-mapped f (at 2 ps)) refl)
+  right_of-mapped updates kind m ps = refl
 
-  pub dead_zones_stay-mapped : (ledger : List LedgerEntry) (p q : Tree) → dead_zones_stay first (mapped_ledger f ledger) (mapped f p) (mapped f q) ≡ dead_zones_stay first ledger p q
-  dead_zones_stay-mapped ledger p q =
+  right_operands-mapped : (updates : List ℕ) (ts : List Tree) → right_operands (map f updates) (map (mapped f) ts) ≡ map f (right_operands updates ts)
+  right_operands-mapped updates [] = refl
+  right_operands-mapped updates (Node kind m span semantic_id ps ∷ ts) = append-mapped f (right_of updates kind m ps) (right_operands updates ts) (right_of-mapped updates kind m ps) (right_operands-mapped updates ts)
+
+  new_throws-mapped : (updates rights : List ℕ) (ts : List Tree) → new_throws first (map f updates) (map f rights) (map (mapped f) ts) ≡ map f (new_throws first updates rights ts)
+  new_throws-mapped updates rights [] = refl
+  new_throws-mapped updates rights (Node kind m span semantic_id ps ∷ ts) =
+      let alone : Bool = throws_at kind ps && (is_new first m && not (has_number m rights || any_among updates (numbers_of (preorder_of ps)))) in
+      append-mapped f (cond alone (m ∷ []) []) (new_throws first updates rights ts)
+      (rw (r.new m, throws_at-mapped kind ps, has_number-mapped r m rights, numbers_of_parts-mapped f ps, any_among-mapped r updates (numbers_of (preorder_of ps))) (cond-mapped (map f) alone (m ∷ []) [] refl refl))
+      (new_throws-mapped updates rights ts)
+
+  all_throws-mapped : (updates : List ℕ) (ts : List Tree) → all_throws first (map f updates) (map (mapped f) ts) ≡ map f (all_throws first updates ts)
+  all_throws-mapped updates ts = ap (λ rs. new_throws first (map f updates) rs (map (mapped f) ts)) (right_operands-mapped updates ts) ∙ new_throws-mapped updates (right_operands updates ts) ts
+
+  throws_of-mapped : (p t : Tree) → all_throws first (private_updates (preorder (mapped f p))) (preorder (mapped f t)) ≡ map f (all_throws first (private_updates (preorder p)) (preorder t))
+  throws_of-mapped p t =
+      ap₂ (all_throws first) (ap private_updates (preorder-mapped f p) ∙ private_updates-mapped (preorder p)) (preorder-mapped f t)
+      ∙ all_throws-mapped (private_updates (preorder p)) (preorder t)
+
+  classes_of-mapped : (o : Options) (p : Tree) → class_parts o (written (mapped f p)) (resolve (mapped f p)) (map (mapped f) (preorder p)) ≡ map (mapped_class f) (class_parts o (written p) (resolve p) (preorder p))
+  classes_of-mapped o p =
+      ap₂ (λ ws rs. class_parts o ws rs (map (mapped f) (preorder p))) (written-mapped f p) (resolve-mapped f p)
+      ∙ class_parts-mapped o (written p) (resolve p) (preorder p)
+
+  pub dead_zones_stay-mapped : (o : Options) (ledger : List LedgerEntry) (p q : Tree) → dead_zones_stay first o (mapped_ledger f ledger) (mapped f p) (mapped f q) ≡ dead_zones_stay first o ledger p q
+  dead_zones_stay-mapped o ledger p q =
       let cs : Closures = closures ledger (preorder q) in
-      ap₂ (λ x y. x && y) (drops-mapped p q)
-      (ap₂ (λ ps xs. bodies_fit first (super_calls ps) (class_parts ps) xs (bodies_of first [] [] ps (mapped f p)) (bodies_of first (mapped_ledger f ledger) xs ps (mapped f q))) (preorder-mapped f p) (ap (closures (mapped_ledger f ledger)) (preorder-mapped f q) ∙ closures-mapped f ledger (preorder q))
-      ∙ rw (super_calls-mapped f (preorder p), class_parts-mapped f (preorder p), bodies_of-mapped [] [] (preorder p) p, bodies_of-mapped ledger cs (preorder p) q)
-      (bodies_fit-mapped (super_calls (preorder p)) (class_parts (preorder p)) cs (bodies_of first [] [] (preorder p) p) (bodies_of first ledger cs (preorder p) q)))
+      let classes : List ClassParts = class_parts o (written p) (resolve p) (preorder p) in
+      ap₂ (λ x y. x && y) (ap₂ is_within (throws_of-mapped p q) (throws_of-mapped p p) ∙ is_within-mapped r (all_throws first (private_updates (preorder p)) (preorder q)) (all_throws first (private_updates (preorder p)) (preorder p)))
+      (ap₂ (λ ps xs. bodies_fit first (super_calls ps) (class_parts o (written (mapped f p)) (resolve (mapped f p)) ps) xs (bodies_of first [] [] ps (mapped f p)) (bodies_of first (mapped_ledger f ledger) xs ps (mapped f q))) (preorder-mapped f p) (ap (closures (mapped_ledger f ledger)) (preorder-mapped f q) ∙ closures-mapped f ledger (preorder q))
+      ∙ rw (super_calls-mapped f (preorder p), classes_of-mapped o p, bodies_of-mapped [] [] (preorder p) p, bodies_of-mapped ledger cs (preorder p) q)
+      (bodies_fit-mapped (super_calls (preorder p)) classes cs (bodies_of first [] [] (preorder p) p) (bodies_of first ledger cs (preorder p) q)))

@@ -1,6 +1,6 @@
 -- That what a module exports as default is there before what stood behind it does not depend on numbers.
-use Rattle.std.specs.Prelude.{◌≡◌, ℕ, List, [], map, Bool, cond, not, ◌||◌}
-use Rattle.std.proofs.Common.{refl, ap, ap₂, ◌∙◌}
+use Rattle.std.specs.Prelude.{◌≡◌, ℕ, [], map, Bool, ◌||◌}
+use Rattle.std.proofs.Common.{refl, ap₂}
 use Rattle.es_base.specs.Tree.{Tree, Part, Parts, Node, end, more, child}
 use Rattle.es_base.specs.declared.kind.Kind.{Kind}
 use Rattle.es_lowered.specs.DefaultExport.{running_here, is_default, declares_default, holds, running_up_to, up_to, default_stays}

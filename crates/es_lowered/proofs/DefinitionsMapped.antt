@@ -63,7 +63,7 @@ module _ (f : ℕ → ℕ) where
   property_value-mapped s (child (Node Kind.Property m span semantic_id (more (child (Node Kind.IdentifierName k kspan k_semantic_id (more (string t) end))) (more v rest)))) = cond-mapped (mapped_part f) (bytes_eq s t) v absent refl refl
   property_value-mapped s p = refl
 
-  writable_part-mapped : (p : Part) → writable_part (mapped_part f p) ≡ mapped_part f (writable_part p)
+  pub writable_part-mapped : (p : Part) → writable_part (mapped_part f p) ≡ mapped_part f (writable_part p)
   writable_part-mapped (child (Node Kind.ObjectExpression m span semantic_id (more (list (more w (more v end))) end))) =
       rw (property_value-mapped (codes "writable") w, is_present-mapped f (property_value (codes "writable") w))
       (cond-mapped (mapped_part f) (is_present (property_value (codes "writable") w)) (property_value (codes "value") v) absent (property_value-mapped (codes "value") v) refl)

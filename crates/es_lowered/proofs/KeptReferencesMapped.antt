@@ -9,12 +9,14 @@ use Rattle.es_lowered.specs.HelperCalls.{part_number}
 use Rattle.es_lowered.specs.KeptReferences.{plain_target, plain_targets, writing_numbers, write_fits, writes_fit, inner_references, inner_names_stay, references_stay}
 use Rattle.es_steps.specs.Parts.{at, string_of}
 use Rattle.es_steps.specs.References.{Reference, resolve, gives_inside}
+use Rattle.es_steps.specs.declared.options.Options.{Options}
 use Rattle.es_lowered.proofs.ClassLetsMapped.{class_lets_fit-mapped}
 use Rattle.es_lowered.proofs.ClassNamesMapped.{classes_timely-mapped}
 use Rattle.es_steps.proofs.ContextMapped.{is_generated-mapped}
 use Rattle.es_lowered.proofs.DeadZonesMapped.{dead_zones_stay-mapped}
 use Rattle.es_lowered.proofs.DefaultExportMapped.{default_stays-mapped}
 use Rattle.es_lowered.proofs.FunctionsAroundMapped.{mapped_placed, placed_references-mapped, all_stand_where-mapped}
+use Rattle.es_lowered.proofs.HeadValuesMapped.{head_values_stay-mapped}
 use Rattle.es_lowered.proofs.HelperCallsMapped.{part_number-mapped}
 use Rattle.es_lowered.proofs.StrayNamesMapped.{private_names_stay-mapped}
 use Rattle.es_lowered.proofs.SupersMapped.{supers_stay-mapped}
@@ -56,9 +58,9 @@ module _ {first : ℕ} {f : ℕ → ℕ} (r : Renames first f) where
       rw (preorder-mapped f p, inner_references-mapped (preorder p) q, inner_references-mapped (preorder p) p)
       (all_stand_where-mapped r (inner_references first (preorder p) q) (inner_references first (preorder p) p))
 
-  pub references_stay-mapped : (ledger : List LedgerEntry) (p q : Tree) → references_stay first (mapped_ledger f ledger) (mapped f p) (mapped f q) ≡ references_stay first ledger p q
-  references_stay-mapped ledger p q =
+  pub references_stay-mapped : (o : Options) (ledger : List LedgerEntry) (p q : Tree) → references_stay first o (mapped_ledger f ledger) (mapped f p) (mapped f q) ≡ references_stay first o ledger p q
+  references_stay-mapped o ledger p q =
       ap₂ (λ a b. a && b) (ap₂ (λ a b. a && b) (classes_timely-mapped r ledger p q) (ap₂ (λ a b. a && b) (supers_stay-mapped f p q) (private_names_stay-mapped f p q)))
       (ap₂ (λ a b. a && b)
       (rw (preorder-mapped f q, plain_targets-mapped f (preorder q), resolve-mapped f p, writing_numbers-mapped (resolve p), resolve-mapped f q) (writes_fit-mapped ledger (plain_targets (preorder q)) (writing_numbers (resolve p)) (resolve q)))
-      (ap₂ (λ a b. a && b) (inner_names_stay-mapped p q) (ap₂ (λ a b. a && b) (default_stays-mapped r p q) (ap₂ (λ a b. a && b) (rw (preorder-mapped f p) (class_lets_fit-mapped r (preorder p) q)) (dead_zones_stay-mapped r ledger p q)))))
+      (ap₂ (λ a b. a && b) (inner_names_stay-mapped p q) (ap₂ (λ a b. a && b) (default_stays-mapped r p q) (ap₂ (λ a b. a && b) (rw (preorder-mapped f p) (class_lets_fit-mapped r (preorder p) q)) (ap₂ (λ a b. a && b) (dead_zones_stay-mapped r o ledger p q) (rw (resolve-mapped f q, preorder-mapped f q) (head_values_stay-mapped r ledger (resolve q) (preorder q))))))))

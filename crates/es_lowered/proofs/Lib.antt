@@ -4,6 +4,7 @@ pub mod TemporariesMapped
 pub mod TextsMapped
 pub mod TimelyMapped
 pub mod FunctionsAroundMapped
+pub mod HeadValuesMapped
 pub mod ClassNamesMapped
 pub mod DefaultExportMapped
 pub mod ClassLetsMapped

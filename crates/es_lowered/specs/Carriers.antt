@@ -27,7 +27,6 @@ is_made Kind.BlockStatement = true
 is_made Kind.CallExpression = true
 is_made Kind.ChainExpression = true
 is_made Kind.ConditionalExpression = true
-is_made Kind.ExportDefaultDeclaration = true
 is_made Kind.ExportNamedDeclaration = true
 is_made Kind.ExportSpecifier = true
 is_made Kind.ExpressionStatement = true

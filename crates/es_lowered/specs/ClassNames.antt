@@ -213,11 +213,30 @@ asked_references ledger q n fs names = without (numbers_inside n (preorder q)) (
 abbrev pub stand_in_time : ℕ → Tree → ℕ → List ℕ → Bool
 stand_in_time first q n asked = is_none asked || stand_behind [] (marks first [] [] (is_asked (n ∷ asked)) [] nowhere None q)
 
+-- a function of the source around a new reference to a name of the class, constructors aside, is one of the class or around it: any
+-- other may be called in front of the class
+abbrev pub holds_class : ℕ → ℕ → List Tree → Bool
+holds_class k n [] = false
+holds_class k n (t ∷ ts) = (nat_eq k (number_of t) && has_number n (numbers_of (preorder t))) || holds_class k n ts
+
+abbrev pub are_of_class : ℕ → List ℕ → List Tree → List (ℕ × ℕ) → Bool
+are_of_class n inside qs [] = true
+are_of_class n inside qs (x ∷ xs) = (has_number x.0 inside || holds_class x.0 n qs) && are_of_class n inside qs xs
+
+abbrev pub all_stand_with_class : ℕ → List ℕ → List Tree → List PlacedReference → Bool
+all_stand_with_class n inside qs [] = true
+all_stand_with_class n inside qs (r ∷ rs) = are_of_class n inside qs r.around && all_stand_with_class n inside qs rs
+
+-- the references to names of the class that are none in the source
+abbrev pub new_names_fit : ℕ → Tree → Tree → ℕ → List ℕ → Bool
+new_names_fit first p q n names = is_none names || all_stand_with_class n (numbers_of_class n (preorder p)) (preorder q) (placed_references first (λ m s. has_number m names) false [] q)
+
 abbrev pub class_timely : ℕ → List LedgerEntry → Tree → Tree → ℕ → Bool
 class_timely first ledger p q n =
     let fs : List MovedFunction = functions_outside ledger q n in
     let names : List ℕ = asked_names first ledger p q n in
-    not (class_runs n (preorder q) && any_name (names_holding names fs)) && stand_in_time first q n (asked_references ledger q n fs names)
+    new_names_fit first p q n (without (naming_in_source first n p) names)
+    && (not (class_runs n (preorder q) && any_name (names_holding names fs)) && stand_in_time first q n (asked_references ledger q n fs names))
 
 abbrev pub all_classes_timely : ℕ → List LedgerEntry → Tree → Tree → List ℕ → Bool
 all_classes_timely first ledger p q [] = true

@@ -1,27 +1,29 @@
 -- What reads a name or `this` without an event, and what makes a class of such, stands behind what it stood behind in the source: a name
 -- may be in its dead zone there (ECMA-262, 9.1.1.1.6), and in a constructor of a class with a heritage `this` is there behind `super(..)`
 -- (9.1.1.3.4). (Our own.)
-use Rattle.std.specs.Prelude.{ℕ, suc, List, [], ◌∷◌, ◌++◌, Bool, true, false, map, cond, not, ◌&&◌, ◌||◌, nat_eq, bytes_eq, codes, Option, Some, None}
+use Rattle.std.specs.Prelude.{ℕ, suc, List, [], ◌∷◌, ◌++◌, Bool, true, false, map, cond, not, ◌&&◌, ◌||◌, nat_eq, nat_le, bytes_eq, codes, Option, Some}
 use Rattle.es_base.specs.Numbered.{is_new}
 use Rattle.es_base.specs.Preorder.{preorder, preorder_of, preorder_of_part}
 use Rattle.es_base.specs.Tree.{Tree, Part, Parts, Node, end, more, child, list}
 use Rattle.es_base.specs.declared.kind.Kind.{Kind}
 use Rattle.es_base.specs.declared.ledger.GeneratedKind.{GeneratedKind}
 use Rattle.es_base.specs.declared.ledger.LedgerEntry.{LedgerEntry}
-use Rattle.es_lowered.specs.ClassNames.{numbers_of}
-use Rattle.es_lowered.specs.Definitions.{spelling, is_bound_among}
+use Rattle.es_lowered.specs.ClassNames.{numbers_of, any_among}
+use Rattle.es_lowered.specs.Definitions.{spelling, is_assignment, writable_part}
 use Rattle.es_lowered.specs.HelperCalls.{part_number, is_class_body, runs_with_class}
 use Rattle.es_lowered.specs.Timely.{is_same, is_held, super_functions}
 use Rattle.es_steps.specs.Context.{generated_as, is_function, is_super_call}
-use Rattle.es_steps.specs.KeptNodes.{all_pairs_stand}
-use Rattle.es_steps.specs.LoweredClasses.{constructor_in}
+use Rattle.es_steps.specs.KeptNodes.{all_pairs_stand, is_within}
+use Rattle.es_steps.specs.LoweredClasses.{Element, constructor_in, is_hoisted_key, is_lowered_class}
 use Rattle.es_steps.specs.NameScopes.{is_any_function}
 use Rattle.es_steps.specs.Parts.{at, items, is_present, string_of}
 use Rattle.es_steps.specs.Printable.{has_optional}
 use Rattle.es_steps.specs.PrivateNames.{is_class, is_element}
-use Rattle.es_steps.specs.References.{Reference, resolve, has_number}
+use Rattle.es_steps.specs.References.{Reference, resolve, has_number, written}
 use Rattle.es_steps.specs.Repeated.{is_arrow}
+use Rattle.es_steps.specs.Shapes.{ClassAt, class_at, runs_before_class}
 use Rattle.es_steps.specs.Values.{String, Referent, Bound, Free}
+use Rattle.es_steps.specs.declared.options.Options.{Options}
 
 pub data TouchForm : Type 0 where
   -- a reference to identifier b, which is a variable
@@ -33,6 +35,10 @@ pub data TouchForm : Type 0 where
   calls_super : TouchForm
   -- a call of the closure that arrow k is
   runs_closure : (k : ℕ) → TouchForm
+  -- a field, or what stands for one
+  defines_field : TouchForm
+  -- an event of a node between its parts
+  between_parts : TouchForm
   -- any other reference, an identifier that declares, and what runs other code
   another : TouchForm
 
@@ -89,6 +95,9 @@ is_still Kind.TemplateElement = true
 is_still Kind.ClassDeclaration = true
 is_still Kind.ClassExpression = true
 is_still Kind.ClassBody = true
+is_still Kind.Property = true
+is_still Kind.BindingProperty = true
+is_still Kind.AssignmentTargetProperty = true
 is_still Kind.PropertyDefinition = true
 is_still Kind.MethodDefinition = true
 is_still Kind.StaticBlock = true
@@ -98,7 +107,6 @@ is_still Kind.EmptyStatement = true
 is_still Kind.VariableDeclaration = true
 is_still Kind.VariableDeclarator = true
 is_still Kind.ExportNamedDeclaration = true
-is_still Kind.ExportDefaultDeclaration = true
 is_still kind = is_any_function kind
 
 -- the closures of generated names, each with its arrow, which runs where the name is called
@@ -152,16 +160,45 @@ is_turned Kind.ForInStatement = true
 is_turned Kind.ForOfStatement = true
 is_turned kind = false
 
--- around a node: the parts that may run or not, and the chain whose members and calls it is the object or callee of
+-- a key that is computed is converted behind itself, in front of its value (13.2.5.5, 13.15.5.3, 14.3.3.1)
+abbrev pub is_keyed : Kind → Bool
+is_keyed Kind.Property = true
+is_keyed Kind.BindingProperty = true
+is_keyed Kind.AssignmentTargetProperty = true
+is_keyed kind = false
+
+-- a target that is evaluated in front of the value that it may have instead
+abbrev pub is_member : Part → Bool
+is_member (child (Node Kind.MemberExpression m span semantic_id ps)) = true
+is_member (child (Node Kind.PrivateField m span semantic_id ps)) = true
+is_member p = false
+
+abbrev pub is_pattern : Part → Bool
+is_pattern (child (Node Kind.ArrayAssignmentTarget m span semantic_id ps)) = true
+is_pattern (child (Node Kind.ObjectAssignmentTarget m span semantic_id ps)) = true
+is_pattern p = false
+
+-- around a node: the node whose part it is, the parts that may run or not, and the chain whose members and calls it is the object or
+-- callee of
 pub record Spot : Type 0 where
+  pub around : List ℕ
   pub held : List (ℕ × ℕ)
   pub chain : List ℕ
 
 abbrev pub nothing_around : Spot
-nothing_around = record { held = []; chain = [] }
+nothing_around = record { around = []; held = []; chain = [] }
 
 abbrev pub in_no_chain : Spot → Spot
-in_no_chain x = record { held = x.held; chain = [] }
+in_no_chain x = record { around = x.around; held = x.held; chain = [] }
+
+-- a node has events between its parts, too: a template converts each value where it stands, an object the keys of its properties that
+-- are computed, and an array, a call and a construction spread their elements (13.2.8.5, 13.2.5.5, 13.2.4.1, 13.3.8.1)
+abbrev pub touch_around : Spot → List Touch
+touch_around x = map (λ n. record { number = n; form = between_parts; held = x.held }) x.around
+
+abbrev pub converted : Spot → Kind → ℕ → List Touch
+converted x Kind.Property m = touch_around x
+converted x kind m = touch x.held m another
 
 -- what stands behind a `?.` of a chain may not run, as the last part of the conditional that the chain may become
 abbrev pub held_behind : List ℕ → Bool → List (ℕ × ℕ) → List (ℕ × ℕ)
@@ -176,7 +213,48 @@ abbrev pub chain_in : Spot → Kind → ℕ → ℕ → List ℕ
 chain_in x kind m i = cond (is_chain kind) (m ∷ []) (cond (is_link kind && nat_eq i 0) x.chain [])
 
 abbrev pub spot_in : Spot → Bool → Kind → ℕ → Parts → ℕ → Spot
-spot_in x optional kind m ps i = record { held = held_in x optional kind m ps i; chain = chain_in x kind m i }
+spot_in x optional kind m ps i = record { around = m ∷ []; held = held_in x optional kind m ps i; chain = chain_in x kind m i }
+
+-- what always throws becomes a sequence that ends in a helper which does
+abbrev pub throws_always : Part → Bool
+throws_always (child (Node Kind.CallExpression m span semantic_id (more (child (Node Kind.MemberExpression k kspan k_semantic_id (more o (more (child (Node Kind.IdentifierName n nspan n_semantic_id ns)) rest)))) arguments))) =
+    bytes_eq (string_of (at 0 ns)) (codes "readOnlyError") || bytes_eq (string_of (at 0 ns)) (codes "writeOnlyError")
+throws_always p = false
+
+abbrev pub ends_in_throw : Parts → Bool
+ends_in_throw end = false
+ends_in_throw (more p end) = throws_always p
+ends_in_throw (more p (more q ps)) = ends_in_throw (more q ps)
+
+-- `babelHelpers.defineProperty(o, k, v)`, `babelHelpers.classPrivateFieldInitSpec(o, W, v)`,
+-- `Object.defineProperty(o, L, { writable: true, value: v })`
+abbrev pub defines_by : String → String → Parts → Bool
+defines_by o h (more object (more k (more v end))) =
+    (bytes_eq o (codes "babelHelpers") && (bytes_eq h (codes "defineProperty") || bytes_eq h (codes "classPrivateFieldInitSpec")))
+    || (bytes_eq o (codes "Object") && (bytes_eq h (codes "defineProperty") && is_present (writable_part v)))
+defines_by o h arguments = false
+
+abbrev pub defines : Part → Parts → Bool
+defines (child (Node Kind.MemberExpression m span semantic_id (more o (more (child (Node Kind.IdentifierName n nspan n_semantic_id ns)) rest)))) arguments = defines_by (spelling o) (string_of (at 0 ns)) arguments
+defines callee arguments = false
+
+-- `o.k = v` and `o[k] = v`, where fields are set, with `this` or a name for o; `S._ = v` gives a static private field its value
+abbrev pub is_named_or_this : Part → Bool
+is_named_or_this (child (Node Kind.IdentifierReference m span semantic_id ps)) = true
+is_named_or_this (child (Node Kind.ThisExpression m span semantic_id ps)) = true
+is_named_or_this p = false
+
+abbrev pub is_value_slot : Part → Bool
+is_value_slot (child (Node Kind.IdentifierName m span semantic_id ps)) = bytes_eq (string_of (at 0 ps)) (codes "_")
+is_value_slot p = false
+
+abbrev pub sets_member : Part → Bool
+sets_member (child (Node Kind.MemberExpression m span semantic_id (more o (more k rest)))) = is_named_or_this o && not (is_value_slot k)
+sets_member p = false
+
+abbrev pub is_property_definition : Kind → Bool
+is_property_definition Kind.PropertyDefinition = true
+is_property_definition kind = false
 
 -- asked are variables, named the names of classes
 module _ (first : ℕ) (called : Closures) (asked named : List ℕ) (references : List Reference) where
@@ -194,23 +272,42 @@ module _ (first : ℕ) (called : Closures) (asked named : List ℕ) (references 
   reference_touches held m [] = []
   reference_touches held m (r ∷ rs) = cond (nat_eq m r.number) (touch held m (read_form m r.to)) [] ++ reference_touches held m rs
 
-  abbrev pub own_touches : List (ℕ × ℕ) → Kind → ℕ → Parts → List Touch
-  own_touches held Kind.IdentifierReference m ps = reference_touches held m references
-  own_touches held Kind.ThisExpression m ps = touch held m reads_this
-  own_touches held Kind.BindingIdentifier m ps = touch held m another
-  own_touches held Kind.CallExpression m ps = touch held m (call_form (is_super_call Kind.CallExpression ps) (spelling (at 0 ps)) called)
-  own_touches held kind m ps = cond (is_still kind) [] (touch held m another)
+  abbrev pub assignment_form : ℕ → Parts → TouchForm
+  assignment_form m ps = cond (is_new first m && (is_assignment ps && sets_member (at 1 ps))) defines_field another
+
+  -- x is around the node, held what it stands in with its own `?.`
+  abbrev pub own_touches : Spot → List (ℕ × ℕ) → Kind → ℕ → Parts → List Touch
+  own_touches x held Kind.IdentifierReference m ps = reference_touches held m references
+  own_touches x held Kind.ThisExpression m ps = touch held m reads_this
+  own_touches x held Kind.BindingIdentifier m ps = touch held m another
+  own_touches x held Kind.CallExpression m ps = touch held m (cond (defines (at 0 ps) (items (at 1 ps))) defines_field (call_form (is_super_call Kind.CallExpression ps) (spelling (at 0 ps)) called))
+  own_touches x held Kind.AssignmentExpression m ps = touch held m (assignment_form m ps)
+  own_touches x held Kind.SpreadElement m ps = touch_around x
+  own_touches x held Kind.SequenceExpression m ps = cond (ends_in_throw (items (at 0 ps))) (touch held m another) []
+  own_touches x held kind m ps = cond (is_still kind) [] (touch held m another)
 
   abbrev mutual
     pub touches : Spot → Tree → List Touch
     touches x (Node kind m span semantic_id ps) =
-        cond (is_apart kind m) (cond (is_function_declaration kind) (touch x.held m another) []) (cond (is_class kind) (class_touches (in_no_chain x) m ps) (cond (is_turned kind) (turned (spot_in x (has_optional (Node kind m span semantic_id ps)) kind m ps) ps) (inner_touches kind (in_no_chain x) (spot_in x (has_optional (Node kind m span semantic_id ps)) kind m ps) ps)) ++ own_touches (held_behind x.chain (has_optional (Node kind m span semantic_id ps)) x.held) kind m ps)
+        cond (is_apart kind m) (cond (is_function_declaration kind) (touch x.held m another) []) (cond (is_class kind) (class_touches (in_no_chain x) m ps) (cond (is_turned kind) (turned (spot_in x (has_optional (Node kind m span semantic_id ps)) kind m ps) ps) (cond (is_keyed kind) (keyed (converted x kind m) (spot_in x (has_optional (Node kind m span semantic_id ps)) kind m ps) ps) (inner_touches kind (in_no_chain x) (spot_in x (has_optional (Node kind m span semantic_id ps)) kind m ps) ps))) ++ own_touches x (held_behind x.chain (has_optional (Node kind m span semantic_id ps)) x.held) kind m ps)
 
-    -- a new arrow that is called where it stands runs behind its arguments
+    pub keyed : List Touch → (ℕ → Spot) → Parts → List Touch
+    keyed conversion x (more k ps) = touches_at (x 0) k ++ (conversion ++ touches_in (λ i. x (suc i)) ps)
+    keyed conversion x end = []
+
+    -- a new arrow that is called where it stands runs behind its arguments; a pattern takes apart what is evaluated first
     pub inner_touches : Kind → Spot → (ℕ → Spot) → Parts → List Touch
     inner_touches Kind.CallExpression x inside (more (child (Node Kind.ArrowFunctionExpression k span semantic_id ps)) rest) = touches_in (λ i. inside (suc i)) rest ++ cond (is_new first k) (touches_of x ps) []
+    inner_touches Kind.TemplateLiteral x inside (more quasis (more (list es) rest)) = joined (inside 1) es
+    inner_touches Kind.AssignmentTargetWithDefault x inside (more l (more r rest)) = cond (is_member l) (touches_at (inside 0) l ++ touches_at (inside 1) r) (touches_at (inside 1) r ++ touches_at (inside 0) l)
+    inner_touches Kind.AssignmentExpression x inside (more operator (more l (more r rest))) = cond (is_pattern l) (touches_at (inside 2) r ++ touches_at (inside 1) l) (touches_at (inside 1) l ++ touches_at (inside 2) r)
     inner_touches kind x inside (more p rest) = touches_at (inside 0) p ++ touches_in (λ i. inside (suc i)) rest
     inner_touches kind x inside end = []
+
+    -- the expressions of a template, each with its conversion
+    pub joined : Spot → Parts → List Touch
+    joined x end = []
+    joined x (more e es) = touches_at x e ++ (touch_around x ++ joined x es)
 
     pub touches_in : (ℕ → Spot) → Parts → List Touch
     touches_in x end = []
@@ -230,10 +327,10 @@ module _ (first : ℕ) (called : Closures) (asked named : List ℕ) (references 
     turned x (more p end) = touches_at (x 0) p
     turned x end = []
 
-    -- the heritage, the keys, the class, and the elements that run with it
+    -- the heritage, the keys, the class, which gets its name, and the elements that run with it (15.7.14)
     pub class_touches : Spot → ℕ → Parts → List Touch
     class_touches x n (more id (more heritage (more body rest))) =
-        touches_at x heritage ++ (key_touches x body ++ (touch x.held n makes_class ++ value_touches true x body))
+        touches_at x heritage ++ (key_touches x body ++ (touch x.held n makes_class ++ (touch x.held n another ++ value_touches true x body)))
     class_touches x n ps = []
 
     pub key_touches : Spot → Part → List Touch
@@ -253,7 +350,7 @@ module _ (first : ℕ) (called : Closures) (asked named : List ℕ) (references 
     pub values_touched : Bool → Spot → Parts → List Touch
     values_touched runs x end = []
     values_touched runs x (more (child (Node kind m span semantic_id (more k ps))) es) =
-        cond (is_same runs (runs_with_class (child (Node kind m span semantic_id (more k ps))))) (cond (is_element kind) [] (touches_at x k) ++ touches_of x ps) [] ++ values_touched runs x es
+        cond (is_same runs (runs_with_class (child (Node kind m span semantic_id (more k ps))))) (cond (is_element kind) [] (touches_at x k) ++ (touches_of x ps ++ cond (is_property_definition kind && not (is_new first m)) (touch x.held m defines_field) [])) [] ++ values_touched runs x es
     values_touched runs x (more p es) = values_touched runs x es
 
 -- ---- bodies
@@ -301,6 +398,10 @@ derived_arrows constructors (Node kind m span semantic_id ps ∷ ts) = cond (is_
 abbrev pub is_call_of_super : TouchForm → Bool
 is_call_of_super calls_super = true
 is_call_of_super form = false
+
+abbrev pub is_between : TouchForm → Bool
+is_between between_parts = true
+is_between form = false
 
 -- the class that a new function for `super(..)` is of; given are such functions, each with its class
 abbrev pub classes_given : ℕ → List (ℕ × ℕ) → List ℕ
@@ -351,7 +452,7 @@ abbrev pub super_calls : List Tree → List ℕ
 super_calls [] = []
 super_calls (Node kind m span semantic_id ps ∷ ts) = cond (is_super_call kind ps) (m ∷ []) [] ++ super_calls ts
 
--- the nodes of a class: of its heritage; of its keys that are references; of its computed keys and static blocks
+-- the nodes of a class: of its heritage; of its keys that are references; of what moves in front of its heritage
 pub record ClassParts : Type 0 where
   pub number : ℕ
   pub heritage : List ℕ
@@ -367,30 +468,30 @@ key_references end = []
 key_references (more (child (Node kind m span semantic_id (more k ps))) es) = cond (is_element kind) (reference_number k) [] ++ key_references es
 key_references (more p es) = key_references es
 
-abbrev pub moving_numbers : Parts → List ℕ
-moving_numbers end = []
-moving_numbers (more (child (Node Kind.StaticBlock m span semantic_id ps)) es) = numbers_of (preorder_of ps) ++ moving_numbers es
-moving_numbers (more (child (Node kind m span semantic_id (more k ps))) es) = cond (is_element kind) (numbers_of (preorder_of_part k)) [] ++ moving_numbers es
-moving_numbers (more p es) = moving_numbers es
-
 abbrev pub class_elements : Part → Parts
 class_elements (child (Node Kind.ClassBody m span semantic_id ps)) = items (at 0 ps)
 class_elements p = end
 
-abbrev pub class_parts : List Tree → List ClassParts
-class_parts [] = []
-class_parts (Node kind n span semantic_id ps ∷ ts) =
-    cond (is_class kind) (record { number = n; heritage = numbers_of (preorder_of_part (at 1 ps)); keys = key_references (class_elements (at 2 ps)); moving = moving_numbers (class_elements (at 2 ps)) } ∷ []) [] ++ class_parts ts
+-- what may move in front of the heritage of a lowered class, as the first shape has it: keys that are kept, and static blocks
+module _ (changed : List ℕ) (references : List Reference) where
+  abbrev pub moving_keys : List Element → List ℕ
+  moving_keys [] = []
+  moving_keys (e ∷ es) = cond (is_hoisted_key changed references e) (numbers_of (preorder_of_part e.key)) [] ++ moving_keys es
+
+abbrev pub moving_blocks : Parts → List ℕ
+moving_blocks end = []
+moving_blocks (more (child (Node Kind.StaticBlock m span semantic_id ps)) es) = numbers_of (preorder_of ps) ++ moving_blocks es
+moving_blocks (more p es) = moving_blocks es
+
+abbrev pub moving_numbers : Options → List ℕ → List Reference → ClassAt → Part → List ℕ
+moving_numbers o changed references k body = moving_keys changed references k.elements ++ cond (runs_before_class o k) (moving_blocks (class_elements body)) []
+
+abbrev pub class_parts : Options → List ℕ → List Reference → List Tree → List ClassParts
+class_parts o changed references [] = []
+class_parts o changed references (Node kind n span semantic_id ps ∷ ts) =
+    cond (is_class kind) (record { number = n; heritage = numbers_of (preorder_of_part (at 1 ps)); keys = key_references (class_elements (at 2 ps)); moving = cond (is_lowered_class o kind ps) (moving_numbers o changed references (class_at kind n ps) (at 2 ps)) [] } ∷ []) [] ++ class_parts o changed references ts
 
 -- ---- what stands behind
-
-abbrev pub is_touched : ℕ → List Touch → Bool
-is_touched m [] = false
-is_touched m (t ∷ ts) = nat_eq m t.number || is_touched m ts
-
-abbrev pub stands_behind : ℕ → ℕ → List Touch → Bool
-stands_behind m n [] = false
-stands_behind m n (t ∷ ts) = (nat_eq m t.number && is_touched n ts) || stands_behind m n ts
 
 abbrev pub is_this : TouchForm → Bool
 is_this reads_this = true
@@ -411,7 +512,20 @@ is_asked derives reads_this = derives
 is_asked derives makes_class = true
 is_asked derives form = false
 
--- what is in a computed key or a static block of a class may get in front of its heritage, of which a shape tells, if that has events
+-- whether a node has events here, and how often
+abbrev pub is_touched : ℕ → List Touch → Bool
+is_touched m [] = false
+is_touched m (t ∷ ts) = (nat_eq m t.number && not (is_asked true t.form)) || is_touched m ts
+
+abbrev pub times : ℕ → List Touch → ℕ
+times m [] = 0
+times m (t ∷ ts) = cond (nat_eq m t.number && not (is_asked true t.form)) (suc (times m ts)) (times m ts)
+
+abbrev pub is_definition : TouchForm → Bool
+is_definition defines_field = true
+is_definition form = false
+
+-- what moves in front of the heritage of a class, of which a shape tells, if that has events
 abbrev pub is_excepted : ℕ → ℕ → List ClassParts → Bool
 is_excepted m n [] = false
 is_excepted m n (c ∷ cs) = (has_number m c.moving && has_number n c.heritage) || is_excepted m n cs
@@ -430,10 +544,19 @@ abbrev pub was_run : ℕ → List Touch → Bool
 was_run k [] = false
 was_run k (t ∷ ts) = is_run k t.form || was_run k ts
 
+abbrev pub stands_in_closure : Closures → Touch → Bool
+stands_in_closure [] t = false
+stands_in_closure (c ∷ cs) t = stands_in_node c.1 t.held || stands_in_closure cs t
+
 -- whether u stands in each of these closures that t stands in
 abbrev pub is_in_same : Closures → Touch → Touch → Bool
 is_in_same [] t u = true
 is_in_same (c ∷ cs) t u = (not (stands_in_node c.1 t.held) || stands_in_node c.1 u.held) && is_in_same cs t u
+
+-- how many fields are defined here, but for what other closures define than those that t stands in
+abbrev pub definitions_touched : Closures → Touch → List Touch → ℕ
+definitions_touched called t [] = 0
+definitions_touched called t (e ∷ es) = cond (is_definition e.form && is_in_same called e t) (suc (definitions_touched called t es)) (definitions_touched called t es)
 
 abbrev pub is_arrow_of : ℕ → Closures → Bool
 is_arrow_of k [] = false
@@ -454,11 +577,12 @@ put_off called front t (u ∷ us) = cond (is_put_off called front t u) (u ∷ []
 
 -- sources are the bodies of the source, supers its calls of `super`, called the closures of the lowered program
 module _ (first : ℕ) (supers : List ℕ) (classes : List ClassParts) (called : Closures) (sources : List Body) where
-  -- what stands behind, has events and is touched by a body of the source, there, stands behind m there
-  abbrev pub all_behind : List Touch → ℕ → List Touch → Bool
-  all_behind there m [] = true
-  all_behind there m (t ∷ ts) =
-      ((is_asked true t.form || not (is_touched t.number there)) || (stands_behind m t.number there || is_excepted m t.number classes)) && all_behind there m ts
+  -- each of these that has events and is touched by a body of the source, there, stands behind u, which has us behind it, as often as
+  -- behind t, which has ts
+  abbrev pub all_behind : List Touch → Touch → List Touch → List Touch → List Touch → Bool
+  all_behind there u us ts [] = true
+  all_behind there u us ts (e ∷ es) =
+      ((is_asked true e.form || not (is_touched e.number there)) || (nat_le (times e.number ts) (times e.number us) || is_excepted u.number e.number classes)) && all_behind there u us ts es
 
   abbrev pub is_like : Touch → Touch → Bool
   is_like t u = (is_new first t.number || nat_eq t.number u.number) && is_same_form t.form u.form
@@ -466,15 +590,16 @@ module _ (first : ℕ) (supers : List ℕ) (classes : List ClassParts) (called :
   -- t, with what stands behind it, stands as one of these in the body there
   abbrev pub stands_like : Touch → List Touch → List Touch → List Touch → Bool
   stands_like t ts there [] = false
-  stands_like t ts there (u ∷ us) = (is_like t u && (all_behind there u.number ts && all_pairs_stand u.held t.held)) || stands_like t ts there us
+  stands_like t ts there (u ∷ us) =
+      (is_like t u && (all_behind there u us ts ts && (nat_le (definitions_touched called t ts) (definitions_touched called u us) && all_pairs_stand u.held t.held))) || stands_like t ts there us
 
-  -- the body of the source, or where b is new, the fields of its class, if they may be defined
-  abbrev pub is_of_body : Bool → Body → Body → Bool
-  is_of_body ready b c = nat_eq b.number c.number || (is_new first b.number && (c.is_of_fields && (ready && has_number c.number b.of_class)))
+  -- the body of the source, or where b is new, or a closure in it that is run elsewhere, the fields of its class, if they may be defined
+  abbrev pub is_of_body : Bool → Bool → Body → Body → Bool
+  is_of_body ready inner b c = nat_eq b.number c.number || ((is_new first b.number || inner) && (c.is_of_fields && (ready && has_number c.number b.of_class)))
 
   abbrev pub stands_in_any : Bool → Body → Touch → List Touch → List Body → Bool
   stands_in_any ready b t ts [] = false
-  stands_in_any ready b t ts (c ∷ cs) = (is_of_body ready b c && ((c.derives || not (is_this t.form)) && stands_like t ts c.touches c.touches)) || stands_in_any ready b t ts cs
+  stands_in_any ready b t ts (c ∷ cs) = (is_of_body ready (stands_in_closure called t) b c && ((c.derives || not (is_this t.form)) && stands_like t ts c.touches c.touches)) || stands_in_any ready b t ts cs
 
   -- a constructor reads the keys of fields again
   abbrev pub is_touched_as : List ℕ → TouchForm → List Touch → Bool
@@ -491,7 +616,7 @@ module _ (first : ℕ) (supers : List ℕ) (classes : List ClassParts) (called :
 
   abbrev pub is_behind_super : Touch → List Touch → Bool
   is_behind_super t [] = false
-  is_behind_super t (s ∷ front) = ((is_call_of_super s.form || has_number s.number supers) && all_pairs_stand s.held t.held) || is_behind_super t front
+  is_behind_super t (s ∷ front) = ((is_call_of_super s.form || (has_number s.number supers && not (is_between s.form))) && all_pairs_stand s.held t.held) || is_behind_super t front
 
   abbrev pub touch_fits : Body → List Touch → Touch → List Touch → Bool
   touch_fits b front t ts =
@@ -526,37 +651,45 @@ abbrev pub bodies_of : ℕ → List LedgerEntry → Closures → List Tree → T
 bodies_of first ledger called ps t =
     bodies first called (variables ps) (class_names ps) (resolve t) (derived_constructors (preorder t) ++ derived_arrows (derived_constructors ps) ps) (super_functions ledger (preorder t)) (preorder t) (preorder t)
 
--- ---- a new reference to the name of a class is not read for nothing, but in front of a helper that throws
+-- ---- what always throws has its number, by which it is held against what stands behind it; but in an update or a compound write of a
+-- private member the operation has that number, as in `(o, o.#m + e, B.readOnlyError("#m"))` and `o.#m || (o, e, B.readOnlyError("#m"))`
 
-abbrev pub throws_always : Part → Bool
-throws_always (child (Node Kind.CallExpression m span semantic_id (more (child (Node Kind.MemberExpression k kspan k_semantic_id (more o (more (child (Node Kind.IdentifierName n nspan n_semantic_id ns)) rest)))) arguments))) =
-    bytes_eq (string_of (at 0 ns)) (codes "readOnlyError") || bytes_eq (string_of (at 0 ns)) (codes "writeOnlyError")
-throws_always p = false
+abbrev pub is_private : Part → Bool
+is_private (child (Node Kind.PrivateField m span semantic_id ps)) = true
+is_private p = false
 
--- all but the last
-abbrev pub dropped_in : Parts → List ℕ
-dropped_in end = []
-dropped_in (more p end) = []
-dropped_in (more p (more q ps)) = cond (throws_always q) [] (reference_number p) ++ dropped_in (more q ps)
+abbrev pub updates_private : Kind → Parts → Bool
+updates_private Kind.AssignmentExpression ps = not (is_assignment ps) && is_private (at 1 ps)
+updates_private Kind.UpdateExpression ps = is_private (at 1 ps)
+updates_private kind ps = false
 
-abbrev pub dropped_by : Kind → Parts → List ℕ
-dropped_by Kind.ExpressionStatement ps = reference_number (at 0 ps)
-dropped_by Kind.SequenceExpression ps = dropped_in (items (at 0 ps))
-dropped_by kind ps = []
+abbrev pub private_updates : List Tree → List ℕ
+private_updates [] = []
+private_updates (Node kind m span semantic_id ps ∷ ts) = cond (updates_private kind ps) (m ∷ []) [] ++ private_updates ts
 
-abbrev pub dropped : List Tree → List ℕ
-dropped [] = []
-dropped (Node kind m span semantic_id ps ∷ ts) = dropped_by kind ps ++ dropped ts
+-- the right operands of these, where they are logical
+abbrev pub right_of : List ℕ → Kind → ℕ → Parts → List ℕ
+right_of updates Kind.LogicalExpression m ps = cond (has_number m updates) (part_number (at 2 ps)) []
+right_of updates kind m ps = []
 
--- old are those that are dropped in the source
-abbrev pub drops_name : ℕ → List ℕ → List ℕ → List ℕ → Reference → Bool
-drops_name first named old ns r = is_bound_among named (Some r.to) && ((is_new first r.number && has_number r.number ns) && not (has_number r.number old))
+abbrev pub right_operands : List ℕ → List Tree → List ℕ
+right_operands updates [] = []
+right_operands updates (Node kind m span semantic_id ps ∷ ts) = right_of updates kind m ps ++ right_operands updates ts
 
-abbrev pub none_drops : ℕ → List ℕ → List ℕ → List ℕ → List Reference → Bool
-none_drops first named old ns [] = true
-none_drops first named old ns (r ∷ rs) = not (drops_name first named old ns r) && none_drops first named old ns rs
+abbrev pub throws_at : Kind → Parts → Bool
+throws_at Kind.SequenceExpression ps = ends_in_throw (items (at 0 ps))
+throws_at kind ps = false
 
-abbrev pub dead_zones_stay : ℕ → List LedgerEntry → Tree → Tree → Bool
-dead_zones_stay first ledger p q =
-    none_drops first (class_names (preorder p)) (dropped (preorder p)) (dropped (preorder q)) (resolve q)
-    && bodies_fit first (super_calls (preorder p)) (class_parts (preorder p)) (closures ledger (preorder q)) (bodies_of first [] [] (preorder p) p) (bodies_of first ledger (closures ledger (preorder q)) (preorder p) q)
+-- updates are those of the source, rights the right operands of them in the program
+abbrev pub new_throws : ℕ → List ℕ → List ℕ → List Tree → List ℕ
+new_throws first updates rights [] = []
+new_throws first updates rights (Node kind m span semantic_id ps ∷ ts) =
+    cond (throws_at kind ps && (is_new first m && not (has_number m rights || any_among updates (numbers_of (preorder_of ps))))) (m ∷ []) [] ++ new_throws first updates rights ts
+
+abbrev pub all_throws : ℕ → List ℕ → List Tree → List ℕ
+all_throws first updates ts = new_throws first updates (right_operands updates ts) ts
+
+abbrev pub dead_zones_stay : ℕ → Options → List LedgerEntry → Tree → Tree → Bool
+dead_zones_stay first o ledger p q =
+    is_within (all_throws first (private_updates (preorder p)) (preorder q)) (all_throws first (private_updates (preorder p)) (preorder p))
+    && bodies_fit first (super_calls (preorder p)) (class_parts o (written p) (resolve p) (preorder p)) (closures ledger (preorder q)) (bodies_of first [] [] (preorder p) p) (bodies_of first ledger (closures ledger (preorder q)) (preorder p) q)

@@ -1,6 +1,6 @@
 -- What a module exports as default, which it can import itself, is there before what stood behind it runs (ECMA-262, 16.2.3.7). Where a
 -- class declaration is exported under a name, its events tell. (Our own.)
-use Rattle.std.specs.Prelude.{ℕ, List, [], ◌∷◌, ◌++◌, Bool, true, false, cond, not, ◌||◌}
+use Rattle.std.specs.Prelude.{ℕ, List, [], ◌++◌, Bool, true, false, cond, not, ◌||◌}
 use Rattle.es_base.specs.Preorder.{preorder_of_part}
 use Rattle.es_base.specs.Tree.{Tree, Part, Parts, Node, end, more, child}
 use Rattle.es_base.specs.declared.kind.Kind.{Kind}

@@ -11,11 +11,13 @@ use Rattle.es_lowered.specs.DeadZones.{dead_zones_stay}
 use Rattle.es_lowered.specs.DefaultExport.{default_stays}
 use Rattle.es_lowered.specs.FunctionsAround.{PlacedReference, placed_references, all_stand_where}
 use Rattle.es_lowered.specs.HelperCalls.{part_number}
+use Rattle.es_lowered.specs.HeadValues.{head_values_stay}
 use Rattle.es_lowered.specs.StrayNames.{private_names_stay}
 use Rattle.es_lowered.specs.Supers.{supers_stay}
 use Rattle.es_steps.specs.Context.{is_generated}
 use Rattle.es_steps.specs.Parts.{at, string_of}
 use Rattle.es_steps.specs.References.{Reference, resolve, has_number, gives_inside}
+use Rattle.es_steps.specs.declared.options.Options.{Options}
 
 -- ---- a reference writes a generated name, or writes in the source, too; and a generated name is written by a new reference, by `=`
 -- or an update: what a pattern writes comes before the end of the pattern (13.15.5.2)
@@ -49,5 +51,5 @@ inner_references first ps t = placed_references first (λ m s. gives_inside s ps
 abbrev pub inner_names_stay : ℕ → Tree → Tree → Bool
 inner_names_stay first p q = all_stand_where first (inner_references first (preorder p) q) (inner_references first (preorder p) p)
 
-abbrev pub references_stay : ℕ → List LedgerEntry → Tree → Tree → Bool
-references_stay first ledger p q = (classes_timely first ledger p q && (supers_stay p q && private_names_stay p q)) && (writes_fit first ledger (plain_targets (preorder q)) (writing_numbers (resolve p)) (resolve q) && (inner_names_stay first p q && (default_stays first p q && (class_lets_fit first (preorder p) q && dead_zones_stay first ledger p q))))
+abbrev pub references_stay : ℕ → Options → List LedgerEntry → Tree → Tree → Bool
+references_stay first o ledger p q = (classes_timely first ledger p q && (supers_stay p q && private_names_stay p q)) && (writes_fit first ledger (plain_targets (preorder q)) (writing_numbers (resolve p)) (resolve q) && (inner_names_stay first p q && (default_stays first p q && (class_lets_fit first (preorder p) q && (dead_zones_stay first o ledger p q && head_values_stay ledger (resolve q) (preorder q))))))

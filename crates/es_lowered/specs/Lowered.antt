@@ -315,7 +315,7 @@ pub record MeetsClauses (first : ℕ) (o : Options) (ledger : List LedgerEntry) 
   pub declared : names_declared first ledger q ≡ true
   pub accounted : declarations_accounted first ledger p q ≡ true
   pub names : own_names_stay ledger p q ≡ true
-  pub references : references_stay first ledger p q ≡ true
+  pub references : references_stay first o ledger p q ≡ true
   pub strict : none_becomes_strict first p q ≡ true
   pub texts : texts_stay first p q ≡ true
   pub initialized : initializations_stand first ledger p q ledger ≡ true

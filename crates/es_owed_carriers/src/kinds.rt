@@ -13,7 +13,6 @@ pub fn is_made(kind: Kind) -> bool
     match kind {
         // statements, and what stands in them
         Kind::BlockStatement
-        | Kind::ExportDefaultDeclaration
         | Kind::ExportNamedDeclaration
         | Kind::ExportSpecifier
         | Kind::ExpressionStatement

@@ -44,7 +44,7 @@ clauses o ledger p q =
     ∷ names_declared (nodes p) ledger q
     ∷ declarations_accounted (nodes p) ledger p q
     ∷ own_names_stay ledger p q
-    ∷ references_stay (nodes p) ledger p q
+    ∷ references_stay (nodes p) o ledger p q
     ∷ none_becomes_strict (nodes p) p q
     ∷ texts_stay (nodes p) p q
     ∷ initializations_stand (nodes p) ledger p q ledger

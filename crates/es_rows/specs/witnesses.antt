@@ -13,6 +13,7 @@ pub mod ArgumentsOfAProgram
 pub mod ArgumentsOfAStaticField
 pub mod ArgumentsOfAnInnerFunction
 pub mod ArgumentsOfAnother
+pub mod ArrowInTheHeadOfALoop
 pub mod ArrowMovedIntoParameters
 pub mod ArrowOutOfABlock
 pub mod ArrowOutOfALoop
@@ -87,6 +88,7 @@ pub mod ClassInFrontOfAnAwait
 pub mod ClassInFrontOfItsUse
 pub mod ClassInFrontOfWhatItsHeritageReads
 pub mod ClassInFrontOfWhatItsKeyReads
+pub mod ClassInTheHeadOfALoop
 pub mod ClassNameInFrontOfAnAwait
 pub mod ClassNamedArguments
 pub mod ClassNamedAwait
@@ -124,6 +126,7 @@ pub mod ClosureGivenBehindItsCall
 pub mod ClosureGivenInEachRound
 pub mod ClosureWithTheNameOfAKey
 pub mod CompoundAssignment
+pub mod CompoundWriteToAPrivateMethod
 pub mod ComputedKeyBehindAnError
 pub mod ConstBesideAwaitInAnArrow
 pub mod ConstWithoutAValue
@@ -246,6 +249,7 @@ pub mod KeyKeptByALogicalAssignment
 pub mod KeyKeptByAnAssignedFunction
 pub mod KeyOfABindingForAName
 pub mod KeyOfABindingInATemporary
+pub mod KeyOfAClassInFrontOfItsHeritage
 pub mod KeyOfAMethod
 pub mod KeyOfAnotherMember
 pub mod KeyOutsideOfACalledFunction
@@ -281,6 +285,7 @@ pub mod LetOutOfItsBlock
 pub mod LetReadInAMethod
 pub mod LetReadInItsValue
 pub mod LetWithoutAValueBehindACall
+pub mod LogicalWriteToAPrivateMethod
 pub mod LoopHeadsExchanged
 pub mod LooseMemberReadOnce
 pub mod MapBehindAKey
@@ -305,10 +310,22 @@ pub mod MethodWithoutBrand
 pub mod NameGivenBehindACall
 pub mod NameGivenBehindAField
 pub mod NameGivenInAClosure
+pub mod NameInAFieldBehindTwoCallsOfSuper
 pub mod NameInAStaticBlock
+pub mod NameInFrontOfAClassDeclaration
+pub mod NameInFrontOfAClassThatNamesItself
+pub mod NameInFrontOfAConversionInATemplate
+pub mod NameInFrontOfADefaultExport
+pub mod NameInFrontOfADefinition
+pub mod NameInFrontOfAFunctionInABlock
+pub mod NameInFrontOfAWriteThatThrows
+pub mod NameInFrontOfTheFields
+pub mod NameOfAClassThatGoesNowhere
 pub mod NameOfAClassWithABlock
+pub mod NameOfAKeyInAConstructor
 pub mod NameOfAKeyInFrontOfAnAwait
 pub mod NameOfANamedClass
+pub mod NameOfAPatternInFrontOfItsKey
 pub mod NameOfAnotherCharacter
 pub mod NameOfNoMember
 pub mod NameThatBeginsAsNone
@@ -475,6 +492,7 @@ pub mod ThisInANewConstructor
 pub mod ThisInAnArrow
 pub mod ThisInFrontOfAnArrowWithSuper
 pub mod ThisInFrontOfSuper
+pub mod ThisInFrontOfTheConversionOfAKey
 pub mod ThisOutOfAnArrow
 pub mod TwoBrands
 pub mod TwoConstructors

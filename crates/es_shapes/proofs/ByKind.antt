@@ -34,29 +34,29 @@ name_of_class (Node kind m span semantic_id ps) = here (is_class kind)
 
 -- ---- events by kind
 
-pub acts_by_kind : (o : Options) (program : Tree) (a : Around) (kind : Kind) (m : ℕ) (ps : Parts) → (kind ≡ Kind.Literal → ⊥) → (kind ≡ Kind.MetaProperty → ⊥) → (kind ≡ Kind.IdentifierReference → ⊥) → (kind ≡ Kind.UnaryExpression → ⊥) → (kind ≡ Kind.TemplateLiteral → ⊥) → (kind ≡ Kind.PropertyDefinition → ⊥) → (kind ≡ Kind.ClassDeclaration → ⊥) → (kind ≡ Kind.FunctionDeclaration → ⊥) → (kind ≡ Kind.VariableDeclarator → ⊥) → (kind ≡ Kind.VariableDeclaration → ⊥) → acts o program a kind m ps ≡ not (is_quiet_kind kind)
-acts_by_kind o program a Kind.MetaProperty m ps constant meta name unary template field class function declarator variables = absurd (meta refl)
-acts_by_kind o program a Kind.IdentifierReference m ps constant meta name unary template field class function declarator variables = absurd (name refl)
-acts_by_kind o program a Kind.UnaryExpression m ps constant meta name unary template field class function declarator variables = absurd (unary refl)
-acts_by_kind o program a Kind.TemplateLiteral m ps constant meta name unary template field class function declarator variables = absurd (template refl)
-acts_by_kind o program a Kind.PropertyDefinition m ps constant meta name unary template field class function declarator variables = absurd (field refl)
-acts_by_kind o program a Kind.ClassDeclaration m ps constant meta name unary template field class function declarator variables = absurd (class refl)
-acts_by_kind o program a Kind.FunctionDeclaration m ps constant meta name unary template field class function declarator variables = absurd (function refl)
-acts_by_kind o program a Kind.VariableDeclarator m ps constant meta name unary template field class function declarator variables = absurd (declarator refl)
-acts_by_kind o program a Kind.Literal m ps constant meta name unary template field class function declarator variables = absurd (constant refl)
-acts_by_kind o program a Kind.ThisExpression m ps constant meta name unary template field class function declarator variables = refl
-acts_by_kind o program a Kind.SequenceExpression m ps constant meta name unary template field class function declarator variables = refl
-acts_by_kind o program a Kind.FunctionExpression m ps constant meta name unary template field class function declarator variables = refl
-acts_by_kind o program a Kind.ArrowFunctionExpression m ps constant meta name unary template field class function declarator variables = refl
-acts_by_kind o program a Kind.ClassExpression m ps constant meta name unary template field class function declarator variables = refl
-acts_by_kind o program a Kind.ClassBody m ps constant meta name unary template field class function declarator variables = refl
-acts_by_kind o program a Kind.MethodDefinition m ps constant meta name unary template field class function declarator variables = refl
-acts_by_kind o program a Kind.StaticBlock m ps constant meta name unary template field class function declarator variables = refl
-acts_by_kind o program a Kind.VariableDeclaration m ps constant meta name unary template field class function declarator variables = absurd (variables refl)
-acts_by_kind o program a Kind.ExpressionStatement m ps constant meta name unary template field class function declarator variables = refl
-acts_by_kind o program a Kind.BlockStatement m ps constant meta name unary template field class function declarator variables = refl
-acts_by_kind o program a Kind.EmptyStatement m ps constant meta name unary template field class function declarator variables = refl
-acts_by_kind o program a kind m ps constant meta name unary template field class function declarator variables = refl
+pub acts_by_kind : (o : Options) (program : Tree) (a : Around) (kind : Kind) (m : ℕ) (ps : Parts) → (kind ≡ Kind.Literal → ⊥) → (kind ≡ Kind.MetaProperty → ⊥) → (kind ≡ Kind.IdentifierReference → ⊥) → (kind ≡ Kind.UnaryExpression → ⊥) → (kind ≡ Kind.TemplateLiteral → ⊥) → (kind ≡ Kind.PropertyDefinition → ⊥) → (kind ≡ Kind.ClassDeclaration → ⊥) → (kind ≡ Kind.ClassExpression → ⊥) → (kind ≡ Kind.FunctionDeclaration → ⊥) → (kind ≡ Kind.VariableDeclarator → ⊥) → (kind ≡ Kind.VariableDeclaration → ⊥) → acts o program a kind m ps ≡ not (is_quiet_kind kind)
+acts_by_kind o program a Kind.MetaProperty m ps constant meta name unary template field class expression function declarator variables = absurd (meta refl)
+acts_by_kind o program a Kind.IdentifierReference m ps constant meta name unary template field class expression function declarator variables = absurd (name refl)
+acts_by_kind o program a Kind.UnaryExpression m ps constant meta name unary template field class expression function declarator variables = absurd (unary refl)
+acts_by_kind o program a Kind.TemplateLiteral m ps constant meta name unary template field class expression function declarator variables = absurd (template refl)
+acts_by_kind o program a Kind.PropertyDefinition m ps constant meta name unary template field class expression function declarator variables = absurd (field refl)
+acts_by_kind o program a Kind.ClassDeclaration m ps constant meta name unary template field class expression function declarator variables = absurd (class refl)
+acts_by_kind o program a Kind.FunctionDeclaration m ps constant meta name unary template field class expression function declarator variables = absurd (function refl)
+acts_by_kind o program a Kind.VariableDeclarator m ps constant meta name unary template field class expression function declarator variables = absurd (declarator refl)
+acts_by_kind o program a Kind.Literal m ps constant meta name unary template field class expression function declarator variables = absurd (constant refl)
+acts_by_kind o program a Kind.ThisExpression m ps constant meta name unary template field class expression function declarator variables = refl
+acts_by_kind o program a Kind.SequenceExpression m ps constant meta name unary template field class expression function declarator variables = refl
+acts_by_kind o program a Kind.FunctionExpression m ps constant meta name unary template field class expression function declarator variables = refl
+acts_by_kind o program a Kind.ArrowFunctionExpression m ps constant meta name unary template field class expression function declarator variables = refl
+acts_by_kind o program a Kind.ClassExpression m ps constant meta name unary template field class expression function declarator variables = absurd (expression refl)
+acts_by_kind o program a Kind.ClassBody m ps constant meta name unary template field class expression function declarator variables = refl
+acts_by_kind o program a Kind.MethodDefinition m ps constant meta name unary template field class expression function declarator variables = refl
+acts_by_kind o program a Kind.StaticBlock m ps constant meta name unary template field class expression function declarator variables = refl
+acts_by_kind o program a Kind.VariableDeclaration m ps constant meta name unary template field class expression function declarator variables = absurd (variables refl)
+acts_by_kind o program a Kind.ExpressionStatement m ps constant meta name unary template field class expression function declarator variables = refl
+acts_by_kind o program a Kind.BlockStatement m ps constant meta name unary template field class expression function declarator variables = refl
+acts_by_kind o program a Kind.EmptyStatement m ps constant meta name unary template field class expression function declarator variables = refl
+acts_by_kind o program a kind m ps constant meta name unary template field class expression function declarator variables = refl
 
 pub evaluated_by_kind : (kind : Kind) (ps : Parts) (i : ℕ) → (kind ≡ Kind.SequenceExpression → ⊥) → (kind ≡ Kind.ClassBody → ⊥) → (kind ≡ Kind.StaticBlock → ⊥) → (kind ≡ Kind.VariableDeclaration → ⊥) → (kind ≡ Kind.ExpressionStatement → ⊥) → (kind ≡ Kind.BlockStatement → ⊥) → (kind ≡ Kind.ClassExpression → ⊥) → (kind ≡ Kind.ClassDeclaration → ⊥) → (kind ≡ Kind.MethodDefinition → ⊥) → (kind ≡ Kind.PropertyDefinition → ⊥) → is_evaluated kind ps i ≡ false
 evaluated_by_kind Kind.SequenceExpression ps i sequence body block variables statement braces expression declaration method field = absurd (sequence refl)

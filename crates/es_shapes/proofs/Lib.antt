@@ -1,6 +1,7 @@
 pub mod AnyNode
 pub mod Awaits
 pub mod Chains
+pub mod ClassHeads
 pub mod Classes
 pub mod Heritages
 pub mod Lowered

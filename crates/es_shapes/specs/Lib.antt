@@ -1,5 +1,6 @@
 pub mod Around
 pub mod Chains
+pub mod ClassHeads
 pub mod Classes
 pub mod NameScopes
 pub mod Names

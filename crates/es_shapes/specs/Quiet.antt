@@ -12,7 +12,6 @@ is_quiet_kind Kind.ThisExpression = true
 is_quiet_kind Kind.SequenceExpression = true
 is_quiet_kind Kind.FunctionExpression = true
 is_quiet_kind Kind.ArrowFunctionExpression = true
-is_quiet_kind Kind.ClassExpression = true
 is_quiet_kind Kind.ClassBody = true
 is_quiet_kind Kind.MethodDefinition = true
 is_quiet_kind Kind.StaticBlock = true

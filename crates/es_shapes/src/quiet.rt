@@ -16,6 +16,7 @@ ghost use Rattle.es_shapes.specs.Quiet as kinds;
 
 use crate::around::{ClassNames, Standing, is_class_around};
 use crate::asked::leaves_out_fields;
+use crate::class_head::names_itself;
 use crate::element::is_private_key;
 use crate::facts::NameFacts;
 use es_base::kind::Kind;
@@ -55,6 +56,8 @@ pub fn acts<F: NameFacts>(
         Kind::PropertyDefinition => is_defined(options, node),
         // class A {}
         Kind::ClassDeclaration => ClassDeclarationRef::from_node(node).id.is_some(),
+        // (class A extends f(() => A) {})
+        Kind::ClassExpression => names_itself(node),
         // { function f() {} }
         Kind::FunctionDeclaration => standing.in_block,
         // let x;
@@ -89,7 +92,6 @@ fn is_quiet_kind(kind: Kind) -> bool
             | Kind::SequenceExpression
             | Kind::FunctionExpression
             | Kind::ArrowFunctionExpression
-            | Kind::ClassExpression
             | Kind::ClassBody
             | Kind::MethodDefinition
             | Kind::StaticBlock

@@ -149,6 +149,7 @@ module _ (f : ℕ → ℕ) where
 
   is_binding_value-mapped : (v : Value) → is_binding_value (mapped_value f v) ≡ is_binding_value v
   is_binding_value-mapped (BindingOf b) = refl
+  is_binding_value-mapped (ClassOf n) = refl
   is_binding_value-mapped (KeyOf v) = is_binding_value-mapped v
   is_binding_value-mapped v = refl
 

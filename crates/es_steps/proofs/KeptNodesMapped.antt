@@ -58,7 +58,7 @@ module _ (f : ℕ → ℕ) where
   any_lowered-mapped o [] = refl
   any_lowered-mapped o (e ∷ es) = ap (λ b. is_lowered_element o e || b) (any_lowered-mapped o es)
 
-  is_lowered_class-mapped : (o : Options) (kind : Kind) (ps : Parts) → is_lowered_class o kind (mapped_parts f ps) ≡ is_lowered_class o kind ps
+  pub is_lowered_class-mapped : (o : Options) (kind : Kind) (ps : Parts) → is_lowered_class o kind (mapped_parts f ps) ≡ is_lowered_class o kind ps
   is_lowered_class-mapped o kind ps = ap (λ b. is_class kind && b) (ap (any_element (is_lowered_element o)) (elements_of-mapped ps) ∙ any_lowered-mapped o (elements_of ps))
 
   holds_lowered-mapped : (o : Options) (ts : List Tree) → holds_lowered o (map (mapped f) ts) ≡ holds_lowered o ts

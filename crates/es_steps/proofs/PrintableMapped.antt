@@ -205,7 +205,7 @@ module _ (f : ℕ → ℕ) where
   super_at-mapped ps = ap is_super_part (at-mapped f 0 ps) ∙ is_super_part-mapped (at 0 ps)
 
   mutual
-    has_optional-mapped : (t : Tree) → has_optional (mapped f t) ≡ has_optional t
+    pub has_optional-mapped : (t : Tree) → has_optional (mapped f t) ≡ has_optional t
     has_optional-mapped (Node Kind.MemberExpression m span semantic_id (more o (more k (more computed (more (boolean b) end))))) = ap (λ x. b || x) (part_has_optional-mapped o)
     has_optional-mapped (Node Kind.PrivateField m span semantic_id (more o (more k (more computed (more (boolean b) end))))) = ap (λ x. b || x) (part_has_optional-mapped o)
     has_optional-mapped (Node Kind.CallExpression m span semantic_id (more g (more arguments (more (boolean b) end)))) = ap (λ x. b || x) (part_has_optional-mapped g)

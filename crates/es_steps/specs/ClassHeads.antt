@@ -1,7 +1,7 @@
 -- Class expressions whose heritage or keys read their name. A function that is given away there may read it later: so where such a
 -- class gets its name is told, as it is of a class that is declared, with or without a name. (ECMA-262, 15.7.14: the name is
 -- initialized behind the heritage and the keys, and before the static elements.)
-use Rattle.std.specs.Prelude.{ℕ, List, [], ◌∷◌, ◌++◌, Bool, false, cond, ◌||◌, nat_eq, bytes_eq, Option, Some, None}
+use Rattle.std.specs.Prelude.{ℕ, List, [], ◌∷◌, ◌++◌, Bool, true, false, cond, ◌||◌, nat_eq, bytes_eq, Option, Some, None}
 use Rattle.es_base.specs.Preorder.{preorder, preorder_of_part}
 use Rattle.es_base.specs.Tree.{Tree, Part, Parts, Node, end, more, child, absent, string}
 use Rattle.es_base.specs.declared.kind.Kind.{Kind}
@@ -31,6 +31,14 @@ reads_spelling s (t ∷ ts) = reads_spelling s ts
 abbrev pub named_by : ℕ → Part → List Tree → List (ℕ × ℕ)
 named_by n (child (Node Kind.BindingIdentifier b span semantic_id (more (string s) end))) heads = cond (reads_spelling s heads) ((n, b) ∷ []) []
 named_by n p heads = []
+
+-- whether a class expression with these parts reads its name there
+abbrev pub is_named_pair : List (ℕ × ℕ) → Bool
+is_named_pair [] = false
+is_named_pair (p ∷ ps) = true
+
+abbrev pub names_itself : ℕ → Parts → Bool
+names_itself n ps = is_named_pair (named_by n (at 0 ps) (head_nodes ps))
 
 -- a class declaration without a name is a default export, which has its value where the class is (16.2.3.7)
 abbrev pub unnamed_class : ℕ → Part → List (ℕ × ℕ)

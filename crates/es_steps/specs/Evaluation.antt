@@ -125,9 +125,10 @@ read_name m s (StaticMethod d n) = event (PrivateGet m d (ClassOf n)) (ResultOf 
 abbrev pub stands_for : String → Value → Evaluation
 stands_for s v env = Some (record { events = none; value = v; after = (s, v) ∷ env })
 
--- what a binding holds is no value of a temporary, which may be read where the binding holds another one
+-- what a binding holds is no value of a temporary, which may be read where the binding holds another one, nor is a class
 abbrev pub is_binding_value : Value → Bool
 is_binding_value (BindingOf b) = true
+is_binding_value (ClassOf n) = true
 is_binding_value (KeyOf v) = is_binding_value v
 is_binding_value v = false
 

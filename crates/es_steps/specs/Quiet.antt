@@ -1,9 +1,10 @@
 -- Which expressions are quiet: have no events where they stand, told by their form and by what their names mean. What is
--- quiet here is, in a program that has a meaning, what evaluation gives no events of, but for what tells where a class expression
--- gets its name. (Our own; docs/DECISIONS.md says why it is told by form.)
+-- quiet here is, in a program that has a meaning, what evaluation gives no events of. (Our own; docs/DECISIONS.md says why it is told
+-- by form.)
 use Rattle.std.specs.Prelude.{ℕ, suc, List, [], ◌∷◌, ◌++◌, Bool, true, false, cond, not, ◌&&◌, ◌||◌, nat_eq, codes, bytes_eq, Option, Some}
 use Rattle.es_base.specs.Tree.{Tree, Part, Parts, Node, end, more, child, list}
 use Rattle.es_base.specs.declared.kind.Kind.{Kind}
+use Rattle.es_steps.specs.ClassHeads.{names_itself}
 use Rattle.es_steps.specs.Expressions.{is_arguments}
 use Rattle.es_steps.specs.LoweredClasses.{is_regular_expression, has_no_items, is_private_key, referent_of}
 use Rattle.es_steps.specs.Options.{leaves_out_fields}
@@ -104,7 +105,8 @@ module _ (o : Options) (program : Tree) where
   acts a Kind.SequenceExpression m ps = false
   acts a Kind.FunctionExpression m ps = false
   acts a Kind.ArrowFunctionExpression m ps = false
-  acts a Kind.ClassExpression m ps = false
+  -- where a class expression gets its name is told, if its heritage or a key reads it
+  acts a Kind.ClassExpression m ps = names_itself m ps
   acts a Kind.ClassBody m ps = false
   acts a Kind.MethodDefinition m ps = false
   acts a Kind.PropertyDefinition m ps = is_true (at 3 ps) && not (leaves_out_field o ps)

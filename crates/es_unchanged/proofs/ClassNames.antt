@@ -124,7 +124,8 @@ class-timely first t n =
     let ts : List Tree = preorder t in
     let runs : Bool = class_runs n ts in
     let names : List ℕ = naming_in_source first n t in
-    rw (unmoved ts, kept_places-all first n t names (free_naming runs n ts ts names), without-none (free_naming runs n ts ts names) (numbers_inside n ts) names (free-or-inside runs n ts names)) (unread runs)
+    let free : List ℕ = free_naming runs n ts ts names in
+    rw (unmoved ts, kept_places-all first n t names (free_naming runs n ts ts names), without-none free names names (λ m h. or_right (has_number m free) (has_number m names) h), without-none (free_naming runs n ts ts names) (numbers_inside n ts) names (free-or-inside runs n ts names)) (unread runs)
   where
     unread : (runs : Bool) → not (runs && false) && true ≡ true
     unread true = refl

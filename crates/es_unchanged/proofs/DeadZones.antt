@@ -1,20 +1,21 @@
 -- In a program that is left as it is what reads without an event stands where it stands.
-use Rattle.std.specs.Prelude.{◌≡◌, ℕ, List, [], ◌∷◌, ◌++◌, Bool, true, false, cond, not, ◌&&◌, ◌||◌, nat_eq, Some}
-use Rattle.std.proofs.Common.{refl, ap, sym, ◌∙◌}
+use Rattle.std.specs.Prelude.{◌≡◌, ℕ, List, [], ◌∷◌, ◌++◌, Bool, true, false, cond, not, ◌&&◌, ◌||◌, nat_eq, nat_le}
+use Rattle.std.proofs.Common.{refl, ap, sym, ◌∙◌, le-leb, le_refl}
 use Rattle.std.proofs.lemmas.List.{append_assoc}
 use Rattle.es_base.specs.Numbered.{is_new}
 use Rattle.es_base.specs.Preorder.{preorder}
 use Rattle.es_base.specs.Tree.{Tree, Part, Parts, Node, child}
 use Rattle.es_base.specs.declared.kind.Kind.{Kind}
 use Rattle.es_left.proofs.Booleans.{both}
-use Rattle.es_lowered.specs.Definitions.{spelling, is_bound_among}
-use Rattle.es_lowered.specs.DeadZones.{touches, class_names, closure, closures_by, closures, super_calls, class_parts, is_touched, stands_behind, is_this, is_same_form, is_asked, is_excepted, is_run_by, put_off, all_behind, stands_like, stands_in_any, reads_key, is_behind_super, touch_fits, in_same, runs_fit, touches_fit, bodies_fit, bodies_of, dropped, none_drops, dead_zones_stay, TouchForm, Touch, Body, ClassParts, reads, names_class, reads_this, makes_class, runs_closure}
+use Rattle.es_lowered.specs.Definitions.{spelling}
+use Rattle.es_lowered.specs.DeadZones.{closure, closures_by, closures, super_calls, class_parts, is_touched, times, definitions_touched, is_this, is_same_form, is_asked, is_excepted, is_run_by, put_off, all_behind, stands_like, stands_in_any, reads_key, is_behind_super, touch_fits, in_same, runs_fit, touches_fit, bodies_fit, bodies_of, private_updates, all_throws, dead_zones_stay, TouchForm, Touch, Body, ClassParts, reads, names_class, reads_this, makes_class, runs_closure}
 use Rattle.es_steps.proofs.Reflexive.{number-same}
-use Rattle.es_steps.specs.KeptNodes.{pair_stands, all_pairs_stand}
+use Rattle.es_steps.specs.KeptNodes.{pair_stands, all_pairs_stand, is_within}
 use Rattle.es_steps.specs.Parts.{at}
-use Rattle.es_steps.specs.References.{Reference, resolve, has_number}
+use Rattle.es_steps.specs.References.{resolve, written}
 use Rattle.es_steps.specs.Values.{String}
-use Rattle.es_unchanged.proofs.Standing.{or_right}
+use Rattle.es_steps.specs.declared.options.Options.{Options}
+use Rattle.es_unchanged.proofs.Standing.{or_right, within-both}
 
 pub or-first : {a : Bool} → a ≡ true → (b : Bool) → (a || b) ≡ true
 or-first e b = rw e refl
@@ -40,9 +41,8 @@ this-derives true form a = refl
 this-derives false reads_this a = absurd (cc)
 this-derives false form a = refl
 
-stands-here : (t : Touch) (ts before : List Touch) (n : ℕ) → is_touched n ts ≡ true → stands_behind t.number n (before ++ (t ∷ ts)) ≡ true
-stands-here t ts [] n i = or-first (both (number-same t.number) i) (stands_behind t.number n ts)
-stands-here t ts (u ∷ before) n i = or_right (nat_eq t.number u.number && is_touched n (before ++ (t ∷ ts))) (stands_behind t.number n (before ++ (t ∷ ts))) (stands-here t ts before n i)
+at-most-itself : (n : ℕ) → nat_le n n ≡ true
+at-most-itself n = le-leb n n (le_refl n)
 
 -- ---- there are no closures
 
@@ -67,34 +67,28 @@ runs-none : (u : Touch) (form : TouchForm) → is_run_by [] u form ≡ false
 runs-none u (runs_closure k) = refl
 runs-none u form = refl
 
--- ---- what is dropped was dropped
+-- ---- what always throws did
 
-drops-none : (first : ℕ) (named ns : List ℕ) (rs : List Reference) → none_drops first named ns ns rs ≡ true
-drops-none first named ns [] = refl
-drops-none first named ns (r ∷ rs) = both (stays (is_bound_among named (Some r.to)) (is_new first r.number) (has_number r.number ns)) (drops-none first named ns rs)
-  where
-    stays : (a b c : Bool) → not (a && ((b && c) && not c)) ≡ true
-    stays false b c = refl
-    stays true false c = refl
-    stays true true true = refl
-    stays true true false = refl
+within-same : (ns : List ℕ) → is_within ns ns ≡ true
+within-same [] = refl
+within-same (n ∷ ns) = within-both n ns ns (within-same ns)
 
 -- ---- each body
 
 module _ (first : ℕ) (supers : List ℕ) (classes : List ClassParts) (sources : List Body) where
-  behind-stay : (there : List Touch) (m : ℕ) (ts : List Touch) → ((n : ℕ) → is_touched n ts ≡ true → stands_behind m n there ≡ true) → all_behind first supers classes [] sources there m ts ≡ true
-  behind-stay there m [] h = refl
-  behind-stay there m (t ∷ ts) h =
+  behind-stay : (there : List Touch) (u : Touch) (ts es : List Touch) → all_behind first supers classes [] sources there u ts ts es ≡ true
+  behind-stay there u ts [] = refl
+  behind-stay there u ts (e ∷ es) =
       both
-      (or_right (is_asked true t.form || not (is_touched t.number there)) (stands_behind m t.number there || is_excepted m t.number classes) (or-first (h t.number (or-first (number-same t.number) (is_touched t.number ts))) (is_excepted m t.number classes)))
-      (behind-stay there m ts (λ n i. h n (or_right (nat_eq n t.number) (is_touched n ts) i)))
+      (or_right (is_asked true e.form || not (is_touched e.number there)) (nat_le (times e.number ts) (times e.number ts) || is_excepted u.number e.number classes) (or-first (at-most-itself (times e.number ts)) (is_excepted u.number e.number classes)))
+      (behind-stay there u ts es)
 
   like-itself : (derives : Bool) (t : Touch) (ts before : List Touch) → is_asked derives t.form ≡ true → stands_like first supers classes [] sources t ts (before ++ (t ∷ ts)) (t ∷ ts) ≡ true
   like-itself derives t ts before a =
       let all : List Touch = before ++ (t ∷ ts) in
       or-first
       (both (both (or_right (is_new first t.number) (nat_eq t.number t.number) (number-same t.number)) (form-same derives t.form a))
-      (both (behind-stay all t.number ts (stands-here t ts before)) (held-stand t.held t.held (λ p i. i))))
+      (both (behind-stay all t ts ts) (both (at-most-itself (definitions_touched [] t ts)) (held-stand t.held t.held (λ p i. i)))))
       (stands_like first supers classes [] sources t ts all ts)
 
   like-further : (all : List Touch) (t : Touch) (ts us before : List Touch) → stands_like first supers classes [] sources t ts all us ≡ true → stands_like first supers classes [] sources t ts all (before ++ us) ≡ true
@@ -137,7 +131,7 @@ module _ (first : ℕ) (supers : List ℕ) (classes : List ClassParts) (sources 
   bodies-fit earlier (b ∷ bs) s =
       both (touches-fit b [] [] b.touches refl earlier bs s) (bodies-fit (earlier ++ (b ∷ [])) bs (s ∙ sym (append_assoc earlier (b ∷ []) bs)))
 
-pub dead_zones-stay : (first : ℕ) (t : Tree) → dead_zones_stay first [] t t ≡ true
-dead_zones-stay first t =
-    both (drops-none first (class_names (preorder t)) (dropped (preorder t)) (resolve t))
-    (rw (closures-none (preorder t)) (bodies-fit first (super_calls (preorder t)) (class_parts (preorder t)) (bodies_of first [] [] (preorder t) t) [] (bodies_of first [] [] (preorder t) t) refl))
+pub dead_zones-stay : (first : ℕ) (o : Options) (t : Tree) → dead_zones_stay first o [] t t ≡ true
+dead_zones-stay first o t =
+    both (within-same (all_throws first (private_updates (preorder t)) (preorder t)))
+    (rw (closures-none (preorder t)) (bodies-fit first (super_calls (preorder t)) (class_parts o (written t) (resolve t) (preorder t)) (bodies_of first [] [] (preorder t) t) [] (bodies_of first [] [] (preorder t) t) refl))

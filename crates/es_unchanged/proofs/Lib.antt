@@ -3,6 +3,7 @@ pub mod ClassLets
 pub mod ClassNames
 pub mod DeadZones
 pub mod DefaultExport
+pub mod HeadValues
 pub mod Names
 pub mod Placed
 pub mod References

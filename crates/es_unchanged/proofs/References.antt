@@ -10,9 +10,11 @@ use Rattle.es_lowered.specs.KeptReferences.{plain_targets, writing_numbers, writ
 use Rattle.es_lowered.specs.StrayNames.{has_stray_name}
 use Rattle.es_lowered.specs.Supers.{no_place, has_stray_super}
 use Rattle.es_steps.specs.References.{Reference, resolve, has_number}
+use Rattle.es_steps.specs.declared.options.Options.{Options}
 use Rattle.es_unchanged.proofs.ClassLets.{class_lets-fit}
 use Rattle.es_unchanged.proofs.ClassNames.{classes-timely}
 use Rattle.es_unchanged.proofs.DeadZones.{dead_zones-stay}
+use Rattle.es_unchanged.proofs.HeadValues.{head_values-stay}
 use Rattle.es_unchanged.proofs.DefaultExport.{default-stays}
 use Rattle.es_unchanged.proofs.Placed.{stand-where}
 use Rattle.es_unchanged.proofs.Standing.{or_right}
@@ -34,7 +36,7 @@ none-comes : (b : Bool) → (b || not b) ≡ true
 none-comes true = refl
 none-comes false = refl
 
-pub references-stay : (first : ℕ) (t : Tree) → references_stay first [] t t ≡ true
-references-stay first t =
+pub references-stay : (first : ℕ) (o : Options) (t : Tree) → references_stay first o [] t t ≡ true
+references-stay first o t =
     let inner : List PlacedReference = inner_references first (preorder t) t in
-    both (both (classes-timely first t) (both (none-comes (has_stray_super no_place t)) (none-comes (has_stray_name [] t)))) (both (writes-own first (plain_targets (preorder t)) (writing_numbers (resolve t)) (resolve t) (λ m i. i)) (both (stand-where first inner inner (λ r i. i)) (both (default-stays first t) (both (class_lets-fit first (preorder t) t (λ u i. i)) (dead_zones-stay first t)))))
+    both (both (classes-timely first t) (both (none-comes (has_stray_super no_place t)) (none-comes (has_stray_name [] t)))) (both (writes-own first (plain_targets (preorder t)) (writing_numbers (resolve t)) (resolve t) (λ m i. i)) (both (stand-where first inner inner (λ r i. i)) (both (default-stays first t) (both (class_lets-fit first (preorder t) t (λ u i. i)) (both (dead_zones-stay first o t) (head_values-stay (resolve t) (preorder t)))))))

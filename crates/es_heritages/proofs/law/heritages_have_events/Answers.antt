@@ -61,6 +61,9 @@ returns-clause-nested_heritages c = (refl, refl, refl)
 pub returns-clause-keys : goal.returns-clause-keys
 returns-clause-keys c = (refl, refl, refl)
 
+pub returns-clause-names_in_heads : goal.returns-clause-names_in_heads
+returns-clause-names_in_heads c = (refl, refl, refl)
+
 pub returns-clause-elements : goal.returns-clause-elements
 returns-clause-elements c = (refl, refl, refl)
 

@@ -19,6 +19,9 @@ returns-clause-arguments_in_a_static_block c = refl
 pub returns-clause-arguments_of_a_static_field : goal.returns-clause-arguments_of_a_static_field
 returns-clause-arguments_of_a_static_field c = refl
 
+pub returns-clause-arrow_in_the_head_of_a_loop : goal.returns-clause-arrow_in_the_head_of_a_loop
+returns-clause-arrow_in_the_head_of_a_loop c = refl
+
 pub returns-clause-arrow_out_of_a_block : goal.returns-clause-arrow_out_of_a_block
 returns-clause-arrow_out_of_a_block c = refl
 
@@ -376,6 +379,9 @@ returns-clause-key_kept_by_a_logical_assignment c = refl
 pub returns-clause-key_kept_by_an_assigned_function : goal.returns-clause-key_kept_by_an_assigned_function
 returns-clause-key_kept_by_an_assigned_function c = refl
 
+pub returns-clause-key_of_a_class_in_front_of_its_heritage : goal.returns-clause-key_of_a_class_in_front_of_its_heritage
+returns-clause-key_of_a_class_in_front_of_its_heritage c = refl
+
 pub returns-clause-key_of_another_member : goal.returns-clause-key_of_another_member
 returns-clause-key_of_another_member c = refl
 
@@ -478,14 +484,47 @@ returns-clause-name_given_in_a_closure c = refl
 pub returns-clause-name_in_a_static_block : goal.returns-clause-name_in_a_static_block
 returns-clause-name_in_a_static_block c = refl
 
+pub returns-clause-name_in_front_of_a_class_declaration : goal.returns-clause-name_in_front_of_a_class_declaration
+returns-clause-name_in_front_of_a_class_declaration c = refl
+
+pub returns-clause-name_in_front_of_a_class_that_names_itself : goal.returns-clause-name_in_front_of_a_class_that_names_itself
+returns-clause-name_in_front_of_a_class_that_names_itself c = refl
+
+pub returns-clause-name_in_front_of_a_conversion_in_a_template : goal.returns-clause-name_in_front_of_a_conversion_in_a_template
+returns-clause-name_in_front_of_a_conversion_in_a_template c = refl
+
+pub returns-clause-name_in_front_of_a_default_export : goal.returns-clause-name_in_front_of_a_default_export
+returns-clause-name_in_front_of_a_default_export c = refl
+
+pub returns-clause-name_in_front_of_a_definition : goal.returns-clause-name_in_front_of_a_definition
+returns-clause-name_in_front_of_a_definition c = refl
+
+pub returns-clause-name_in_front_of_a_function_in_a_block : goal.returns-clause-name_in_front_of_a_function_in_a_block
+returns-clause-name_in_front_of_a_function_in_a_block c = refl
+
+pub returns-clause-name_in_front_of_a_write_that_throws : goal.returns-clause-name_in_front_of_a_write_that_throws
+returns-clause-name_in_front_of_a_write_that_throws c = refl
+
+pub returns-clause-name_in_front_of_the_fields : goal.returns-clause-name_in_front_of_the_fields
+returns-clause-name_in_front_of_the_fields c = refl
+
+pub returns-clause-name_of_a_class_that_goes_nowhere : goal.returns-clause-name_of_a_class_that_goes_nowhere
+returns-clause-name_of_a_class_that_goes_nowhere c = refl
+
 pub returns-clause-name_of_a_class_with_a_block : goal.returns-clause-name_of_a_class_with_a_block
 returns-clause-name_of_a_class_with_a_block c = refl
+
+pub returns-clause-name_of_a_key_in_a_constructor : goal.returns-clause-name_of_a_key_in_a_constructor
+returns-clause-name_of_a_key_in_a_constructor c = refl
 
 pub returns-clause-name_of_a_key_in_front_of_an_await : goal.returns-clause-name_of_a_key_in_front_of_an_await
 returns-clause-name_of_a_key_in_front_of_an_await c = refl
 
 pub returns-clause-name_of_a_named_class : goal.returns-clause-name_of_a_named_class
 returns-clause-name_of_a_named_class c = refl
+
+pub returns-clause-name_of_a_pattern_in_front_of_its_key : goal.returns-clause-name_of_a_pattern_in_front_of_its_key
+returns-clause-name_of_a_pattern_in_front_of_its_key c = refl
 
 pub returns-clause-name_of_another_character : goal.returns-clause-name_of_another_character
 returns-clause-name_of_another_character c = refl
@@ -702,6 +741,9 @@ returns-clause-this_in_front_of_an_arrow_with_super c = refl
 
 pub returns-clause-this_in_front_of_super : goal.returns-clause-this_in_front_of_super
 returns-clause-this_in_front_of_super c = refl
+
+pub returns-clause-this_in_front_of_the_conversion_of_a_key : goal.returns-clause-this_in_front_of_the_conversion_of_a_key
+returns-clause-this_in_front_of_the_conversion_of_a_key c = refl
 
 pub returns-clause-this_out_of_an_arrow : goal.returns-clause-this_out_of_an_arrow
 returns-clause-this_out_of_an_arrow c = refl

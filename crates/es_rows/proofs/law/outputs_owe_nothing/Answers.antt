@@ -23,6 +23,9 @@ returns-clause-class_in_a_closure c = (refl, refl, lowered refl, refl)
 pub returns-clause-class_in_a_super_function : goal.returns-clause-class_in_a_super_function
 returns-clause-class_in_a_super_function c = (refl, refl, lowered refl, refl)
 
+pub returns-clause-class_in_the_head_of_a_loop : goal.returns-clause-class_in_the_head_of_a_loop
+returns-clause-class_in_the_head_of_a_loop c = (refl, refl, lowered refl, refl)
+
 pub returns-clause-class_named_await : goal.returns-clause-class_named_await
 returns-clause-class_named_await c = (refl, refl, lowered refl, refl)
 
@@ -41,6 +44,9 @@ returns-clause-class_with_the_name_of_a_prototype c = (refl, refl, lowered refl,
 pub returns-clause-classes_that_suspend : goal.returns-clause-classes_that_suspend
 returns-clause-classes_that_suspend c = (refl, refl, lowered refl, refl)
 
+pub returns-clause-compound_write_to_a_private_method : goal.returns-clause-compound_write_to_a_private_method
+returns-clause-compound_write_to_a_private_method c = (refl, refl, lowered refl, refl)
+
 pub returns-clause-converted_assignment : goal.returns-clause-converted_assignment
 returns-clause-converted_assignment c = (refl, refl, lowered refl, refl)
 
@@ -56,11 +62,17 @@ returns-clause-hexadecimal_bigint c = (refl, refl, lowered refl, refl)
 pub returns-clause-let_in_front_of_a_function : goal.returns-clause-let_in_front_of_a_function
 returns-clause-let_in_front_of_a_function c = (refl, refl, lowered refl, refl)
 
+pub returns-clause-logical_write_to_a_private_method : goal.returns-clause-logical_write_to_a_private_method
+returns-clause-logical_write_to_a_private_method c = (refl, refl, lowered refl, refl)
+
 pub returns-clause-map_in_front_of_a_key_that_asks : goal.returns-clause-map_in_front_of_a_key_that_asks
 returns-clause-map_in_front_of_a_key_that_asks c = (refl, refl, lowered refl, refl)
 
 pub returns-clause-method_around_a_class_without_elements : goal.returns-clause-method_around_a_class_without_elements
 returns-clause-method_around_a_class_without_elements c = (refl, refl, lowered refl, refl)
+
+pub returns-clause-name_in_a_field_behind_two_calls_of_super : goal.returns-clause-name_in_a_field_behind_two_calls_of_super
+returns-clause-name_in_a_field_behind_two_calls_of_super c = (refl, refl, lowered refl, refl)
 
 pub returns-clause-nameless_class_that_suspends : goal.returns-clause-nameless_class_that_suspends
 returns-clause-nameless_class_that_suspends c = (refl, refl, lowered refl, refl)

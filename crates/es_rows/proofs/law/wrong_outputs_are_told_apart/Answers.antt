@@ -79,6 +79,12 @@ returns-clause-call_on_a_literal_in_front_of_a_class c = refl
 pub returns-clause-class_in_front_of_its_use : goal.returns-clause-class_in_front_of_its_use
 returns-clause-class_in_front_of_its_use c = refl
 
+pub returns-clause-class_of_a_head : goal.returns-clause-class_of_a_head
+returns-clause-class_of_a_head c = refl
+
+pub returns-clause-class_of_a_right_side : goal.returns-clause-class_of_a_right_side
+returns-clause-class_of_a_right_side c = refl
+
 pub returns-clause-class_renamed : goal.returns-clause-class_renamed
 returns-clause-class_renamed c = refl
 

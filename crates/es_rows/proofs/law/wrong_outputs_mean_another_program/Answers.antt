@@ -16,12 +16,6 @@ returns-clause-block_dropped c = (refl, refl)
 pub returns-clause-branch_of_a_key_of_another : goal.returns-clause-branch_of_a_key_of_another
 returns-clause-branch_of_a_key_of_another c = (refl, refl)
 
-pub returns-clause-class_of_a_head : goal.returns-clause-class_of_a_head
-returns-clause-class_of_a_head c = (refl, refl)
-
-pub returns-clause-class_of_a_right_side : goal.returns-clause-class_of_a_right_side
-returns-clause-class_of_a_right_side c = (refl, refl)
-
 pub returns-clause-conversions_of_a_template : goal.returns-clause-conversions_of_a_template
 returns-clause-conversions_of_a_template c = (refl, refl)
 
