@@ -1,0 +1,4 @@
+pub mod ClassLets
+pub mod DefaultExports
+pub mod HeadNames
+pub mod NodeNumbers

@@ -1,0 +1,6 @@
+use Rattle.std.proofs.Common.{◌≡◌, ◌++◌, drop}
+use Rattle.es_binding_faults.specs.Seen.{seen}
+use Rattle.es_owed_lets.proofs.default_export.all_of.Given as goal
+
+abbrev pub invariant-loop-node : goal.invariant-loop-node
+invariant-loop-node l = seen l.all.items ++ drop l.node-index l.nodes ≡ l.nodes
