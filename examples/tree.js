@@ -8,4 +8,6 @@ const withoutValue = (key, value) => (key === 'value' && isUnfit(value) ? null :
 
 const source = require('fs').readFileSync(0, 'utf8');
 const tree = acorn.parse(source, { ecmaVersion: 2022, sourceType: process.argv[2] ?? 'script' });
+// Who reads may end first, as the program does at bad words.
+process.stdout.on('error', fault => { if (fault.code !== 'EPIPE') throw fault; });
 process.stdout.write(JSON.stringify(tree, withoutValue));
