@@ -461,6 +461,7 @@ pub mod SuperFunctionThatNothingCallsOutside
 pub mod SuperFunctionWithoutFields
 pub mod SuperGivesZero
 pub mod SuperInAFunctionThatNothingCalls
+pub mod SuperInAnArrowInFrontOfAnArgument
 pub mod SuperKeyThatStays
 pub mod SuperLogicalAssignmentThatBecomesStrict
 pub mod SuperUpdateThatBecomesStrict

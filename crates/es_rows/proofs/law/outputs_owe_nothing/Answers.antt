@@ -122,6 +122,9 @@ returns-clause-string_in_parentheses c = (refl, refl, lowered refl, refl)
 pub returns-clause-super_function_in_front_of_a_map : goal.returns-clause-super_function_in_front_of_a_map
 returns-clause-super_function_in_front_of_a_map c = (refl, refl, lowered refl, refl)
 
+pub returns-clause-super_in_an_arrow_in_front_of_an_argument : goal.returns-clause-super_in_an_arrow_in_front_of_an_argument
+returns-clause-super_in_an_arrow_in_front_of_an_argument c = (refl, refl, lowered refl, refl)
+
 pub returns-clause-template_that_is_copied : goal.returns-clause-template_that_is_copied
 returns-clause-template_that_is_copied c = (refl, refl, lowered refl, refl)
 
