@@ -1,0 +1,5 @@
+pub mod AskedNames
+pub mod BehindMarks
+pub mod ClassNodes
+pub mod KeptPlaces
+pub mod NewNames

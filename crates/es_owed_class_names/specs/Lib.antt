@@ -1,0 +1,5 @@
+pub mod Asked
+pub mod Behind
+pub mod Inside
+pub mod KeptPlaces
+pub mod NewNames
