@@ -4,7 +4,7 @@ use Rattle.std.proofs.Math.Bool.{and_assoc}
 use Rattle.std.proofs.lemmas.Bool.{eqb-true}
 use Rattle.std.specs.Prelude.{nat_eq, not}
 use Rattle.es_base.specs.Preorder.{number_of, preorder, preorder_of, preorder_of_part}
-use Rattle.es_base.specs.Tree.{Tree, Part, Parts, Node, end, more, child, absent, list, string, no_string, boolean, literal, nullable}
+use Rattle.es_base.specs.Tree.{Tree, Part, Parts, Node, end, more, child, absent, list, string, no_string, boolean, literal}
 use Rattle.es_base.specs.declared.kind.Kind.{Kind}
 use Rattle.es_binding_faults.proofs.HasNumbers.{has_number-append}
 use Rattle.es_lowered.specs.ClassLets.{class_lets_fit, class_lets_fit_at, class_lets_fit_in, initializer_fits, is_class_of, is_identifier, let_fits, names_expression, nodes_of_declared}
@@ -13,7 +13,7 @@ use Rattle.es_node.specs.View.{kind_of}
 use Rattle.es_owed_lets.specs.Lets.{all_fit, declaration_at, declarations, declared_at, fits, has_key, identifier_in, is_class_among, is_declared, key_of, keys, own_name, own_names}
 use Rattle.es_steps.specs.Parts.{at, is_present}
 use Rattle.es_steps.specs.References.{has_number}
-use Rattle.es_steps.specs.Scopes.{class_in, first_class}
+use Rattle.es_steps.specs.Scopes.{class_in}
 
 -- ---- all nodes
 
@@ -59,10 +59,6 @@ pub new_fits : (first : ℕ) (ps : List Tree) (m b : ℕ) (e : Part) → has_num
 new_fits first ps m b e new names =
     ap (λ x. x || (not (names_expression b ps) && initializer_fits first ps (nodes_of_declared b (class_in e) ps) (numbers_of (preorder_of_part e)))) new
     ∙ ap (λ x. not x && initializer_fits first ps (nodes_of_declared b (class_in e) ps) (numbers_of (preorder_of_part e))) names
-
-pub class_of_initializer : (o : Option Tree) → class_in (nullable o) ≡ first_class (preorder_of_part (nullable o))
-class_of_initializer None = refl
-class_of_initializer (Some t) = refl
 
 -- ---- the own names of class expressions
 

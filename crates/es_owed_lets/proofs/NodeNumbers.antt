@@ -2,14 +2,10 @@
 use Rattle.std.proofs.Common.{◌≡◌, refl, ap, ◌∙◌, ℕ, List, [], ◌∷◌, ◌++◌, ◌&&◌, ◌||◌}
 use Rattle.es_base.specs.Numbered.{is_new}
 use Rattle.es_base.specs.Preorder.{number_of}
-use Rattle.es_base.specs.Tree.{Tree, Node}
+use Rattle.es_base.specs.Tree.{Tree}
 use Rattle.es_lowered.specs.ClassNames.{numbers_of}
-use Rattle.es_node.specs.View.{number_in}
 use Rattle.es_steps.specs.KeptNodes.{are_new_or_among}
 use Rattle.es_steps.specs.References.{has_number}
-
-pub number_of_node : (t : Tree) → number_of t ≡ number_in t
-number_of_node (Node kind m span semantic_id ps) = refl
 
 pub numbers_both : (ts us : List Tree) → numbers_of (ts ++ us) ≡ numbers_of ts ++ numbers_of us
 numbers_both [] us = refl

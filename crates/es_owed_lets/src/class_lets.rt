@@ -8,7 +8,6 @@ ghost use Rattle.es_base.specs.Tree.{nullable};
 ghost use Rattle.es_binding_faults.specs.Seen.{seen};
 ghost use Rattle.es_lowered.specs.ClassLets as lets;
 ghost use Rattle.es_lowered.specs.ClassNames.{is_none, numbers_of};
-ghost use Rattle.es_node.specs.View.{kind_of};
 ghost use Rattle.es_owed_lets.specs.Lets as spec;
 ghost use Rattle.es_references.specs.Frames.{ids};
 ghost use Rattle.es_steps.specs.KeptNodes as kept;
@@ -21,6 +20,8 @@ use es_base::kind::Kind;
 use es_binding_faults::numbers::Numbers;
 use es_binding_faults::preorder::preorder;
 use es_node::node::Node;
+use es_owed::classes::class_below;
+use es_owed_references::reads::nodes_of;
 use es_tree::class::{ClassDeclarationRef, ClassExpressionRef};
 use es_tree::statement::VariableDeclaratorRef;
 use std::alloc::{AllocError, Global};
@@ -73,7 +74,7 @@ fn fits(alloc: Global, first: u32, source: &SourceClasses, node: &Node) -> Resul
 
 /// Whether the declarator is one of the source, or declares no name of a class expression and what it is given fits. Fails on
 /// allocation failure alone.
-#[tactic(auto, using(crate::proofs::ClassLets::kept_fits, crate::proofs::ClassLets::named_fits_not, crate::proofs::ClassLets::new_fits, crate::proofs::NodeNumbers::number_of_node))]
+#[tactic(auto, using(crate::proofs::ClassLets::kept_fits, crate::proofs::ClassLets::named_fits_not, crate::proofs::ClassLets::new_fits, es_owed::proofs::Nodes::number_of_node))]
 fn declarator_fits(
     alloc: Global,
     first: u32,
@@ -94,7 +95,6 @@ fn declarator_fits(
 
 /// Whether an initializer holds nothing of the source but the class that is declared by this identifier or, without one, by the
 /// class expression in it; any fits where none is. Fails on allocation failure alone.
-#[tactic(auto, using(crate::proofs::ClassLets::class_of_initializer))]
 fn initializer_fits(
     alloc: Global,
     first: u32,
@@ -105,7 +105,7 @@ fn initializer_fits(
     ensures { IfOk result (λ holds. holds ≡ lets.initializer_fits first (seen source.now.nodes.now) (lets.nodes_of_declared identifier.0 (scopes.class_in (nullable (option_map (λ x. x.now) value.entry))) (seen source.now.nodes.now)) (numbers_of (preorder_of_part (nullable (option_map (λ x. x.now) value.entry))))) }
 {
     let nodes = nodes_of(alloc, value)?;
-    let class = first_class(nodes.as_slice());
+    let class = class_of(alloc, value)?;
     let declared = source.declared(alloc, identifier.0, class)?;
     hold_nothing_else(alloc, first, declared.as_slice(), nodes.as_slice())
 }
@@ -136,32 +136,14 @@ fn is_none(nodes: &[&Node]) -> bool
     }
 }
 
-/// The nodes of a tree that may be absent, in preorder. Fails on allocation failure alone.
-fn nodes_of<'a>(alloc: Global, node: Option<&'a Node>) -> Result<Vec<&'a Node>, AllocError>
-    ensures { IfOk result (λ r. seen r.items ≡ preorder_of_part (nullable (option_map (λ x. x.now) node.entry))) }
+/// The number of the first class expression in an initializer, if there is one. Fails on allocation failure alone.
+fn class_of(alloc: Global, value: Option<&Node>) -> Result<Option<u32>, AllocError>
+    ensures { IfOk result (λ class. class ≡ scopes.class_in (nullable (option_map (λ x. x.now) value.entry))) }
 {
-    match node {
-        Some(node) => preorder(alloc, node),
-        None => Ok(Vec::new(alloc)),
+    match value {
+        Some(node) => class_below(alloc, node),
+        None => Ok(None),
     }
-}
-
-/// The number of the first class expression among these nodes.
-fn first_class(nodes: &[&Node]) -> Option<u32>
-    ensures { result ≡ scopes.first_class (seen nodes.now) }
-{
-    for node in nodes {
-        if is_class_expression(node) {
-            return Some(node.node_id().0);
-        }
-    }
-    None
-}
-
-fn is_class_expression(node: &Node) -> bool
-    ensures { result ≡ scopes.is_class_expression (kind_of node.now) }
-{
-    matches!(node.kind(), Kind::ClassExpression)
 }
 
 // ---- the classes of a source
@@ -274,7 +256,7 @@ fn add_own_name(node: &Node, names: &mut Vec<NodeId>) -> Result<(), AllocError>
 }
 
 /// Adds the number of an identifier, if there is one. Fails on allocation failure alone.
-#[tactic(auto, using(crate::proofs::NodeNumbers::number_of_node))]
+#[tactic(auto, using(es_owed::proofs::Nodes::number_of_node))]
 fn add_identifier(identifier: Option<&Node>, numbers: &mut Vec<NodeId>) -> Result<(), AllocError>
     ensures { OnOk result (ids numbers.new.items ≡ ids numbers.old.items ++ spec.identifier_in (nullable (option_map (λ x. x.now) identifier.entry))) }
 {
@@ -321,7 +303,7 @@ fn keys(alloc: Global, declarations: &[&Node]) -> Result<Vec<NodeId>, AllocError
     Ok(keys)
 }
 
-#[tactic(auto, using(crate::proofs::ClassLets::no_key, crate::proofs::ClassLets::named_key, crate::proofs::ClassLets::unnamed_key, crate::proofs::NodeNumbers::number_of_node))]
+#[tactic(auto, using(crate::proofs::ClassLets::no_key, crate::proofs::ClassLets::named_key, crate::proofs::ClassLets::unnamed_key, es_owed::proofs::Nodes::number_of_node))]
 fn add_key(declaration: &Node, keys: &mut Vec<NodeId>) -> Result<(), AllocError>
     ensures { OnOk result (ids keys.new.items ≡ ids keys.old.items ++ spec.key_of declaration.now) }
 {
@@ -382,7 +364,7 @@ fn add_if_declared<'a>(
 }
 
 /// Whether the node is a class declaration of this identifier or, without one, has the number of the class.
-#[tactic(auto, using(crate::proofs::ClassLets::not_declared, crate::proofs::ClassLets::named_declared, crate::proofs::ClassLets::unnamed_declared, crate::proofs::NodeNumbers::number_of_node))]
+#[tactic(auto, using(crate::proofs::ClassLets::not_declared, crate::proofs::ClassLets::named_declared, crate::proofs::ClassLets::unnamed_declared, es_owed::proofs::Nodes::number_of_node))]
 fn is_declared(identifier: u32, class: Option<u32>, declaration: &Node) -> bool
     ensures { result ≡ spec.is_declared identifier class declaration.now }
 {

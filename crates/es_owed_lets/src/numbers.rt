@@ -22,7 +22,7 @@ pub fn set_of(alloc: Global, nodes: &[&Node]) -> Result<Numbers, AllocError>
     Ok(set)
 }
 
-#[tactic(auto, using(crate::proofs::NodeNumbers::number_of_node))]
+#[tactic(auto, using(es_owed::proofs::Nodes::number_of_node))]
 fn ids_of(alloc: Global, nodes: &[&Node]) -> Result<Vec<NodeId>, AllocError>
     ensures { IfOk result (λ r. ids r.items ≡ numbers_of (seen nodes.now)) }
 {
@@ -34,7 +34,7 @@ fn ids_of(alloc: Global, nodes: &[&Node]) -> Result<Vec<NodeId>, AllocError>
 }
 
 /// Whether each of these nodes is new, or has one of the numbers that were there.
-#[tactic(auto, using(crate::proofs::NodeNumbers::number_of_node))]
+#[tactic(auto, using(es_owed::proofs::Nodes::number_of_node))]
 pub fn are_new_or_among(first: u32, there: &Numbers, nodes: &[&Node]) -> bool
     ensures { result ≡ kept.are_new_or_among first there.now (numbers_of (seen nodes.now)) }
 {
