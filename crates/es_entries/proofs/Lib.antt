@@ -1,3 +1,4 @@
 mod CodeForms
 mod Listing
+mod SameEntries
 mod Written

@@ -1,4 +1,5 @@
 pub mod Constructors
+pub mod Entered
 pub mod Lists
 pub mod Methods
 pub mod Parameters

@@ -1,0 +1,12 @@
+use Rattle.std.proofs.Common.{ap₂, ◌∙◌}
+use Rattle.es_entries.proofs.SameEntries.{same_functions}
+use Rattle.es_entries.proofs.entry.same_function.Goals as goal
+use Rattle.es_entries.specs.Parameters.{parameters_in}
+use Rattle.es_steps.specs.SameMeanings as same
+
+pub returns : goal.returns
+returns c = same_functions c.args.left.now c.args.right.now c.same_form-forms.result c.same_number-names.result c.same_parameters-parameters.result c.same_listed-bodies.result
+    c.same_form-forms.ensures c.same_number-names.ensures
+    (c.same_parameters-parameters.ensures ∙ ap₂ (λ ps qs. same.same_list same.same_parameter (parameters_in ps) (parameters_in qs)) c.as_slice.ensures c.as_slice-2.ensures)
+    c.same_listed-bodies.ensures
+    c.both-heads.result c.both-all.result c.both.result c.both-heads.ensures c.both-all.ensures c.both.ensures
