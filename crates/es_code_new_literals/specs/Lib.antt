@@ -1,0 +1,4 @@
+pub mod Details
+pub mod Keys
+pub mod Literals
+pub mod Views
