@@ -1,0 +1,3 @@
+pub mod DeclaratorForms
+pub mod GivenForms
+pub mod LetForms
