@@ -1,0 +1,4 @@
+pub mod BodiesOfNodes
+pub mod OwnTouches
+pub mod Spots
+pub mod Walked

@@ -1,0 +1,180 @@
+// Whether what reads a name or `this` in a lowered program stands behind what it stood behind in the source.
+
+ghost use Rattle.std.specs.Prelude.{◌≡◌, [], IfOk};
+ghost use Rattle.es_base.specs.Preorder.{preorder};
+ghost use Rattle.es_lowered.specs.DeadZones as spec;
+ghost use Rattle.es_steps.specs.KeptNodes as kept;
+ghost use Rattle.es_steps.specs.References.{resolve, written};
+ghost use Rattle.es_owed_dead_zones.specs.Bodies.{kept_bodies};
+ghost use Rattle.es_touches.specs.Touches.{classes_of, closures_of};
+
+use crate::bodies::{KeptBody, Program, bodies, lent_bodies};
+use crate::terms::Terms;
+use es_base::ledger::LedgerEntry;
+use es_node::node::Node;
+use es_outside::names::ProgramNames;
+use es_owed::listed::Listed;
+use es_owed::numbers::is_within;
+use es_owed_initialized::numbers::add_numbers;
+use es_owed_timely::functions::super_functions;
+use es_references::references::references;
+use es_steps::options::Options;
+use es_touches::called::closures;
+use es_touches::class_parts::class_parts;
+use es_touches::closures::Closure;
+use es_touches::derived::{derived_arrows, derived_constructors};
+use es_touches::facts::{class_names, private_updates, super_calls, variables};
+use es_touches::fits::bodies_fit;
+use es_touches::source::{ClassParts, Source};
+use es_touches::throws::all_throws;
+use std::alloc::{AllocError, Global};
+
+/// Whether what reads a name or `this` without an event in a lowered program, and what makes a class of such, stands behind what
+/// it stood behind in the source, and nothing new always throws. Fails on allocation failure alone.
+pub fn dead_zones_stay(
+    alloc: Global,
+    first: u32,
+    options: &Options,
+    ledger: &[LedgerEntry],
+    source: &Listed,
+    lowered: &Listed,
+) -> Result<bool, AllocError>
+    ensures { IfOk result (λ holds. holds ≡ spec.dead_zones_stay first options.now ledger.now source.now.program.now lowered.now.program.now) }
+{
+    Ok(
+        throws_stay(alloc, first, source, lowered)?
+            && touches_stay(alloc, first, options, ledger, source, lowered)?,
+    )
+}
+
+fn throws_stay(
+    alloc: Global,
+    first: u32,
+    source: &Listed,
+    lowered: &Listed,
+) -> Result<bool, AllocError>
+    ensures { IfOk result (λ holds. holds ≡ kept.is_within (spec.all_throws first (spec.private_updates (preorder source.now.program.now)) (preorder lowered.now.program.now)) (spec.all_throws first (spec.private_updates (preorder source.now.program.now)) (preorder source.now.program.now))) }
+{
+    let updates = private_updates(alloc, source.nodes.as_slice())?;
+    let updates = updates.as_slice();
+    let here = all_throws(alloc, first, updates, lowered.nodes.as_slice())?;
+    let there = all_throws(alloc, first, updates, source.nodes.as_slice())?;
+    Ok(is_within(here.as_slice(), there.as_slice()))
+}
+
+fn touches_stay(
+    alloc: Global,
+    first: u32,
+    options: &Options,
+    ledger: &[LedgerEntry],
+    source: &Listed,
+    lowered: &Listed,
+) -> Result<bool, AllocError>
+    ensures { IfOk result (λ holds. holds ≡ spec.bodies_fit first (spec.super_calls (preorder source.now.program.now)) (spec.class_parts options.now (written source.now.program.now) (resolve source.now.program.now) (preorder source.now.program.now)) (spec.closures ledger.now (preorder lowered.now.program.now)) (spec.bodies_of first [] [] (preorder source.now.program.now) source.now.program.now) (spec.bodies_of first ledger.now (spec.closures ledger.now (preorder lowered.now.program.now)) (preorder source.now.program.now) lowered.now.program.now)) }
+{
+    let called = closures(alloc, ledger, lowered.nodes.as_slice())?;
+    let asked = facts_of(alloc, source)?;
+    let there = bodies_of(alloc, first, &[], &[], &asked, &*source)?;
+    let here = bodies_of(alloc, first, ledger, called.as_slice(), &asked, &*lowered)?;
+    let supers = super_calls(alloc, source.nodes.as_slice())?;
+    let names = ProgramNames::of(alloc, source.program)?;
+    let classes = class_parts(alloc, options, &names, source.nodes.as_slice())?;
+    kept_fit(
+        alloc,
+        first,
+        supers.as_slice(),
+        classes.as_slice(),
+        called.as_slice(),
+        there.as_slice(),
+        here.as_slice(),
+    )
+}
+
+/// Whether the bodies of a lowered program fit those of the source, where these are facts of the source, and the closures of the
+/// lowered program. Fails on allocation failure alone.
+fn kept_fit<'s, 'c>(
+    alloc: Global,
+    first: u32,
+    supers: &'s [u32],
+    classes: &'s [ClassParts],
+    called: &'c [Closure<'c>],
+    there: &[KeptBody],
+    here: &[KeptBody],
+) -> Result<bool, AllocError>
+    ensures { IfOk result (λ holds. holds ≡ spec.bodies_fit first supers.now (classes_of classes.now) (closures_of called.now) (kept_bodies there.now) (kept_bodies here.now)) }
+{
+    let there = lent_bodies(alloc, there)?;
+    let here = lent_bodies(alloc, here)?;
+    let source = Source {
+        first,
+        supers,
+        classes,
+        called,
+        bodies: there.as_slice(),
+    };
+    bodies_fit(alloc, &source, here.as_slice())
+}
+
+/// What the walks over a program ask of its source.
+#[derive(Drop)]
+struct SourceFacts<'a> {
+    program: &'a Node,
+    /// The variables, by their declaring identifiers.
+    variables: Vec<u32>,
+    /// The names of classes, by their declaring identifiers.
+    class_names: Vec<u32>,
+    /// The arrows where `this` is there behind `super(..)` alone.
+    arrows: Vec<u32>,
+
+    ghost variables_are: { variables.items ≡ spec.variables (preorder program.now) },
+    ghost class_names_are: { class_names.items ≡ spec.class_names (preorder program.now) },
+    ghost arrows_are: { arrows.items ≡ spec.derived_arrows (spec.derived_constructors (preorder program.now)) (preorder program.now) },
+}
+
+fn facts_of<'a>(alloc: Global, source: &Listed<'a>) -> Result<SourceFacts<'a>, AllocError>
+    ensures { IfOk result (λ r. r.program.now ≡ source.now.program.now) }
+{
+    let nodes = source.nodes.as_slice();
+    let variables = variables(alloc, nodes)?;
+    let class_names = class_names(alloc, nodes)?;
+    let constructors = derived_constructors(alloc, nodes)?;
+    let arrows = derived_arrows(alloc, constructors.as_slice(), nodes)?;
+    Ok(SourceFacts {
+        program: source.program,
+        variables,
+        class_names,
+        arrows,
+    })
+}
+
+/// The bodies of a program with these closures. Fails on allocation failure alone.
+fn bodies_of<'a>(
+    alloc: Global,
+    first: u32,
+    ledger: &[LedgerEntry],
+    called: &'a [Closure<'a>],
+    facts: &SourceFacts,
+    program: &'a Listed<'a>,
+) -> Result<Vec<KeptBody>, AllocError>
+    ensures { IfOk result (λ r. kept_bodies r.items ≡ spec.bodies_of first ledger.now (closures_of called.now) (preorder facts.now.program.now) program.now.program.now) }
+{
+    let nodes = program.nodes.as_slice();
+    let mut derived = derived_constructors(alloc, nodes)?;
+    add_numbers(facts.arrows.as_slice(), &mut derived)?;
+    let references = references(alloc, program.program)?;
+    let given = super_functions(alloc, ledger, nodes)?;
+    let terms = Terms {
+        first,
+        called,
+        asked: facts.variables.as_slice(),
+        named: facts.class_names.as_slice(),
+        references: references.as_slice(),
+    };
+    let found = Program {
+        terms,
+        derived: derived.as_slice(),
+        given: given.as_slice(),
+        nodes,
+    };
+    bodies(alloc, &found)
+}

@@ -1,0 +1,7 @@
+use Rattle.std.proofs.Common.{◌≡◌, ◌++◌, drop}
+use Rattle.es_binding_faults.specs.Seen.{seen}
+use Rattle.es_lowered.specs.DeadZones as spec
+use Rattle.es_touches.proofs.facts.add_bound.Given as goal
+
+abbrev pub invariant-loop-node : goal.invariant-loop-node
+invariant-loop-node l = l.numbers.items ++ spec.bound_numbers (seen (drop l.node-index l.nodes)) ≡ l.fn.numbers.items ++ spec.bound_numbers (seen l.nodes)

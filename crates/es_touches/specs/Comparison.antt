@@ -1,0 +1,72 @@
+-- What is held against the source, as code has it.
+use Rattle.std.specs.Prelude.{List, [], ◌∷◌, ◌++◌, Bool, true, false, not, ◌&&◌, ◌||◌}
+use Rattle.es_lowered.specs.DeadZones as spec
+use Rattle.es_lowered.specs.DeadZones.{Body, ClassParts, Touch, TouchForm, runs_closure}
+use Rattle.std.specs.Prelude.{ℕ}
+use Rattle.es_touches.specs.Touches.{bodies_of, classes_of, closures_of}
+use Rattle.es_touches.specs.declared.source.Source.{Source}
+
+-- the last first, in front of others
+abbrev pub turned : List Touch → List Touch → List Touch
+turned [] front = front
+turned (t ∷ ts) front = turned ts (t ∷ front)
+
+-- t with what is around another
+abbrev pub held_as : Touch → Touch → Touch
+held_as t u = record { number = u.number; form = u.form; held = t.held }
+
+-- the call of a closure
+abbrev pub is_any_run : TouchForm → Bool
+is_any_run (runs_closure k) = true
+is_any_run form = false
+
+module _ (s : Source) where
+  abbrev pub all_behind : List Touch → Touch → List Touch → List Touch → List Touch → Bool
+  all_behind = spec.all_behind s.first s.supers.now (classes_of s.classes.now) (closures_of s.called.now) (bodies_of s.bodies.now)
+
+  abbrev pub is_like : Touch → Touch → Bool
+  is_like = spec.is_like s.first s.supers.now (classes_of s.classes.now) (closures_of s.called.now) (bodies_of s.bodies.now)
+
+  abbrev pub stands_like : Touch → List Touch → List Touch → List Touch → Bool
+  stands_like = spec.stands_like s.first s.supers.now (classes_of s.classes.now) (closures_of s.called.now) (bodies_of s.bodies.now)
+
+  abbrev pub is_of_body : Bool → Bool → Body → Body → Bool
+  is_of_body = spec.is_of_body s.first s.supers.now (classes_of s.classes.now) (closures_of s.called.now) (bodies_of s.bodies.now)
+
+  abbrev pub stands_in_any : Bool → Body → Touch → List Touch → List Body → Bool
+  stands_in_any = spec.stands_in_any s.first s.supers.now (classes_of s.classes.now) (closures_of s.called.now) (bodies_of s.bodies.now)
+
+  abbrev pub is_touched_as : List ℕ → TouchForm → List Touch → Bool
+  is_touched_as = spec.is_touched_as s.first s.supers.now (classes_of s.classes.now) (closures_of s.called.now) (bodies_of s.bodies.now)
+
+  abbrev pub is_touched_in : List ℕ → TouchForm → List Body → Bool
+  is_touched_in = spec.is_touched_in s.first s.supers.now (classes_of s.classes.now) (closures_of s.called.now) (bodies_of s.bodies.now)
+
+  abbrev pub reads_key : List ℕ → TouchForm → List ClassParts → Bool
+  reads_key = spec.reads_key s.first s.supers.now (classes_of s.classes.now) (closures_of s.called.now) (bodies_of s.bodies.now)
+
+  abbrev pub is_behind_super : Touch → List Touch → Bool
+  is_behind_super = spec.is_behind_super s.first s.supers.now (classes_of s.classes.now) (closures_of s.called.now) (bodies_of s.bodies.now)
+
+  abbrev pub touch_fits : Body → List Touch → Touch → List Touch → Bool
+  touch_fits = spec.touch_fits s.first s.supers.now (classes_of s.classes.now) (closures_of s.called.now) (bodies_of s.bodies.now)
+
+  abbrev pub in_same : Touch → List Touch → List Touch
+  in_same = spec.in_same s.first s.supers.now (classes_of s.classes.now) (closures_of s.called.now) (bodies_of s.bodies.now)
+
+  abbrev pub run_with : Touch → List Touch → List Touch
+  run_with = spec.run_with s.first s.supers.now (classes_of s.classes.now) (closures_of s.called.now) (bodies_of s.bodies.now)
+
+  abbrev pub runs_fit : Body → List Touch → Touch → List Touch → List Touch → Bool
+  runs_fit = spec.runs_fit s.first s.supers.now (classes_of s.classes.now) (closures_of s.called.now) (bodies_of s.bodies.now)
+
+  abbrev pub touches_fit : Body → List Touch → List Touch → Bool
+  touches_fit = spec.touches_fit s.first s.supers.now (classes_of s.classes.now) (closures_of s.called.now) (bodies_of s.bodies.now)
+
+  abbrev pub bodies_fit : List Body → Bool
+  bodies_fit = spec.bodies_fit s.first s.supers.now (classes_of s.classes.now) (closures_of s.called.now) (bodies_of s.bodies.now)
+
+  -- whether each of these that t runs fits, where t is the first of what is in front
+  abbrev pub runs_fit_behind : Body → List Touch → Touch → List Touch → List Touch → Bool
+  runs_fit_behind b front t ts [] = true
+  runs_fit_behind b front t ts (u ∷ us) = (not (spec.is_run_by (closures_of s.called.now) u t.form) || touch_fits b front (held_as t u) (run_with t us ++ ts)) && runs_fit_behind b front t ts us
