@@ -9,7 +9,6 @@ use crate::listed::{Listed, same_listed};
 use crate::method::{Method, same_methods};
 use crate::parameter::{Parameter, same_parameters};
 use es_base::list::List;
-use es_by_number::numbered::Numbered;
 use es_codes::code::FunctionForm;
 use es_codes::value::Value;
 
