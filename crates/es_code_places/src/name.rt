@@ -23,6 +23,7 @@ use es_code_reading::private_name::{method_kind, private_reference};
 use es_codes::code::Code;
 use es_codes::name::{NameKind, Referent};
 use es_codes::value::{Origin, Value};
+use es_shapes::facts::NameFacts;
 use std::alloc::{AllocError, Global};
 
 // ---- names that are evaluated
@@ -35,7 +36,7 @@ fn arguments_code(alloc: Global, c: &Context, node: u32, name: Name) -> Result<C
 {
     match c.around.arguments {
         Some(function) => {
-            if c.terms.writes_arguments {
+            if c.terms.names.changes_arguments() {
                 let kind = NameKind::Changing(Referent::Bound(function));
                 Ok(Code::name(node, name, kind))
             } else {

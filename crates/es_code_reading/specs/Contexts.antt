@@ -1,5 +1,5 @@
 -- What is known at a place of a tree, in code.
-use Rattle.std.specs.Prelude.{ℕ, List, Option, Some, None, option_map}
+use Rattle.std.specs.Prelude.{ℕ, List, Option, Some, None, option_map, codes}
 use Rattle.std.specs.Str.{chars}
 use Rattle.es_codes.specs.View.{home_of}
 use Rattle.es_codes.specs.declared.event.Home.{Home}
@@ -7,6 +7,7 @@ use Rattle.es_seen_names.specs.Frames.{names_in, privates_in}
 use Rattle.es_seen_names.specs.PrivateMembers.{private_members_of}
 use Rattle.es_steps.specs.Context as spec
 use Rattle.es_steps.specs.PrivateNames.{PrivateMember}
+use Rattle.es_steps.specs.References.{changes_free, varying}
 use Rattle.es_steps.specs.Scopes.{Declaration}
 use Rattle.es_steps.specs.Values as values
 use Rattle.es_steps.specs.Values.{Value, Undefined, ThisOf, ClassOf, ArgumentsOf, NewTargetOf}
@@ -68,8 +69,8 @@ context_with t seen a = record {
   options = t.options;
   members = private_members_of t.members.now;
   named = t.named.now;
-  varying = t.varying.now;
-  writes_arguments = t.writes_arguments;
+  varying = varying t.names.now.program.now;
+  writes_arguments = changes_free (codes "arguments") t.names.now.program.now;
   names = seen.names;
   privates = seen.privates;
   this = this_of a.this;

@@ -3,6 +3,7 @@
 
 use es_base::ledger::LedgerEntry;
 use es_codes::event::Home;
+use es_outside::names::ProgramNames;
 use es_seen_names::names::Names;
 use es_seen_names::private_member::PrivateMember;
 use es_seen_names::privates::Privates;
@@ -38,10 +39,9 @@ pub struct Terms<'a> {
     pub members: &'a [PrivateMember<'a>],
     /// The class expressions of the source whose heritage or keys read their name, with their identifiers.
     pub named: &'a [(u32, u32)],
-    /// The bindings that are imported or written anywhere in the program.
-    pub varying: &'a [u32],
-    /// Whether a free `arguments` is written.
-    pub writes_arguments: bool,
+    /// The names of the program: which bindings vary, since they are imported or written anywhere in it, and whether a free
+    /// `arguments` is given a value.
+    pub names: &'a ProgramNames<'a>,
 }
 
 /// What the nodes around a place say of it, names aside.

@@ -5,16 +5,19 @@ ghost use Rattle.std.specs.Str.{chars};
 ghost use Rattle.es_codes.specs.View.{kind_of};
 ghost use Rattle.es_seen_names.specs.Declarations.{class_name_of};
 ghost use Rattle.es_steps.specs.Context as spec;
+ghost use Rattle.es_steps.specs.References.{varying};
 ghost use Rattle.es_code_reading.specs.Contexts.{context_of};
 ghost use Rattle.es_code_reading.specs.NameKinds.{is_own, steady_kind};
 
 use crate::context::{Context, Terms};
+use es_base::ids::NodeId;
 use es_base::name::Name;
 use es_codes::name::{NameKind, Referent};
 use es_generated::ledger::generated_as;
-use es_generated::numbers::{has_number, is_new};
+use es_generated::numbers::is_new;
 use es_seen_names::declaration::ClassName;
 use es_seen_names::names::declared;
+use es_shapes::facts::NameFacts;
 use std::alloc::{AllocError, Global};
 
 /// What a name is that this identifier declares as the name of this class, if the binding does not vary.
@@ -39,9 +42,9 @@ fn steady_kind(terms: &Terms, binding: u32, class_name: ClassName) -> NameKind
 /// What a name is that this identifier declares as the name of this class.
 #[tactic(auto, using(crate::proofs::NameKinds::own_kind, crate::proofs::NameKinds::other_kind))]
 fn declared_kind(terms: &Terms, binding: u32, class_name: ClassName) -> NameKind
-    ensures { kind_of result ≡ spec.declared_kind terms.now.first_new terms.now.varying.now binding (class_name_of class_name) }
+    ensures { kind_of result ≡ spec.declared_kind terms.now.first_new (varying terms.now.names.now.program.now) binding (class_name_of class_name) }
 {
-    if is_own(class_name) || !has_number(binding, terms.varying) {
+    if is_own(class_name) || !terms.names.is_varying(NodeId(binding)) {
         steady_kind(terms, binding, class_name)
     } else {
         NameKind::Changing(Referent::Bound(binding))
