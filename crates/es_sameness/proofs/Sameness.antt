@@ -453,3 +453,70 @@ parameters_decide ps qs = (one_list same_parameter one_parameter ps qs, λ e. ap
 
 pub methods_decide : (ms ns : List Method) → IsTrue (same_list same_method ms ns) ↔ (ms ≡ ns)
 methods_decide ms ns = (one_list same_method one_method ms ns, λ e. ap (same_list same_method ms) (sym e) ∙ list_same same_method method_same ms)
+
+-- ---- the lists of a meaning that no evaluation makes
+
+pub member_decides : (x y : MemberEntry) → IsTrue (same_member x y) ↔ (x ≡ y)
+member_decides x y = (one_member x y, λ e. ap (same_member x) (sym e) ∙ member_same x)
+  where
+    kind_same : (k : PrivateKind) → same_private_kind k k ≡ true
+    kind_same a_field = refl
+    kind_same a_method = refl
+    kind_same a_getter = refl
+    kind_same a_setter = refl
+
+    member_same : (m : MemberEntry) → same_member m m ≡ true
+    member_same (IsField n b) = both_true _ _ (number_same n) (boolean_same b)
+    member_same (FunctionIs n b kind f) = both_true _ _ (both_true _ _ (number_same n) (boolean_same b)) (both_true _ _ (kind_same kind) (number_same f))
+
+numbered_same : {A : Type 0} (same : A → A → Bool) → ((x : A) → same x x ≡ true) → (p : ℕ × A) → same_numbered same p p ≡ true
+numbered_same same each (n, x) = both_true _ _ (number_same n) (each x)
+
+numbered_decide : {A : Type 0} (same : A → A → Bool) → ((x y : A) → same x y ≡ true → x ≡ y) → ((x : A) → same x x ≡ true) → (ps qs : List (ℕ × A)) → IsTrue (same_list (same_numbered same) ps qs) ↔ (ps ≡ qs)
+numbered_decide same one each ps qs = (
+  one_list (same_numbered same) (one_numbered same one) ps qs,
+  (λ e. ap (same_list (same_numbered same) ps) (sym e) ∙ list_same (same_numbered same) (numbered_same same each) ps),
+)
+
+pub numbers_decide : (ps qs : List (ℕ × ℕ)) → IsTrue (same_list (same_numbered nat_eq) ps qs) ↔ (ps ≡ qs)
+numbers_decide = numbered_decide nat_eq one_number number_same
+
+pub names_decide : (ps qs : List (ℕ × String)) → IsTrue (same_list (same_numbered bytes_eq) ps qs) ↔ (ps ≡ qs)
+names_decide = numbered_decide bytes_eq one_string string_same
+
+declaration_same : (d : DeclarationKind) → same_declaration d d ≡ true
+declaration_same (Variable s) = string_same s
+declaration_same FunctionName = refl
+declaration_same ParameterName = refl
+declaration_same CaughtName = refl
+declaration_same ImportName = refl
+declaration_same ClassDeclared = refl
+declaration_same (ArgumentsName d) = declaration_same d
+
+pub declarations_decide : (ps qs : List (ℕ × DeclarationKind)) → IsTrue (same_list (same_numbered same_declaration) ps qs) ↔ (ps ≡ qs)
+declarations_decide = numbered_decide same_declaration one_declaration declaration_same
+
+specifier_same : (x : Specifier) → same_specifier x x ≡ true
+specifier_same (Imported s b) = both_true _ _ (string_same s) (number_same b)
+specifier_same (ImportedDefault b) = number_same b
+specifier_same (ImportedNamespace b) = number_same b
+specifier_same (Reexported s x) = both_true _ _ (string_same s) (string_same x)
+specifier_same (ReexportedAll s) = nullable_same s
+
+link_same : (l : ModuleLink) → same_link l l ≡ true
+link_same l = both_true _ _ (number_same l.number) (both_true _ _ (string_same l.source) (list_same same_specifier specifier_same l.specifiers))
+
+pub links_decide : (ls ks : List ModuleLink) → IsTrue (same_list same_link ls ks) ↔ (ls ≡ ks)
+links_decide ls ks = (one_list same_link one_link ls ks, λ e. ap (same_list same_link ls) (sym e) ∙ list_same same_link link_same ls)
+
+exported_same : (x : Exported) → same_exported x x ≡ true
+exported_same (ExportedClass n) = number_same n
+exported_same (ExportedBinding b) = number_same b
+exported_same (ExportedFree s) = string_same s
+exported_same (ExportedValue v) = value_same v
+
+export_same : (p : String × Exported) → same_export p p ≡ true
+export_same (s, x) = both_true _ _ (string_same s) (exported_same x)
+
+pub exports_decide : (xs ys : List (String × Exported)) → IsTrue (same_list same_export xs ys) ↔ (xs ≡ ys)
+exports_decide xs ys = (one_list same_export one_export xs ys, λ e. ap (same_list same_export xs) (sym e) ∙ list_same same_export export_same xs)
