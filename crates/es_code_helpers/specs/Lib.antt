@@ -1,0 +1,4 @@
+pub mod Asserting
+pub mod Brands
+pub mod HelperNames
+pub mod Keys
