@@ -1,0 +1,4 @@
+pub mod Alike
+pub mod Pairs
+pub mod Reaching
+pub mod Sorted
