@@ -1,6 +1,6 @@
 -- How many codes a code is, itself among them.
 use Rattle.std.specs.Prelude.{ℕ, zero, suc, ◌+◌}
-use Rattle.es_steps.specs.Code.{Code, Codes, Target, Callee, rest, member, private_member, super_member, private_in, assign, compound, logical, logical_assign, update, call, tag, construct, super_call, sequence, template, operation, piece, chain, short, tested, pattern, takes, steps, gives_to, export_default, function, new_function, new_return, class_code, field, private_field, method, private_method, constructor, static_block, generated_element, from_call, from_member, key_of, define, private_initialize, bound, setter, call_arrow, call_closure, give_function, give_class, to_member, to_private, to_super, to_setter, to_pattern, to_default, plain, on_member, on_private, on_super, with_receiver, checked, on_chain, behind_test, done, and}
+use Rattle.es_steps.specs.Code.{Code, Codes, Target, Callee, rest, member, private_member, super_member, private_in, assign, compound, logical, logical_assign, update, call, tag, construct, super_call, sequence, template, operation, piece, chain, short, tested, pattern, takes, steps, gives_to, export_default, function, new_function, new_return, class_code, field, private_field, method, private_method, constructor, static_block, generated_element, from_call, from_member, key_of, helper_call, define, private_initialize, bound, setter, call_arrow, call_closure, give_function, give_class, to_member, to_private, to_super, to_setter, to_pattern, to_default, plain, on_member, on_private, on_super, with_receiver, checked, on_chain, behind_test, done, and}
 
 abbrev mutual
   pub size : Code → ℕ
@@ -44,6 +44,7 @@ abbrev mutual
   size (from_call e) = suc (size e)
   size (from_member e) = suc (size e)
   size (key_of e) = suc (size e)
+  size (helper_call m h es) = suc (sizes es)
   size (define m o k e) = suc (size k + size e)
   size (private_initialize m d o e) = suc (size e)
   size (bound f o) = suc (size f + size o)
