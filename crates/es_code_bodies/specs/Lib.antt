@@ -1,0 +1,3 @@
+pub mod Alone
+pub mod Bodies
+pub mod Constructing
