@@ -1,0 +1,4 @@
+pub mod AssignmentForms
+pub mod BinaryForms
+pub mod PrivateForms
+pub mod Signs
