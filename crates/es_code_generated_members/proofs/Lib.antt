@@ -1,0 +1,5 @@
+pub mod FieldForms
+pub mod KeptForms
+pub mod LooseForms
+pub mod MemberForms
+pub mod SetterForms

@@ -1,0 +1,6 @@
+-- A value that gets the name of its key.
+use Rattle.es_steps.specs.Code.{Code, done, and, sequence, from_call, from_member}
+
+-- the key and the value in order, of which the value is used
+abbrev pub named_value : Code × Code → Code
+named_value p = from_member (from_call (sequence (and p.0 (and p.1 done))))

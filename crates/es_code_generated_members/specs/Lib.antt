@@ -1,0 +1,4 @@
+pub mod Accesses
+pub mod Fields
+pub mod Kept
+pub mod Setters
