@@ -1,0 +1,3 @@
+pub mod Defining
+pub mod Opened
+pub mod PrivateFunctions
