@@ -6,7 +6,7 @@ pub mod around;
 pub mod asked;
 mod changing_key;
 pub mod class;
-mod class_head;
+pub mod class_head;
 pub mod element;
 pub mod facts;
 pub mod heritage;
