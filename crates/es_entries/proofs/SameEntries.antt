@@ -3,7 +3,7 @@ use Rattle.std.proofs.Common.{◌≡◌, sym, ap, ap₂, ◌∙◌, ℕ, List, B
 use Rattle.std.specs.Prelude.{◌&&◌, ◌↔◌, IsTrue}
 use Rattle.std.proofs.lemmas.Bool.{and_from, and_parts}
 use Rattle.es_codes.specs.CodeView.{form_of}
-use Rattle.es_entries.specs.Entered.{IsClassEntry, IsFunctionEntry}
+use Rattle.es_entries.specs.Entered.{HaveOneHead, IsClassEntry, IsFunctionEntry}
 use Rattle.es_entries.specs.Lists.{IsListed}
 use Rattle.es_entries.specs.Methods.{methods_in}
 use Rattle.es_entries.specs.Parameters.{parameters_in}
@@ -71,31 +71,43 @@ same_functions x y forms names parameters bodies f n p b heads all result h1 h2 
 
 -- ---- classes
 
-pub same_classes : (x y : ClassEntry) (declared heritages methods forms parameters constructions : Bool)
+pub same_heads : (x y : ClassEntry) (declared heritages methods two heads : Bool)
     → IsTrue declared ↔ (x.declared ≡ y.declared)
     → IsTrue heritages ↔ (x.heritage ≡ y.heritage)
     → methods ≡ same.same_list same.same_method (methods_in x.methods) (methods_in y.methods)
+    → two ≡ (declared && heritages) → heads ≡ (two && methods)
+    → IsTrue heads ↔ HaveOneHead x y
+same_heads x y declared heritages methods two heads d v m h1 h2 = (
+  (λ t.
+      let p2 = and_parts two methods (sym h2 ∙ t) in
+      let p1 = and_parts declared heritages (sym h1 ∙ p2.0) in
+      record { declared = d.0 p1.0; heritage = v.0 p1.1; methods = (methods_decide _ _).0 (sym m ∙ p2.1) }),
+  (λ h. h2 ∙ and_from two methods (h1 ∙ and_from declared heritages (d.1 h.declared) (v.1 h.heritage)) (m ∙ (methods_decide _ _).1 h.methods)),
+)
+
+pub same_classes : (x y : ClassEntry) (heads forms parameters constructions : Bool)
+    → IsTrue heads ↔ HaveOneHead x y
     → forms ≡ same.same_form (form_of x.form) (form_of y.form)
     → parameters ≡ same.same_list same.same_parameter (parameters_in x.parameters) (parameters_in y.parameters)
     → ((l k : spec.Listed) → IsListed x.construction l → IsListed y.construction k → IsTrue constructions ↔ (l ≡ k))
-    → (two heads four all result : Bool) → two ≡ (declared && heritages) → heads ≡ (two && methods) → four ≡ (heads && forms) → all ≡ (four && parameters) → result ≡ (all && constructions)
+    → (two all result : Bool) → two ≡ (heads && forms) → all ≡ (two && parameters) → result ≡ (all && constructions)
     → (e g : spec.Entry) → IsClassEntry x e → IsClassEntry y g → IsTrue result ↔ (e ≡ g)
-same_classes x y declared heritages methods forms parameters constructions d v m f p c two heads four all result h1 h2 h3 h4 r e g i j =
+same_classes x y heads forms parameters constructions o f p c two all result h1 h2 r e g i j =
     let listed = c i.construction j.construction i.is_listed j.is_listed in (
       λ t.
-          let p5 = and_parts all constructions (sym r ∙ t) in
-          let p4 = and_parts four parameters (sym h4 ∙ p5.0) in
-          let p3 = and_parts heads forms (sym h3 ∙ p4.0) in
-          let p2 = and_parts two methods (sym h2 ∙ p3.0) in
-          let p1 = and_parts declared heritages (sym h1 ∙ p2.0) in
+          let p3 = and_parts all constructions (sym r ∙ t) in
+          let p2 = and_parts two parameters (sym h2 ∙ p3.0) in
+          let p1 = and_parts heads forms (sym h1 ∙ p2.0) in
+          let head = o.0 p1.0 in
           i.is
-          ∙ ap₂ (λ (a : Option ℕ) (h : Option Value). spec.ClassEntry a h (methods_in x.methods) (form_of x.form) (parameters_in x.parameters) i.construction) (d.0 p1.0) (v.0 p1.1)
-          ∙ ap₂ (λ (ms : List spec.Method) (a : FunctionForm). spec.ClassEntry y.declared y.heritage ms a (parameters_in x.parameters) i.construction) ((methods_decide _ _).0 (sym m ∙ p2.1)) ((form_decides _ _).0 (sym f ∙ p3.1))
-          ∙ ap₂ (λ (ps : List spec.Parameter) (l : spec.Listed). spec.ClassEntry y.declared y.heritage (methods_in y.methods) (form_of y.form) ps l) ((parameters_decide _ _).0 (sym p ∙ p4.1)) (listed.0 p5.1)
+          ∙ ap₂ (λ (a : Option ℕ) (h : Option Value). spec.ClassEntry a h (methods_in x.methods) (form_of x.form) (parameters_in x.parameters) i.construction) head.declared head.heritage
+          ∙ ap₂ (λ (ms : List spec.Method) (a : FunctionForm). spec.ClassEntry y.declared y.heritage ms a (parameters_in x.parameters) i.construction) head.methods ((form_decides _ _).0 (sym f ∙ p1.1))
+          ∙ ap₂ (λ (ps : List spec.Parameter) (l : spec.Listed). spec.ClassEntry y.declared y.heritage (methods_in y.methods) (form_of y.form) ps l) ((parameters_decide _ _).0 (sym p ∙ p2.1)) (listed.0 p3.1)
           ∙ sym j.is,
       λ h.
           let one = sym i.is ∙ h ∙ j.is in
-          r ∙ and_from all constructions (h4 ∙ and_from four parameters (h3 ∙ and_from heads forms (h2 ∙ and_from two methods (h1 ∙ and_from declared heritages (d.1 (ap own_name_in one)) (v.1 (ap (heritage_at x.heritage) one))) (m ∙ (methods_decide _ _).1 (ap (methods_at (methods_in x.methods)) one))) (f ∙ (form_decides _ _).1 (ap form_in one))) (p ∙ (parameters_decide _ _).1 (ap parameters_at one))) (listed.1 (ap listed_in one)),
+          let head : HaveOneHead x y = record { declared = ap own_name_in one; heritage = ap (heritage_at x.heritage) one; methods = ap (methods_at (methods_in x.methods)) one } in
+          r ∙ and_from all constructions (h2 ∙ and_from two parameters (h1 ∙ and_from heads forms (o.1 head) (f ∙ (form_decides _ _).1 (ap form_in one))) (p ∙ (parameters_decide _ _).1 (ap parameters_at one))) (listed.1 (ap listed_in one)),
     )
 
 -- ---- a function is no class

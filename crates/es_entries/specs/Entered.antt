@@ -22,3 +22,9 @@ pub record IsClassEntry (c : ClassEntry) (e : spec.Entry) : Type 0 where
 abbrev pub IsEntry : Entry → spec.Entry → Type 0
 IsEntry (Entry.Function f) e = IsFunctionEntry f e
 IsEntry (Entry.Class c) e = IsClassEntry c e
+
+-- classes that are declared alike, with the same heritage and methods
+pub record HaveOneHead (c d : ClassEntry) : Type 0 where
+  pub declared : c.declared ≡ d.declared
+  pub heritage : c.heritage ≡ d.heritage
+  pub methods : methods_in c.methods ≡ methods_in d.methods

@@ -2,7 +2,7 @@
 
 ghost use Rattle.std.specs.Prelude.{◌≡◌, ◌&&◌, ◌↔◌, IsTrue};
 ghost use Rattle.es_steps.specs.Entries as spec;
-ghost use Rattle.es_entries.specs.Entered.{IsClassEntry, IsEntry, IsFunctionEntry};
+ghost use Rattle.es_entries.specs.Entered.{HaveOneHead, IsClassEntry, IsEntry, IsFunctionEntry};
 
 use crate::form::same_form;
 use crate::listed::{Listed, same_listed};
@@ -85,20 +85,27 @@ fn same_function(left: &FunctionEntry, right: &FunctionEntry) -> bool
     both(all, bodies)
 }
 
-#[tactic(auto, using(crate::proofs::SameEntries::same_classes))]
-fn same_class(left: &ClassEntry, right: &ClassEntry) -> bool
-    ensures { (e g : spec.Entry) → IsClassEntry left.now e → IsClassEntry right.now g → IsTrue result ↔ (e ≡ g) }
+/// Whether two classes are declared alike, and have the same heritage and methods.
+pub fn same_head(left: &ClassEntry, right: &ClassEntry) -> bool
+    ensures { IsTrue result ↔ HaveOneHead left.now right.now }
 {
     let declared = same_number(left.declared, right.declared);
     let heritages = same_heritage(&left.heritage, &right.heritage);
     let methods = same_methods(left.methods.as_slice(), right.methods.as_slice());
+    let two = both(declared, heritages);
+    both(two, methods)
+}
+
+#[tactic(auto, using(crate::proofs::SameEntries::same_classes))]
+fn same_class(left: &ClassEntry, right: &ClassEntry) -> bool
+    ensures { (e g : spec.Entry) → IsClassEntry left.now e → IsClassEntry right.now g → IsTrue result ↔ (e ≡ g) }
+{
+    let heads = same_head(left, right);
     let forms = same_form(left.form, right.form);
     let parameters = same_parameters(left.parameters.as_slice(), right.parameters.as_slice());
     let constructions = same_listed(&left.construction, &right.construction);
-    let two = both(declared, heritages);
-    let heads = both(two, methods);
-    let four = both(heads, forms);
-    let all = both(four, parameters);
+    let two = both(heads, forms);
+    let all = both(two, parameters);
     both(all, constructions)
 }
 

@@ -8,7 +8,6 @@ use Rattle.std.proofs.lemmas.Slice.Eq.{bytes_eq-Decides}
 use Rattle.es_by_number.specs.Numbered.{pairs}
 use Rattle.es_declarations.specs.Kinds.{bindings_in}
 use Rattle.es_declarations.specs.Globals.{names_in}
-use Rattle.es_exports.specs.Exports.{exports_of}
 use Rattle.es_meanings.specs.Differences.{AreModulesAlike, AreNamedAlike, ArePlacedAlike}
 use Rattle.es_meanings.specs.Means.{IsMeaning}
 use Rattle.es_meanings.specs.declared.meaning.Meaning.{Meaning}

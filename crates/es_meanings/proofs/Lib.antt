@@ -1,4 +1,5 @@
 pub mod Alike
 pub mod Pairs
 pub mod Reaching
+pub mod Seeking
 pub mod Sorted

@@ -1,11 +1,11 @@
 -- How far a comparison of entries has come.
-use Rattle.std.proofs.Common.{◌≡◌, refl, sym, ap, ap₂, subst, ◌∙◌, ℕ, zero, suc, List, [], ◌∷◌, ◌++◌, drop, Bool, true, false, Option, Some, None}
+use Rattle.std.proofs.Common.{◌≡◌, refl, ap, ap₂, subst, ℕ, zero, suc, List, [], ◌∷◌, drop, Bool, true, false, Option, Some, None}
 use Rattle.std.specs.List.{slice_get}
 use Rattle.std.specs.Prelude.{◌↔◌, IsTrue}
 use Rattle.es_by_number.specs.declared.numbered.Numbered.{Numbered}
 use Rattle.es_entries.specs.Entered.{IsEntry}
 use Rattle.es_entries.specs.declared.entry.Entry.{Entry}
-use Rattle.es_meanings.specs.Differences.{Compared, DifferFirst, least}
+use Rattle.es_meanings.specs.Differences.{Compared, least}
 use Rattle.es_meanings.specs.Means.{AreEntries}
 use Rattle.es_steps.specs.Entries as spec
 

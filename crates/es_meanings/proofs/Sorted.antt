@@ -1,5 +1,5 @@
 -- Entries that are sorted by number are those of the definitions, sorted.
-use Rattle.std.proofs.Common.{◌≡◌, sym, ap, ap₂, subst, ◌∙◌, ℕ, List, [], ◌∷◌, Bool, true, false, cond, nat_le}
+use Rattle.std.proofs.Common.{◌≡◌, sym, ap₂, subst, ℕ, List, [], ◌∷◌, true, false, cond, nat_le}
 use Rattle.es_by_number.specs.Numbered.{pairs}
 use Rattle.es_by_number.specs.declared.numbered.Numbered.{Numbered}
 use Rattle.es_entries.specs.Entered.{IsEntry}

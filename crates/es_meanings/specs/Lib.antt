@@ -1,3 +1,4 @@
 pub mod Differences
 pub mod Finding
 pub mod Means
+pub mod Parts

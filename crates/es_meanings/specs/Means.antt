@@ -1,5 +1,5 @@
 -- A meaning in code, and which meaning of the definitions it is.
-use Rattle.std.specs.Prelude.{◌≡◌, ℕ, List, [], ◌∷◌, Option, Some}
+use Rattle.std.specs.Prelude.{◌≡◌, ℕ, List, [], ◌∷◌, Some}
 use Rattle.std.specs.Str.{chars}
 use Rattle.es_by_number.specs.Numbered.{pairs}
 use Rattle.es_by_number.specs.declared.numbered.Numbered.{Numbered}

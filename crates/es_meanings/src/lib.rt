@@ -4,3 +4,4 @@
 pub mod difference;
 pub mod entries;
 pub mod meaning;
+pub mod part;

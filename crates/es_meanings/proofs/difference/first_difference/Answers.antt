@@ -1,4 +1,4 @@
-use Rattle.std.proofs.Common.{◌≡◌, List, refl, sym, subst, ap₂, ◌∙◌}
+use Rattle.std.proofs.Common.{List, refl, sym, subst, ap₂, ◌∙◌}
 use Rattle.es_by_number.specs.declared.numbered.Numbered.{Numbered}
 use Rattle.es_entries.specs.declared.entry.Entry.{Entry}
 use Rattle.es_meanings.proofs.Alike.{all_alike, members_alike}
