@@ -5,3 +5,4 @@ pub mod FieldKeys
 pub mod FieldValues
 pub mod FoundDefinitions
 pub mod SuperForms
+pub mod UnfitClasses

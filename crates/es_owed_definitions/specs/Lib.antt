@@ -4,3 +4,4 @@ pub mod Keys
 pub mod Supers
 pub mod Values
 pub mod Views
+pub mod Unfit

@@ -320,7 +320,7 @@ pub fn classes_fit(
 
 /// The same of one node, if that is a class. Fails on allocation failure alone.
 #[tactic(auto, using(crate::proofs::FieldFits::class_here, crate::proofs::FieldFits::class_elsewhere))]
-fn class_stands(
+pub fn class_stands(
     alloc: Global,
     source: &ProgramNames,
     members: &[PrivateMember],

@@ -12,4 +12,5 @@ pub mod keys;
 pub mod lowered;
 pub mod supers;
 pub mod terms;
+pub mod unfit;
 pub mod values;

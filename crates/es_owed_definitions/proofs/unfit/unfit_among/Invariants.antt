@@ -1,0 +1,10 @@
+use Rattle.std.proofs.Common.{◌≡◌, drop}
+use Rattle.es_binding_faults.specs.Seen.{seen}
+use Rattle.es_seen_names.specs.PrivateMembers.{private_members_of}
+use Rattle.es_owed_definitions.specs.Unfit.{first_unfit}
+use Rattle.es_owed_definitions.proofs.unfit.unfit_among.Given as goal
+
+abbrev pub invariant-loop-node : goal.invariant-loop-node
+invariant-loop-node l =
+    let unfit = first_unfit l.lowered.terms.first l.lowered.terms.options.now l.lowered.terms.ledger.now (private_members_of l.members) l.source.program.now l.lowered.program.now in
+    unfit (seen (drop l.node-index l.nodes)) ≡ unfit (seen l.nodes)

@@ -1,0 +1,92 @@
+// Which class of a source does not have its definitions.
+
+ghost use Rattle.std.specs.Prelude.{◌≡◌, IfOk};
+ghost use Rattle.es_base.specs.Preorder.{preorder};
+ghost use Rattle.es_binding_faults.specs.Seen.{seen};
+ghost use Rattle.es_lowered.specs.Definitions as spec;
+ghost use Rattle.es_owed_definitions.specs.Unfit.{first_unfit};
+ghost use Rattle.es_owed_definitions.specs.Views.{definition_views};
+ghost use Rattle.es_seen_names.specs.PrivateMembers.{private_members_of};
+ghost use Rattle.es_steps.specs.PrivateNames as privates;
+
+use crate::fields::class_stands;
+use crate::lowered::LoweredProgram;
+use crate::terms::Terms;
+use es_base::ledger::LedgerEntry;
+use es_node::node::Node;
+use es_outside::names::ProgramNames;
+use es_owed::listed::Listed;
+use es_seen_names::private_member::{PrivateMember, private_members};
+use es_steps::options::Options;
+use std::alloc::{AllocError, Global};
+
+/// The number of the first class of the source in preorder that does not have its definitions in what the source was lowered to
+/// (`definitions_stand` says what they are); none where each has them. Fails on allocation failure alone.
+pub fn first_unfit(
+    alloc: Global,
+    first: u32,
+    options: &Options,
+    ledger: &[LedgerEntry],
+    source: &Listed,
+    lowered: &Listed,
+) -> Result<Option<u32>, AllocError>
+    ensures { IfOk result (λ n. n ≡ first_unfit first options.now ledger.now (privates.private_members source.now.program.now) source.now.program.now lowered.now.program.now (preorder source.now.program.now)) }
+{
+    let terms = Terms {
+        first,
+        options,
+        ledger,
+    };
+    unfit_under(alloc, terms, source, lowered)
+}
+
+#[tactic(auto, using(crate::proofs::UnfitClasses::same_terms))]
+fn unfit_under(
+    alloc: Global,
+    terms: Terms,
+    source: &Listed,
+    lowered: &Listed,
+) -> Result<Option<u32>, AllocError>
+    ensures { IfOk result (λ n. n ≡ first_unfit terms.entry.first terms.entry.options.now terms.entry.ledger.now (privates.private_members source.now.program.now) source.now.program.now lowered.now.program.now (preorder source.now.program.now)) }
+{
+    let lowered = LoweredProgram::of(alloc, terms, lowered)?;
+    unfit_in(alloc, source, &lowered)
+}
+
+fn unfit_in(
+    alloc: Global,
+    source: &Listed,
+    lowered: &LoweredProgram,
+) -> Result<Option<u32>, AllocError>
+    requires { definition_views lowered.now.definitions.items ≡ spec.all_definitions lowered.now.terms.first lowered.now.terms.options.now lowered.now.terms.ledger.now (seen lowered.now.nodes.now) }
+    ensures { IfOk result (λ n. n ≡ first_unfit lowered.now.terms.first lowered.now.terms.options.now lowered.now.terms.ledger.now (privates.private_members source.now.program.now) source.now.program.now lowered.now.program.now (preorder source.now.program.now)) }
+{
+    let names = ProgramNames::of(alloc, source.program)?;
+    let members = private_members(alloc, source.program)?;
+    unfit_among(
+        alloc,
+        &names,
+        members.as_slice(),
+        lowered,
+        source.nodes.as_slice(),
+    )
+}
+
+#[tactic(auto, using(crate::proofs::UnfitClasses::unfit_here, crate::proofs::UnfitClasses::unfit_behind))]
+fn unfit_among(
+    alloc: Global,
+    source: &ProgramNames,
+    members: &[PrivateMember],
+    lowered: &LoweredProgram,
+    nodes: &[&Node],
+) -> Result<Option<u32>, AllocError>
+    requires { definition_views lowered.now.definitions.items ≡ spec.all_definitions lowered.now.terms.first lowered.now.terms.options.now lowered.now.terms.ledger.now (seen lowered.now.nodes.now) }
+    ensures { IfOk result (λ n. n ≡ first_unfit lowered.now.terms.first lowered.now.terms.options.now lowered.now.terms.ledger.now (private_members_of members.now) source.now.program.now lowered.now.program.now (seen nodes.now)) }
+{
+    for node in nodes {
+        if !class_stands(alloc, source, members, lowered, node)? {
+            return Ok(Some(node.node_id().0));
+        }
+    }
+    Ok(None)
+}
