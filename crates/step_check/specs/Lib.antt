@@ -1,0 +1,4 @@
+pub mod Comparison
+pub mod Evaluated
+pub mod Judged
+pub mod Facts
