@@ -2,13 +2,10 @@
 //! output. docs/JSON.md has the format of both.
 #![tactic(auto)]
 
+use lower_edge::arguments::{NO_ARGUMENTS, arguments_of};
 use lower_io::standard::{StdinSource, StdoutSink};
 use lower_run::run::run;
 use std::process::ExitCode;
-use std::{env, io};
-
-/// The status where the arguments of the command line can't be had.
-const NO_ARGUMENTS: u8 = 10;
 
 fn main(rt: HostRuntime) -> ExitCode {
     let Ok(arguments) = arguments_of(&rt) else {
@@ -18,13 +15,4 @@ fn main(rt: HostRuntime) -> ExitCode {
     let mut sink = StdoutSink::new(rt.stdout());
     let status = run(rt.alloc(), arguments.as_slice(), &mut source, &mut sink);
     ExitCode::from(status.number())
-}
-
-/// The arguments behind the program's name.
-fn arguments_of(rt: &HostRuntime) -> io::Result<Vec<String>> {
-    let mut arguments = Vec::new(rt.alloc());
-    for argument in env::args(rt)?.skip(1) {
-        arguments.push(argument)?;
-    }
-    Ok(arguments)
 }

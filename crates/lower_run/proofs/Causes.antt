@@ -1,7 +1,6 @@
 -- What follows from the cause of a status.
 use Rattle.std.proofs.Common.{inl, inr, ◌≡◌, refl, sym, ap, ap₂, ◌∙◌, subst, ℕ, ◌<◌, ◌≤◌, List, length, Option, Some, None, Result, Ok, Err, true, true≢false, arith}
-use Rattle.std.specs.Prelude.{◌⊎◌, nat_le, is_none}
-use Rattle.std.proofs.lemmas.Bool.{leb-true}
+use Rattle.std.specs.Prelude.{◌⊎◌}
 use Rattle.es_steps.specs.LoweredClasses.{nothing_left}
 use Rattle.serde_json.specs.Data.{Data}
 use Rattle.serde_json.specs.Read.{read as read_text}
@@ -9,15 +8,12 @@ use Rattle.es_base.specs.Tree.{Tree}
 use Rattle.es_reading.specs.Fault.{Fault, Read}
 use Rattle.es_reading.specs.Reading.{read, root}
 use Rattle.es_reading.specs.declared.numbers.Numbers.{Numbers}
-use Rattle.es_base.specs.Preorder.{nodes}
-use Rattle.es_steps.specs.FirstForm.{most_nodes}
 use Rattle.es_steps.specs.declared.options.Options.{Options}
-use Rattle.es_node.proofs.Shapes.{left_of, right_of}
-use Rattle.es_validity.specs.Facts.{facts_of}
-use Rattle.es_validity.specs.Validity.{first_fault, is_valid, IsFirst}
+use Rattle.es_validity.specs.Validity.{is_valid}
 use Rattle.es_validity.specs.declared.error.LowerError.{LowerError}
-use Rattle.es_validity.specs.declared.fault.Cause as fault
-use Rattle.lower_run.specs.Outcome.{IsOutputOfBytes, IsOutputOfSource, Cause, Complete, IsRefused, IsRefusalText, IsWritten, IsLowerable, HasLowered, most_bytes, not_yet_lowered}
+use Rattle.lower_edge.proofs.Refusals.{valid-unrefused}
+use Rattle.lower_edge.specs.Ending.{IsRefusalText, IsWritten, Says, most_bytes}
+use Rattle.lower_run.specs.Outcome.{IsOutputOfBytes, Cause, Complete, IsRefused, IsLowerable, HasLowered, edge_of, not_yet_lowered}
 use Rattle.lower_run.specs.declared.status.Status.{Status}
 use Rattle.lower_io.specs.Held.{Extends}
 
@@ -51,22 +47,10 @@ same_program o b l d p foreign e f =
     read_parts (record { value = p; foreign = foreign }) (record { value = l.p; foreign = l.foreign }) (sym f ∙ ap (λ v. read Numbers.Preorder v root 0) (same_value o b l d e) ∙ l.tree)
 
 -- a program that is valid, and has nothing to lower or is of the form, is not refused
-module _ (o : Options) (p : Tree) (foreign : List ℕ) (valid : is_valid o foreign p ≡ true) where
-  small : nat_le (nodes p) most_nodes ≡ true
-  small = left_of (nat_le (nodes p) most_nodes) (is_none (first_fault o foreign p)) valid
-
-  no_first : (m : ℕ) (cause : fault.Cause) {B : Type 0} → IsFirst (facts_of p) o foreign p m cause → B
-  no_first m cause first = absurd (true≢false (sym (right_of (nat_le (nodes p) most_nodes) (is_none (first_fault o foreign p)) valid) ∙ ap is_none first.1))
-
-  never_refused : (nothing_left o p ≡ true) ⊎ (not_yet_lowered o p foreign ≡ None) → (error : LowerError) (text : List ℕ) {B : Type 0} → IsRefused o p foreign error → IsRefusalText error text → B
-  never_refused form LowerError.NoMemory text refused written = absurd written
-  never_refused form (LowerError.Unsupported node what) text refused written = no_first node.0 (fault.Cause.Unsupported what) refused
-  never_refused form (LowerError.UndeclaredPrivate node) text refused written = no_first node.0 fault.Cause.UndeclaredPrivate refused
-  never_refused form (LowerError.DuplicatePrivate node) text refused written = no_first node.0 fault.Cause.DuplicatePrivate refused
-  never_refused form (LowerError.BadTree node rule) text refused written = no_first node.0 (fault.Cause.BadTree rule) refused
-  never_refused form (LowerError.TooLarge n) text refused written = absurd (omega (arith, leb-true (nodes p) most_nodes small, refused.1))
-  never_refused (inl none) (LowerError.NotYet node) text refused written = absurd (true≢false (sym none ∙ refused.1))
-  never_refused (inr none) (LowerError.NotYet node) text refused written = none_some (sym none ∙ refused.2)
+never_refused : (o : Options) (p : Tree) (foreign : List ℕ) → is_valid o foreign p ≡ true → (nothing_left o p ≡ true) ⊎ (not_yet_lowered o p foreign ≡ None) → (error : LowerError) (text : List ℕ) {B : Type 0} → IsRefused o p foreign error → IsRefusalText error text → B
+never_refused o p foreign valid (inl none) (LowerError.NotYet node) text refused written = absurd (true≢false (sym none ∙ refused.1))
+never_refused o p foreign valid (inr none) (LowerError.NotYet node) text refused written = none_some (sym none ∙ refused.2)
+never_refused o p foreign valid form error text refused written = absurd (valid-unrefused o p foreign valid error text refused written)
 
 -- such bytes are neither no tree nor refused
 no_refusal : (o : Options) (b : List ℕ) (l : IsLowerable o b) (text : List ℕ) {B : Type 0} → IsOutputOfBytes o b Status.Refused text → B
@@ -109,9 +93,9 @@ pub cause-done : (o : Option Options) (left : Option (List ℕ)) (before now : �
 cause-done o left before now held after first last status c is b old new told had has =
     done o left held after (subst (λ (s : Status). Cause o left before now held after first last s) is c) told had has
   where
-    done : (o : Option Options) (left held after : Option (List ℕ)) → IsWritten o left before now held after Status.Done → left ≡ Some b → held ≡ Some old → after ≡ Some new → HasLowered o b old new
+    done : (o : Option Options) (left held after : Option (List ℕ)) → IsWritten (Says edge_of IsOutputOfBytes o left before now Status.Done) held after → left ≡ Some b → held ≡ Some old → after ≡ Some new → HasLowered o b old new
     done None left held after w told had has = absurd w.output
-    done (Some o) left held after w told had has = whole o w.text (subst (λ (l : Option (List ℕ)). IsOutputOfSource (Some o) l before now Status.Done w.text) told w.output) (subst (λ (h : Option (List ℕ)). Extends h (Some new) w.text) had (subst (λ (a : Option (List ℕ)). Extends held a w.text) has w.gained))
+    done (Some o) left held after w told had has = whole o w.text (subst (λ (l : Option (List ℕ)). Says edge_of IsOutputOfBytes (Some o) l before now Status.Done w.text) told w.output) (subst (λ (h : Option (List ℕ)). Extends h (Some new) w.text) had (subst (λ (a : Option (List ℕ)). Extends held a w.text) has w.gained))
       where
-        whole : (o : Options) (text : List ℕ) → IsOutputOfSource (Some o) (Some b) before now Status.Done text → Extends (Some old) (Some new) text → HasLowered (Some o) b old new
+        whole : (o : Options) (text : List ℕ) → Says edge_of IsOutputOfBytes (Some o) (Some b) before now Status.Done text → Extends (Some old) (Some new) text → HasLowered (Some o) b old new
         whole o text output gained = record { options = o; arguments = refl; few = output.0; text = text; gained = gained; lowered = output.1 }

@@ -30,7 +30,7 @@ use Rattle.class_properties.specs.Lowering.{lowered}
 use Rattle.class_properties.specs.Options.{defines_fields}
 use Rattle.es_unchanged.proofs.Unchanged.{unchanged-owes}
 use Rattle.es_left.proofs.Unlowered.{no_lowered_class}
-use Rattle.lower_run.specs.Lines.{line}
+use Rattle.lower_edge.specs.Lines.{line}
 use Rattle.lower_run.proofs.Rising.{warnings-arranged}
 use Rattle.lower_run.proofs.Written.{IsWrittenSo, written-text}
 use Rattle.lower_run.specs.Outcome.{IsOfForm, IsLoweredTo, IsLoweredTree, IsTextOf}

@@ -1,19 +1,15 @@
--- What is written of a lowered program with no generated name, and that a value read from few bytes can be counted.
-use Rattle.std.proofs.Common.{◌≡◌, refl, ap, ◌∙◌, subst, ℕ, ◌+◌, ◌<◌, ◌≤◌, ◌^◌, List, [], ◌∷◌, ◌++◌, length, Some, arith}
+-- What is written of a lowered program with no generated name.
+use Rattle.std.proofs.Common.{◌≡◌, refl, ap, ◌∙◌, subst, ℕ, List, [], ◌∷◌, ◌++◌, length}
 use Rattle.std.specs.List.Sorted.{IsPermutation}
 use Rattle.std.proofs.lemmas.List.Sorted.{length_permutation}
-use Rattle.serde_json.specs.Data.{Data}
-use Rattle.serde_json.specs.Read.{read as read_text}
 use Rattle.serde_json.specs.Written.{compact_text}
 use Rattle.es_base.specs.Tree.{Tree}
 use Rattle.es_base.specs.declared.diagnostic.Diagnostic.{Diagnostic}
 use Rattle.es_base.specs.declared.ledger.LedgerEntry.{LedgerEntry}
 use Rattle.es_base.specs.declared.shape.Shape.{Shape}
-use Rattle.es_json.proofs.Counted.{values-read_text}
 use Rattle.es_writing.specs.Lowered.{IsArranged, WarningsFit, WritesText, warning_cmp, write_lowered}
-use Rattle.es_reading.specs.Told.{values}
-use Rattle.lower_run.specs.Lines.{line}
-use Rattle.lower_run.specs.Outcome.{IsTextOf, most_bytes}
+use Rattle.lower_edge.specs.Lines.{line}
+use Rattle.lower_run.specs.Outcome.{IsTextOf}
 
 none_permuted : {X : Type 0} (ys : List X) → IsPermutation [] ys → ys ≡ []
 none_permuted ys p = empty ys (length_permutation [] ys p)
@@ -42,6 +38,3 @@ pub text-of : (text bytes : List ℕ) (t : Tree) (names : List LedgerEntry) (war
 text-of text bytes t names warnings ws outside os none same shaped w put_in =
     let all : WritesText text t names ws os = subst (λ (ss : List Shape). WritesText text t names ws ss) shaped (subst (λ (ds : List Diagnostic). WritesText text t names ds outside) same w) in
     record { program = text; writes = subst (λ (ns : List LedgerEntry). WritesText text t ns ws os) none all; fed = put_in }
-
-pub few-values : (b : List ℕ) (d : Data) → length b ≤ most_bytes → read_text b ≡ Some d → values d + 1 < 2 ^ 32
-few-values b d few e = omega (arith, few, values-read_text b d e)

@@ -1,5 +1,5 @@
 -- What a run ends with, and why: the tree of the bytes, what is written of it, and the cause of each status.
-use Rattle.std.specs.Prelude.{◌≡◌, ◌≤◌, ◌<◌, List, [], ◌++◌, map, ℕ, length, Option, Some, None, IfSome, OnSome, Ok, Err, IsUtf8, ◌⊎◌, true, false, cond}
+use Rattle.std.specs.Prelude.{◌≡◌, ◌≤◌, List, [], ◌++◌, map, ℕ, length, Option, Some, None, Ok, Err, IsUtf8, ◌⊎◌, true, false, cond}
 use Rattle.es_steps.specs.LoweredClasses.{nothing_left}
 use Rattle.serde_json.specs.Data.{Data}
 use Rattle.serde_json.specs.Read.{read as read_text}
@@ -29,14 +29,14 @@ use Rattle.es_validity.specs.declared.error.LowerError.{LowerError}
 use Rattle.es_left.specs.Left.{first_left}
 use Rattle.class_properties.specs.Lowering.{lowered}
 use Rattle.class_properties.specs.Options.{defines_fields}
-use Rattle.lower_run.specs.Lines.{line, bad_arguments_line, read_fault_line, too_long_line, json_line, fault_line, refusal_line}
+use Rattle.lower_edge.specs.Ending as ending
+use Rattle.lower_edge.specs.Ending.{most_bytes}
+use Rattle.lower_edge.specs.Lines.{line}
+use Rattle.lower_edge.specs.Texts.{HasNoValue, IsTextOfValue}
+use Rattle.lower_edge.specs.declared.status.EdgeStatus.{EdgeStatus}
+use Rattle.lower_run.specs.Lines.{json_line, fault_line}
 use Rattle.lower_run.specs.declared.status.Status.{Status}
 use Rattle.lower_io.specs.Causes.{Rose}
-use Rattle.lower_io.specs.Held.{Extends, ExtendsInPart}
-
--- more bytes than this are not read
-abbrev pub most_bytes : ℕ
-most_bytes = 67108864
 
 -- ---- what is written of a program
 
@@ -84,15 +84,9 @@ abbrev pub IsRefused : Options → Tree → List ℕ → LowerError → Type 0
 IsRefused o p foreign (LowerError.NotYet node) = (is_valid o foreign p ≡ true) × (nothing_left o p ≡ false) × (not_yet_lowered o p foreign ≡ Some node.0)
 IsRefused o p foreign e = IsRefusedBy (facts_of p) o foreign p e
 
--- the line of an error that is no allocation failure
-abbrev pub IsRefusalText : LowerError → List ℕ → Type 0
-IsRefusalText LowerError.NoMemory text = ⊥
-IsRefusalText e text = text ≡ refusal_line e
-
-pub record IsRefusal (o : Options) (p : Tree) (foreign : List ℕ) (text : List ℕ) : Type 0 where
-  pub error : LowerError
-  pub refused : IsRefused o p foreign error
-  pub written : IsRefusalText error text
+-- the line of such an error
+abbrev pub IsRefusal : Options → Tree → List ℕ → List ℕ → Type 0
+IsRefusal o p foreign text = ending.IsRefusal (IsRefused o p foreign) text
 
 -- of a program, and its nodes that have members outside the table: what is lowered is valid, and has nothing to lower or is of
 -- the form, which needs no generated name
@@ -129,64 +123,33 @@ IsOutputOfValue o d status text = IsOfTree o d status text
 -- ---- of bytes
 
 -- the bytes are JSON text of this value
-pub record IsOfValue (o : Options) (b : List ℕ) (status : Status) (text : List ℕ) : Type 0 where
-  pub d : Data
-  pub utf8 : IsUtf8 b
-  pub value : read_text b ≡ Some d
-  pub output : IsOutputOfValue o d status text
-
--- the bytes are no JSON text
-abbrev pub HasNoValue : List ℕ → Type 0
-HasNoValue b = IsUtf8 b → read_text b ≡ None
+abbrev pub IsOfValue : Options → List ℕ → Status → List ℕ → Type 0
+IsOfValue o b status text = IsTextOfValue (λ d. IsOutputOfValue o d status text) b
 
 -- the output for the bytes under the options, with each status that depends on the bytes alone
 abbrev pub IsOutputOfBytes : Options → List ℕ → Status → List ℕ → Type 0
 IsOutputOfBytes o b Status.NotATree text = (HasNoValue b × (text ≡ json_line)) ⊎ IsOfValue o b Status.NotATree text
 IsOutputOfBytes o b status text = IsOfValue o b status text
 
--- ---- what is said, by the arguments, of a source that may tell its bytes
+-- ---- the statuses
 
--- what is said with each status, by the options that the arguments give, of a source that told these bytes, whose faults were
--- and are this many
-abbrev pub IsOutputOfSource : Option Options → Option (List ℕ) → ℕ → ℕ → Status → List ℕ → Type 0
-IsOutputOfSource None left before now Status.BadArguments text = text ≡ bad_arguments_line
-IsOutputOfSource None left before now status text = ⊥
-IsOutputOfSource (Some o) left before now Status.BadArguments text = ⊥
-IsOutputOfSource (Some o) left before now Status.WriteFault text = ⊥
-IsOutputOfSource (Some o) left before now Status.NoMemory text = ⊥
-IsOutputOfSource (Some o) left before now Status.ReadFault text = Rose before now × (text ≡ read_fault_line)
-IsOutputOfSource (Some o) left before now Status.TooLong text = IfSome left (λ b. most_bytes < length b) × (text ≡ too_long_line)
-IsOutputOfSource (Some o) left before now status text = IfSome left (λ b. (length b ≤ most_bytes) × IsOutputOfBytes o b status text)
+-- which status of the edge each is
+abbrev pub edge_of : Status → Option EdgeStatus
+edge_of Status.BadArguments = Some EdgeStatus.BadArguments
+edge_of Status.ReadFault = Some EdgeStatus.ReadFault
+edge_of Status.WriteFault = Some EdgeStatus.WriteFault
+edge_of Status.NoMemory = Some EdgeStatus.NoMemory
+edge_of Status.TooLong = Some EdgeStatus.TooLong
+edge_of status = None
 
 -- nothing is left in a source that tells its bytes, where the status tells of all of them
 abbrev pub IsReadToEnd : Option (List ℕ) → Option (List ℕ) → Status → Type 0
-IsReadToEnd left rest Status.Done = OnSome left (rest ≡ Some [])
-IsReadToEnd left rest Status.NotATree = OnSome left (rest ≡ Some [])
-IsReadToEnd left rest Status.Refused = OnSome left (rest ≡ Some [])
-IsReadToEnd left rest status = Unit
-
--- ---- the causes of the statuses
-
--- what was said with this status was written whole: the sink, where it tells what it holds, holds what it held and then
--- this text
-pub record IsWritten (o : Option Options) (left : Option (List ℕ)) (before now : ℕ) (held after : Option (List ℕ)) (status : Status) : Type 0 where
-  pub text : List ℕ
-  pub output : IsOutputOfSource o left before now status text
-  pub gained : Extends held after text
-
--- what was said with some status was written in part
-pub record IsPartlyWritten (o : Option Options) (left : Option (List ℕ)) (before now : ℕ) (held after : Option (List ℕ)) : Type 0 where
-  pub status : Status
-  pub text : List ℕ
-  pub output : IsOutputOfSource o left before now status text
-  pub part : ExtendsInPart held after text
+IsReadToEnd left rest status = ending.IsReadToEnd (edge_of status) left rest
 
 -- why a run ends with this status: options, the bytes that the source told and its faults before and after, what the sink
 -- held and holds and its faults before and after
 abbrev pub Cause : Option Options → Option (List ℕ) → ℕ → ℕ → Option (List ℕ) → Option (List ℕ) → ℕ → ℕ → Status → Type 0
-Cause o left before now held after first last Status.NoMemory = Extends held after []
-Cause o left before now held after first last Status.WriteFault = Rose first last × IsPartlyWritten o left before now held after
-Cause o left before now held after first last status = IsWritten o left before now held after status
+Cause o left before now held after first last status = ending.Cause edge_of IsOutputOfBytes o left before now held after first last status
 
 -- ---- completeness
 

@@ -16,10 +16,10 @@ ghost use Rattle.es_validity.specs.Validity.{is_valid};
 ghost use Rattle.es_shapes.specs.Warnings.{numbers};
 ghost use Rattle.es_steps.specs.Shapes.{shapes};
 ghost use Rattle.es_steps.specs.Told.{warnings_of};
-ghost use Rattle.lower_run.specs.Outcome.{IsOutputOfBytes, IsOutputOfValue, IsOutputOfTree, IsLineOf, IsLoweredTo, IsRefused, IsTextOf, most_bytes, not_yet_lowered};
+ghost use Rattle.lower_edge.specs.Ending.{most_bytes};
+ghost use Rattle.lower_run.specs.Outcome.{IsOutputOfBytes, IsOutputOfValue, IsOutputOfTree, IsLineOf, IsLoweredTo, IsRefused, IsTextOf, not_yet_lowered};
 
-use crate::lines::{float_line, not_a_tree_line, refusal_line};
-use crate::output::{Output, output_with};
+use crate::lines::{float_line, not_a_tree_line};
 use crate::status::Status;
 use borrowed_json::parse::{ParseError, parse};
 use borrowed_json::value::Value;
@@ -42,12 +42,14 @@ use es_steps::options::Options;
 use es_validity::error::LowerError;
 use es_writing::program::lowered_text;
 use json::Scratch;
+use lower_edge::lines::refusal_line;
+use lower_edge::output::{Output, output_with};
 use std::alloc::{AllocError, Global};
 use std::mem::forget;
 
 /// The output for these bytes, of which there are at most 67,108,864: the lowered tree with the status
 /// `Done`, or why there is none with `NotATree` or `Refused`. Fails on allocation failure alone.
-pub fn answer(alloc: Global, options: &Options, bytes: &[u8]) -> Result<Output, AllocError>
+pub fn answer(alloc: Global, options: &Options, bytes: &[u8]) -> Result<Output<Status>, AllocError>
     requires { length bytes.now ≤ most_bytes }
     ensures { IfOk result (λ s. IsOutputOfBytes (options.now) bytes.now s.status (s.text.items)) }
 {
@@ -60,7 +62,11 @@ pub fn answer(alloc: Global, options: &Options, bytes: &[u8]) -> Result<Output, 
 }
 
 /// The output for a value.
-fn of_value(alloc: Global, options: &Options, value: Value<'_>) -> Result<Output, AllocError>
+fn of_value(
+    alloc: Global,
+    options: &Options,
+    value: Value<'_>,
+) -> Result<Output<Status>, AllocError>
     requires { values (view value) + 1 < 2 ^ 32 }
     ensures { IfOk result (λ s. IsOutputOfValue (options.now) (view value.entry) s.status (s.text.items)) }
 {
@@ -84,7 +90,7 @@ fn tree_of(alloc: Global, value: Value<'_>) -> Result<(Node, List<NodeId>), Read
 }
 
 /// The fault of a value that is no program.
-fn of_fault(alloc: Global, error: ReadError) -> Result<Output, AllocError>
+fn of_fault(alloc: Global, error: ReadError) -> Result<Output<Status>, AllocError>
     ensures { IfOk result (λ s. (s.status ≡ Status.NotATree) × IsLineOf error (s.text.items)) }
 {
     let text = match error {
@@ -104,7 +110,7 @@ fn of_tree(
     options: &Options,
     tree: Node,
     foreign: &[NodeId],
-) -> Result<Output, AllocError>
+) -> Result<Output<Status>, AllocError>
     requires conforms { conforms Place.Program tree ≡ true }
     requires preorder { tree ≡ numbered_from 0 tree }
     requires few { nodes tree < 2 ^ 32 }

@@ -4,6 +4,5 @@
 
 mod answer;
 mod lines;
-mod output;
 pub mod run;
 pub mod status;

@@ -2,10 +2,10 @@
 // written out by hand, or come from outside.
 #![tactic(auto)]
 
+pub mod arguments;
 #[cfg(test)]
 mod edge;
-#[cfg(test)]
-mod programs;
+pub mod programs;
 #[cfg(test)]
 mod runs;
 #[cfg(test)]

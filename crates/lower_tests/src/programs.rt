@@ -27,6 +27,12 @@ pub fn no_field_written() -> &'static str {
 "#
 }
 
+/// The same, but that the class's name has the number of its body.
+pub fn no_field_misnumbered() -> &'static str {
+    r#"{"body":[{"body":{"body":[],"node":3,"type":"ClassBody"},"id":{"name":"C","node":3,"type":"Identifier"},"node":1,"superClass":null,"type":"ClassDeclaration"}],"generated":[],"node":0,"outside":[],"sourceType":"script","type":"Program","warnings":[]}
+"#
+}
+
 /// `export class D extends C {}`.
 pub fn derived() -> &'static str {
     r#"{"type":"Program","body":[{"type":"ExportNamedDeclaration","declaration":{"type":"ClassDeclaration","id":{"type":"Identifier","name":"D"},"superClass":{"type":"Identifier","name":"C"},"body":{"type":"ClassBody","body":[]}},"specifiers":[],"source":null}],"sourceType":"module"}"#

@@ -3,6 +3,7 @@
 
 ghost use Rattle.std.specs.Prelude.{◌<◌};
 
+use crate::arguments::arguments_of;
 use crate::programs::{
     awaits, awaits_warned, awaits_written, derived, derived_written, empty, empty_of_many_members,
     empty_written, no_field, no_field_written, one_field, one_field_kept, one_field_lowered,
@@ -31,15 +32,6 @@ struct Pace<'a> {
 struct Ended {
     status: u8,
     output: String,
-}
-
-/// The arguments of a command line, which are written a line each.
-fn arguments_of(alloc: Global, arguments: &str) -> Result<Vec<String>, AllocError> {
-    let mut list = Vec::new(alloc);
-    for argument in arguments.lines() {
-        list.push(String::from_str(alloc, argument)?)?;
-    }
-    Ok(list)
 }
 
 /// A run with these arguments on this input.

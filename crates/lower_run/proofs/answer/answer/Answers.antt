@@ -1,4 +1,4 @@
-use Rattle.lower_run.proofs.Written.{few-values}
+use Rattle.lower_edge.proofs.Counted.{few-values}
 use Rattle.lower_run.proofs.answer.answer.Goals as goal
 
 pub of_value-requires : goal.of_value-requires
