@@ -1,0 +1,5 @@
+pub mod Lines
+pub mod Outcome
+pub mod Pair
+pub mod PairErrors
+pub mod ReadPair
