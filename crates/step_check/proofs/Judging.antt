@@ -10,15 +10,19 @@ use Rattle.es_steps.specs.Meaning.{Meaning, lowered_means, means, source_means}
 use Rattle.es_steps.specs.PrivateNames.{PrivateMember}
 use Rattle.es_steps.specs.declared.options.Options.{Options}
 use Rattle.step_check.specs.Comparison.{AreOne, DifferIn, IsComparison, MayMean}
-use Rattle.step_check.specs.Judged.{FailsIn, IsRight}
+use Rattle.es_lowered.specs.Lowered.{IsLowered}
+use Rattle.step_check.specs.Judged.{FailsClauses, FailsFirst, FailsIn, IsRight}
 use Rattle.step_check.specs.declared.verdict.CheckError.{CheckError}
 use Rattle.step_check.specs.declared.verdict.Part.{Part}
 use Rattle.step_check.specs.declared.verdict.Verdict.{Verdict}
 use Rattle.std.specs.declared.result.Result.{Result}
 
+pub meets_all : (first : ℕ) (o : Options) (ledger : List LedgerEntry) (p q : Tree) → IsNumbered first q → first_unmet in_order first o ledger p q ≡ None → holds Clause.Texts first o ledger p q ≡ true → IsLowered first o ledger p q
+meets_all first o ledger p q numbered met texts = record { numbered = numbered; clauses = all_met first o ledger p q met texts }
+
 pub is_right : (first : ℕ) (o : Options) (ledger : List LedgerEntry) (p q : Tree) → IsNumbered first q → first_unmet in_order first o ledger p q ≡ None
     → AreOne (source_means o p) (lowered_means o ledger p q) → holds Clause.Texts first o ledger p q ≡ true → IsRight first o ledger p q
-is_right first o ledger p q numbered met one texts = record { lowered = record { numbered = numbered; clauses = all_met first o ledger p q met texts }; meaning = one }
+is_right first o ledger p q numbered met one texts = record { lowered = meets_all first o ledger p q numbered met texts; meaning = one }
 
 -- where meanings differ in a part, the pair fails there
 pub fails : (part : Part) (node first : ℕ) (o : Options) (ledger : List LedgerEntry) (p q : Tree) → IsNumbered first q → first_unmet in_order first o ledger p q ≡ None
@@ -34,6 +38,17 @@ fails Part.Construction node first o ledger p q numbered met d = (record { numbe
 fails Part.Private node first o ledger p q numbered met d = (record { numbered = numbered; met = met }, d)
 fails Part.Declaration node first o ledger p q numbered met d = (record { numbered = numbered; met = met }, d)
 fails Part.Export node first o ledger p q numbered met d = (record { numbered = numbered; met = met }, d)
+
+-- what fails in front of the meaning, fails
+pub first_fails : (part : Part) (node first : ℕ) (o : Options) (ledger : List LedgerEntry) (p q : Tree) → FailsFirst part node first o ledger p q → FailsIn part node first o ledger p q
+first_fails Part.Numbers node first o ledger p q f = f
+first_fails (Part.Lowered c) node first o ledger p q f = f
+first_fails part node first o ledger p q f = absurd f
+
+-- and by clauses alone
+pub clauses_fail : (part : Part) (node first : ℕ) (o : Options) (ledger : List LedgerEntry) (p q : Tree) → FailsFirst part node first o ledger p q → FailsClauses part node first o ledger p q
+clauses_fail Part.Texts node first o ledger p q f = absurd f
+clauses_fail part node first o ledger p q f = f
 
 -- where one is missing, there is none
 pub none_of_none : (a : Option Meaning) → MayMean None a → a ≡ None

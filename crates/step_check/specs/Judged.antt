@@ -40,7 +40,27 @@ IsJudgedFrom (Verdict.No part node) first o ledger p q = FailsIn part node.0 fir
 abbrev pub IsJudged : Verdict → Options → List LedgerEntry → Tree → Tree → Type 0
 IsJudged v o ledger p q = IsJudgedFrom v (nodes p) o ledger p q
 
+-- ---- clauses alone, whatever the two mean
+
 -- in what q fails, meanings and texts aside
+abbrev pub FailsFirst : Part → ℕ → ℕ → Options → List LedgerEntry → Tree → Tree → Type 0
+FailsFirst Part.Numbers node first o ledger p q = FailsIn Part.Numbers node first o ledger p q
+FailsFirst (Part.Lowered c) node first o ledger p q = FailsIn (Part.Lowered c) node first o ledger p q
+FailsFirst part node first o ledger p q = ⊥
+
 abbrev pub IsFailure : Option (Part × NodeId) → ℕ → Options → List LedgerEntry → Tree → Tree → Type 0
 IsFailure None first o ledger p q = MeetsFirst first o ledger p q
-IsFailure (Some (part, node)) first o ledger p q = FailsIn part node.0 first o ledger p q
+IsFailure (Some (part, node)) first o ledger p q = FailsFirst part node.0 first o ledger p q
+
+-- in what q fails, meanings aside
+abbrev pub FailsClauses : Part → ℕ → ℕ → Options → List LedgerEntry → Tree → Tree → Type 0
+FailsClauses Part.Texts node first o ledger p q = MeetsFirst first o ledger p q × ((texts_stay first p q ≡ false) × (node ≡ 0))
+FailsClauses part node first o ledger p q = FailsFirst part node first o ledger p q
+
+abbrev pub AreJudgedFrom : Verdict → ℕ → Options → List LedgerEntry → Tree → Tree → Type 0
+AreJudgedFrom Verdict.Yes first o ledger p q = IsLowered first o ledger p q
+AreJudgedFrom (Verdict.No part node) first o ledger p q = FailsClauses part node.0 first o ledger p q
+
+-- what is said of a source p, and of what it was lowered to, by the clauses alone
+abbrev pub IsJudgedByClauses : Verdict → Options → List LedgerEntry → Tree → Tree → Type 0
+IsJudgedByClauses v o ledger p q = AreJudgedFrom v (nodes p) o ledger p q

@@ -7,7 +7,7 @@ ghost use Rattle.es_clauses.specs.Clauses.{in_order};
 ghost use Rattle.es_clauses.specs.Clauses.{first_unmet as unmet};
 ghost use Rattle.es_steps.specs.Meaning.{lowered_means, source_means};
 ghost use Rattle.step_check.specs.Comparison.{AreOne};
-ghost use Rattle.step_check.specs.Judged.{IsFailure, IsJudged, IsJudgedFrom};
+ghost use Rattle.step_check.specs.Judged.{AreJudgedFrom, IsFailure, IsJudged, IsJudgedByClauses, IsJudgedFrom};
 
 use crate::compare::compare;
 use crate::verdict::{CheckError, Part, Verdict};
@@ -78,6 +78,7 @@ fn judge_meanings(alloc: Global, pair: &Pair) -> Result<Verdict, CheckError>
 }
 
 /// What is said of a pair.
+#[tactic(auto, using(crate::proofs::Judging::first_fails))]
 fn judge(alloc: Global, pair: &Pair) -> Result<Verdict, CheckError>
     requires { pair.now.first ≡ nodes pair.now.source.program.now }
     ensures { IfOk result (λ v. IsJudgedFrom v pair.now.first pair.now.options.now pair.now.ledger.now pair.now.source.program.now pair.now.lowered.program.now) }
@@ -136,4 +137,46 @@ pub fn step_check<'a>(
 {
     let pair = pair_of(alloc, options, ledger, source, lowered)?;
     judge(alloc, &pair)
+}
+
+/// What is said, by the clauses alone, of a pair that meets those in front of the meaning: whether texts stay.
+#[tactic(auto, using(crate::proofs::Judging::meets_all))]
+fn judge_last_clause(alloc: Global, pair: &Pair) -> Result<Verdict, AllocError>
+    requires numbered { IsNumbered pair.now.first pair.now.lowered.program.now }
+    requires met { unmet in_order pair.now.first pair.now.options.now pair.now.ledger.now pair.now.source.program.now pair.now.lowered.program.now ≡ None }
+    ensures { IfOk result (λ v. AreJudgedFrom v pair.now.first pair.now.options.now pair.now.ledger.now pair.now.source.program.now pair.now.lowered.program.now) }
+{
+    if meets(alloc, pair, Clause::Texts)? {
+        return Ok(Verdict::Yes);
+    }
+    let (part, node) = (Part::Texts, NodeId(0));
+    Ok(Verdict::No { part, node })
+}
+
+/// What is said of a pair by the clauses alone.
+#[tactic(auto, using(crate::proofs::Judging::clauses_fail))]
+fn judge_clauses(alloc: Global, pair: &Pair) -> Result<Verdict, AllocError>
+    ensures { IfOk result (λ v. AreJudgedFrom v pair.now.first pair.now.options.now pair.now.ledger.now pair.now.source.program.now pair.now.lowered.program.now) }
+{
+    match first_failure(alloc, pair)? {
+        Some((part, node)) => Ok(Verdict::No { part, node }),
+        None => judge_last_clause(alloc, pair),
+    }
+}
+
+/// Whether `lowered` meets the clauses on lowered programs (docs/MEANING.md) as what `source` was lowered to, whatever the two
+/// mean. Where it does not, the first part in which it fails is told, with a node. The source has less than 4,294,967,296 nodes.
+/// Fails on allocation failure alone.
+pub fn check_clauses<'a>(
+    alloc: Global,
+    options: &'a Options,
+    ledger: &'a [LedgerEntry],
+    source: &'a Node,
+    lowered: &'a Node,
+) -> Result<Verdict, AllocError>
+    requires { nodes source.now < 2 ^ 32 }
+    ensures { IfOk result (λ v. IsJudgedByClauses v options.now ledger.now source.now lowered.now) }
+{
+    let pair = pair_of(alloc, options, ledger, source, lowered)?;
+    judge_clauses(alloc, &pair)
 }
