@@ -36,11 +36,17 @@ pub fn check_run<S: Source, K: Sink>(
     ensures source_later { S.faults source.old ≤ S.faults source.new }
     ensures sink_later { K.faults sink.old ≤ K.faults sink.new }
 {
-    answer_source(alloc, arguments, source, sink)
+    answer_source(alloc, &Checker, arguments, source, sink)
 }
 
-impl Answers for CheckStatus {
+/// The program that holds a lowered program against its source.
+#[derive(Clone, Copy)]
+struct Checker;
+
+impl Answers for Checker {
     ghost use Rattle.check_run.specs.Outcome.{IsOutputOfBytes, edge_of};
+
+    type Status = CheckStatus;
 
     ghost edge = { edge_of };
 
@@ -57,6 +63,7 @@ impl Answers for CheckStatus {
     }
 
     fn answer(
+        &self,
         alloc: Global,
         options: &Options,
         bytes: &[u8],

@@ -16,20 +16,21 @@ use std::alloc::{AllocError, Global};
 /// More bytes than this are not read.
 const MOST_BYTES: usize = 67_108_864;
 
-/// Reads the source to its end, and writes the answer to its bytes to the sink, or the line of a status of the edge. The
-/// arguments are those of `read_settings`.
+/// Reads the source to its end, and writes the program's answer to its bytes to the sink, or the line of a status of the edge.
+/// The arguments are those of `read_settings`.
 pub fn answer_source<T: Answers, S: Source, K: Sink>(
     alloc: Global,
+    program: &T,
     arguments: &[String],
     source: &mut S,
     sink: &mut K,
-) -> T
+) -> T::Status
     ensures cause { Cause T.edge T.gives (settings_of (map string_bytes arguments.now)) (S.left source.old) (S.faults source.old) (S.faults source.new) (K.held sink.old) (K.held sink.new) (K.faults sink.old) (K.faults sink.new) result }
     ensures end { IsReadToEnd (T.edge result) (S.left source.old) (S.left source.new) }
     ensures source_later { S.faults source.old ≤ S.faults source.new }
     ensures sink_later { K.faults sink.old ≤ K.faults sink.new }
 {
-    let output = match output_of::<T, S>(alloc, arguments, source) {
+    let output = match output_of(alloc, program, arguments, source) {
         Ok(output) => output,
         Err(_) => return T::of_edge(EdgeStatus::NoMemory),
     };
@@ -42,9 +43,10 @@ pub fn answer_source<T: Answers, S: Source, K: Sink>(
 /// The output for these arguments and this source. Fails on allocation failure alone.
 fn output_of<T: Answers, S: Source>(
     alloc: Global,
+    program: &T,
     arguments: &[String],
     source: &mut S,
-) -> Result<Output<T>, AllocError>
+) -> Result<Output<T::Status>, AllocError>
     ensures output { IfOk result (λ s. Says T.edge T.gives (settings_of (map string_bytes arguments.now)) (S.left source.old) (S.faults source.old) (S.faults source.new) s.status s.text.items) }
     ensures end { IfOk result (λ s. IsReadToEnd (T.edge s.status) (S.left source.old) (S.left source.new)) }
     ensures later { S.faults source.old ≤ S.faults source.new }
@@ -57,7 +59,7 @@ fn output_of<T: Answers, S: Source>(
         }
     };
     match read_all(alloc, source, MOST_BYTES) {
-        Ok(bytes) => T::answer(alloc, &settings.options, bytes.as_slice()),
+        Ok(bytes) => program.answer(alloc, &settings.options, bytes.as_slice()),
         Err(ReadStop::NoMemory) => Err(AllocError),
         Err(ReadStop::Failed) => {
             output_with(alloc, T::of_edge(EdgeStatus::ReadFault), "read fault\n")

@@ -9,7 +9,7 @@ use Rattle.es_steps.specs.LoweredClasses.{is_lowered_kind, kind_of, none_lowered
 use Rattle.es_steps.specs.declared.options.Options.{Options}
 use Rattle.es_left.specs.Left.{first_left, first_lowered}
 use Rattle.class_properties.specs.Options.{defines_fields}
-use Rattle.lower_run.specs.Outcome.{IsOfForm, not_yet_lowered}
+use Rattle.lower_run.specs.FirstForm.{IsOfForm, not_yet_lowered}
 
 abbrev is_there : Option ℕ → Bool
 is_there None = true

@@ -1,2 +1,4 @@
+pub mod FirstForm
 pub mod Lines
+pub mod Lowering
 pub mod Outcome

@@ -1,12 +1,11 @@
 // The output for the bytes of a source: the lowered tree, or why there is none.
 
-ghost use Rattle.std.specs.Prelude.{◌≡◌, ◌≤◌, ◌<◌, ◌+◌, ◌^◌, IfOk, OnOk, IfErr, Ok, length, option_map, true};
+ghost use Rattle.std.specs.Prelude.{◌≡◌, ◌≤◌, ◌<◌, ◌+◌, ◌^◌, IfOk, OnOk, IfErr, Ok, length, true};
 ghost use Rattle.es_base.specs.Conforms.{conforms};
 ghost use Rattle.es_base.specs.Preorder.{nodes, numbered_from};
 ghost use Rattle.es_base.specs.declared.kind.Kind.{Kind};
 ghost use Rattle.es_base.specs.declared.table.Place.{Place};
 ghost use Rattle.es_node.specs.View.{kind_of};
-ghost use Rattle.es_steps.specs.LoweredClasses.{nothing_left};
 ghost use Rattle.es_writing.specs.Kept.{IsKept};
 ghost use Rattle.es_reading.specs.Reading.{read, root};
 ghost use Rattle.borrowed_json.specs.View.{view};
@@ -17,23 +16,18 @@ ghost use Rattle.es_shapes.specs.Warnings.{numbers};
 ghost use Rattle.es_steps.specs.Shapes.{shapes};
 ghost use Rattle.es_steps.specs.Told.{warnings_of};
 ghost use Rattle.lower_edge.specs.Ending.{most_bytes};
-ghost use Rattle.lower_run.specs.Outcome.{IsOutputOfBytes, IsOutputOfValue, IsOutputOfTree, IsLineOf, IsLoweredTo, IsRefused, IsTextOf, not_yet_lowered};
+ghost use Rattle.lower_run.specs.Outcome.{IsOutputOfBytes, IsOutputOfValue, IsOutputOfTree, IsLineOf, IsRefused, IsTextOf};
 
 use crate::lines::{float_line, not_a_tree_line};
+use crate::lowering::{Lowered, Lowers, Unlowered};
 use crate::status::Status;
 use borrowed_json::parse::{ParseError, parse};
 use borrowed_json::value::Value;
-use class_properties::not_yet::not_yet;
-use class_properties::{defines_fields, lower};
 use es_base::diagnostic::Diagnostic;
 use es_base::ids::NodeId;
-use es_base::ledger::Ledger;
 use es_base::list::List;
-use es_base::shape::Shape;
 use es_binding_faults::check::check_valid;
-use es_left::left::{first_left, nothing_left};
 use es_node::node::Node;
-use es_outside::outside::outside_shapes;
 use es_reading::fault::ReadError;
 use es_reading::numbers::Numbers;
 use es_reading::tree::read_tree;
@@ -49,29 +43,35 @@ use std::mem::forget;
 
 /// The output for these bytes, of which there are at most 67,108,864: the lowered tree with the status
 /// `Done`, or why there is none with `NotATree` or `Refused`. Fails on allocation failure alone.
-pub fn answer(alloc: Global, options: &Options, bytes: &[u8]) -> Result<Output<Status>, AllocError>
+pub fn answer<L: Lowers>(
+    alloc: Global,
+    lowering: &L,
+    options: &Options,
+    bytes: &[u8],
+) -> Result<Output<Status>, AllocError>
     requires { length bytes.now ≤ most_bytes }
-    ensures { IfOk result (λ s. IsOutputOfBytes (options.now) bytes.now s.status (s.text.items)) }
+    ensures { IfOk result (λ s. IsOutputOfBytes L.makes L.declines options.now bytes.now s.status s.text.items) }
 {
     let mut scratch = Scratch::new(alloc);
     match parse(alloc, bytes, &mut scratch) {
-        Ok(value) => of_value(alloc, options, value),
+        Ok(value) => of_value(alloc, lowering, options, value),
         Err(ParseError::Invalid) => output_with(alloc, Status::NotATree, "not a tree: json\n"),
         Err(ParseError::NoMemory) => Err(AllocError),
     }
 }
 
 /// The output for a value.
-fn of_value(
+fn of_value<L: Lowers>(
     alloc: Global,
+    lowering: &L,
     options: &Options,
     value: Value<'_>,
 ) -> Result<Output<Status>, AllocError>
     requires { values (view value) + 1 < 2 ^ 32 }
-    ensures { IfOk result (λ s. IsOutputOfValue (options.now) (view value.entry) s.status (s.text.items)) }
+    ensures { IfOk result (λ s. IsOutputOfValue L.makes L.declines options.now (view value.entry) s.status s.text.items) }
 {
     match tree_of(alloc, value) {
-        Ok((tree, foreign)) => of_tree(alloc, options, tree, foreign.as_slice()),
+        Ok((tree, foreign)) => of_tree(alloc, lowering, options, tree, foreign.as_slice()),
         Err(error) => of_fault(alloc, error),
     }
 }
@@ -105,8 +105,9 @@ fn of_fault(alloc: Global, error: ReadError) -> Result<Output<Status>, AllocErro
 }
 
 /// The output for a program, and of the numbers of its nodes that have members outside the table.
-fn of_tree(
+fn of_tree<L: Lowers>(
     alloc: Global,
+    lowering: &L,
     options: &Options,
     tree: Node,
     foreign: &[NodeId],
@@ -114,12 +115,12 @@ fn of_tree(
     requires conforms { conforms Place.Program tree ≡ true }
     requires preorder { tree ≡ numbered_from 0 tree }
     requires few { nodes tree < 2 ^ 32 }
-    ensures { IfOk result (λ s. IsOutputOfTree (options.now) tree (ids foreign.now) s.status (s.text.items)) }
+    ensures { IfOk result (λ s. IsOutputOfTree L.makes L.declines options.now tree (ids foreign.now) s.status s.text.items) }
 {
-    match lower_tree(alloc, options, tree, foreign) {
-        Ok(lowered) => Ok(Output {
+    match lower_tree(alloc, lowering, options, tree, foreign) {
+        Ok(told) => Ok(Output {
             status: Status::Done,
-            text: text_of(alloc, lowered)?,
+            text: text_of(alloc, told)?,
         }),
         Err(error) => Ok(Output {
             status: Status::Refused,
@@ -128,99 +129,50 @@ fn of_tree(
     }
 }
 
-/// A lowered program, and what is told beside it.
+/// What a program is lowered to, and the warnings for it.
 #[derive(Drop)]
-struct Lowered {
-    program: Node,
+struct Told {
+    lowered: Lowered,
     warnings: Vec<Diagnostic>,
-    shapes: Vec<Shape>,
 }
 
-/// What a program is lowered to, if it is valid, and has nothing to lower or is of the first form where
-/// fields are defined.
-fn lower_tree(
+/// What a program is lowered to, if it is valid and the lowering does not decline it.
+fn lower_tree<L: Lowers>(
     alloc: Global,
+    lowering: &L,
     options: &Options,
     tree: Node,
     foreign: &[NodeId],
-) -> Result<Lowered, LowerError>
+) -> Result<Told, LowerError>
     requires conforms { conforms Place.Program tree ≡ true }
+    requires preorder { tree ≡ numbered_from 0 tree }
     requires few { nodes tree < 2 ^ 32 }
     ensures valid { OnOk result (is_valid options.now (ids foreign.now) tree ≡ true) }
-    ensures lowered { IfOk result (λ r. IsLoweredTo options.now tree (ids foreign.now) r.program) }
+    ensures program { IfOk result (λ r. conforms Place.Program r.lowered.program ≡ true) }
+    ensures made { IfOk result (λ r. L.makes options.now tree (ids foreign.now) r.lowered.names.entries r.lowered.program) }
     ensures warned { IfOk result (λ r. numbers r.warnings.items ≡ warnings_of options.now tree) }
-    ensures shaped { IfOk result (λ r. r.shapes.items ≡ shapes options.now tree) }
-    ensures refused { IfErr result (IsRefused options.now tree (ids foreign.now)) }
+    ensures shaped { IfOk result (λ r. r.lowered.shapes.items ≡ shapes options.now tree) }
+    ensures refused { IfErr result (IsRefused L.declines options.now tree (ids foreign.now)) }
 {
     check_valid(alloc, &tree, foreign, options)?;
     let warnings = warnings(alloc, &tree, options)?;
-    if nothing_left(&tree, options) {
-        let shapes = shapes_of_unchanged(alloc, &tree, options)?;
-        return Ok(Lowered {
-            program: tree,
-            warnings,
-            shapes,
-        });
-    }
-    match not_yet_lowered(alloc, &tree, foreign, options)? {
-        Some(node) => Err(LowerError::NotYet { node }),
-        None => Ok(Lowered {
-            program: lower(alloc, tree)?,
-            warnings,
-            shapes: Vec::new(alloc),
-        }),
+    match lowering.lower(alloc, options, tree, foreign) {
+        Ok(lowered) => Ok(Told { lowered, warnings }),
+        Err(Unlowered::NotYet { node }) => Err(LowerError::NotYet { node }),
+        Err(Unlowered::NoMemory) => Err(LowerError::NoMemory),
     }
 }
 
-/// The shapes of a program with nothing to lower, which has none where static blocks stay as well.
-#[tactic(auto, using(es_left::proofs::Shapeless::no_shapes))]
-fn shapes_of_unchanged(
-    alloc: Global,
-    program: &Node,
-    options: &Options,
-) -> Result<Vec<Shape>, AllocError>
-    requires conforms { conforms Place.Program program.now ≡ true }
-    requires unchanged { nothing_left options.now program.now ≡ true }
-    ensures { IfOk result (λ s. s.items ≡ shapes options.now program.now) }
+/// The text of a lowered program, and a line feed. The tree is not let go: the program ends soon.
+fn text_of(alloc: Global, told: Told) -> Result<Vec<u8>, AllocError>
+    requires { kind_of told.lowered.program ≡ Kind.Program }
+    ensures text { IfOk result (λ s. IsTextOf s.items told.lowered.program told.lowered.names.entries told.warnings.items told.lowered.shapes.items) }
+    ensures kept { IfOk result (λ _. IsKept told.lowered.program) }
 {
-    if options.es2022.class_static_block {
-        outside_shapes(alloc, program, options)
-    } else {
-        Ok(Vec::new(alloc))
-    }
-}
-
-/// The node that says why a valid program with something to lower is not lowered yet: the least that is not
-/// as the first form asks, where fields are defined, and else the first that is to be lowered.
-fn not_yet_lowered(
-    alloc: Global,
-    program: &Node,
-    foreign: &[NodeId],
-    options: &Options,
-) -> Result<Option<NodeId>, AllocError>
-    requires { conforms Place.Program program.now ≡ true }
-    ensures { IfOk result (λ n. option_map (λ n. n.0) n ≡ not_yet_lowered options.now program.now (ids foreign.now)) }
-{
-    if defines_fields(options) {
-        not_yet(alloc, program, foreign)
-    } else {
-        Ok(first_left(program, options))
-    }
-}
-
-/// The text of a lowered program with no generated name, and a line feed. The tree is not let go: the program
-/// ends soon.
-fn text_of(alloc: Global, lowered: Lowered) -> Result<Vec<u8>, AllocError>
-    requires { kind_of lowered.program ≡ Kind.Program }
-    ensures text { IfOk result (λ s. IsTextOf s.items lowered.program lowered.warnings.items lowered.shapes.items) }
-    ensures kept { IfOk result (λ _. IsKept lowered.program) }
-{
-    let ledger = Ledger {
-        entries: List::new(alloc),
-    };
-    let warnings = lowered.warnings.as_slice();
+    let lowered = told.lowered;
+    let warnings = told.warnings.as_slice();
     let shapes = lowered.shapes.as_slice();
-    let mut text = lowered_text(alloc, &lowered.program, &ledger, warnings, shapes)?;
+    let mut text = lowered_text(alloc, &lowered.program, &lowered.names, warnings, shapes)?;
     text.push(b'\n')?;
     forget(lowered.program);
     Ok(text)

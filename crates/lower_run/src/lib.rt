@@ -3,6 +3,8 @@
 #![tactic(auto)]
 
 mod answer;
+pub mod first_form;
 mod lines;
+pub mod lowering;
 pub mod run;
 pub mod status;

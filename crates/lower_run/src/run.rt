@@ -1,11 +1,14 @@
 // The run: from the bytes of a source to what a sink gets.
 
 ghost use Rattle.std.specs.Prelude.{◌≡◌, ◌≤◌, List, ℕ, Some, map, string_bytes};
-ghost use Rattle.lower_run.specs.Outcome.{IsReadToEnd, Cause, Complete, HasLowered};
+ghost use Rattle.lower_run.specs.FirstForm.{IsComplete, IsMade, IsNotYet};
+ghost use Rattle.lower_run.specs.Outcome.{Cause, Complete, HasLowered, IsReadToEnd};
 ghost use Rattle.lower_io.specs.Settings.{settings_of};
 ghost use Rattle.lower_run.specs.declared.status.Status.{Status};
 
 use crate::answer::answer;
+use crate::first_form::FirstForm;
+use crate::lowering::Lowers;
 use crate::status::Status;
 use es_steps::options::Options;
 use lower_edge::answers::Answers;
@@ -31,22 +34,49 @@ pub fn run<S: Source, K: Sink>(
     source: &mut S,
     sink: &mut K,
 ) -> Status
-    ensures done { result ≡ Status.Done → (b held now : List ℕ) → S.left source.old ≡ Some b → K.held sink.old ≡ Some held → K.held sink.new ≡ Some now → HasLowered (settings_of (map string_bytes arguments.now)) b held now }
-    ensures cause { Cause (settings_of (map string_bytes arguments.now)) (S.left source.old) (S.faults source.old) (S.faults source.new) (K.held sink.old) (K.held sink.new) (K.faults sink.old) (K.faults sink.new) result }
-    ensures complete { Complete (settings_of (map string_bytes arguments.now)) (S.left source.old) (S.faults source.old) (S.faults source.new) (K.faults sink.old) (K.faults sink.new) result }
+    ensures done { result ≡ Status.Done → (b held now : List ℕ) → S.left source.old ≡ Some b → K.held sink.old ≡ Some held → K.held sink.new ≡ Some now → HasLowered IsMade IsNotYet (settings_of (map string_bytes arguments.now)) b held now }
+    ensures cause { Cause IsMade IsNotYet (settings_of (map string_bytes arguments.now)) (S.left source.old) (S.faults source.old) (S.faults source.new) (K.held sink.old) (K.held sink.new) (K.faults sink.old) (K.faults sink.new) result }
+    ensures complete { IsComplete (settings_of (map string_bytes arguments.now)) (S.left source.old) (S.faults source.old) (S.faults source.new) (K.faults sink.old) (K.faults sink.new) result }
     ensures end { IsReadToEnd (S.left source.old) (S.left source.new) result }
     ensures source_later { S.faults source.old ≤ S.faults source.new }
     ensures sink_later { K.faults sink.old ≤ K.faults sink.new }
 {
-    answer_source(alloc, arguments, source, sink)
+    run_by(alloc, &FirstForm, arguments, source, sink)
 }
 
-impl Answers for Status {
+/// Reads the source to its end, lowers the tree that its bytes are by a lowering, and writes the lowered tree, or why
+/// there is none, to the sink, as `run` does.
+pub fn run_by<L: Lowers, S: Source, K: Sink>(
+    alloc: Global,
+    lowering: &L,
+    arguments: &[String],
+    source: &mut S,
+    sink: &mut K,
+) -> Status
+    ensures done { result ≡ Status.Done → (b held now : List ℕ) → S.left source.old ≡ Some b → K.held sink.old ≡ Some held → K.held sink.new ≡ Some now → HasLowered L.makes L.declines (settings_of (map string_bytes arguments.now)) b held now }
+    ensures cause { Cause L.makes L.declines (settings_of (map string_bytes arguments.now)) (S.left source.old) (S.faults source.old) (S.faults source.new) (K.held sink.old) (K.held sink.new) (K.faults sink.old) (K.faults sink.new) result }
+    ensures complete { Complete L.declines (settings_of (map string_bytes arguments.now)) (S.left source.old) (S.faults source.old) (S.faults source.new) (K.faults sink.old) (K.faults sink.new) result }
+    ensures end { IsReadToEnd (S.left source.old) (S.left source.new) result }
+    ensures source_later { S.faults source.old ≤ S.faults source.new }
+    ensures sink_later { K.faults sink.old ≤ K.faults sink.new }
+{
+    answer_source(alloc, &Lowerer { lowering }, arguments, source, sink)
+}
+
+/// The program that lowers by this lowering.
+#[derive(Drop)]
+struct Lowerer<'a, L> {
+    lowering: &'a L,
+}
+
+impl<L: Lowers> Answers for Lowerer<'_, L> {
     ghost use Rattle.lower_run.specs.Outcome.{IsOutputOfBytes, edge_of};
+
+    type Status = Status;
 
     ghost edge = { edge_of };
 
-    ghost gives = { IsOutputOfBytes };
+    ghost gives = { IsOutputOfBytes L.makes L.declines };
 
     fn of_edge(status: EdgeStatus) -> Status {
         match status {
@@ -59,10 +89,11 @@ impl Answers for Status {
     }
 
     fn answer(
+        &self,
         alloc: Global,
         options: &Options,
         bytes: &[u8],
     ) -> Result<Output<Status>, AllocError> {
-        answer(alloc, options, bytes)
+        answer(alloc, self.lowering, options, bytes)
     }
 }

@@ -1,8 +1,5 @@
-use Rattle.lower_run.proofs.Causes.{cause-complete, cause-done}
+use Rattle.lower_run.proofs.Causes.{first_form-complete}
 use Rattle.lower_run.proofs.run.run.Goals as goal
 
-pub returns-clause-done : goal.returns-clause-done
-returns-clause-done g c = cause-done _ _ _ _ _ _ _ _ _ c.answer_source.ensures.cause
-
 pub returns-clause-complete : goal.returns-clause-complete
-returns-clause-complete g c = cause-complete _ _ _ _ _ _ _ _ _ c.answer_source.ensures.cause
+returns-clause-complete g c = first_form-complete _ _ _ _ _ _ _ c.run_by.ensures.complete

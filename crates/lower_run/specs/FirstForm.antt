@@ -1,0 +1,44 @@
+-- What is lowered yet: programs with nothing to lower, and those of the first form where fields are defined.
+use Rattle.std.specs.Prelude.{◌≡◌, List, [], ℕ, Option, Some, None, ◌⊎◌, true, false, cond}
+use Rattle.class_properties.specs.Options.{defines_fields}
+use Rattle.es_base.specs.Tree.{Tree}
+use Rattle.es_base.specs.declared.ledger.LedgerEntry.{LedgerEntry}
+use Rattle.es_left.specs.Left.{first_left}
+use Rattle.es_steps.specs.FirstForm.{not_yet, is_first_form}
+use Rattle.es_steps.specs.LoweredClasses.{nothing_left}
+use Rattle.es_steps.specs.declared.options.Options.{Options}
+use Rattle.lower_io.specs.Causes.{Rose}
+use Rattle.lower_run.specs.Lowering.{IsOwed}
+use Rattle.lower_run.specs.Outcome.{IsOfValidProgram}
+use Rattle.lower_run.specs.declared.status.Status.{Status}
+
+-- fields are defined, the program is of the first form, and none of its nodes has members outside the table
+abbrev pub IsOfForm : Options → Tree → List ℕ → Type 0
+IsOfForm o p foreign = (defines_fields o ≡ true) × (foreign ≡ []) × (is_first_form p [] ≡ true)
+
+-- the number of the node that says why a program with something to lower is not lowered yet: the least that is not as the
+-- form asks, where fields are defined, and else the first that is to be lowered
+abbrev pub not_yet_lowered : Options → Tree → List ℕ → Option ℕ
+not_yet_lowered o p foreign = cond (defines_fields o) (not_yet p foreign) (first_left o p)
+
+-- what is made of a program that has nothing to lower or is of the form: no name is generated, and each keeps its meaning
+pub record IsMade (o : Options) (p : Tree) (foreign : List ℕ) (names : List LedgerEntry) (q : Tree) : Type 0 where
+  pub form : (nothing_left o p ≡ true) ⊎ IsOfForm o p foreign
+  pub unnamed : names ≡ []
+  pub owed : IsOwed (Unit {0}) o p names q
+
+-- why nothing is made of a program: it has something to lower, and is not lowered yet
+abbrev pub IsNotYet : Options → Tree → List ℕ → ℕ → Type 0
+IsNotYet o p foreign node = (nothing_left o p ≡ false) × (not_yet_lowered o p foreign ≡ Some node)
+
+-- ---- completeness
+
+-- the bytes are JSON text of a valid program that has nothing to lower under the options or is of the form
+pub record IsLowerable (o : Options) (b : List ℕ) : Type 0 where
+  pub program : IsOfValidProgram o b
+  pub form : (nothing_left o program.p ≡ true) ⊎ (not_yet_lowered o program.p program.foreign ≡ None)
+
+-- of such bytes, with arguments of the grammar, and where neither the source nor the sink failed, nothing is answered but that
+-- the tree was written, or that memory ran out
+abbrev pub IsComplete : Option Options → Option (List ℕ) → ℕ → ℕ → ℕ → ℕ → Status → Type 0
+IsComplete o left before now first last status = (options : Options) (b : List ℕ) → o ≡ Some options → left ≡ Some b → IsLowerable options b → ¬ Rose before now → ¬ Rose first last → (status ≡ Status.Done) ⊎ (status ≡ Status.NoMemory)
