@@ -1,0 +1,362 @@
+// Constructors, which get the initializers of instance fields.
+
+use crate::builders::{create_binding, create_declarator, create_reference, create_statement};
+use crate::instance_prop_init::rename_clashing_symbols;
+use crate::rewrite::{Rewriter, rewrite_statements};
+use crate::state::State;
+use crate::utils::{append, directive_count, exprs_into_stmts, with_nodes_at};
+use es_base::ids::{NodeId, ScopeId};
+use es_base::kind::Kind;
+use es_base::ledger::GeneratedKind;
+use es_base::list::List;
+use es_base::name::Name;
+use es_base::operator::{MethodDefinitionKind, VariableDeclarationKind};
+use es_node::node::Node;
+use es_tree::class::{MethodDefinition, MethodDefinitionRef, make_method_definition};
+use es_tree::expression::{
+    CallExpression, CallExpressionRef, make_call_expression, make_sequence_expression,
+    make_spread_element, make_super, make_this_expression,
+};
+use es_tree::function::{
+    FunctionExpression, FunctionExpressionRef, make_arrow_function_expression,
+    make_function_expression,
+};
+use es_tree::identifier::make_identifier_name;
+use es_tree::pattern::make_rest_element;
+use es_tree::statement::{
+    BlockStatement, ExpressionStatementRef, make_block_statement, make_variable_declaration,
+};
+use es_visit::roles::Role;
+use es_visit::visit::{Visit, walk_node};
+use std::alloc::{AllocError, Global};
+use std::mem;
+
+/// The elements of a class, whose constructor does what these initializers do: in a base class in front of all else, in a derived
+/// one behind `super(..)`. A class without a constructor gets one, as its first element.
+pub fn insert_instance_inits(
+    state: &mut State,
+    class: NodeId,
+    has_super_class: bool,
+    elements: List<Node>,
+    inits: List<Node>,
+) -> Result<List<Node>, AllocError> {
+    let alloc = state.alloc;
+    let mut inits = inits;
+    let mut kept = List::new(alloc);
+    let mut has_constructor = false;
+    for element in elements.into_vec() {
+        if is_constructor(&element) {
+            has_constructor = true;
+            let inits = mem::replace(&mut inits, List::new(alloc));
+            kept.push(insert_into(state, class, has_super_class, element, inits)?)?;
+        } else {
+            kept.push(element)?;
+        }
+    }
+    if !has_constructor {
+        kept.insert(0, create_constructor(state, has_super_class, inits)?)?;
+    }
+    Ok(kept)
+}
+
+fn is_constructor(element: &Node) -> bool {
+    match element.kind() {
+        Kind::MethodDefinition => {
+            MethodDefinitionRef::from_node(element).kind == MethodDefinitionKind::Constructor
+        }
+        _ => false,
+    }
+}
+
+/// `constructor() { inits }`, and in a derived class `constructor(..._args) { super(..._args); inits }`
+fn create_constructor(
+    state: &mut State,
+    has_super_class: bool,
+    inits: List<Node>,
+) -> Result<Node, AllocError> {
+    let alloc = state.alloc;
+    let mut params = List::new(alloc);
+    let mut statements = List::new(alloc);
+    if has_super_class {
+        let args = state.generate("args", GeneratedKind::Args)?;
+        params.push(make_rest_element(alloc, create_binding(alloc, &args)?)?)?;
+        let call = create_super_call(alloc, &args)?;
+        statements.push(create_statement(alloc, call)?)?;
+    }
+    append(&mut statements, exprs_into_stmts(alloc, inits)?)?;
+    let key = make_identifier_name(alloc, Name::from_ascii(alloc, "constructor")?)?;
+    let body = make_block_statement(alloc, statements)?;
+    let function = make_function_expression(alloc, None, params, body, false, false)?;
+    let kind = MethodDefinitionKind::Constructor;
+    make_method_definition(alloc, key, function, kind, false, false)
+}
+
+/// `super(..._args)`
+fn create_super_call(alloc: Global, args: &Name) -> Result<Node, AllocError> {
+    let spread = make_spread_element(alloc, create_reference(alloc, args)?)?;
+    let arguments = List::from_vec(vec![in alloc; spread]?);
+    make_call_expression(alloc, make_super(alloc)?, arguments, false)
+}
+
+/// A constructor with these initializers.
+fn insert_into(
+    state: &mut State,
+    class: NodeId,
+    has_super_class: bool,
+    constructor: Node,
+    inits: List<Node>,
+) -> Result<Node, AllocError> {
+    match constructor.kind() {
+        Kind::MethodDefinition => {
+            let mut method = MethodDefinition::from_node(constructor);
+            let mut inits = inits;
+            let scope = scope_of(&method.value);
+            method.value = rename_clashing_symbols(state, method.value, scope, &mut inits)?;
+            method.value = insert_into_function(
+                state,
+                class,
+                has_super_class,
+                method.value,
+                inits,
+            )?;
+            Ok(method.into_node())
+        }
+        _ => Ok(constructor),
+    }
+}
+
+/// The scope of a function.
+fn scope_of(function: &Node) -> Option<ScopeId> {
+    match function.kind() {
+        Kind::FunctionExpression => FunctionExpressionRef::from_node(function).scope_id,
+        _ => None,
+    }
+}
+
+fn insert_into_function(
+    state: &mut State,
+    class: NodeId,
+    has_super_class: bool,
+    function: Node,
+    inits: List<Node>,
+) -> Result<Node, AllocError> {
+    match function.kind() {
+        Kind::FunctionExpression => {
+            let mut function = FunctionExpression::from_node(function);
+            if has_super_class && calls_super(Role::Other, function.params.as_slice()) {
+                // an outer `_super` is not made yet
+                state.decline(function.node_id);
+                return Ok(function.into_node());
+            }
+            function.body = insert_into_body(state, class, has_super_class, function.body, inits)?;
+            Ok(function.into_node())
+        }
+        _ => Ok(function),
+    }
+}
+
+fn insert_into_body(
+    state: &mut State,
+    class: NodeId,
+    has_super_class: bool,
+    body: Node,
+    inits: List<Node>,
+) -> Result<Node, AllocError> {
+    match body.kind() {
+        Kind::BlockStatement => {
+            let mut body = BlockStatement::from_node(body);
+            body.body = insert_into_statements(state, class, has_super_class, body.body, inits)?;
+            Ok(body.into_node())
+        }
+        _ => Ok(body),
+    }
+}
+
+fn insert_into_statements(
+    state: &mut State,
+    class: NodeId,
+    has_super_class: bool,
+    statements: List<Node>,
+    inits: List<Node>,
+) -> Result<List<Node>, AllocError> {
+    let alloc = state.alloc;
+    if !has_super_class {
+        let place = directive_count(statements.as_slice());
+        return with_nodes_at(alloc, statements, place, exprs_into_stmts(alloc, inits)?);
+    }
+    match place_behind_super(statements.as_slice()) {
+        Some(place) => with_nodes_at(alloc, statements, place, exprs_into_stmts(alloc, inits)?),
+        None => insert_super_function(state, class, statements, inits),
+    }
+}
+
+/// The place behind the first statement `super(..);`, where nothing in front of it or in its arguments calls `super`.
+fn place_behind_super(statements: &[Node]) -> Option<usize> {
+    for (place, statement) in statements.iter().enumerate() {
+        if is_super_statement(statement) {
+            return Some(place + 1);
+        }
+        if calls_super_in(statement) {
+            return None;
+        }
+    }
+    None
+}
+
+// super(..);
+fn is_super_statement(statement: &Node) -> bool {
+    match statement.kind() {
+        Kind::ExpressionStatement => {
+            is_plain_super_call(ExpressionStatementRef::from_node(statement).expression)
+        }
+        _ => false,
+    }
+}
+
+// super(..), whose arguments call no super
+fn is_plain_super_call(expression: &Node) -> bool {
+    match expression.kind() {
+        Kind::CallExpression => {
+            let call = CallExpressionRef::from_node(expression);
+            call.callee.kind() == Kind::Super && !calls_super(Role::Expression, call.arguments)
+        }
+        _ => false,
+    }
+}
+
+/// `var _super = (..._args) => (super(..._args), inits, this);` in front of the statements, in which `super(..)` becomes
+/// `_super(..)`.
+fn insert_super_function(
+    state: &mut State,
+    class: NodeId,
+    statements: List<Node>,
+    inits: List<Node>,
+) -> Result<List<Node>, AllocError> {
+    let alloc = state.alloc;
+    let name = state.generate("super", GeneratedKind::SuperFn(class))?;
+    let args = state.generate("args", GeneratedKind::Args)?;
+    let mut expressions = List::new(alloc);
+    expressions.push(create_super_call(alloc, &args)?)?;
+    append(&mut expressions, inits)?;
+    expressions.push(make_this_expression(alloc)?)?;
+    let body = make_sequence_expression(alloc, expressions)?;
+    let rest = make_rest_element(alloc, create_binding(alloc, &args)?)?;
+    let params = List::from_vec(vec![in alloc; rest]?);
+    let arrow = make_arrow_function_expression(alloc, params, body, false)?;
+    let declarator = create_declarator(alloc, &name, Some(arrow))?;
+    let declarators = List::from_vec(vec![in alloc; declarator]?);
+    let declaration = make_variable_declaration(alloc, VariableDeclarationKind::Var, declarators)?;
+    let mut statements = statements;
+    rewrite_statements(&mut SuperRewriter { alloc, name }, &mut statements)?;
+    let place = directive_count(statements.as_slice());
+    let declarations = List::from_vec(vec![in alloc; declaration]?);
+    with_nodes_at(alloc, statements, place, declarations)
+}
+
+/// `super(..)` becomes `_super(..)`.
+#[derive(Drop)]
+struct SuperRewriter {
+    alloc: Global,
+    name: Name,
+}
+
+impl Rewriter for SuperRewriter {
+    fn goes_into(&mut self, node: &Node) -> bool {
+        keeps_super(node)
+    }
+
+    fn rewrite_expression(&mut self, node: &mut Node) -> Result<(), AllocError> {
+        if node.kind() != Kind::CallExpression {
+            return Ok(());
+        }
+        let mut call = CallExpression::from_node(node.take());
+        if call.callee.kind() == Kind::Super {
+            call.callee = create_reference(self.alloc, &self.name)?;
+        }
+        *node = call.into_node();
+        Ok(())
+    }
+
+    fn rewrite_reference(&mut self, _node: &mut Node) -> Result<(), AllocError> {
+        Ok(())
+    }
+
+    fn rewrite_binding(&mut self, _node: &mut Node) -> Result<(), AllocError> {
+        Ok(())
+    }
+}
+
+/// Whether `super(..)` means below a node what it means there.
+fn keeps_super(node: &Node) -> bool {
+    !matches!(
+        node.kind(),
+        Kind::FunctionDeclaration
+            | Kind::FunctionExpression
+            | Kind::PropertyDefinition
+            | Kind::StaticBlock
+    )
+}
+
+/// Whether a statement calls `super`.
+fn calls_super_in(statement: &Node) -> bool {
+    let mut search = SuperSearch { is_found: false };
+    walk_node(&mut search, Role::Statement, statement);
+    search.is_found
+}
+
+/// Whether one of these nodes, which stand in this role, calls `super`.
+fn calls_super(role: Role, nodes: &[Node]) -> bool {
+    let mut search = SuperSearch { is_found: false };
+    for node in nodes {
+        walk_node(&mut search, role, node);
+    }
+    search.is_found
+}
+
+/// Whether `super(..)` was met.
+#[derive(Clone, Copy)]
+struct SuperSearch {
+    is_found: bool,
+}
+
+impl Visit for SuperSearch {
+    ghost use Rattle.es2022.specs.Searched.{outside_functions};
+
+    ghost goes = { outside_functions };
+
+    ghost leads = { λ s entries e. Unit {0} };
+
+    // super(..)
+    fn visit_expression(&mut self, node: &Node) -> bool {
+        if node.kind() == Kind::CallExpression
+            && CallExpressionRef::from_node(node).callee.kind() == Kind::Super
+        {
+            self.is_found = true;
+        }
+        true
+    }
+
+    fn visit_class(&mut self, _node: &Node) -> bool {
+        true
+    }
+
+    fn visit_function(&mut self, _node: &Node) -> bool {
+        false
+    }
+
+    fn visit_arrow(&mut self, _node: &Node) -> bool {
+        true
+    }
+
+    fn visit_identifier_reference(&mut self, _node: &Node) -> bool {
+        true
+    }
+
+    fn visit_await(&mut self, _node: &Node) -> bool {
+        true
+    }
+
+    fn visit_yield(&mut self, _node: &Node) -> bool {
+        true
+    }
+}

@@ -1,0 +1,108 @@
+// The lowering of a program.
+
+ghost use Rattle.std.specs.Prelude.{◌≡◌, ◌*◌, ◌<◌, ◌≤◌, ◌^◌, IfOk};
+ghost use Rattle.es_base.specs.Preorder.{nodes};
+
+use crate::class_properties::ClassProperties;
+use crate::state::{Settings, State};
+use es_base::ids::NodeId;
+use es_base::ledger::Ledger;
+use es_ctx::ctx::TraverseCtx;
+use es_names::names::Names;
+use es_node::node::Node;
+use es_scopes::scoping::Scoping;
+use es_scopes_build::build::build;
+use es_steps::options::Options;
+use es_walk::program::walk_program;
+use program_names::collect::spellings_of;
+use std::alloc::{AllocError, Global};
+use thiserror::Error;
+
+/// Programs of more nodes are not lowered.
+const MAX_NODES: u32 = 1 << 20;
+
+/// How many nodes are made for each node of a program, at most.
+const ROOM: u32 = 63;
+
+/// A program that a source was lowered to, with its generated names.
+#[derive(Drop)]
+pub struct Lowered {
+    pub program: Node,
+    pub names: Ledger,
+}
+
+/// Why a program is not lowered.
+#[derive(Debug, Clone, Copy, PartialEq, Eq, Error)]
+pub enum LoweringError {
+    /// There was not enough memory.
+    #[error("out of memory")]
+    NoMemory,
+    /// It has a form that is not lowered, at this node.
+    #[error("not lowered at {}", node.0)]
+    NotLowered { node: NodeId },
+}
+
+impl From<AllocError> for LoweringError {
+    ghost use Rattle.es2022.specs.declared.lower.LoweringError.{LoweringError};
+
+    ghost from_gives = { λ _ error. error ≡ LoweringError.NoMemory };
+
+    fn from(_: AllocError) -> LoweringError {
+        LoweringError::NoMemory
+    }
+}
+
+/// What a valid program is lowered to under the options, with class properties on: its nodes keep their numbers, which are those
+/// of preorder, and new nodes have the numbers from the number of its nodes on. It has at most 64 times the nodes of its source.
+/// Fails on allocation failure, and where a form is not lowered: private names, `super` in what goes out of a class, and a
+/// constructor that calls `super` in its parameters.
+#[tactic(auto, using(crate::specs::Paid::total_one))]
+pub fn lower(alloc: Global, options: &Options, source: &Node) -> Result<Lowered, LoweringError>
+    ensures { IfOk result (λ r. nodes r.program ≤ 64 * nodes source.now) }
+{
+    if !source.has_at_most(MAX_NODES) {
+        return Err(LoweringError::NotLowered { node: NodeId(0) });
+    }
+    let first = source.nodes();
+    let (mut program, scoping) = with_scopes(alloc, source)?;
+    let names = Names::new(alloc, spellings_of(alloc, source)?);
+    let mut transform = ClassProperties {
+        room: ROOM * first,
+        state: State::new(alloc, Settings::of(options), scoping, names),
+    };
+    let mut ctx = TraverseCtx::new(alloc, 0);
+    walk_program(&mut transform, &mut program, &mut ctx)?;
+    let state = transform.state;
+    match state.declined {
+        Some(node) => Err(LoweringError::NotLowered { node }),
+        None => Ok(Lowered {
+            program: numbered(program, first),
+            names: Ledger {
+                entries: state.ledger,
+            },
+        }),
+    }
+}
+
+/// A copy of a program, and its scope table, whose numbers are written on the copy.
+#[tactic(auto, using(crate::proofs::Counted::built_nodes))]
+fn with_scopes(alloc: Global, source: &Node) -> Result<(Node, Scoping), AllocError>
+    requires { nodes source.now < 2 ^ 32 }
+    ensures { IfOk result (λ r. nodes r.0 ≡ nodes source.now) }
+{
+    let mut program = source.clone_tree(alloc)?;
+    let scoping = build(alloc, &mut program)?;
+    Ok((program, scoping))
+}
+
+/// The program, whose new nodes have the numbers from this one on.
+#[tactic(auto, using(crate::proofs::Counted::news_few, crate::proofs::Counted::numbered_nodes))]
+fn numbered(program: Node, first: u32) -> Node
+    requires many { nodes program ≤ 64 * first }
+    requires few { first ≤ 2 ^ 20 }
+    ensures { nodes result ≡ nodes program }
+{
+    let mut program = program;
+    program.renumber_from(first);
+    program
+}

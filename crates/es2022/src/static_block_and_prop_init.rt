@@ -1,0 +1,235 @@
+// Initializers of static fields and static blocks, which go behind their class.
+
+use crate::builders::{create_reference_at, create_void_0};
+use crate::class_details::ClassDetails;
+use crate::rewrite::{Rewriter, rewrite_expression, rewrite_statements};
+use crate::state::State;
+use es_base::ids::SymbolId;
+use es_base::kind::Kind;
+use es_base::list::List;
+use es_base::name::Name;
+use es_node::node::Node;
+use es_tree::class::StaticBlock;
+use es_tree::expression::{MetaPropertyRef, make_call_expression};
+use es_tree::function::make_arrow_function_expression;
+use es_tree::identifier::{IdentifierNameRef, IdentifierReferenceRef};
+use es_tree::statement::{ExpressionStatement, make_block_statement};
+use std::alloc::{AllocError, Global};
+
+/// The initializer of a static field, as it stands behind the class: `this` and the name of the class are the temporary of the
+/// class, and `new.target` is `void 0` (ECMA-262, 15.7.10). `super` is in the way.
+pub fn transform_static_initializer(
+    state: &mut State,
+    details: &mut ClassDetails,
+    value: Node,
+) -> Result<Node, AllocError> {
+    let mut value = value;
+    let symbol = details.head.symbol;
+    rewrite_expression(
+        &mut ThisRewriter {
+            state: &mut *state,
+            details: &mut *details,
+        },
+        &mut value,
+    )?;
+    if let Some(symbol) = symbol {
+        rewrite_expression(
+            &mut NameRewriter {
+                state,
+                details,
+                symbol,
+            },
+            &mut value,
+        )?;
+    }
+    Ok(value)
+}
+
+/// `static { f(); }` becomes `f()` behind the class, and `static { f(); g(); }` becomes `(() => { f(); g(); })()`.
+pub fn convert_static_block(
+    state: &mut State,
+    details: &mut ClassDetails,
+    block: StaticBlock,
+) -> Result<(), AllocError> {
+    let mut statements = block.body;
+    let symbol = details.head.symbol;
+    rewrite_statements(
+        &mut ThisRewriter {
+            state: &mut *state,
+            details: &mut *details,
+        },
+        &mut statements,
+    )?;
+    if let Some(symbol) = symbol {
+        rewrite_statements(
+            &mut NameRewriter {
+                state: &mut *state,
+                details: &mut *details,
+                symbol,
+            },
+            &mut statements,
+        )?;
+    }
+    let is_declaration = details.head.is_declaration;
+    let expression = in_expression(state.alloc, statements, is_declaration)?;
+    details.after.push(expression)
+}
+
+/// An expression that does what these statements do. One statement that is an expression stands for itself; behind a declaration
+/// it stays a statement.
+fn in_expression(
+    alloc: Global,
+    statements: List<Node>,
+    is_declaration: bool,
+) -> Result<Node, AllocError> {
+    let mut statements = statements;
+    if statements.len() == 1 {
+        let only = statements.remove(0);
+        if only.kind() == Kind::ExpressionStatement {
+            if is_declaration {
+                return Ok(only);
+            }
+            return Ok(ExpressionStatement::from_node(only).expression);
+        }
+        statements.push(only)?;
+    }
+    // (() => { statements })()
+    let body = make_block_statement(alloc, statements)?;
+    let arrow = make_arrow_function_expression(alloc, List::new(alloc), body, false)?;
+    make_call_expression(alloc, arrow, List::new(alloc), false)
+}
+
+/// The initializer of an instance field, where `new.target` is `void 0`.
+pub fn replace_new_target(alloc: Global, value: Node) -> Result<Node, AllocError> {
+    let mut value = value;
+    rewrite_expression(&mut NewTargetRewriter { alloc }, &mut value)?;
+    Ok(value)
+}
+
+/// The temporary of a class, which is made where it is first needed (oxc_transformer, `get_or_init_static_binding`).
+fn class_temp(state: &mut State, details: &mut ClassDetails) -> Result<Name, AllocError> {
+    if let Some(temp) = &details.temp {
+        return temp.try_clone(state.alloc);
+    }
+    let temp = state.create_class_temp(&details.head)?;
+    let copy = temp.try_clone(state.alloc)?;
+    details.temp = Some(temp);
+    Ok(copy)
+}
+
+/// Whether `this` and `new.target` mean below a node what they mean there.
+fn has_outer_this(node: &Node) -> bool {
+    !matches!(
+        node.kind(),
+        Kind::FunctionDeclaration
+            | Kind::FunctionExpression
+            | Kind::PropertyDefinition
+            | Kind::StaticBlock
+    )
+}
+
+// new.target
+fn is_new_target(node: &Node) -> bool {
+    match node.kind() {
+        Kind::MetaProperty => {
+            let meta = MetaPropertyRef::from_node(node).meta;
+            meta.kind() == Kind::IdentifierName
+                && IdentifierNameRef::from_node(meta).name.as_str() == "new"
+        }
+        _ => false,
+    }
+}
+
+/// `new.target` becomes `void 0`.
+#[derive(Drop)]
+struct NewTargetRewriter {
+    alloc: Global,
+}
+
+impl Rewriter for NewTargetRewriter {
+    fn goes_into(&mut self, node: &Node) -> bool {
+        has_outer_this(node)
+    }
+
+    fn rewrite_expression(&mut self, node: &mut Node) -> Result<(), AllocError> {
+        if is_new_target(node) {
+            *node = create_void_0(self.alloc)?;
+        }
+        Ok(())
+    }
+
+    fn rewrite_reference(&mut self, _node: &mut Node) -> Result<(), AllocError> {
+        Ok(())
+    }
+
+    fn rewrite_binding(&mut self, _node: &mut Node) -> Result<(), AllocError> {
+        Ok(())
+    }
+}
+
+/// `this` becomes the temporary of the class, and `new.target` becomes `void 0`.
+#[derive(Drop)]
+struct ThisRewriter<'a> {
+    state: &'a mut State,
+    details: &'a mut ClassDetails,
+}
+
+impl Rewriter for ThisRewriter<'_> {
+    fn goes_into(&mut self, node: &Node) -> bool {
+        has_outer_this(node)
+    }
+
+    fn rewrite_expression(&mut self, node: &mut Node) -> Result<(), AllocError> {
+        if node.kind() == Kind::ThisExpression {
+            let temp = class_temp(self.state, self.details)?;
+            *node = create_reference_at(self.state.alloc, &temp, node)?;
+        } else if node.kind() == Kind::Super {
+            self.state.decline(node.node_id());
+        } else if is_new_target(node) {
+            *node = create_void_0(self.state.alloc)?;
+        }
+        Ok(())
+    }
+
+    fn rewrite_reference(&mut self, _node: &mut Node) -> Result<(), AllocError> {
+        Ok(())
+    }
+
+    fn rewrite_binding(&mut self, _node: &mut Node) -> Result<(), AllocError> {
+        Ok(())
+    }
+}
+
+/// The name of the class becomes its temporary, in functions too.
+#[derive(Drop)]
+struct NameRewriter<'a> {
+    state: &'a mut State,
+    details: &'a mut ClassDetails,
+    symbol: SymbolId,
+}
+
+impl Rewriter for NameRewriter<'_> {
+    fn goes_into(&mut self, _node: &Node) -> bool {
+        true
+    }
+
+    fn rewrite_expression(&mut self, _node: &mut Node) -> Result<(), AllocError> {
+        Ok(())
+    }
+
+    fn rewrite_reference(&mut self, node: &mut Node) -> Result<(), AllocError> {
+        if node.kind() != Kind::IdentifierReference {
+            return Ok(());
+        }
+        let reference = IdentifierReferenceRef::from_node(node).reference_id;
+        if self.state.means(reference, self.symbol) {
+            let temp = class_temp(self.state, self.details)?;
+            *node = create_reference_at(self.state.alloc, &temp, node)?;
+        }
+        Ok(())
+    }
+
+    fn rewrite_binding(&mut self, _node: &mut Node) -> Result<(), AllocError> {
+        Ok(())
+    }
+}
