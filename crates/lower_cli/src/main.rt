@@ -3,8 +3,8 @@
 #![tactic(auto)]
 
 use lower_edge::arguments::{NO_ARGUMENTS, arguments_of};
+use lower_es2022::run::run;
 use lower_io::standard::{StdinSource, StdoutSink};
-use lower_run::run::run;
 use std::process::ExitCode;
 
 fn main(rt: HostRuntime) -> ExitCode {

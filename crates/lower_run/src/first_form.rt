@@ -70,7 +70,7 @@ fn lower_first_form(
 
 /// The node that says why a valid program with something to lower is not lowered yet: the least that is not
 /// as the first form asks, where fields are defined, and else the first that is to be lowered.
-fn not_yet_lowered(
+pub fn not_yet_lowered(
     alloc: Global,
     program: &Node,
     foreign: &[NodeId],

@@ -1,0 +1,36 @@
+// The lowering of classes, of which nothing is taken for granted.
+
+use es_base::ids::NodeId;
+use es_left::left::first_left;
+use es_node::node::Node;
+use es_steps::options::Options;
+use es2022::lower::{LoweringError, lower};
+use lower_run::lowering::Unlowered;
+use lower_with::lowering::{LoweredProgram, Lowering};
+use std::alloc::Global;
+
+/// The lowering of class properties, where they are to be lowered (crate `es2022`).
+#[derive(Clone, Copy)]
+pub struct Classes;
+
+impl Lowering for Classes {
+    fn lower(
+        &self,
+        alloc: Global,
+        options: &Options,
+        source: &Node,
+    ) -> Result<LoweredProgram, Unlowered> {
+        if options.es2022.class_properties.is_none() {
+            let node = first_left(source, options).unwrap_or(NodeId(0));
+            return Err(Unlowered::NotYet { node });
+        }
+        match lower(alloc, options, source) {
+            Ok(lowered) => Ok(LoweredProgram {
+                program: lowered.program,
+                names: lowered.names,
+            }),
+            Err(LoweringError::NotLowered { node }) => Err(Unlowered::NotYet { node }),
+            Err(LoweringError::NoMemory) => Err(Unlowered::NoMemory),
+        }
+    }
+}
