@@ -49,6 +49,16 @@ function renumber(program, first) {
 
 // ---- changes: each gives, for a place, what changes the tree there, or nothing where it does not fit
 
+const ENDS = new Set(['ReturnStatement', 'ThrowStatement', 'BreakStatement', 'ContinueStatement']);
+const identifier = name => ({ type: 'Identifier', name });
+// extra();
+const call = () => ({ type: 'ExpressionStatement', expression: { type: 'CallExpression', callee: identifier('extra'), arguments: [], optional: false } });
+// extra() {}
+const method = isStatic => ({
+  type: 'MethodDefinition', key: identifier('extra'), kind: 'method', computed: false, static: isStatic,
+  value: { type: 'FunctionExpression', id: null, params: [], body: { type: 'BlockStatement', body: [] }, async: false, generator: false },
+});
+
 const LISTS_OF_STATEMENTS = new Set(['Program', 'BlockStatement', 'StaticBlock']);
 const BRANDS = new Set(['assertClassBrand', 'checkInRHS']);
 const OPPOSITES = { '+': '-', '-': '+', '*': '+', '===': '!==', '!==': '===', '==': '!=', '<': '>=', '&&': '||', '||': '&&', '??': '&&' };
@@ -59,26 +69,35 @@ const same = (a, b) => JSON.stringify(a, (k, v) => (k === 'node' ? undefined : v
 const CHANGES = {
   'an argument is dropped': n => (n.type === 'CallExpression' || n.type === 'NewExpression') && n.arguments.length > 0 && (m => m.arguments.pop()),
   'an operand is dropped': (n, place) => (n.type === 'BinaryExpression' || n.type === 'LogicalExpression') && n.left.type !== 'PrivateIdentifier' && ((m, program) => put(program, place.steps, m.left)),
-  'a part of a sequence is dropped': n => n.type === 'SequenceExpression' && n.expressions.length > 2 && (m => m.expressions.splice(0, 1)),
-  'two statements are exchanged': n => LISTS_OF_STATEMENTS.has(n.type) && exchanged(n.body),
+  'a part of a sequence is dropped': n => n.type === 'SequenceExpression' && n.expressions.length > 2 && !isQuiet(n.expressions[0]) && (m => m.expressions.splice(0, 1)),
+  'two statements are exchanged': (n, place, names, named, idle) => LISTS_OF_STATEMENTS.has(n.type) && exchanged(n.body, idle),
   'two arguments are exchanged': n => n.type === 'CallExpression' && n.arguments.length > 1 && !same(n.arguments[0], n.arguments[1]) && (m => m.arguments.splice(0, 2, m.arguments[1], m.arguments[0])),
   'a statement is dropped': n => LISTS_OF_STATEMENTS.has(n.type) && n.body.length > 0 && n.body[n.body.length - 1].type !== 'FunctionDeclaration' && (m => m.body.pop()),
   'a name is another one': (n, place, names) => place.kind === 'IdentifierReference' && names.find(name => name !== n.name) && (m => { m.name = names.find(name => name !== n.name); }),
   'a brand test is left out': (n, place) => isHelper(n, BRANDS) && ((m, program) => put(program, place.steps, m.arguments[m.arguments.length > 2 ? 2 : m.arguments.length - 1])),
   'a literal is another one': (n, place, names, named) => n.type === 'Literal' && !named.has(n.node) && anotherLiteral(n),
-  'an initialization is moved': n => LISTS_OF_STATEMENTS.has(n.type) && n.body.length > 1 && n.body[0].type === 'VariableDeclaration' && n.body[0].declarations.some(d => d.init) && (m => m.body.push(m.body.shift())),
+  'an initialization is moved': (n, place, names, named, idle) => LISTS_OF_STATEMENTS.has(n.type) && n.body.length > 1 && n.body[0].type === 'VariableDeclaration' && n.body[0].declarations.some(d => d.init && !idle.has(d)) && (m => m.body.push(m.body.shift())),
   'an async is dropped': n => n.async === true && (m => { m.async = false; }),
   'an operator is another one': n => typeof OPPOSITES[n.operator] === 'string' && !(n.type === 'UnaryExpression') && (m => { m.operator = OPPOSITES[m.operator]; }),
   'a member is another one': n => n.type === 'MemberExpression' && !n.computed && n.property.type === 'Identifier' && (m => { m.property.name += 'x'; }),
   'a key is another one': n => (n.type === 'MethodDefinition' || n.type === 'Property') && !n.computed && n.key.type === 'Identifier' && n.key.name !== 'constructor' && (m => { m.key.name += 'x'; }),
+  'a statement is added in front': n => LISTS_OF_STATEMENTS.has(n.type) && !n.body[0]?.directive && (m => m.body.unshift(call())),
+  'a statement is added behind': n => LISTS_OF_STATEMENTS.has(n.type) && !ENDS.has(n.body[n.body.length - 1]?.type) && (m => m.body.push(call())),
+  'a heritage is added': n => /^Class(Declaration|Expression)$/.test(n.type) && !n.superClass && (m => { m.superClass = identifier('extra'); }),
+  'a method is added': n => n.type === 'ClassBody' && (m => m.body.push(method(false))),
+  'a static method is added': n => n.type === 'ClassBody' && (m => m.body.push(method(true))),
+  'an argument is added': n => n.type === 'CallExpression' && n.callee.type !== 'Super' && (m => m.arguments.push(identifier('extra'))),
   'a method is static': n => n.type === 'MethodDefinition' && n.kind === 'method' && (m => { m.static = !m.static; }),
 };
 
-// what does nothing where it stands: functions, and `var a;`
-const doesNothing = s => s.type === 'FunctionDeclaration' || s.type === 'EmptyStatement' || (s.type === 'VariableDeclaration' && s.kind === 'var' && s.declarations.every(d => !d.init));
+// what does nothing as a part of a sequence
+const isQuiet = e => e.type === 'ThisExpression' || e.type === 'Literal';
 
-function exchanged(list) {
-  const i = list.findIndex((x, k) => k + 1 < list.length && !same(x, list[k + 1]) && !doesNothing(x) && !doesNothing(list[k + 1]));
+// what does nothing where it stands: functions, and `var a;`
+const doesNothing = (s, idle) => s.type === 'FunctionDeclaration' || s.type === 'EmptyStatement' || (s.type === 'VariableDeclaration' && s.kind === 'var' && s.declarations.every(d => !d.init || idle.has(d)));
+
+function exchanged(list, idle) {
+  const i = list.findIndex((x, k) => k + 1 < list.length && !same(x, list[k + 1]) && !doesNothing(x, idle) && !doesNothing(list[k + 1], idle));
   return i >= 0 && (m => m.body.splice(i, 2, m.body[i + 1], m.body[i]));
 }
 
@@ -89,22 +108,34 @@ function anotherLiteral(n) {
   return undefined;
 }
 
-// the names that `setFunctionName` gives: a meaning does not tell what functions are named (docs/MEANING.md)
+// the literals that only tell a reader something: the names that `setFunctionName` gives, messages, and descriptions of keys. A
+// meaning does not tell them (docs/MEANING.md)
+const TELLS = new Set(['setFunctionName', 'readOnlyError', 'writeOnlyError', 'classPrivateFieldLooseKey']);
 function givenNames(output, places) {
-  const calls = places.map(p => at(output, p.steps)).filter(n => isHelper(n, new Set(['setFunctionName'])));
-  return new Set(calls.map(n => n.arguments[1]?.node));
+  const calls = places.map(p => at(output, p.steps)).filter(n => isHelper(n, TELLS));
+  return new Set(calls.flatMap(n => n.arguments.map(a => a.node)));
 }
+
+// the declarators of functions that nothing reads, which do nothing wherever they stand and whatever they do
+function unread(output, places) {
+  const nodes = places.map(p => at(output, p.steps));
+  const read = new Set(places.filter(p => p.kind === 'IdentifierReference').map(p => at(output, p.steps).name));
+  return new Set(nodes.filter(n => n.type === 'VariableDeclarator' && n.init && /Function/.test(n.init.type) && !read.has(n.id.name)));
+}
+
+const within = (tree, node) => tree === node || (tree !== null && typeof tree === 'object' && Object.values(tree).some(below => within(below, node)));
 
 // the changed trees of a pair
 function* changesOf(source, output) {
   const first = placesOf(source).length, places = placesOf(output);
-  const named = givenNames(output, places);
+  const named = givenNames(output, places), idle = unread(output, places);
+  const inIdle = place => [...idle].some(d => within(d, at(output, place.steps)));
   const names = [...new Set(places.filter(p => p.kind === 'BindingIdentifier').map(p => at(output, p.steps).name))];
   for (const [what, changeOf] of Object.entries(CHANGES)) {
     let made = 0;
     for (const place of places) {
       if (made === MOST_OF_A_KIND) break;
-      const change = changeOf(at(output, place.steps), place, names, named);
+      const change = !inIdle(place) && changeOf(at(output, place.steps), place, names, named, idle);
       if (!change) continue;
       const changed = copy(output);
       change(at(changed, place.steps), changed);
@@ -156,7 +187,7 @@ function main(args) {
     const [source, output] = readPair(row.name);
     const answer = answerOf(program, row.options, source, output);
     tell(row.name, 'as it is', answer, isWanted(row, answer));
-    if (!flags.has('--changes') || answer !== 'agreed') continue;
+    if (!flags.has('--changes')) continue;
     for (const { what, changed } of changesOf(source, output)) {
       const other = answerOf(program, row.options, source, changed);
       tell(row.name, what, other, isTold(other));

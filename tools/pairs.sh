@@ -1,6 +1,7 @@
 #!/usr/bin/env bash
 # Holds each worked pair (tools/rows/pairs) against the built checker: one without shapes has to agree, one with shapes to meet the
-# clauses on lowered programs, so that at most its meaning differs. Needs bash alone; `tools/pairs.js` changes the pairs too.
+# clauses on lowered programs, so that at most its meaning differs. Where node is there, `tools/pairs.js` then changes each pair, and
+# each changed one has to differ.
 #
 #   tools/pairs.sh [PROGRAM]
 set -u
@@ -21,4 +22,5 @@ for source in "$pairs"/*.source.json; do
   fi
 done
 echo "pairs: $right as wanted, $wrong not"
-[[ $wrong == 0 && $right -gt 0 ]]
+[[ $wrong == 0 && $right -gt 0 ]] || exit 1
+if command -v node > /dev/null; then node tools/pairs.js "$program" --changes; fi
