@@ -196,16 +196,24 @@ function kindOf(tree, number) {
 
 const OPTIONS = [['--class-properties'], ['--class-properties', '--static-block'], ['--class-properties', '--loose'], ['--class-properties', '--loose', '--static-block']];
 
-function outcomeOf(program, seed) {
+// the program of a number, and what it is lowered under
+function madeOf(seed) {
   const options = OPTIONS[seed % OPTIONS.length];
-  const source = new Maker(seed, options).program();
+  return { options, source: new Maker(seed, options).program() };
+}
+
+const parse = source => acorn.parse(source, { ecmaVersion: 2022, sourceType: 'script' });
+const lower = (program, options, tree) => spawnSync(program, options, { input: JSON.stringify(tree, withoutValue), encoding: 'utf8', maxBuffer: 1 << 28, timeout: 120000 });
+
+function outcomeOf(program, seed) {
+  const { options, source } = madeOf(seed);
   let tree;
   try {
-    tree = acorn.parse(source, { ecmaVersion: 2022, sourceType: 'script' });
+    tree = parse(source);
   } catch (e) {
     return { outcome: 'no program', source, detail: e.message };
   }
-  const run = spawnSync(program, options, { input: JSON.stringify(tree, withoutValue), encoding: 'utf8', maxBuffer: 1 << 28, timeout: 120000 });
+  const run = lower(program, options, tree);
   if (run.error) return { outcome: 'no answer', source, options, detail: run.error.message };
   const line = run.stdout.trim();
   const notYet = /^refused: NotYet at (\d+)$/.exec(line);
@@ -239,4 +247,6 @@ function main([program, ...rest]) {
   return wrong === 0 ? 0 : 1;
 }
 
-process.exit(main(process.argv.slice(2)));
+module.exports = { escodegen, lower, madeOf, parse, withValue };
+
+if (require.main === module) process.exit(main(process.argv.slice(2)));

@@ -1,25 +1,15 @@
 // Makes a program that is told as not lowered yet as small as it stays so, to show what is in the way.
 //
-//   node tools/reduce.js PROGRAM SEED.. [--kind KIND]
+//   node tools/reduce.js PROGRAM SEED..
 //
-// PROGRAM is the built lowering program (README.md), SEED a number of `tools/made.js` whose program is told so at a node of KIND
-// (Program, which is node 0). Needs acorn and escodegen, as made.js does. Parts are left out, one after another, as long as the program
-// is told so still; what stays is printed, with the arguments: a field as a method `field` that has its key and its value, a static
-// block as a static method `block`.
+// PROGRAM is the built lowering program (README.md), SEED a number of `tools/made.js` whose program is told so at node 0. Needs acorn and
+// escodegen, as made.js does. Parts are left out, one after another, as long as the program is told so still; what stays is printed, with
+// the arguments: a field as a method `field` that has its key and its value, a static block as a static method `block`.
 'use strict';
-const { spawnSync } = require('child_process');
-const Module = require('module');
-const path = require('path');
-
-process.env.NODE_PATH = [process.env.NODE_PATH, '/usr/share/nodejs'].filter(Boolean).join(path.delimiter);
-Module._initPaths();
-const acorn = require('acorn');
-const escodegen = require('escodegen');
+const { escodegen, lower, madeOf, parse, withValue } = require('./made.js');
 
 const MOST_RUNS = 2000;
-const isUnfit = value => typeof value === 'number' || typeof value === 'bigint' || value instanceof RegExp;
-const withoutValue = (key, value) => (key === 'start' || key === 'end' ? undefined : key === 'value' && isUnfit(value) ? null : value);
-const copy = tree => JSON.parse(JSON.stringify(tree));
+const copy = tree => structuredClone(tree);
 
 // escodegen knows neither fields nor static blocks
 const method = (name, isStatic, body) => ({
@@ -27,15 +17,14 @@ const method = (name, isStatic, body) => ({
   value: { type: 'FunctionExpression', id: null, params: [], generator: false, async: false, body: { type: 'BlockStatement', body } },
 });
 const statement = expression => ({ type: 'ExpressionStatement', expression });
-function printable(_, v) {
-  if (v?.type === 'Literal' && v.value === null && v.raw) return { ...v, value: Number(v.raw) };
+function printable(key, v) {
   if (v?.type === 'PropertyDefinition') return method('field', v.static, [v.key, v.value].filter(Boolean).map(statement));
   if (v?.type === 'StaticBlock') return method('block', true, v.body);
-  return v;
+  return withValue(key, v);
 }
 const textOf = tree => escodegen.generate(JSON.parse(JSON.stringify(tree), printable));
 const valueAt = (tree, steps) => steps.reduce((value, step) => value[step], tree);
-const zero = () => ({ type: 'Literal', value: null, raw: '0' });
+const zero = () => ({ type: 'Literal', value: 0, raw: '0' });
 
 const MAY_BE_ABSENT = new Set(['superClass', 'init', 'value', 'id', 'alternate', 'finalizer', 'handler']);
 const isExpression = node => /Expression$|^Identifier$|^TemplateLiteral$/.test(node.type);
@@ -106,24 +95,17 @@ function reduce(tree, isTold) {
   return best;
 }
 
-function main(args) {
-  const at = args.indexOf('--kind'), kind = at < 0 ? 'Program' : args.splice(at, 2)[1];
-  const [program, ...seeds] = args;
+function main([program, ...seeds]) {
   if (seeds.length === 0) {
-    console.error('usage: node tools/reduce.js PROGRAM SEED.. [--kind KIND]');
+    console.error('usage: node tools/reduce.js PROGRAM SEED..');
     return 2;
   }
   for (const seed of seeds) {
-    const made = spawnSync('node', [path.join(__dirname, 'made.js'), program, '1', seed, '--show', `--NotYet-${kind}`]).stdout.toString().split('\n');
-    if (!made[0].startsWith(`---- ${seed} NotYet`)) { console.log(`${seed}: told otherwise`); continue; }
-    const options = made[0].replace(/^---- \d+ NotYet \S+ ?/, '').split(' ').filter(Boolean);
-    const source = made.slice(1, made.indexOf('', 1)).join('\n');
-    const lineOf = tree => spawnSync(program, options, { input: JSON.stringify(tree, withoutValue) }).stdout.toString().trim();
-    const line = kind === 'Program' ? /^refused: NotYet at 0$/ : /^refused: NotYet at \d+$/;
-    const small = reduce(JSON.parse(JSON.stringify(acorn.parse(source, { ecmaVersion: 2022 }), withoutValue)), tree => line.test(lineOf(tree)));
-    let text;
-    try { text = textOf(small).replace(/\s+/g, ' '); } catch { text = JSON.stringify(small); }
-    console.log(`${seed} ${options.join(' ')}\n    ${text}`);
+    const { options, source } = madeOf(Number(seed));
+    const isTold = tree => lower(program, options, tree).stdout === 'refused: NotYet at 0\n';
+    const tree = parse(source);
+    if (!isTold(tree)) { console.log(`${seed}: told otherwise`); continue; }
+    console.log(`${seed} ${options.join(' ')}\n    ${textOf(reduce(tree, isTold)).replace(/\s+/g, ' ')}`);
   }
   return 0;
 }
