@@ -197,4 +197,6 @@ function main(args) {
   return wrong === 0 ? 0 : 1;
 }
 
-process.exit(main(process.argv.slice(2)));
+module.exports = { answerOf, at, copy, isHelper, isTold, placesOf, put, readPair, renumber, rows };
+
+if (require.main === module) process.exit(main(process.argv.slice(2)));

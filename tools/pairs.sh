@@ -1,7 +1,7 @@
 #!/usr/bin/env bash
 # Holds each worked pair (tools/rows/pairs) against the built checker: one without shapes has to agree, one with shapes to meet the
 # clauses on lowered programs, so that at most its meaning differs. Where node is there, `tools/pairs.js` then changes each pair, and
-# each changed one has to differ.
+# each changed one has to differ, and so has what `tools/wrong.js` makes of some, as a wrong lowering would.
 #
 #   tools/pairs.sh [PROGRAM]
 set -u
@@ -23,4 +23,4 @@ for source in "$pairs"/*.source.json; do
 done
 echo "pairs: $right as wanted, $wrong not"
 [[ $wrong == 0 && $right -gt 0 ]] || exit 1
-if command -v node > /dev/null; then node tools/pairs.js "$program" --changes; fi
+if command -v node > /dev/null; then node tools/pairs.js "$program" --changes && node tools/wrong.js "$program"; fi
