@@ -261,8 +261,8 @@ struct SuperRewriter {
 }
 
 impl Rewriter for SuperRewriter {
-    fn goes_into(&mut self, node: &Node) -> bool {
-        keeps_super(node)
+    fn goes_into(&mut self, node: &Node) -> Result<bool, AllocError> {
+        Ok(keeps_super(node))
     }
 
     fn rewrite_expression(&mut self, node: &mut Node) -> Result<(), AllocError> {

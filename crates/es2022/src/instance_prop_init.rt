@@ -74,8 +74,8 @@ struct ClashSearch<'a> {
 }
 
 impl Rewriter for ClashSearch<'_> {
-    fn goes_into(&mut self, _node: &Node) -> bool {
-        true
+    fn goes_into(&mut self, _node: &Node) -> Result<bool, AllocError> {
+        Ok(true)
     }
 
     fn rewrite_expression(&mut self, _node: &mut Node) -> Result<(), AllocError> {
@@ -125,8 +125,8 @@ impl SymbolRenamer<'_> {
 }
 
 impl Rewriter for SymbolRenamer<'_> {
-    fn goes_into(&mut self, _node: &Node) -> bool {
-        true
+    fn goes_into(&mut self, _node: &Node) -> Result<bool, AllocError> {
+        Ok(true)
     }
 
     fn rewrite_expression(&mut self, _node: &mut Node) -> Result<(), AllocError> {

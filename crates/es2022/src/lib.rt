@@ -15,4 +15,5 @@ mod prop_decl;
 mod rewrite;
 mod state;
 mod static_block_and_prop_init;
+mod super_converter;
 mod utils;

@@ -13,7 +13,7 @@ use std::alloc::AllocError;
 /// What changes nodes.
 pub trait Rewriter {
     /// Whether the nodes below this expression, function, class, field or static block are changed, and itself behind them.
-    fn goes_into(&mut self, node: &Node) -> bool;
+    fn goes_into(&mut self, node: &Node) -> Result<bool, AllocError>;
 
     /// Changes a node that stands as an expression.
     fn rewrite_expression(&mut self, node: &mut Node) -> Result<(), AllocError>;
@@ -77,7 +77,7 @@ impl<R: Rewriter> VisitMut for Rewriting<'_, R> {
     }
 
     fn enter_expression(&mut self, node: &Node) -> Result<bool, AllocError> {
-        Ok(self.rewriter.goes_into(node))
+        self.rewriter.goes_into(node)
     }
 
     fn visit_expression(&mut self, node: &mut Node) -> Result<(), AllocError> {
@@ -85,7 +85,7 @@ impl<R: Rewriter> VisitMut for Rewriting<'_, R> {
     }
 
     fn enter_class(&mut self, node: &Node) -> Result<bool, AllocError> {
-        Ok(self.rewriter.goes_into(node))
+        self.rewriter.goes_into(node)
     }
 
     fn visit_class(&mut self, _node: &mut Node) -> Result<(), AllocError> {
@@ -93,7 +93,7 @@ impl<R: Rewriter> VisitMut for Rewriting<'_, R> {
     }
 
     fn enter_function(&mut self, node: &Node) -> Result<bool, AllocError> {
-        Ok(self.rewriter.goes_into(node))
+        self.rewriter.goes_into(node)
     }
 
     fn visit_function(&mut self, _node: &mut Node) -> Result<(), AllocError> {
@@ -101,7 +101,7 @@ impl<R: Rewriter> VisitMut for Rewriting<'_, R> {
     }
 
     fn enter_arrow(&mut self, node: &Node) -> Result<bool, AllocError> {
-        Ok(self.rewriter.goes_into(node))
+        self.rewriter.goes_into(node)
     }
 
     fn visit_arrow(&mut self, _node: &mut Node) -> Result<(), AllocError> {
@@ -117,7 +117,7 @@ impl<R: Rewriter> VisitMut for Rewriting<'_, R> {
     }
 
     fn enter_property_definition(&mut self, node: &Node) -> Result<bool, AllocError> {
-        Ok(self.rewriter.goes_into(node))
+        self.rewriter.goes_into(node)
     }
 
     fn visit_property_definition(&mut self, _node: &mut Node) -> Result<(), AllocError> {
@@ -125,7 +125,7 @@ impl<R: Rewriter> VisitMut for Rewriting<'_, R> {
     }
 
     fn enter_static_block(&mut self, node: &Node) -> Result<bool, AllocError> {
-        Ok(self.rewriter.goes_into(node))
+        self.rewriter.goes_into(node)
     }
 
     fn visit_static_block(&mut self, _node: &mut Node) -> Result<(), AllocError> {

@@ -4,7 +4,10 @@ use crate::builders::{create_reference_at, create_void_0};
 use crate::class_details::ClassDetails;
 use crate::rewrite::{Rewriter, rewrite_expression, rewrite_statements};
 use crate::state::State;
-use es_base::ids::SymbolId;
+use crate::super_converter::{
+    convert_super, finish_super_call, is_super_call, is_super_member, is_super_write,
+};
+use es_base::ids::{NodeId, SymbolId};
 use es_base::kind::Kind;
 use es_base::list::List;
 use es_base::name::Name;
@@ -17,7 +20,7 @@ use es_tree::statement::{ExpressionStatement, make_block_statement};
 use std::alloc::{AllocError, Global};
 
 /// The initializer of a static field, as it stands behind the class: `this` and the name of the class are the temporary of the
-/// class, and `new.target` is `void 0` (ECMA-262, 15.7.10). `super` is in the way.
+/// class, `new.target` is `void 0` (ECMA-262, 15.7.10), and `super` is what reads, calls and writes by the temporary.
 pub fn transform_static_initializer(
     state: &mut State,
     details: &mut ClassDetails,
@@ -26,10 +29,7 @@ pub fn transform_static_initializer(
     let mut value = value;
     let symbol = details.head.symbol;
     rewrite_expression(
-        &mut ThisRewriter {
-            state: &mut *state,
-            details: &mut *details,
-        },
+        &mut ThisRewriter::new(&mut *state, &mut *details),
         &mut value,
     )?;
     if let Some(symbol) = symbol {
@@ -54,10 +54,7 @@ pub fn convert_static_block(
     let mut statements = block.body;
     let symbol = details.head.symbol;
     rewrite_statements(
-        &mut ThisRewriter {
-            state: &mut *state,
-            details: &mut *details,
-        },
+        &mut ThisRewriter::new(&mut *state, &mut *details),
         &mut statements,
     )?;
     if let Some(symbol) = symbol {
@@ -147,8 +144,8 @@ struct NewTargetRewriter {
 }
 
 impl Rewriter for NewTargetRewriter {
-    fn goes_into(&mut self, node: &Node) -> bool {
-        has_outer_this(node)
+    fn goes_into(&mut self, node: &Node) -> Result<bool, AllocError> {
+        Ok(has_outer_this(node))
     }
 
     fn rewrite_expression(&mut self, node: &mut Node) -> Result<(), AllocError> {
@@ -167,26 +164,55 @@ impl Rewriter for NewTargetRewriter {
     }
 }
 
-/// `this` becomes the temporary of the class, and `new.target` becomes `void 0`.
+/// `this` becomes the temporary of the class, `new.target` becomes `void 0`, and `super` what reads, calls and writes by the
+/// temporary.
 #[derive(Drop)]
 struct ThisRewriter<'a> {
     state: &'a mut State,
     details: &'a mut ClassDetails,
+    /// The numbers of the calls of members of `super`.
+    super_calls: List<NodeId>,
+}
+
+impl<'a> ThisRewriter<'a> {
+    fn new(state: &'a mut State, details: &'a mut ClassDetails) -> ThisRewriter<'a> {
+        let super_calls = List::new(state.alloc);
+        ThisRewriter {
+            state,
+            details,
+            super_calls,
+        }
+    }
+
+    /// `super.k`, `super.k(a)` and `super.k = v`, where the node is one of them.
+    fn rewrite_super(&mut self, node: &mut Node) -> Result<(), AllocError> {
+        if is_super_member(node) || is_super_write(node) {
+            let temp = class_temp(self.state, self.details)?;
+            return convert_super(self.state, &temp, node);
+        }
+        if self.super_calls.as_slice().contains(&node.node_id()) {
+            return finish_super_call(self.state.alloc, node);
+        }
+        Ok(())
+    }
 }
 
 impl Rewriter for ThisRewriter<'_> {
-    fn goes_into(&mut self, node: &Node) -> bool {
-        has_outer_this(node)
+    fn goes_into(&mut self, node: &Node) -> Result<bool, AllocError> {
+        if is_super_call(node) {
+            self.super_calls.push(node.node_id())?;
+        }
+        Ok(has_outer_this(node))
     }
 
     fn rewrite_expression(&mut self, node: &mut Node) -> Result<(), AllocError> {
         if node.kind() == Kind::ThisExpression {
             let temp = class_temp(self.state, self.details)?;
             *node = create_reference_at(self.state.alloc, &temp, node)?;
-        } else if node.kind() == Kind::Super {
-            self.state.decline(node.node_id());
         } else if is_new_target(node) {
             *node = create_void_0(self.state.alloc)?;
+        } else {
+            self.rewrite_super(node)?;
         }
         Ok(())
     }
@@ -209,8 +235,8 @@ struct NameRewriter<'a> {
 }
 
 impl Rewriter for NameRewriter<'_> {
-    fn goes_into(&mut self, _node: &Node) -> bool {
-        true
+    fn goes_into(&mut self, _node: &Node) -> Result<bool, AllocError> {
+        Ok(true)
     }
 
     fn rewrite_expression(&mut self, _node: &mut Node) -> Result<(), AllocError> {
