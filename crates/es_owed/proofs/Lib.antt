@@ -2,6 +2,7 @@ pub mod Frees
 pub mod HomesKept
 pub mod Kept
 pub mod Nodes
+pub mod NumberedNodes
 pub mod Numbering
 pub mod Sameness
 pub mod Staying

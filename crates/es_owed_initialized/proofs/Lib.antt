@@ -1,3 +1,4 @@
+pub mod ClassIdentifiers
 pub mod ClassNames
 pub mod GivenForms
 pub mod GivenValues
@@ -5,5 +6,6 @@ pub mod InnerClasses
 pub mod KeyNames
 pub mod PairsBehind
 pub mod Placed
+pub mod ReferenceNumbers
 pub mod RunningElements
 pub mod Spellings

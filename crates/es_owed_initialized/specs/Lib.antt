@@ -1,5 +1,6 @@
 pub mod Behind
 pub mod Forms
+pub mod Identifiers
 pub mod Initial
 pub mod Keys
 pub mod Meanings

@@ -6,12 +6,10 @@ ghost use Rattle.es_base.specs.Preorder.{preorder};
 ghost use Rattle.es_binding_faults.specs.Seen.{seen};
 ghost use Rattle.es_owed_initialized.specs.Initial.{pairs_of};
 ghost use Rattle.es_owed_initialized.specs.Placed.{is_one_before, stands};
-ghost use Rattle.es_references.specs.References.{references_of};
 ghost use Rattle.es_seen_names.specs.PrivateMembers.{private_members_of};
 ghost use Rattle.es_steps.specs.KeptNodes as kept;
 ghost use Rattle.es_lowered.specs.Lowered as spec;
 ghost use Rattle.es_steps.specs.PrivateNames as privates;
-ghost use Rattle.es_steps.specs.References.{resolve};
 
 use crate::initializing::{Generated, Initialization, initializations};
 use crate::inner::with_inner;
@@ -20,7 +18,6 @@ use es_base::kind::Kind;
 use es_base::ledger::{GeneratedKind, LedgerEntry};
 use es_node::node::Node;
 use es_owed::listed::Listed;
-use es_references::references::references;
 use es_seen_names::private_member::{PrivateMember, private_members};
 use std::alloc::{AllocError, Global};
 
@@ -36,26 +33,19 @@ pub fn initializations_stand(
     ensures { IfOk result (λ holds. holds ≡ spec.initializations_stand first ledger.now source.now.program.now lowered.now.program.now ledger.now) }
 {
     let members = private_members(alloc, source.program)?;
-    let references = references(alloc, lowered.program)?;
-    let names = Generated {
-        first,
-        ledger,
-        lowered,
-        references: references.as_slice(),
-    };
-    all_stand(alloc, names, source, members.as_slice(), ledger)
+    let names = Generated::of(alloc, first, ledger, lowered)?;
+    all_stand(alloc, &names, source, members.as_slice(), ledger)
 }
 
 fn all_stand(
     alloc: Global,
-    names: Generated,
+    names: &Generated,
     source: &Listed,
     members: &[PrivateMember],
     entries: &[LedgerEntry],
 ) -> Result<bool, AllocError>
-    requires of_lowered { references_of names.references.now ≡ resolve names.lowered.now.program.now }
-    requires of_source { private_members_of members.now ≡ privates.private_members source.now.program.now }
-    ensures { IfOk result (λ holds. holds ≡ spec.initializations_stand names.entry.first names.entry.ledger.now source.now.program.now names.entry.lowered.now.program.now entries.now) }
+    requires { private_members_of members.now ≡ privates.private_members source.now.program.now }
+    ensures { IfOk result (λ holds. holds ≡ spec.initializations_stand names.now.first names.now.ledger.now source.now.program.now names.now.lowered.now.program.now entries.now) }
 {
     for entry in entries {
         if !entry_stands(alloc, names, source, members, entry)? {
@@ -68,14 +58,13 @@ fn all_stand(
 #[tactic(auto, using(crate::proofs::Placed::stands_by))]
 fn entry_stands(
     alloc: Global,
-    names: Generated,
+    names: &Generated,
     source: &Listed,
     members: &[PrivateMember],
     entry: &LedgerEntry,
 ) -> Result<bool, AllocError>
-    requires of_lowered { references_of names.references.now ≡ resolve names.lowered.now.program.now }
-    requires of_source { private_members_of members.now ≡ privates.private_members source.now.program.now }
-    ensures { IfOk result (λ holds. holds ≡ spec.initialization_stands entry.now.kind source.now.program.now names.entry.lowered.now.program.now (spec.initializations names.entry.first names.entry.ledger.now names.entry.lowered.now.program.now entry.now.name entry.now.kind (preorder names.entry.lowered.now.program.now))) }
+    requires { private_members_of members.now ≡ privates.private_members source.now.program.now }
+    ensures { IfOk result (λ holds. holds ≡ spec.initialization_stands entry.now.kind source.now.program.now names.now.lowered.now.program.now (spec.initializations names.now.first names.now.ledger.now names.now.lowered.now.program.now entry.now.name entry.now.kind (preorder names.now.lowered.now.program.now))) }
 {
     let found = initializations(alloc, names, entry.name.as_str(), entry.kind)?;
     initialization_stands(

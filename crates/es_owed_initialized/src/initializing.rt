@@ -1,27 +1,31 @@
 // What gives generated names their values.
 
-ghost use Rattle.std.specs.Prelude.{◌≡◌, ◌++◌, ◌∷◌, [], cond, IfOk, OnOk, option_map};
+ghost use Rattle.std.specs.Prelude.{◌≡◌, ◌++◌, ◌∷◌, [], ℕ, cond, IfOk, OnOk, option_map};
 ghost use Rattle.std.specs.Str.{chars};
 ghost use Rattle.es_base.specs.Tree.{child, nullable};
 ghost use Rattle.es_binding_faults.specs.Seen.{seen};
 ghost use Rattle.es_node.specs.View.{kind_of, number_in, parts_in};
 ghost use Rattle.es_owed_initialized.specs.Initial.{pairs_in, pairs_of};
 ghost use Rattle.es_references.specs.References.{references_of};
+ghost use Rattle.es_grouped.specs.Groups.{group};
+ghost use Rattle.es_lowered.specs.Definitions.{class_identifiers};
 ghost use Rattle.es_lowered.specs.Lowered as spec;
 ghost use Rattle.es_steps.specs.References.{resolve};
 
 use crate::behind::has_pair;
-use crate::class_names::{class_identifiers, names_class};
+use crate::class_names::names_class;
 use crate::forms::{
     has_field_value, is_function_value, is_key_call, is_new_weak_map, is_new_weak_set,
 };
+use crate::identifiers::class_identifiers;
+use crate::meaning::Referents;
 use crate::spelling::spelling_of;
 use es_base::kind::Kind;
 use es_base::ledger::{GeneratedKind, LedgerEntry};
 use es_base::strings::is_word;
+use es_grouped::Grouped;
 use es_node::node::Node;
 use es_owed::listed::Listed;
-use es_references::references::Reference;
 use es_tree::class::{ClassDeclarationRef, ClassExpressionRef};
 use es_tree::expression::AssignmentExpressionRef;
 use es_tree::function::{FunctionDeclarationRef, FunctionExpressionRef};
@@ -29,13 +33,40 @@ use es_tree::statement::VariableDeclaratorRef;
 use std::alloc::{AllocError, Global};
 
 /// A lowered program with its generated names.
-#[derive(Clone, Copy)]
+#[derive(Drop)]
 pub struct Generated<'r, 'a> {
     /// The number of the first new node.
     pub first: u32,
     pub ledger: &'r [LedgerEntry],
     pub lowered: &'r Listed<'a>,
-    pub references: &'r [Reference<'a>],
+    pub references: Referents<'a>,
+    /// Of each class the identifiers that declare it.
+    pub identifiers: Grouped<u32>,
+
+    ghost are_resolved: { references_of references.list.items ≡ resolve lowered.now.program.now },
+    ghost are_identified: { (n : ℕ) → group n identifiers ≡ class_identifiers first n (seen lowered.now.nodes.items) },
+}
+
+impl<'r, 'a> Generated<'r, 'a> {
+    /// This program with these names, its new nodes being numbered from `first` on. Fails on allocation failure alone.
+    pub fn of(
+        alloc: Global,
+        first: u32,
+        ledger: &'r [LedgerEntry],
+        lowered: &'r Listed<'a>,
+    ) -> Result<Generated<'r, 'a>, AllocError>
+        ensures { IfOk result (λ g. (g.first ≡ first) × (g.ledger.now ≡ ledger.now) × (g.lowered.now ≡ lowered.now)) }
+    {
+        let references = Referents::of(alloc, lowered.program)?;
+        let identifiers = class_identifiers(alloc, first, lowered.nodes.as_slice())?;
+        Ok(Generated {
+            first,
+            ledger,
+            lowered,
+            references,
+            identifiers,
+        })
+    }
 }
 
 /// A node that gives a name a value, and whether that has the form of what the name stands for.
@@ -49,19 +80,15 @@ pub struct Initialization {
 #[tactic(auto, using(crate::proofs::GivenValues::more_initializations))]
 pub fn initializations(
     alloc: Global,
-    names: Generated,
+    names: &Generated,
     name: &str,
     kind: GeneratedKind,
 ) -> Result<Vec<Initialization>, AllocError>
-    requires { references_of names.references.now ≡ resolve names.lowered.now.program.now }
-    ensures { IfOk result (λ r. pairs_of r.items ≡ spec.initializations names.entry.first names.entry.ledger.now names.entry.lowered.now.program.now (chars name.now) kind (seen names.entry.lowered.now.nodes.items)) }
+    ensures { IfOk result (λ r. pairs_of r.items ≡ spec.initializations names.now.first names.now.ledger.now names.now.lowered.now.program.now (chars name.now) kind (seen names.now.lowered.now.nodes.items)) }
 {
     let mut found = Vec::new(alloc);
     for node in names.lowered.nodes.as_slice() {
-        add_some(
-            initialization_at(alloc, names, name, kind, node)?,
-            &mut found,
-        )?;
+        add_some(initialization_at(names, name, kind, node), &mut found)?;
     }
     Ok(found)
 }
@@ -75,24 +102,22 @@ fn add_some(one: Option<Initialization>, found: &mut Vec<Initialization>) -> Res
     Ok(())
 }
 
-/// Whether and how the node gives a name of this kind a value. Fails on allocation failure alone.
+/// Whether and how the node gives a name of this kind a value.
 #[tactic(auto, using(crate::proofs::GivenValues::by_assignment, crate::proofs::GivenValues::by_declarator, crate::proofs::GivenValues::by_empty_declarator, crate::proofs::GivenValues::by_function, crate::proofs::GivenValues::by_class, crate::proofs::GivenValues::by_class_expression, crate::proofs::GivenValues::by_own_name, crate::proofs::GivenValues::by_none))]
 fn initialization_at(
-    alloc: Global,
-    names: Generated,
+    names: &Generated,
     name: &str,
     kind: GeneratedKind,
     node: &Node,
-) -> Result<Option<Initialization>, AllocError>
-    requires { references_of names.references.now ≡ resolve names.lowered.now.program.now }
-    ensures { IfOk result (λ r. pairs_in r ≡ spec.initialization_at names.entry.first names.entry.ledger.now names.entry.lowered.now.program.now (chars name.now) kind (kind_of node.now) (number_in node.now) (parts_in node.now)) }
+) -> Option<Initialization>
+    ensures { pairs_in result ≡ spec.initialization_at names.now.first names.now.ledger.now names.now.lowered.now.program.now (chars name.now) kind (kind_of node.now) (number_in node.now) (parts_in node.now) }
 {
     match node.kind() {
         // _m = function () {}
         Kind::AssignmentExpression => {
             let assignment = AssignmentExpressionRef::from_node(node);
             let is_given = is_spelled(name, Some(assignment.left));
-            given(alloc, names, kind, is_given, node, assignment.right)
+            given(names, kind, is_given, node, assignment.right)
         }
         // let _w = new WeakMap();
         Kind::VariableDeclarator => {
@@ -100,34 +125,34 @@ fn initialization_at(
             match declarator.init {
                 Some(value) => {
                     let is_given = is_spelled(name, Some(declarator.id));
-                    given(alloc, names, kind, is_given, node, value)
+                    given(names, kind, is_given, node, value)
                 }
-                None => Ok(None),
+                None => None,
             }
         }
         // function _m() {}
         Kind::FunctionDeclaration => {
             let id = FunctionDeclarationRef::from_node(node).id;
-            Ok(declared(node, is_spelled(name, id), is_method(kind)))
+            declared(node, is_spelled(name, id), is_method(kind))
         }
         // class A {}
         Kind::ClassDeclaration => {
             let id = ClassDeclarationRef::from_node(node).id;
             let is_right = is_class_temporary(node.node_id().0, kind);
-            Ok(declared(node, is_spelled(name, id), is_right))
+            declared(node, is_spelled(name, id), is_right)
         }
         // (class A {})
         Kind::ClassExpression => {
             let id = ClassExpressionRef::from_node(node).id;
             let is_right = is_class_temporary(node.node_id().0, kind);
-            Ok(declared(node, is_spelled(name, id), is_right))
+            declared(node, is_spelled(name, id), is_right)
         }
         // (function f() {}): the name is constant
         Kind::FunctionExpression => {
             let id = FunctionExpressionRef::from_node(node).id;
-            Ok(declared(node, is_spelled(name, id), false))
+            declared(node, is_spelled(name, id), false)
         }
-        _ => Ok(None),
+        _ => None,
     }
 }
 
@@ -152,24 +177,22 @@ fn declared(node: &Node, is_declared: bool, is_right: bool) -> Option<Initializa
     }
 }
 
-/// A node that gives a name of this kind the value, if it does. Fails on allocation failure alone.
+/// A node that gives a name of this kind the value, if it does.
 fn given(
-    alloc: Global,
-    names: Generated,
+    names: &Generated,
     kind: GeneratedKind,
     is_given: bool,
     node: &Node,
     value: &Node,
-) -> Result<Option<Initialization>, AllocError>
-    requires { references_of names.references.now ≡ resolve names.lowered.now.program.now }
-    ensures { IfOk result (λ r. pairs_in r ≡ cond is_given ((number_in node.now, spec.is_initial names.entry.first names.entry.ledger.now names.entry.lowered.now.program.now (number_in node.now) kind (child value.now)) ∷ []) []) }
+) -> Option<Initialization>
+    ensures { pairs_in result ≡ cond is_given ((number_in node.now, spec.is_initial names.now.first names.now.ledger.now names.now.lowered.now.program.now (number_in node.now) kind (child value.now)) ∷ []) [] }
 {
     if is_given {
         let number = node.node_id().0;
-        let is_right = is_initial(alloc, names, number, kind, value)?;
-        Ok(Some(Initialization { number, is_right }))
+        let is_right = is_initial(names, number, kind, value);
+        Some(Initialization { number, is_right })
     } else {
-        Ok(None)
+        None
     }
 }
 
@@ -190,65 +213,43 @@ fn is_class_temporary(class: u32, kind: GeneratedKind) -> bool
 
 // ---- forms
 
-/// Whether the value has the form that a name of this kind is given by this node. Fails on allocation failure alone.
-fn is_initial(
-    alloc: Global,
-    names: Generated,
-    number: u32,
-    kind: GeneratedKind,
-    value: &Node,
-) -> Result<bool, AllocError>
-    requires { references_of names.references.now ≡ resolve names.lowered.now.program.now }
-    ensures { IfOk result (λ r. r ≡ spec.is_initial names.entry.first names.entry.ledger.now names.entry.lowered.now.program.now number kind (child value.now)) }
+/// Whether the value has the form that a name of this kind is given by this node.
+fn is_initial(names: &Generated, number: u32, kind: GeneratedKind, value: &Node) -> bool
+    ensures { result ≡ spec.is_initial names.now.first names.now.ledger.now names.now.lowered.now.program.now number kind (child value.now) }
 {
     match kind {
         // new WeakMap()
-        GeneratedKind::WeakMap(_) => Ok(is_new_weak_map(value)),
+        GeneratedKind::WeakMap(_) => is_new_weak_map(value),
         // { _: 1 }
-        GeneratedKind::StaticField(_) => Ok(has_field_value(value)),
+        GeneratedKind::StaticField(_) => has_field_value(value),
         // new WeakSet()
-        GeneratedKind::Brand(_) => Ok(is_new_weak_set(value)),
+        GeneratedKind::Brand(_) => is_new_weak_set(value),
         // babelHelpers.classPrivateFieldLooseKey("a")
-        GeneratedKind::LooseKey(_) => Ok(is_key_call(names.first, value)),
+        GeneratedKind::LooseKey(_) => is_key_call(names.first, value),
         // function () {}
-        GeneratedKind::Method(_) => Ok(is_function_value(value)),
-        GeneratedKind::SuperFn(_) => Ok(is_function_value(value)),
-        GeneratedKind::Closure => Ok(is_function_value(value)),
+        GeneratedKind::Method(_) => is_function_value(value),
+        GeneratedKind::SuperFn(_) => is_function_value(value),
+        GeneratedKind::Closure => is_function_value(value),
         // A
-        GeneratedKind::ClassTemp(class) => is_class_value(alloc, names, number, class.0, value),
-        GeneratedKind::Temp => Ok(true),
-        GeneratedKind::Param => Ok(true),
-        GeneratedKind::Args => Ok(true),
-        GeneratedKind::Private(_) => Ok(true),
+        GeneratedKind::ClassTemp(class) => is_class_value(names, number, class.0, value),
+        GeneratedKind::Temp => true,
+        GeneratedKind::Param => true,
+        GeneratedKind::Args => true,
+        GeneratedKind::Private(_) => true,
     }
 }
 
-/// Whether the value is the class itself, or, in the statement behind its declaration, a name of it. Fails on allocation
-/// failure alone.
+/// Whether the value is the class itself, or, in the statement behind its declaration, a name of it.
 #[tactic(auto, using(crate::proofs::PairsBehind::all_lists))]
-fn is_class_value(
-    alloc: Global,
-    names: Generated,
-    number: u32,
-    class: u32,
-    value: &Node,
-) -> Result<bool, AllocError>
-    requires { references_of names.references.now ≡ resolve names.lowered.now.program.now }
-    ensures { IfOk result (λ r. r ≡ spec.is_class_value names.entry.first names.entry.ledger.now names.entry.lowered.now.program.now number class (child value.now)) }
+fn is_class_value(names: &Generated, number: u32, class: u32, value: &Node) -> bool
+    ensures { result ≡ spec.is_class_value names.now.first names.now.ledger.now names.now.lowered.now.program.now number class (child value.now) }
 {
     if is_class_itself(class, value) {
-        return Ok(true);
+        return true;
     }
-    let nodes = names.lowered.nodes.as_slice();
-    let identifiers = class_identifiers(alloc, names.first, class, nodes)?;
-    let is_name = names_class(
-        class,
-        names.ledger,
-        names.references,
-        identifiers.as_slice(),
-        value,
-    );
-    Ok(is_name && has_pair(number, class, nodes))
+    let identifiers = names.identifiers.get(class);
+    names_class(class, names.ledger, &names.references, identifiers, value)
+        && has_pair(number, class, names.lowered.nodes.as_slice())
 }
 
 /// Whether the value is this class expression.

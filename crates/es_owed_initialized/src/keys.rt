@@ -5,9 +5,7 @@ ghost use Rattle.std.specs.Str.{chars};
 ghost use Rattle.es_base.specs.Preorder.{preorder};
 ghost use Rattle.es_base.specs.declared.ledger.GeneratedKind.{GeneratedKind};
 ghost use Rattle.es_binding_faults.specs.Seen.{seen};
-ghost use Rattle.es_references.specs.References.{references_of};
 ghost use Rattle.es_steps.specs.PrivateNames.{PrivateMember};
-ghost use Rattle.es_steps.specs.References.{resolve};
 ghost use Rattle.es_lowered.specs.Definitions as definitions;
 ghost use Rattle.es_lowered.specs.Lowered as spec;
 ghost use Rattle.es_owed_initialized.specs.Initial.{pairs_of};
@@ -19,7 +17,6 @@ use es_base::ledger::{GeneratedKind, LedgerEntry};
 use es_base::strings::is_word;
 use es_node::node::Node;
 use es_owed::listed::Listed;
-use es_references::references::references;
 use es_shapes::asked::lowers_fields;
 use es_steps::options::Options;
 use std::alloc::{AllocError, Global};
@@ -49,14 +46,8 @@ pub fn keys_stand(
     if !all_different(keys) {
         return Ok(false);
     }
-    let references = references(alloc, lowered.program)?;
-    let names = Generated {
-        first,
-        ledger,
-        lowered,
-        references: references.as_slice(),
-    };
-    keys_before(alloc, names, keys)
+    let names = Generated::of(alloc, first, ledger, lowered)?;
+    keys_before(alloc, &names, keys)
 }
 
 /// Whether no two of these temporaries are one.
@@ -85,9 +76,8 @@ fn is_among_first(name: &str, keys: &[KeyTemporary]) -> bool
 }
 
 /// Whether each of these temporaries is given before its class. Fails on allocation failure alone.
-fn keys_before(alloc: Global, names: Generated, keys: &[KeyTemporary]) -> Result<bool, AllocError>
-    requires { references_of names.references.now ≡ resolve names.lowered.now.program.now }
-    ensures { IfOk result (λ holds. holds ≡ spec.keys_before names.entry.first names.entry.ledger.now names.entry.lowered.now.program.now (keys_of keys.now)) }
+fn keys_before(alloc: Global, names: &Generated, keys: &[KeyTemporary]) -> Result<bool, AllocError>
+    ensures { IfOk result (λ holds. holds ≡ spec.keys_before names.now.first names.now.ledger.now names.now.lowered.now.program.now (keys_of keys.now)) }
 {
     for key in keys {
         if !is_before(alloc, names, *key)? {
@@ -97,9 +87,8 @@ fn keys_before(alloc: Global, names: Generated, keys: &[KeyTemporary]) -> Result
     Ok(true)
 }
 
-fn is_before(alloc: Global, names: Generated, key: KeyTemporary) -> Result<bool, AllocError>
-    requires { references_of names.references.now ≡ resolve names.lowered.now.program.now }
-    ensures { IfOk result (λ holds. holds ≡ spec.any_before (spec.initializations names.entry.first names.entry.ledger.now names.entry.lowered.now.program.now (chars key.entry.name.now) GeneratedKind.Temp (preorder names.entry.lowered.now.program.now)) key.entry.class (preorder names.entry.lowered.now.program.now)) }
+fn is_before(alloc: Global, names: &Generated, key: KeyTemporary) -> Result<bool, AllocError>
+    ensures { IfOk result (λ holds. holds ≡ spec.any_before (spec.initializations names.now.first names.now.ledger.now names.now.lowered.now.program.now (chars key.entry.name.now) GeneratedKind.Temp (preorder names.now.lowered.now.program.now)) key.entry.class (preorder names.now.lowered.now.program.now)) }
 {
     let found = initializations(alloc, names, key.name, GeneratedKind::Temp)?;
     Ok(any_before(found.as_slice(), key.class, names.lowered.nodes.as_slice()))

@@ -4,6 +4,7 @@
 pub mod behind;
 pub mod class_names;
 pub mod forms;
+pub mod identifiers;
 pub mod initialized;
 pub mod initializing;
 pub mod inner;
