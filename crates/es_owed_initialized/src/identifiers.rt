@@ -40,9 +40,8 @@ fn identified(alloc: Global, first: u32, nodes: &[&Node]) -> Result<Vec<Numbered
 {
     let mut identifiers = Vec::new(alloc);
     for node in nodes {
-        if let Some(class) = declared_class(alloc, first, node)? {
-            add_identifier(class, node.parts(), &mut identifiers)?;
-        }
+        let class = declared_class(alloc, first, node)?;
+        add_if_declared(class, node.parts(), &mut identifiers)?;
     }
     Ok(identifiers)
 }
@@ -79,6 +78,20 @@ fn is_old_identifier(first: u32, parts: &[Part]) -> bool
             !is_binding_identifier(node) || !is_new(first, node.node_id().0)
         }
         _ => true,
+    }
+}
+
+/// Adds the identifier that is the first of these parts, with the class, if there is one. Fails on allocation failure alone.
+fn add_if_declared(
+    class: Option<u32>,
+    parts: &[Part],
+    identifiers: &mut Vec<Numbered<u32>>,
+) -> Result<(), AllocError>
+    ensures { OnOk result (pairs identifiers.new.items ≡ pairs identifiers.old.items ++ with_class class (spec.identifier_in (at 0 (parts_of parts.now)))) }
+{
+    match class {
+        Some(class) => add_identifier(class, parts, identifiers),
+        None => Ok(()),
     }
 }
 

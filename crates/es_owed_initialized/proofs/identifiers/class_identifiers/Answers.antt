@@ -9,7 +9,7 @@ use Rattle.es_owed_initialized.proofs.identifiers.class_identifiers.Goals as goa
 
 pub returns : goal.returns
 returns c = IfOk-map c.of.result
-    (λ g. (n : ℕ) → group n g ≡ having n (pairs c.in_ok-identifiers.items.items))
+    (λ g. (n : ℕ) → group n g ≡ having n (pairs c.in_ok-identifiers.identifiers.items))
     (λ g. (n : ℕ) → group n g ≡ spec.class_identifiers c.args.first n (seen c.args.nodes.now))
     (λ g h n. h n ∙ ap (having n) c.in_ok-identifiers.ensures ∙ of_each_class c.args.first n (seen c.args.nodes.now))
     c.of.ensures
