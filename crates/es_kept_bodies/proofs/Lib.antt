@@ -1,0 +1,2 @@
+pub mod KeptBodies
+pub mod SameTouches
