@@ -1,10 +1,10 @@
 -- Homes, node by node.
-use Rattle.std.proofs.Common.{◌≡◌, refl, sym, ap, ◌∙◌, ℕ, zero, suc, ◌+◌, List, [], ◌∷◌, ◌++◌, Bool, false, cond, ◌&&◌, ◌||◌, arith}
+use Rattle.std.proofs.Common.{◌≡◌, refl, ap, ◌∙◌, ℕ, suc, ◌+◌, List, [], ◌∷◌, ◌++◌, false, cond, ◌&&◌, ◌||◌, arith}
 use Rattle.std.specs.Prelude.{not, nat_eq}
-use Rattle.es_base.specs.Tree.{Tree, Part, Parts, Node, end, more}
+use Rattle.es_base.specs.Tree.{Tree, Parts, Node, end, more}
 use Rattle.es_base.specs.declared.kind.Kind.{Kind}
 use Rattle.es_node.specs.View.{kind_of, number_in, parts_in}
-use Rattle.es_steps.specs.KeptNodes.{HomeHere, Homed, block_numbers, function_around, has_home, home_in, homed, homes, homes_at, homes_in, is_constructor_part, is_own_name_part, is_static_block, name_of, stands_nowhere}
+use Rattle.es_steps.specs.KeptNodes.{HomeHere, Homed, block_numbers, function_around, home_in, homed, homes, homes_at, homes_in, is_constructor_part, is_own_name_part, is_static_block, name_of, stands_nowhere}
 use Rattle.es_owed.specs.Homes.{block_number, home_within, homes_from, is_nowhere}
 
 from_place : (x f : ℕ → HomeHere) (i : ℕ) (ps : Parts) → ((k : ℕ) → f k ≡ x (i + k)) → homes_in f ps ≡ homes_from x i ps

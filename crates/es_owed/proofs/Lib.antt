@@ -1,3 +1,4 @@
+pub mod Among
 pub mod Frees
 pub mod HomesKept
 pub mod Kept

@@ -1,18 +1,18 @@
 -- What a definition by the form of a node says of any node.
-use Rattle.std.proofs.Common.{◌≡◌, refl, sym, ap, ◌∙◌, ℕ, List, [], ◌∷◌, map, Bool, true, false, cond, ◌&&◌, ◌||◌, Option, Some, None}
+use Rattle.std.proofs.Common.{◌≡◌, refl, sym, ap, ◌∙◌, ℕ, List, [], ◌∷◌, map, Bool, true, false, cond, ◌&&◌, ◌||◌, Some, None}
 use Rattle.std.specs.List.{list_any}
 use Rattle.std.specs.Prelude.{nat_eq, not}
 use Rattle.es_base.specs.Preorder.{number_of, preorder, preorder_of_part}
 use Rattle.es_base.specs.Table.{is_statement}
-use Rattle.es_base.specs.Tree.{Tree, Part, Parts, Node, end, child}
+use Rattle.es_base.specs.Tree.{Tree, Parts, Node, end, child}
 use Rattle.es_base.specs.declared.kind.Kind.{Kind}
 use Rattle.es_node.specs.View.{kind_of, number_in, parts_in}
-use Rattle.es_shapes.specs.Classes.{class_of, is_lowered}
+use Rattle.es_shapes.specs.Classes.{class_of}
 use Rattle.es_steps.specs.KeptNodes.{numbers_in_class, statement_list, is_free_statement}
 use Rattle.es_steps.specs.LoweredClasses.{any_element, elements_of, is_lowered_element, is_lowered_class, holds_lowered, has_lowered_class}
 use Rattle.es_steps.specs.Parts.{at}
 use Rattle.es_steps.specs.PrivateNames.{is_class}
-use Rattle.es_steps.specs.Shapes.{ClassAt, class_at}
+use Rattle.es_steps.specs.Shapes.{class_at}
 use Rattle.es_steps.specs.declared.options.Options.{Options}
 use Rattle.es_owed.specs.KeptNodes.{lowered_by}
 

@@ -1,12 +1,12 @@
 -- A program is numbered exactly where its numbers pass the tests.
-use Rattle.std.proofs.Common.{◌≡◌, refl, sym, subst, ap, ◌∙◌, true≢false, ℕ, ◌+◌, List, [], ◌∷◌, Bool, true, false, arith, Option, Some, None}
+use Rattle.std.proofs.Common.{◌≡◌, refl, sym, subst, ap, ◌∙◌, true≢false, ℕ, ◌+◌, List, [], ◌∷◌, Bool, true, false, arith, Some, None}
 use Rattle.std.specs.List.{IsDistinct, AllByRecursion}
-use Rattle.std.specs.Prelude.{◌↔◌, ◌&&◌, ◌||◌, IsTrue, cond, filter, nat_eq, not}
+use Rattle.std.specs.Prelude.{◌&&◌, ◌||◌, cond, filter, nat_eq, not}
 use Rattle.std.proofs.lemmas.Bool.Decides.{nat_tests}
-use Rattle.es_base.specs.Numbered.{AreConsecutive, EachOnce, IsNumbered, is_new, new_numbers, numbers}
+use Rattle.es_base.specs.Numbered.{AreConsecutive, EachOnce, IsNumbered, is_new, numbers}
 use Rattle.es_base.specs.Tree.{Tree}
 use Rattle.es_steps.specs.References.{has_number}
-use Rattle.es_owed.specs.Numbers.{are_distinct, consecutive_from, next_of}
+use Rattle.es_owed.specs.Numbers.{are_distinct, consecutive_from}
 
 same : (m n : ℕ) → nat_eq m n ≡ true → m ≡ n
 same m n test = grind (arith, nat_tests, test)

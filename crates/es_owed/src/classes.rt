@@ -11,6 +11,7 @@ ghost use Rattle.es_steps.specs.PrivateNames.{is_class};
 ghost use Rattle.es_steps.specs.Scopes as scopes;
 ghost use Rattle.es_owed.specs.KeptNodes.{body_numbers};
 
+use crate::listed::Listed;
 use crate::numbers::numbers_below;
 use es_base::kind::Kind;
 use es_binding_faults::hoisted::part_at;
@@ -62,11 +63,12 @@ fn body_of_class<'a>(class: u32, nodes: &[&'a Node]) -> Option<&'a Node>
     None
 }
 
-/// The numbers of the nodes in the body of this class. Fails on allocation failure alone.
-pub fn numbers_in_class(alloc: Global, class: u32, nodes: &[&Node]) -> Result<Vec<u32>, AllocError>
-    ensures { IfOk result (λ r. r.items ≡ kept.numbers_in_class class (seen nodes.now)) }
+/// The numbers of the nodes in the body of this class of a program. Fails on allocation failure alone.
+#[tactic(auto, using(crate::proofs::NumberedNodes::in_class_numbered))]
+pub fn numbers_in_class(alloc: Global, class: u32, program: &Listed) -> Result<Vec<u32>, AllocError>
+    ensures { IfOk result (λ r. r.items ≡ kept.numbers_in_class class (seen program.now.nodes.items)) }
 {
-    match body_of_class(class, nodes) {
+    match body_of_class(class, program.numbered(class)) {
         Some(body) => numbers_below(alloc, body),
         None => Ok(Vec::new(alloc)),
     }

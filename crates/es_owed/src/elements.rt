@@ -34,12 +34,7 @@ pub fn elements_kept(
 ) -> Result<bool, AllocError>
     ensures { IfOk result (λ holds. holds ≡ spec.elements_kept options.now (preorder source.now.program.now) (preorder lowered.now.program.now)) }
 {
-    elements_stay(
-        alloc,
-        options,
-        source.nodes.as_slice(),
-        lowered.nodes.as_slice(),
-    )
+    elements_stay(alloc, options, source.nodes.as_slice(), lowered)
 }
 
 #[tactic(auto, using(crate::proofs::Staying::elements_more))]
@@ -47,9 +42,9 @@ fn elements_stay(
     alloc: Global,
     options: &Options,
     source: &[&Node],
-    lowered: &[&Node],
+    lowered: &Listed,
 ) -> Result<bool, AllocError>
-    ensures { IfOk result (λ holds. holds ≡ spec.elements_kept options.now (seen source.now) (seen lowered.now)) }
+    ensures { IfOk result (λ holds. holds ≡ spec.elements_kept options.now (seen source.now) (seen lowered.now.nodes.items)) }
 {
     for node in source {
         if !class_stays(alloc, options, node, lowered)? {
@@ -60,19 +55,20 @@ fn elements_stay(
 }
 
 /// The same of one node, if that is a class. Fails on allocation failure alone.
-#[tactic(auto, using(crate::proofs::Staying::elements_by_body))]
+#[tactic(auto, using(crate::proofs::Staying::elements_by_body, crate::proofs::NumberedNodes::body_numbered))]
 fn class_stays(
     alloc: Global,
     options: &Options,
     node: &Node,
-    lowered: &[&Node],
+    lowered: &Listed,
 ) -> Result<bool, AllocError>
-    ensures { IfOk result (λ holds. holds ≡ (not (is_class (kind_of node.now)) || kept.is_within (kept_numbers options.now (classes.elements_of (parts_in node.now))) (spec.body_numbers (number_in node.now) (seen lowered.now)))) }
+    ensures { IfOk result (λ holds. holds ≡ (not (is_class (kind_of node.now)) || kept.is_within (kept_numbers options.now (classes.elements_of (parts_in node.now))) (spec.body_numbers (number_in node.now) (seen lowered.now.nodes.items)))) }
 {
     match class_body(node) {
         Some(body) => {
+            let number = node.node_id().0;
             let numbers = kept_numbers(alloc, options, body)?;
-            let there = body_numbers(alloc, node.node_id().0, lowered)?;
+            let there = body_numbers(alloc, number, lowered.numbered(number))?;
             Ok(is_within(numbers.as_slice(), there.as_slice()))
         }
         None => Ok(true),

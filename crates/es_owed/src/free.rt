@@ -21,17 +21,17 @@ use es_steps::options::Options;
 pub fn statements_kept(options: &Options, source: &Listed, lowered: &Listed) -> bool
     ensures { result ≡ spec.statements_kept options.now source.now.program.now lowered.now.program.now }
 {
-    free_stand(options, lowered.nodes.as_slice(), source.program)
+    free_stand(options, lowered, source.program)
 }
 
 /// Whether the outermost such statements of the node are equal to ones of these.
 #[cycle(free)]
-#[tactic(auto, using(crate::proofs::Frees::stands_node, es_node::proofs::Below::nodes_in))]
-fn free_stand(options: &Options, lowered: &[&Node], node: &Node) -> bool
-    ensures { result ≡ free_stand options.now (seen lowered.now) node.now }
+#[tactic(auto, using(crate::proofs::Frees::stands_node, crate::proofs::NumberedNodes::equal_numbered, es_node::proofs::Below::nodes_in))]
+fn free_stand(options: &Options, lowered: &Listed, node: &Node) -> bool
+    ensures { result ≡ free_stand options.now (seen lowered.now.nodes.items) node.now }
 {
     if is_free_statement(options, node) {
-        stands_equal(node, lowered)
+        stands_equal(node, lowered.numbered(node.node_id().0))
     } else if is_lowered_class(options, node) {
         true
     } else {
@@ -40,8 +40,8 @@ fn free_stand(options: &Options, lowered: &[&Node], node: &Node) -> bool
 }
 
 #[cycle(free)]
-fn free_stand_in(options: &Options, lowered: &[&Node], parts: &[Part]) -> bool
-    ensures { result ≡ free_stand_in options.now (seen lowered.now) (parts_of parts.now) }
+fn free_stand_in(options: &Options, lowered: &Listed, parts: &[Part]) -> bool
+    ensures { result ≡ free_stand_in options.now (seen lowered.now.nodes.items) (parts_of parts.now) }
 {
     for part in parts {
         if !free_stand_at(options, lowered, part) {
@@ -52,8 +52,8 @@ fn free_stand_in(options: &Options, lowered: &[&Node], parts: &[Part]) -> bool
 }
 
 #[cycle(free)]
-fn free_stand_at(options: &Options, lowered: &[&Node], part: &Part) -> bool
-    ensures { result ≡ free_stand_at options.now (seen lowered.now) (part_of part.now) }
+fn free_stand_at(options: &Options, lowered: &Listed, part: &Part) -> bool
+    ensures { result ≡ free_stand_at options.now (seen lowered.now.nodes.items) (part_of part.now) }
 {
     match part {
         Part::Child(node) => free_stand(options, lowered, node),
@@ -64,8 +64,8 @@ fn free_stand_at(options: &Options, lowered: &[&Node], part: &Part) -> bool
 }
 
 #[cycle(free)]
-fn free_stand_of_list(options: &Options, lowered: &[&Node], nodes: &[Node]) -> bool
-    ensures { result ≡ free_stand_in options.now (seen lowered.now) (trees nodes.now) }
+fn free_stand_of_list(options: &Options, lowered: &Listed, nodes: &[Node]) -> bool
+    ensures { result ≡ free_stand_in options.now (seen lowered.now.nodes.items) (trees nodes.now) }
 {
     for node in nodes {
         if !free_stand(options, lowered, node) {
@@ -78,10 +78,10 @@ fn free_stand_of_list(options: &Options, lowered: &[&Node], nodes: &[Node]) -> b
 #[cycle(free)]
 fn free_stand_of_list_with_holes(
     options: &Options,
-    lowered: &[&Node],
+    lowered: &Listed,
     nodes: &[Option<Node>],
 ) -> bool
-    ensures { result ≡ free_stand_in options.now (seen lowered.now) (nullable_trees nodes.now) }
+    ensures { result ≡ free_stand_in options.now (seen lowered.now.nodes.items) (nullable_trees nodes.now) }
 {
     for node in nodes {
         if !free_stand_of_hole(options, lowered, node) {
@@ -92,8 +92,8 @@ fn free_stand_of_list_with_holes(
 }
 
 #[cycle(free)]
-fn free_stand_of_hole(options: &Options, lowered: &[&Node], node: &Option<Node>) -> bool
-    ensures { result ≡ free_stand_at options.now (seen lowered.now) (nullable node.now) }
+fn free_stand_of_hole(options: &Options, lowered: &Listed, node: &Option<Node>) -> bool
+    ensures { result ≡ free_stand_at options.now (seen lowered.now.nodes.items) (nullable node.now) }
 {
     match node {
         Some(node) => free_stand(options, lowered, node),

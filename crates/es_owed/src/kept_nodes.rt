@@ -34,12 +34,12 @@ pub enum NodeSort {
 pub fn nodes_kept(source: &Listed, lowered: &Listed) -> bool
     ensures { result ≡ spec.nodes_kept source.now.program.now lowered.now.program.now }
 {
-    all_stand(source.nodes.as_slice(), lowered.nodes.as_slice())
+    all_stand(source.nodes.as_slice(), lowered)
 }
 
 #[tactic(auto, using(crate::proofs::Kept::all_stand_more))]
-fn all_stand(source: &[&Node], lowered: &[&Node]) -> bool
-    ensures { result ≡ all_stand (seen source.now) (seen lowered.now) }
+fn all_stand(source: &[&Node], lowered: &Listed) -> bool
+    ensures { result ≡ all_stand (seen source.now) (seen lowered.now.nodes.items) }
 {
     for node in source {
         if !stands(node, lowered) {
@@ -50,11 +50,13 @@ fn all_stand(source: &[&Node], lowered: &[&Node]) -> bool
 }
 
 /// Whether the node stands among these, if it is of a sort that does.
-fn stands(node: &Node, lowered: &[&Node]) -> bool
-    ensures { result ≡ (not (spec.is_kept_sort (spec.sort_of (kind_of node.now))) || stands_as (number_in node.now) (spec.sort_of (kind_of node.now)) (seen lowered.now)) }
+#[tactic(auto, using(crate::proofs::NumberedNodes::stands_as_numbered))]
+fn stands(node: &Node, lowered: &Listed) -> bool
+    ensures { result ≡ (not (spec.is_kept_sort (spec.sort_of (kind_of node.now))) || stands_as (number_in node.now) (spec.sort_of (kind_of node.now)) (seen lowered.now.nodes.items)) }
 {
+    let number = node.node_id().0;
     let sort = sort_of(node.kind());
-    !is_kept_sort(sort) || stands_as(node.node_id().0, sort, lowered)
+    !is_kept_sort(sort) || stands_as(number, sort, lowered.numbered(number))
 }
 
 /// Whether a node of this number and sort is among these.
@@ -124,22 +126,17 @@ pub fn classes_kept(
 ) -> Result<bool, AllocError>
     ensures { IfOk result (λ holds. holds ≡ spec.classes_kept first source.now.program.now lowered.now.program.now) }
 {
-    none_enters(
-        alloc,
-        first,
-        source.nodes.as_slice(),
-        lowered.nodes.as_slice(),
-    )
+    none_enters(alloc, first, source, lowered.nodes.as_slice())
 }
 
 #[tactic(auto, using(crate::proofs::Kept::none_enters_more))]
 fn none_enters(
     alloc: Global,
     first: u32,
-    source: &[&Node],
+    source: &Listed,
     lowered: &[&Node],
 ) -> Result<bool, AllocError>
-    ensures { IfOk result (λ holds. holds ≡ none_enters first (seen source.now) (seen lowered.now)) }
+    ensures { IfOk result (λ holds. holds ≡ none_enters first (seen source.now.nodes.items) (seen lowered.now)) }
 {
     for node in lowered {
         if !is_kept_class(alloc, first, source, node)? {
@@ -153,16 +150,16 @@ fn none_enters(
 fn is_kept_class(
     alloc: Global,
     first: u32,
-    source: &[&Node],
+    source: &Listed,
     node: &Node,
 ) -> Result<bool, AllocError>
-    ensures { IfOk result (λ holds. holds ≡ (not (is_class (kind_of node.now)) || spec.are_new_or_among first (numbers_in_class (number_in node.now) (seen source.now)) (map number_of (preorder_of_part (at 2 (parts_in node.now)))))) }
+    ensures { IfOk result (λ holds. holds ≡ (not (is_class (kind_of node.now)) || spec.are_new_or_among first (numbers_in_class (number_in node.now) (seen source.now.nodes.items)) (map number_of (preorder_of_part (at 2 (parts_in node.now)))))) }
 {
     match class_body(node) {
         Some(body) => {
             let there = numbers_in_class(alloc, node.node_id().0, source)?;
             let numbers = numbers_below(alloc, body)?;
-            Ok(are_new_or_among(first, there.as_slice(), numbers.as_slice()))
+            are_new_or_among(alloc, first, there.as_slice(), numbers.as_slice())
         }
         None => Ok(true),
     }

@@ -31,21 +31,16 @@ pub fn lists_kept(
 ) -> Result<bool, AllocError>
     ensures { IfOk result (λ holds. holds ≡ spec.lists_kept options.now source.now.program.now lowered.now.program.now) }
 {
-    lists_stay(
-        alloc,
-        options,
-        source.nodes.as_slice(),
-        lowered.nodes.as_slice(),
-    )
+    lists_stay(alloc, options, source.nodes.as_slice(), lowered)
 }
 
 fn lists_stay(
     alloc: Global,
     options: &Options,
     source: &[&Node],
-    lowered: &[&Node],
+    lowered: &Listed,
 ) -> Result<bool, AllocError>
-    ensures { IfOk result (λ holds. holds ≡ lists_stay options.now (seen lowered.now) (seen source.now)) }
+    ensures { IfOk result (λ holds. holds ≡ lists_stay options.now (seen lowered.now.nodes.items) (seen source.now)) }
 {
     for node in source {
         if !list_stays(alloc, options, node, lowered)? {
@@ -57,20 +52,21 @@ fn lists_stay(
 
 /// Whether what is to stay of the node's list stands in the list of that node. The list of a static block may become an
 /// expression. Fails on allocation failure alone.
-#[tactic(auto, using(crate::proofs::StayingLists::list_stays_node))]
+#[tactic(auto, using(crate::proofs::StayingLists::list_stays_node, crate::proofs::NumberedNodes::list_of_numbered))]
 fn list_stays(
     alloc: Global,
     options: &Options,
     node: &Node,
-    lowered: &[&Node],
+    lowered: &Listed,
 ) -> Result<bool, AllocError>
-    ensures { IfOk result (λ holds. holds ≡ list_stays options.now (seen lowered.now) node.now) }
+    ensures { IfOk result (λ holds. holds ≡ list_stays options.now (seen lowered.now.nodes.items) node.now) }
 {
     if is_static_block(node.kind()) {
         return Ok(true);
     }
+    let number = node.node_id().0;
     let numbers = free_numbers(alloc, options, statement_list(node))?;
-    let there = list_of(alloc, node.node_id().0, lowered)?;
+    let there = list_of(alloc, number, lowered.numbered(number))?;
     Ok(is_within(numbers.as_slice(), there.as_slice()))
 }
 

@@ -4,18 +4,53 @@ ghost use Rattle.std.specs.Prelude.{◌≡◌, ◌∷◌, ◌≤◌, IfOk, List,
 ghost use Rattle.es_base.specs.Preorder.{number_of, preorder};
 ghost use Rattle.es_binding_faults.specs.Seen.{seen};
 ghost use Rattle.es_steps.specs.KeptNodes as kept;
+ghost use Rattle.es_steps.specs.References.{has_number};
 
+use es_base::ids::NodeId;
+use es_binding_faults::numbers::Numbers;
 use es_binding_faults::preorder::preorder;
-use es_generated::numbers::{has_number, is_new};
+use es_generated::numbers::is_new;
 use es_node::node::Node;
 use std::alloc::{AllocError, Global};
 
-/// Whether each of these numbers is new or among those that were there.
-pub fn are_new_or_among(first: u32, there: &[u32], numbers: &[u32]) -> bool
+/// The set of these numbers. Fails on allocation failure alone.
+pub fn set_of(alloc: Global, numbers: &[u32]) -> Result<Numbers, AllocError>
+    ensures { IfOk result (λ r. (n : ℕ) → has_number n r ≡ has_number n numbers.now) }
+{
+    let nodes = nodes_numbered(alloc, numbers)?;
+    let set = Numbers::of(alloc, nodes.as_slice())?;
+    Ok(set)
+}
+
+fn nodes_numbered(alloc: Global, numbers: &[u32]) -> Result<Vec<NodeId>, AllocError>
+    ensures { IfOk result (λ r. map (λ x. x.0) r.items ≡ numbers.now) }
+{
+    let mut nodes = Vec::new(alloc);
+    for number in numbers {
+        nodes.push(NodeId(*number))?;
+    }
+    Ok(nodes)
+}
+
+/// Whether each of these numbers is new or among those that were there. Fails on allocation failure alone.
+#[tactic(auto, using(crate::proofs::Among::same_new_or_among))]
+pub fn are_new_or_among(
+    alloc: Global,
+    first: u32,
+    there: &[u32],
+    numbers: &[u32],
+) -> Result<bool, AllocError>
+    ensures { IfOk result (λ holds. holds ≡ kept.are_new_or_among first there.now numbers.now) }
+{
+    let set = set_of(alloc, there)?;
+    Ok(are_new_or_in(first, &set, numbers))
+}
+
+fn are_new_or_in(first: u32, there: &Numbers, numbers: &[u32]) -> bool
     ensures { result ≡ kept.are_new_or_among first there.now numbers.now }
 {
     for number in numbers {
-        if !(is_new(first, *number) || has_number(*number, there)) {
+        if !(is_new(first, *number) || there.has(NodeId(*number))) {
             return false;
         }
     }

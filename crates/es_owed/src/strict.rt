@@ -23,7 +23,7 @@ pub fn none_becomes_strict(
 {
     let there = strict_numbers(alloc, source)?;
     let numbers = strict_numbers(alloc, lowered)?;
-    Ok(are_new_or_among(first, there.as_slice(), numbers.as_slice()))
+    are_new_or_among(alloc, first, there.as_slice(), numbers.as_slice())
 }
 
 /// The numbers of the nodes in strict code of a program. Fails on allocation failure alone.

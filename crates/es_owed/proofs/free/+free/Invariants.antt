@@ -25,10 +25,10 @@ abbrev pub decreases-free_stand_of_hole : goal.decreases-free_stand_of_hole
 decreases-free_stand_of_hole l = 5 * nodes_of_part (nullable l.node.now) + 1
 
 abbrev pub invariant-free_stand_in-loop-part : goal.invariant-free_stand_in-loop-part
-invariant-free_stand_in-loop-part l = free_stand_in l.options (seen l.lowered) (parts_of (drop l.part-index l.parts)) ≡ free_stand_in l.options (seen l.lowered) (parts_of l.parts)
+invariant-free_stand_in-loop-part l = free_stand_in l.options (seen l.lowered.nodes.items) (parts_of (drop l.part-index l.parts)) ≡ free_stand_in l.options (seen l.lowered.nodes.items) (parts_of l.parts)
 
 abbrev pub invariant-free_stand_of_list-loop-node : goal.invariant-free_stand_of_list-loop-node
-invariant-free_stand_of_list-loop-node l = free_stand_in l.options (seen l.lowered) (trees (drop l.node-index l.nodes)) ≡ free_stand_in l.options (seen l.lowered) (trees l.nodes)
+invariant-free_stand_of_list-loop-node l = free_stand_in l.options (seen l.lowered.nodes.items) (trees (drop l.node-index l.nodes)) ≡ free_stand_in l.options (seen l.lowered.nodes.items) (trees l.nodes)
 
 abbrev pub invariant-free_stand_of_list_with_holes-loop-node : goal.invariant-free_stand_of_list_with_holes-loop-node
-invariant-free_stand_of_list_with_holes-loop-node l = free_stand_in l.options (seen l.lowered) (nullable_trees (drop l.node-index l.nodes)) ≡ free_stand_in l.options (seen l.lowered) (nullable_trees l.nodes)
+invariant-free_stand_of_list_with_holes-loop-node l = free_stand_in l.options (seen l.lowered.nodes.items) (nullable_trees (drop l.node-index l.nodes)) ≡ free_stand_in l.options (seen l.lowered.nodes.items) (nullable_trees l.nodes)

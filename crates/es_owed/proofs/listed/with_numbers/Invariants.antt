@@ -1,4 +1,4 @@
-use Rattle.std.proofs.Common.{◌≡◌, ◌++◌, ℕ, map, drop, Bor}
+use Rattle.std.proofs.Common.{◌≡◌, ◌++◌, map, drop, Bor}
 use Rattle.es_base.specs.Preorder.{number_of}
 use Rattle.es_base.specs.Tree.{Tree}
 use Rattle.es_by_number.specs.Numbered.{pairs}

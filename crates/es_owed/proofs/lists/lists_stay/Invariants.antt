@@ -4,4 +4,4 @@ use Rattle.es_owed.specs.Lists.{lists_stay}
 use Rattle.es_owed.proofs.lists.lists_stay.Given as goal
 
 abbrev pub invariant-loop-node : goal.invariant-loop-node
-invariant-loop-node l = lists_stay l.options (seen l.lowered) (seen (drop l.node-index l.source)) ≡ lists_stay l.options (seen l.lowered) (seen l.source)
+invariant-loop-node l = lists_stay l.options (seen l.lowered.nodes.items) (seen (drop l.node-index l.source)) ≡ lists_stay l.options (seen l.lowered.nodes.items) (seen l.source)

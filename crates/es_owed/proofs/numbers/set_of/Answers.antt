@@ -1,0 +1,7 @@
+use Rattle.std.proofs.Common.{◌∙◌, ap, List, map}
+use Rattle.es_base.specs.declared.ids.NodeId.{NodeId}
+use Rattle.es_steps.specs.References.{has_number}
+use Rattle.es_owed.proofs.numbers.set_of.Goals as goal
+
+pub returns : goal.returns
+returns c = λ n. c.in_ok-set.ensures n ∙ ap (λ (xs : List NodeId). has_number n (map (λ (x : NodeId). x.0) xs)) c.as_slice.ensures.value ∙ ap (has_number n) c.in_ok-nodes.ensures
