@@ -6,6 +6,7 @@ pub mod Nodes
 pub mod NumberedNodes
 pub mod Numbering
 pub mod Sameness
+pub mod Singles
 pub mod Staying
 pub mod StayingLists
 pub mod StrictCode

@@ -28,6 +28,12 @@ homes_from x i (more p ps) = homes_at (x i) p ++ homes_from x (i + 1) ps
 abbrev pub block_number : Tree → List ℕ
 block_number (Node kind m span semantic_id ps) = cond (is_static_block kind) (m ∷ []) []
 
+-- those of a number
+abbrev pub homed_numbered : ℕ → List spec.Homed → List spec.Homed
+homed_numbered m [] = []
+homed_numbered m (y ∷ ys) = cond (nat_eq m y.number) (y ∷ []) [] ++ homed_numbered m ys
+
+-- whether there is none of a number
 abbrev pub is_nowhere : ℕ → List spec.Homed → Bool
 is_nowhere n [] = true
 is_nowhere n (y ∷ ys) = not (nat_eq n y.number) && is_nowhere n ys

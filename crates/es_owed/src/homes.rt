@@ -1,18 +1,25 @@
 // Declaring identifiers and lists of statements stay in their functions, and the identifiers keep their spelling.
 
-ghost use Rattle.std.specs.Prelude.{◌≡◌, ◌&&◌, ◌||◌, ◌++◌, [], IfOk, OnOk};
+ghost use Rattle.std.specs.Prelude.{◌≡◌, ◌&&◌, ◌||◌, ◌++◌, [], ℕ, map, IfOk, OnOk};
 ghost use Rattle.std.specs.Str.{chars};
 ghost use Rattle.es_base.specs.Tree.{nullable, nullable_trees, trees};
 ghost use Rattle.es_binding_faults.specs.Seen.{seen};
+ghost use Rattle.es_by_number.specs.Numbered.{pairs};
+ghost use Rattle.es_grouped.specs.Groups.{group};
 ghost use Rattle.es_node.specs.View.{kind_of, number_in, part_of, parts_in, parts_of};
 ghost use Rattle.es_steps.specs.KeptNodes as spec;
 ghost use Rattle.es_steps.specs.KeptNodes.{all_at_home, all_homes, block_numbers, function_around, has_home, home_fits, homed, homes, homes_at, homes_of, is_constructor_part, is_own_name_part, is_underscored, lowered_blocks, name_fits, name_of, stands_at_home, stands_nowhere};
-ghost use Rattle.es_owed.specs.Homes.{block_number, home_here, home_within, homed_all, homed_here, homes_from, is_nowhere};
+ghost use Rattle.es_owed.specs.Homes.{block_number, home_here, home_within, homed_all, homed_here, homed_numbered, homes_from, is_nowhere};
 
 use crate::listed::Listed;
+use crate::numbers::set_of;
+use es_base::ids::NodeId;
 use es_base::kind::Kind;
 use es_base::strings::is_word;
-use es_generated::numbers::{has_number, is_new};
+use es_binding_faults::numbers::Numbers;
+use es_by_number::numbered::Numbered;
+use es_generated::numbers::is_new;
+use es_grouped::Grouped;
 use es_node::node::{Node, Part};
 use es_seen_names::parts::string_at;
 use es_steps::options::Options;
@@ -45,6 +52,7 @@ pub struct Around {
 /// Whether the declaring identifiers and the lists of statements of the source stay in their functions, and the identifiers
 /// keep their spelling. What stands in a static block that is lowered may get a new function, the own name of a class
 /// expression may go, and a name in a constructor may get one that begins with `_`. Fails on allocation failure alone.
+#[tactic(auto, using(crate::proofs::HomesKept::same_at_home))]
 pub fn homes_kept(
     alloc: Global,
     first: u32,
@@ -54,10 +62,11 @@ pub fn homes_kept(
 ) -> Result<bool, AllocError>
     ensures { IfOk result (λ holds. holds ≡ spec.homes_kept first options.now source.now.program.now lowered.now.program.now) }
 {
-    let blocks = lowered_blocks(alloc, options, source)?;
+    let numbers = lowered_blocks(alloc, options, source)?;
+    let blocks = set_of(alloc, numbers.as_slice())?;
     let there = all_homes(alloc, source.program)?;
-    let found = all_homes(alloc, lowered.program)?;
-    Ok(all_at_home(first, blocks.as_slice(), there.as_slice(), found.as_slice()))
+    let found = Homes::of(alloc, lowered.program)?;
+    Ok(all_at_home(first, &blocks, there.as_slice(), &found))
 }
 
 // ---- static blocks
@@ -220,6 +229,59 @@ fn add_homed<'a>(
     Ok(())
 }
 
+// ---- by their numbers
+
+/// The declaring identifiers and lists of statements of a program, also by their numbers.
+#[derive(Drop)]
+pub struct Homes<'a> {
+    pub list: Vec<Homed<'a>>,
+    pub by_number: Grouped<Homed<'a>>,
+
+    ghost are_its: { (m : ℕ) → homed_all (group m by_number) ≡ homed_numbered m (homed_all list.items) },
+}
+
+impl<'a> Homes<'a> {
+    /// Those of this program. Fails on allocation failure alone.
+    fn of(alloc: Global, program: &'a Node) -> Result<Homes<'a>, AllocError>
+        ensures { IfOk result (λ h. homed_all h.list.items ≡ all_homes program.now) }
+    {
+        let list = all_homes(alloc, program)?;
+        let by_number = by_number(alloc, list.as_slice())?;
+        Ok(Homes { list, by_number })
+    }
+
+    /// Those of this number: at most one, where no number stands twice.
+    fn numbered(&self, number: u32) -> &[Homed<'a>]
+        ensures { homed_all result.now ≡ homed_numbered number (homed_all self.now.list.items) }
+    {
+        self.by_number.get(number)
+    }
+}
+
+fn by_number<'a>(alloc: Global, homes: &[Homed<'a>]) -> Result<Grouped<Homed<'a>>, AllocError>
+    ensures { IfOk result (λ g. (m : ℕ) → homed_all (group m g) ≡ homed_numbered m (homed_all homes.now)) }
+{
+    let items = with_numbers(alloc, homes)?;
+    Grouped::of(alloc, items)
+}
+
+/// These, each with its number. Fails on allocation failure alone.
+fn with_numbers<'a>(
+    alloc: Global,
+    homes: &[Homed<'a>],
+) -> Result<Vec<Numbered<Homed<'a>>>, AllocError>
+    ensures { IfOk result (λ r. pairs r.items ≡ map (λ h. (h.number, h)) homes.now) }
+{
+    let mut items = Vec::new(alloc);
+    for homed in homes {
+        items.push(Numbered {
+            number: homed.number,
+            value: *homed,
+        })?;
+    }
+    Ok(items)
+}
+
 // ---- at a node
 
 fn is_static_block(kind: Kind) -> bool
@@ -300,8 +362,8 @@ pub fn is_constructor_part(node: &Node, i: usize) -> bool
 // ---- what stays
 
 /// Whether each of those of the source stays, but own names of class expressions that are found nowhere.
-fn all_at_home(first: u32, blocks: &[u32], there: &[Homed], found: &[Homed]) -> bool
-    ensures { result ≡ all_at_home first blocks.now (homed_all there.now) (homed_all found.now) }
+fn all_at_home(first: u32, blocks: &Numbers, there: &[Homed], found: &Homes) -> bool
+    ensures { result ≡ all_at_home first blocks.now (homed_all there.now) (homed_all found.now.list.items) }
 {
     for homed in there {
         if !is_at_home(first, blocks, *homed, found) {
@@ -312,14 +374,21 @@ fn all_at_home(first: u32, blocks: &[u32], there: &[Homed], found: &[Homed]) -> 
 }
 
 #[tactic(auto, using(crate::proofs::HomesKept::nowhere))]
-fn is_at_home(first: u32, blocks: &[u32], homed: Homed, found: &[Homed]) -> bool
-    ensures { result ≡ (stands_at_home first blocks.now (homed_here homed.entry) (homed_all found.now) || (homed.entry.is_own_name && stands_nowhere first blocks.now (homed_here homed.entry) (homed_all found.now))) }
+fn is_at_home(first: u32, blocks: &Numbers, homed: Homed, found: &Homes) -> bool
+    ensures { result ≡ (stands_at_home first blocks.now (homed_here homed.entry) (homed_all found.now.list.items) || (homed.entry.is_own_name && stands_nowhere first blocks.now (homed_here homed.entry) (homed_all found.now.list.items))) }
 {
     stands_at_home(first, blocks, homed, found)
         || (homed.is_own_name && stands_nowhere(homed.number, found))
 }
 
-fn stands_at_home(first: u32, blocks: &[u32], homed: Homed, found: &[Homed]) -> bool
+fn stands_at_home(first: u32, blocks: &Numbers, homed: Homed, found: &Homes) -> bool
+    ensures { result ≡ stands_at_home first blocks.now (homed_here homed.entry) (homed_all found.now.list.items) }
+{
+    any_fits(first, blocks, homed, found.numbered(homed.number))
+}
+
+/// Whether one of these has the number of the first, a home and a name that the first may get.
+fn any_fits(first: u32, blocks: &Numbers, homed: Homed, found: &[Homed]) -> bool
     ensures { result ≡ stands_at_home first blocks.now (homed_here homed.entry) (homed_all found.now) }
 {
     for other in found {
@@ -331,18 +400,18 @@ fn stands_at_home(first: u32, blocks: &[u32], homed: Homed, found: &[Homed]) -> 
 }
 
 /// Whether the second is at a home and has a name that the first may get.
-fn fits(first: u32, blocks: &[u32], homed: Homed, other: Homed) -> bool
+fn fits(first: u32, blocks: &Numbers, homed: Homed, other: Homed) -> bool
     ensures { result ≡ (home_fits first blocks.now (homed_here homed.entry) (homed_here other.entry) && name_fits first blocks.now (homed_here homed.entry) (homed_here other.entry)) }
 {
     home_fits(first, blocks, homed, other) && name_fits(homed, other)
 }
 
-fn home_fits(first: u32, blocks: &[u32], homed: Homed, other: Homed) -> bool
+fn home_fits(first: u32, blocks: &Numbers, homed: Homed, other: Homed) -> bool
     ensures { result ≡ home_fits first blocks.now (homed_here homed.entry) (homed_here other.entry) }
 {
     homed.is_own_name
         || (homed.home == other.home
-            || (has_number(homed.home, blocks) && is_new(first, other.home)))
+            || (blocks.has(NodeId(homed.home)) && is_new(first, other.home)))
 }
 
 fn name_fits(homed: Homed, other: Homed) -> bool
@@ -362,13 +431,10 @@ pub fn is_underscored(string: &str) -> bool
     }
 }
 
-fn stands_nowhere(number: u32, found: &[Homed]) -> bool
-    ensures { result ≡ is_nowhere number (homed_all found.now) }
+/// Whether nothing of this number is found.
+#[tactic(auto, using(crate::proofs::HomesKept::nowhere_empty))]
+fn stands_nowhere(number: u32, found: &Homes) -> bool
+    ensures { result ≡ is_nowhere number (homed_all found.now.list.items) }
 {
-    for other in found {
-        if number == other.number {
-            return false;
-        }
-    }
-    true
+    found.numbered(number).is_empty()
 }

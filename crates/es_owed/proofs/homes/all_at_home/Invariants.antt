@@ -4,4 +4,4 @@ use Rattle.es_owed.specs.Homes.{homed_all}
 use Rattle.es_owed.proofs.homes.all_at_home.Given as goal
 
 abbrev pub invariant-loop-homed : goal.invariant-loop-homed
-invariant-loop-homed l = all_at_home l.first l.blocks (homed_all (drop l.homed-index l.there)) (homed_all l.found) ≡ all_at_home l.first l.blocks (homed_all l.there) (homed_all l.found)
+invariant-loop-homed l = all_at_home l.first l.blocks (homed_all (drop l.homed-index l.there)) (homed_all l.found.list.items) ≡ all_at_home l.first l.blocks (homed_all l.there) (homed_all l.found.list.items)
