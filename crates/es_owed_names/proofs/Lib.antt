@@ -1,3 +1,4 @@
 pub mod Accounts
 pub mod Declarations
 pub mod OwnClassNames
+pub mod SingleNames

@@ -1,2 +1,3 @@
 pub mod Keys
 pub mod OwnNames
+pub mod Single

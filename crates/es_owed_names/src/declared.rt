@@ -1,34 +1,36 @@
 // The declarations of generated names.
 
-ghost use Rattle.std.specs.Prelude.{◌≡◌, ◌&&◌, ◌||◌, ◌++◌, bytes_eq, nat_eq, not, IfOk, OnOk};
+ghost use Rattle.std.specs.Prelude.{◌≡◌, ◌||◌, ◌++◌, bytes_eq, not, IfOk, OnOk};
 ghost use Rattle.std.specs.Str.{chars};
+ghost use Rattle.es_base.specs.Preorder.{preorder};
 ghost use Rattle.es_base.specs.Tree.{child, trees};
 ghost use Rattle.es_binding_faults.specs.Seen.{seen};
-ghost use Rattle.es_node.specs.View.{kind_of};
-ghost use Rattle.es_steps.specs.KeptNodes as kept;
 ghost use Rattle.es_lowered.specs.Lowered as spec;
 ghost use Rattle.es_steps.specs.References.{resolve};
 ghost use Rattle.es_owed_names.specs.Keys.{is_one_meant, key_at, part_or_absent};
+ghost use Rattle.es_owed_names.specs.Single.{all_declared};
 ghost use Rattle.es_references.specs.References.{reference_of, references_of};
 
+use crate::single::are_single;
 use es_base::kind::Kind;
 use es_base::ledger::{GeneratedKind, LedgerEntry};
 use es_base::strings::is_word;
 use es_binding_faults::bound::is_binding_identifier;
 use es_binding_faults::hoisted::part_at;
+use es_binding_faults::leasts::Leasts;
 use es_generated::numbers::is_new;
 use es_node::node::{Node, Part};
-use es_owed::homes::is_underscored;
 use es_owed::listed::Listed;
 use es_references::references::{Reference, references};
 use es_seen_names::parts::string_at;
+use es_spelled::names::Names;
+use es_spelled::spellings::spellings;
 use es_tree::class::ClassBodyRef;
 use std::alloc::{AllocError, Global};
 
 /// Whether each generated name begins with `_`, is the only one of what it stands for, and has one declaration, which is new
 /// and which all references of that spelling mean: a private name in the body of its class, each other in a scope. Fails on
 /// allocation failure alone.
-#[tactic(auto, using(crate::proofs::Declarations::declared_more))]
 pub fn names_declared(
     alloc: Global,
     first: u32,
@@ -37,118 +39,59 @@ pub fn names_declared(
 ) -> Result<bool, AllocError>
     ensures { IfOk result (λ holds. holds ≡ spec.names_declared first ledger.now lowered.now.program.now) }
 {
+    let spellings = spellings(alloc, lowered.nodes.as_slice())?;
+    if all_declared(alloc, first, ledger, &spellings, lowered)? {
+        are_single(alloc, ledger, &spellings)
+    } else {
+        Ok(false)
+    }
+}
+
+/// Whether each of these names has one declaration in the lowered program. Fails on allocation failure alone.
+fn all_declared(
+    alloc: Global,
+    first: u32,
+    ledger: &[LedgerEntry],
+    spellings: &Leasts,
+    lowered: &Listed,
+) -> Result<bool, AllocError>
+    ensures { IfOk result (λ holds. holds ≡ all_declared first lowered.now.program.now ledger.now) }
+{
     let references = references(alloc, lowered.program)?;
-    for (i, entry) in ledger.iter().enumerate() {
-        let others = &ledger[i + 1..];
-        let is_one = is_only(entry, others);
-        if !is_one || !is_declared(alloc, first, entry, lowered, references.as_slice())? {
+    let nodes = lowered.nodes.as_slice();
+    let names = Names::of(alloc, spellings, nodes, references.as_slice())?;
+    for entry in ledger {
+        if !is_declared(alloc, first, entry, lowered, &names)? {
             return Ok(false);
         }
     }
     Ok(true)
 }
 
-/// Whether the name begins with `_`, and none of the others has its spelling or stands for the same.
-fn is_only(entry: &LedgerEntry, others: &[LedgerEntry]) -> bool
-    ensures { result ≡ (kept.is_underscored entry.now.name && not (spec.is_named_again entry.now others.now || spec.has_another_name entry.now.kind others.now)) }
-{
-    is_underscored(entry.name.as_str())
-        && !(is_named_again(entry, others) || has_another_name(entry.kind, others))
-}
-
-fn is_named_again(entry: &LedgerEntry, others: &[LedgerEntry]) -> bool
-    ensures { result ≡ spec.is_named_again entry.now others.now }
-{
-    for other in others {
-        if is_same_name(entry, other) {
-            return true;
-        }
-    }
-    false
-}
-
-fn is_same_name(entry: &LedgerEntry, other: &LedgerEntry) -> bool
-    ensures { result ≡ (spec.same_space entry.now.kind other.now.kind && bytes_eq entry.now.name other.now.name) }
-{
-    same_space(entry.kind, other.kind) && is_word(other.name.as_str(), entry.name.as_str())
-}
-
-/// Whether names of these kinds may clash: private names of one class, or no private names.
-fn same_space(kind: GeneratedKind, other: GeneratedKind) -> bool
-    ensures { result ≡ spec.same_space kind other }
-{
-    match kind {
-        GeneratedKind::Private(class) => match other {
-            GeneratedKind::Private(another) => class.0 == another.0,
-            _ => false,
-        },
-        _ => !matches!(other, GeneratedKind::Private(_)),
-    }
-}
-
-fn has_another_name(kind: GeneratedKind, others: &[LedgerEntry]) -> bool
-    ensures { result ≡ spec.has_another_name kind others.now }
-{
-    for other in others {
-        if same_subject(kind, other.kind) {
-            return true;
-        }
-    }
-    false
-}
-
-/// Whether both stand for one member in one way, or for the brand of one class.
-fn same_subject(kind: GeneratedKind, other: GeneratedKind) -> bool
-    ensures { result ≡ spec.same_subject kind other }
-{
-    match kind {
-        GeneratedKind::WeakMap(member) => match other {
-            GeneratedKind::WeakMap(another) => member.0 == another.0,
-            _ => false,
-        },
-        GeneratedKind::StaticField(member) => match other {
-            GeneratedKind::StaticField(another) => member.0 == another.0,
-            _ => false,
-        },
-        GeneratedKind::Brand(class) => match other {
-            GeneratedKind::Brand(another) => class.0 == another.0,
-            _ => false,
-        },
-        GeneratedKind::Method(member) => match other {
-            GeneratedKind::Method(another) => member.0 == another.0,
-            _ => false,
-        },
-        GeneratedKind::LooseKey(member) => match other {
-            GeneratedKind::LooseKey(another) => member.0 == another.0,
-            _ => false,
-        },
-        _ => false,
-    }
-}
-
 // ---- one declaration
 
-/// Whether the name has one declaration, in a program of these references. Fails on allocation failure alone.
+/// Whether the name has one declaration in a program, whose names are looked up. Fails on allocation failure alone.
 #[tactic(auto, using(crate::proofs::Declarations::one_meant))]
 fn is_declared(
     alloc: Global,
     first: u32,
     entry: &LedgerEntry,
     lowered: &Listed,
-    references: &[Reference],
+    names: &Names,
 ) -> Result<bool, AllocError>
-    requires { references_of references.now ≡ resolve lowered.now.program.now }
+    requires nodes { seen names.now.nodes.now ≡ preorder lowered.now.program.now }
+    requires references { references_of names.now.references.now ≡ resolve lowered.now.program.now }
     ensures { IfOk result (λ holds. holds ≡ spec.declared_by_kind first lowered.now.program.now entry.now.name entry.now.kind) }
 {
     let name = entry.name.as_str();
     match entry.kind {
         GeneratedKind::Private(class) => {
-            let keys = keys_in(alloc, first, class.0, name, lowered.nodes.as_slice())?;
+            let keys = keys_in_class(alloc, first, class.0, name, lowered)?;
             Ok(is_one(first, keys.as_slice()))
         }
         _ => {
-            let numbers = declaring_numbers(alloc, name, lowered.nodes.as_slice())?;
-            Ok(is_one_new(first, name, numbers.as_slice(), references))
+            let numbers = declaring_identifiers(alloc, name, names)?;
+            Ok(is_one_new(first, name, numbers.as_slice(), names))
         }
     }
 }
@@ -164,13 +107,20 @@ fn is_one(first: u32, numbers: &[u32]) -> bool
 }
 
 /// Whether there is one number, and a new one, which all references of the name mean.
-fn is_one_new(first: u32, name: &str, numbers: &[u32], references: &[Reference]) -> bool
-    ensures { result ≡ is_one_meant first (chars name.now) (references_of references.now) numbers.now }
+fn is_one_new(first: u32, name: &str, numbers: &[u32], names: &Names) -> bool
+    ensures { result ≡ is_one_meant first (chars name.now) (references_of names.now.references.now) numbers.now }
 {
     match numbers {
-        [number] => is_new(first, *number) && all_mean(name, *number, references),
+        [number] => is_new(first, *number) && is_meant(name, *number, names),
         _ => false,
     }
+}
+
+/// Whether all references of the name mean this declaration.
+fn is_meant(name: &str, number: u32, names: &Names) -> bool
+    ensures { result ≡ spec.all_mean (chars name.now) number (references_of names.now.references.now) }
+{
+    all_mean(name, number, names.referring(name))
 }
 
 fn all_mean(name: &str, number: u32, references: &[Reference]) -> bool
@@ -201,6 +151,13 @@ fn is_bound_to(number: u32, reference: Reference) -> bool
 }
 
 /// The identifiers that declare this name. Fails on allocation failure alone.
+fn declaring_identifiers(alloc: Global, name: &str, names: &Names) -> Result<Vec<u32>, AllocError>
+    ensures { IfOk result (λ numbers. numbers.items ≡ spec.declaring_numbers (chars name.now) (seen names.now.nodes.now)) }
+{
+    declaring_numbers(alloc, name, names.declaring(name))
+}
+
+/// Those among these nodes. Fails on allocation failure alone.
 #[tactic(auto, using(crate::proofs::Declarations::declaring_node))]
 fn declaring_numbers(alloc: Global, name: &str, nodes: &[&Node]) -> Result<Vec<u32>, AllocError>
     ensures { IfOk result (λ numbers. numbers.items ≡ spec.declaring_numbers (chars name.now) (seen nodes.now)) }
@@ -225,6 +182,19 @@ fn add_declaring(name: &str, node: &Node, numbers: &mut Vec<u32>) -> Result<(), 
 // ---- private names
 
 /// The private identifiers of this name that are keys in the body of this class. Fails on allocation failure alone.
+fn keys_in_class(
+    alloc: Global,
+    first: u32,
+    class: u32,
+    name: &str,
+    lowered: &Listed,
+) -> Result<Vec<u32>, AllocError>
+    ensures { IfOk result (λ keys. keys.items ≡ spec.keys_in first class (chars name.now) (seen lowered.now.nodes.items)) }
+{
+    keys_in(alloc, first, class, name, lowered.numbered(class))
+}
+
+/// Those among these nodes. Fails on allocation failure alone.
 fn keys_in(
     alloc: Global,
     first: u32,

@@ -4,3 +4,4 @@
 pub mod accounted;
 pub mod declared;
 pub mod own_names;
+pub mod single;

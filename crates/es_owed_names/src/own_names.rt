@@ -1,18 +1,21 @@
 // The own names of classes that a lowering may give.
 
-ghost use Rattle.std.specs.Prelude.{◌≡◌, ◌++◌, ◌∷◌, [], cond, IfOk, OnOk};
+ghost use Rattle.std.specs.Prelude.{◌≡◌, ◌++◌, ◌∷◌, [], ℕ, cond, not, IfOk, OnOk};
 ghost use Rattle.std.specs.Str.{chars};
 ghost use Rattle.es_base.specs.Conforms.{is_among};
 ghost use Rattle.es_binding_faults.specs.Seen.{seen};
-ghost use Rattle.es_lowered.specs.OwnNames as spec;
 ghost use Rattle.es_lowered.specs.OwnNames.{are_none, class_name_at, declares_class, own_name_number, own_name_numbers, references_to};
-ghost use Rattle.es_owed_names.specs.OwnNames.{named_class, own_number};
-ghost use Rattle.es_references.specs.References.{reference_of, references_of};
+ghost use Rattle.es_owed_names.specs.OwnNames.{bound_numbers, named_class, own_number};
+ghost use Rattle.es_references.specs.References.{references_of};
+ghost use Rattle.es_steps.specs.References.{has_number};
 
+use es_base::ids::NodeId;
 use es_base::kind::Kind;
 use es_base::strings::is_word;
+use es_binding_faults::numbers::Numbers;
 use es_node::node::Node;
 use es_owed::listed::Listed;
+use es_owed::numbers::set_of;
 use es_references::references::Reference;
 use es_seen_names::parts::string_at;
 use es_tree::class::{ClassDeclarationRef, ClassExpressionRef};
@@ -28,9 +31,21 @@ pub fn own_name_numbers(
 ) -> Result<Vec<u32>, AllocError>
     ensures { IfOk result (λ numbers. numbers.items ≡ own_name_numbers source.now.program.now (references_of references.now) (seen nodes.now)) }
 {
+    let meant = Meant::of(alloc, references)?;
+    own_names_among(alloc, source, &meant, nodes)
+}
+
+fn own_names_among(
+    alloc: Global,
+    source: &Listed,
+    meant: &Meant,
+    nodes: &[&Node],
+) -> Result<Vec<u32>, AllocError>
+    ensures { IfOk result (λ numbers. numbers.items ≡ own_name_numbers source.now.program.now (references_of meant.now.references.now) (seen nodes.now)) }
+{
     let mut numbers = Vec::new(alloc);
     for node in nodes {
-        add_own_name(source, references, node, &mut numbers)?;
+        add_own_name(source, meant, node, &mut numbers)?;
     }
     Ok(numbers)
 }
@@ -39,18 +54,18 @@ pub fn own_name_numbers(
 #[tactic(auto, using(crate::proofs::OwnClassNames::no_class, crate::proofs::OwnClassNames::no_name, crate::proofs::OwnClassNames::own_node))]
 fn add_own_name(
     source: &Listed,
-    references: &[Reference],
+    meant: &Meant,
     node: &Node,
     numbers: &mut Vec<u32>,
 ) -> Result<(), AllocError>
-    ensures { OnOk result (numbers.new.items ≡ numbers.old.items ++ own_name_number source.now.program.now (references_of references.now) node.now) }
+    ensures { OnOk result (numbers.new.items ≡ numbers.old.items ++ own_name_number source.now.program.now (references_of meant.now.references.now) node.now) }
 {
     match node.kind() {
         // (class A {})
         Kind::ClassExpression => {
             let class = ClassExpressionRef::from_node(node);
             match class.id {
-                Some(id) => add_if_own(source, references, class.node_id.0, id, numbers),
+                Some(id) => add_if_own(source, meant, class.node_id.0, id, numbers),
                 None => Ok(()),
             }
         }
@@ -58,18 +73,18 @@ fn add_own_name(
     }
 }
 
+#[tactic(auto, using(crate::proofs::OwnClassNames::declares_numbered))]
 fn add_if_own(
     source: &Listed,
-    references: &[Reference],
+    meant: &Meant,
     class: u32,
     id: &Node,
     numbers: &mut Vec<u32>,
 ) -> Result<(), AllocError>
-    ensures { OnOk result (numbers.new.items ≡ numbers.old.items ++ own_number source.now.program.now (references_of references.now) class id.now) }
+    ensures { OnOk result (numbers.new.items ≡ numbers.old.items ++ own_number source.now.program.now (references_of meant.now.references.now) class id.now) }
 {
     let name = string_at(id.parts(), 0);
-    let is_own = declares_class(class, name, source.nodes.as_slice())
-        || is_unread(id.node_id().0, references);
+    let is_own = declares_class(class, name, source.numbered(class)) || !meant.has(id.node_id());
     add_if(is_own, id.node_id().0, numbers)
 }
 
@@ -117,24 +132,48 @@ fn is_named(is_class: bool, name: &str, id: &Node) -> bool
     is_class && is_word(name, string_at(id.parts(), 0))
 }
 
-/// Whether none of these references means the identifier.
-#[tactic(auto, using(crate::proofs::OwnClassNames::none_more))]
-fn is_unread(number: u32, references: &[Reference]) -> bool
-    ensures { result ≡ are_none (references_to (number ∷ []) (references_of references.now)) }
-{
-    for reference in references {
-        if is_bound_to(number, *reference) {
-            return false;
-        }
-    }
-    true
+// ---- what is meant
+
+/// References, with the set of the identifiers that they mean.
+#[derive(Drop)]
+pub struct Meant<'r, 'a> {
+    pub references: &'r [Reference<'a>],
+    pub identifiers: Numbers,
+
+    ghost are_theirs: { (b : ℕ) → are_none (references_to (b ∷ []) (references_of references.now)) ≡ not (has_number b identifiers) },
 }
 
-fn is_bound_to(number: u32, reference: Reference) -> bool
-    ensures { result ≡ spec.is_bound_among (number ∷ []) (reference_of reference.entry).to }
-{
-    match reference.binding {
-        Some(binding) => binding.0 == number,
-        None => false,
+impl<'r, 'a> Meant<'r, 'a> {
+    /// These references. Fails on allocation failure alone.
+    #[tactic(auto, using(crate::proofs::OwnClassNames::none_bound))]
+    fn of(alloc: Global, references: &'r [Reference<'a>]) -> Result<Meant<'r, 'a>, AllocError>
+        ensures { IfOk result (λ m. m.references.now ≡ references.now) }
+    {
+        let numbers = bound_numbers(alloc, references)?;
+        let identifiers = set_of(alloc, numbers.as_slice())?;
+        Ok(Meant {
+            references,
+            identifiers,
+        })
     }
+
+    /// Whether one of the references means the identifier.
+    fn has(&self, identifier: NodeId) -> bool
+        ensures { not result ≡ are_none (references_to (identifier.0 ∷ []) (references_of self.now.references.now)) }
+    {
+        self.identifiers.has(identifier)
+    }
+}
+
+/// The identifiers that references mean. Fails on allocation failure alone.
+fn bound_numbers(alloc: Global, references: &[Reference]) -> Result<Vec<u32>, AllocError>
+    ensures { IfOk result (λ numbers. numbers.items ≡ bound_numbers references.now) }
+{
+    let mut numbers = Vec::new(alloc);
+    for reference in references {
+        if let Some(binding) = reference.binding {
+            numbers.push(binding.0)?;
+        }
+    }
+    Ok(numbers)
 }

@@ -1,6 +1,6 @@
 use Rattle.std.proofs.Common.{◌≡◌, drop}
-use Rattle.es_lowered.specs.Lowered.{names_declared}
-use Rattle.es_owed_names.proofs.declared.names_declared.Given as goal
+use Rattle.es_owed_names.specs.Single.{all_declared}
+use Rattle.es_owed_names.proofs.declared.all_declared.Given as goal
 
-abbrev pub invariant-loop-i : goal.invariant-loop-i
-invariant-loop-i l = names_declared l.first (drop l.i l.ledger) l.lowered.program.now ≡ names_declared l.first l.ledger l.lowered.program.now
+abbrev pub invariant-loop-entry : goal.invariant-loop-entry
+invariant-loop-entry l = all_declared l.first l.lowered.program.now (drop l.entry-index l.ledger) ≡ all_declared l.first l.lowered.program.now l.ledger
