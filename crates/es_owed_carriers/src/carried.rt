@@ -10,7 +10,6 @@ ghost use Rattle.es_node.specs.View.{kind_of, number_in, parts_in};
 ghost use Rattle.es_steps.specs.Parts.{at, string_of};
 ghost use Rattle.es_steps.specs.SameTrees.{same_kind};
 ghost use Rattle.es_owed_carriers.specs.Carried.{carries_node, is_carried_among, is_made_so};
-ghost use Rattle.es_owed_texts.specs.Indexed.{node_of, passes};
 
 use crate::bound::bound_stay;
 use crate::forms::{OddForm, keeps_form, odd_form};
@@ -25,8 +24,6 @@ use es_node::node::Node;
 use es_owed::homes::is_underscored;
 use es_owed::listed::Listed;
 use es_owed::same::same_kind;
-use es_owed_texts::by_number::ByNumber;
-use es_owed_texts::indexed::Indexed;
 use es_seen_names::parts::string_at;
 use std::alloc::{AllocError, Global};
 
@@ -41,16 +38,15 @@ pub fn numbers_carried(
 ) -> Result<bool, AllocError>
     ensures { IfOk result (λ holds. holds ≡ spec.numbers_carried first source.now.program.now lowered.now.program.now) }
 {
-    let indexed = Indexed::of(alloc, source.nodes.as_slice())?;
-    if all_carried(first, &indexed, lowered.nodes.as_slice()) {
+    if all_carried(first, source, lowered.nodes.as_slice()) {
         bound_stay(alloc, first, source.program, lowered.program)
     } else {
         Ok(false)
     }
 }
 
-fn all_carried(first: u32, source: &Indexed, nodes: &[&Node]) -> bool
-    ensures { result ≡ all_carried first (seen source.now.nodes.now) (seen nodes.now) }
+fn all_carried(first: u32, source: &Listed, nodes: &[&Node]) -> bool
+    ensures { result ≡ all_carried first (seen source.now.nodes.items) (seen nodes.now) }
 {
     for node in nodes {
         if !is_carried(first, source, node) {
@@ -62,8 +58,8 @@ fn all_carried(first: u32, source: &Indexed, nodes: &[&Node]) -> bool
 
 /// Whether the node stands for one of the source, or is new and as a lowering makes it.
 #[tactic(auto, using(crate::proofs::CarriedNodes::carried_node))]
-fn is_carried(first: u32, source: &Indexed, node: &Node) -> bool
-    ensures { result ≡ is_carried first (seen source.now.nodes.now) node.now }
+fn is_carried(first: u32, source: &Listed, node: &Node) -> bool
+    ensures { result ≡ is_carried first (seen source.now.nodes.items) node.now }
 {
     if is_new(first, node.node_id().0) {
         is_made_so(node)
@@ -85,20 +81,11 @@ fn is_made_so(node: &Node) -> bool
 // ---- nodes of the source
 
 /// Whether a node of the source has this node's number, and may become it.
-fn stands_for_node(node: &Node, source: &Indexed) -> bool
-    ensures { result ≡ stands_for_node (kind_of node.now) (number_in node.now) (parts_in node.now) (seen source.now.nodes.now) }
+#[tactic(auto, using(crate::proofs::CarriedNodes::stands_numbered))]
+fn stands_for_node(node: &Node, source: &Listed) -> bool
+    ensures { result ≡ stands_for_node (kind_of node.now) (number_in node.now) (parts_in node.now) (seen source.now.nodes.items) }
 {
-    stands_for_first(node, &source.firsts) || is_carried_among(node, source.others.as_slice())
-}
-
-/// Whether the node of this node's number may become it.
-fn stands_for_first(node: &Node, nodes: &ByNumber) -> bool
-    ensures { result ≡ passes (carries_node node.now) (node_of (number_in node.now) nodes.now) }
-{
-    match nodes.get(node.node_id().0) {
-        Some(other) => carries(other, node),
-        None => false,
-    }
+    is_carried_among(node, source.numbered(node.node_id().0))
 }
 
 /// Whether one of these has this node's number, and may become it.

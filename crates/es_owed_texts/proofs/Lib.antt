@@ -1,3 +1,3 @@
-pub mod Lookups
+pub mod CopiedTexts
 pub mod NameCharacters
 pub mod WrittenNodes

@@ -2,9 +2,8 @@
 //! as it was.
 #![tactic(auto)]
 
-pub mod by_number;
+pub mod by_text;
 pub mod characters;
-pub mod indexed;
 pub mod literals;
 pub mod texts;
 pub mod written;

@@ -13,7 +13,7 @@ ghost use Rattle.es_lowered.specs.Texts.{all_have_their_texts, are_characters, h
 ghost use Rattle.es_owed_texts.specs.Written.{is_written_literal};
 
 use crate::characters::has_name;
-use crate::literals::{is_literal_among, is_not_copied, is_plain, is_string_among};
+use crate::literals::{is_not_copied, is_plain};
 use crate::written::Written;
 use es_base::kind::Kind;
 use es_generated::numbers::is_new;
@@ -37,12 +37,12 @@ pub fn texts_stay(
 ) -> Result<bool, AllocError>
     ensures { IfOk result (λ holds. holds ≡ spec.texts_stay first source.now.program.now lowered.now.program.now) }
 {
-    let written = Written::of(alloc, source.nodes.as_slice())?;
+    let written = Written::of(alloc, source)?;
     Ok(all_have_their_texts(first, &written, lowered.nodes.as_slice()))
 }
 
 fn all_have_their_texts(first: u32, source: &Written, nodes: &[&Node]) -> bool
-    ensures { result ≡ all_have_their_texts first (seen source.now.indexed.nodes.now) (seen nodes.now) }
+    ensures { result ≡ all_have_their_texts first (seen source.now.listed.now.nodes.items) (seen nodes.now) }
 {
     for node in nodes {
         if !has_its_text(first, source, node) {
@@ -55,7 +55,7 @@ fn all_have_their_texts(first: u32, source: &Written, nodes: &[&Node]) -> bool
 /// Whether the node is written as it was, or as a new one may be.
 #[tactic(auto, using(crate::proofs::WrittenNodes::literal_text, crate::proofs::WrittenNodes::template_text, crate::proofs::WrittenNodes::statement_text, crate::proofs::WrittenNodes::private_text, crate::proofs::WrittenNodes::other_text))]
 fn has_its_text(first: u32, source: &Written, node: &Node) -> bool
-    ensures { result ≡ has_its_text first (seen source.now.indexed.nodes.now) node.now }
+    ensures { result ≡ has_its_text first (seen source.now.listed.now.nodes.items) node.now }
 {
     let is_new = is_new(first, node.node_id().0);
     match node.kind() {
@@ -64,7 +64,7 @@ fn has_its_text(first: u32, source: &Written, node: &Node) -> bool
         // `a`
         Kind::TemplateElement => {
             if is_new {
-                is_string_among(node.parts(), source.indexed.nodes)
+                source.has_string(node.parts())
             } else {
                 source.stands_equal(node)
             }
@@ -92,12 +92,11 @@ fn has_its_text(first: u32, source: &Written, node: &Node) -> bool
 #[tactic(auto, using(crate::proofs::WrittenNodes::written_node))]
 fn is_written_literal(is_new: bool, source: &Written, node: &Node) -> bool
     requires { kind_of node.now ≡ Kind.Literal }
-    ensures { result ≡ is_written_literal is_new (seen source.now.indexed.nodes.now) node.now }
+    ensures { result ≡ is_written_literal is_new (seen source.now.listed.now.nodes.items) node.now }
 {
     let value = LiteralRef::from_node(node).value;
     if is_new {
-        is_plain(value)
-            || (is_literal_among(node.parts(), source.indexed.nodes) && !is_not_copied(value))
+        is_plain(value) || (source.has_literal(node.parts()) && !is_not_copied(value))
     } else {
         source.stands_equal(node)
     }
@@ -115,14 +114,14 @@ fn is_directive(statement: &Node) -> bool
 
 /// Whether a new name has the characters that it may have, the first where a name may begin with it.
 fn is_new_name(source: &Written, name: &str) -> bool
-    ensures { result ≡ is_new_name (seen source.now.indexed.nodes.now) (chars name.now) }
+    ensures { result ≡ is_new_name (seen source.now.listed.now.nodes.items) (chars name.now) }
 {
     are_characters(source, name) && is_beginning(source, name)
 }
 
 /// Whether a new name begins with a character of ASCII, or as a name of the source.
 fn is_beginning(source: &Written, name: &str) -> bool
-    ensures { result ≡ is_beginning (seen source.now.indexed.nodes.now) (chars name.now) }
+    ensures { result ≡ is_beginning (seen source.now.listed.now.nodes.items) (chars name.now) }
 {
     match split_first(name) {
         Some((first, _)) => first <= '\u{7f}' || source.beginnings.has(first),
@@ -132,7 +131,7 @@ fn is_beginning(source: &Written, name: &str) -> bool
 
 /// Whether the characters of a new name are of ASCII, or stand in names of the source.
 fn are_characters(source: &Written, name: &str) -> bool
-    ensures { result ≡ are_characters (seen source.now.indexed.nodes.now) (chars name.now) }
+    ensures { result ≡ are_characters (seen source.now.listed.now.nodes.items) (chars name.now) }
 {
     let mut rest = name;
     while let Some((first, behind)) = split_first(rest) {

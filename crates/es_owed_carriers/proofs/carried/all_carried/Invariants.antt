@@ -4,4 +4,4 @@ use Rattle.es_lowered.specs.Carriers.{all_carried}
 use Rattle.es_owed_carriers.proofs.carried.all_carried.Given as goal
 
 abbrev pub invariant-loop-node : goal.invariant-loop-node
-invariant-loop-node l = all_carried l.first (seen l.source.nodes.now) (seen (drop l.node-index l.nodes)) ≡ all_carried l.first (seen l.source.nodes.now) (seen l.nodes)
+invariant-loop-node l = all_carried l.first (seen l.source.nodes.items) (seen (drop l.node-index l.nodes)) ≡ all_carried l.first (seen l.source.nodes.items) (seen l.nodes)

@@ -5,7 +5,7 @@ use Rattle.es_lowered.specs.Texts.{are_characters}
 use Rattle.es_owed_texts.proofs.texts.are_characters.Given as goal
 
 abbrev pub invariant-loop-first : goal.invariant-loop-first
-invariant-loop-first l = IsUtf8 l.rest × (are_characters (seen l.source.indexed.nodes.now) (chars l.rest) ≡ are_characters (seen l.source.indexed.nodes.now) (chars l.name))
+invariant-loop-first l = IsUtf8 l.rest × (are_characters (seen l.source.listed.now.nodes.items) (chars l.rest) ≡ are_characters (seen l.source.listed.now.nodes.items) (chars l.name))
 
 abbrev pub decreases-loop-first : goal.decreases-loop-first
 decreases-loop-first l = length l.rest
