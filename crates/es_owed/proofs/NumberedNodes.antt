@@ -1,5 +1,6 @@
 -- Nodes are looked up by their numbers.
 use Rattle.std.proofs.Common.{◌≡◌, refl, sym, ap, ◌∙◌, ℕ, List, [], ◌∷◌, ◌++◌, map, Bool, true, false, cond, ◌&&◌, ◌||◌, nat_eq, Bor}
+use Rattle.std.proofs.Math.Bool.{and-false}
 use Rattle.es_base.specs.Preorder.{number_of, preorder_of_part}
 use Rattle.es_base.specs.Tree.{Tree, Node}
 use Rattle.es_binding_faults.specs.Seen.{seen}
@@ -23,10 +24,6 @@ by_numbers m (n ∷ ns) = here (nat_eq m (number_of n.now)) (by_numbers m ns)
     here false h = h
 
 -- ---- a search for a node of a number need not go over the others
-
-and_false : (b : Bool) → (b && false) ≡ false
-and_false true = refl
-and_false false = refl
 
 pub stands_as_numbered : (n : ℕ) (sort : NodeSort) (ts : List Tree) → stands_as n sort (numbered n ts) ≡ stands_as n sort ts
 stands_as_numbered n sort [] = refl
@@ -56,7 +53,7 @@ in_class_numbered n (Node kind k span semantic_id ps ∷ ts) = here (nat_eq n k)
     here : (b : Bool) → nat_eq n k ≡ b → numbers_in_class n (numbered n ts) ≡ numbers_in_class n ts
         → numbers_in_class n (cond b (Node kind k span semantic_id ps ∷ []) [] ++ numbered n ts) ≡ cond (is_class kind && b) below (numbers_in_class n ts)
     here true e h = ap (λ c. cond (is_class kind && c) below (numbers_in_class n (numbered n ts))) e ∙ ap (λ ns. cond (is_class kind && true) below ns) h
-    here false e h = h ∙ ap (λ c. cond c below (numbers_in_class n ts)) (sym (and_false (is_class kind)))
+    here false e h = h ∙ ap (λ c. cond c below (numbers_in_class n ts)) (sym (and-false (is_class kind)))
 
 pub body_numbered : (n : ℕ) (ts : List Tree) → body_numbers n (numbered n ts) ≡ body_numbers n ts
 body_numbered n [] = refl
@@ -68,7 +65,7 @@ body_numbered n (Node kind k span semantic_id ps ∷ ts) = here (nat_eq n k) ref
     here : (b : Bool) → nat_eq n k ≡ b → body_numbers n (numbered n ts) ≡ body_numbers n ts
         → body_numbers n (cond b (Node kind k span semantic_id ps ∷ []) [] ++ numbered n ts) ≡ cond (is_class kind && b) elements (body_numbers n ts)
     here true e h = ap (λ c. cond (is_class kind && c) elements (body_numbers n (numbered n ts))) e ∙ ap (λ ns. cond (is_class kind && true) elements ns) h
-    here false e h = h ∙ ap (λ c. cond c elements (body_numbers n ts)) (sym (and_false (is_class kind)))
+    here false e h = h ∙ ap (λ c. cond c elements (body_numbers n ts)) (sym (and-false (is_class kind)))
 
 -- a tree is equal to none of another number
 pub equal_numbered : (t : Tree) (us : List Tree) → stands_equal t (numbered (number_in t) us) ≡ stands_equal t us
@@ -81,4 +78,4 @@ equal_numbered (Node kind m span semantic_id ps) (Node kind2 k span2 semantic_id
     here : (b : Bool) → nat_eq m k ≡ b → stands_equal t (numbered m us) ≡ stands_equal t us
         → stands_equal t (cond b (Node kind2 k span2 semantic_id2 qs ∷ []) [] ++ numbered m us) ≡ ((same_kind kind kind2 && (b && same_parts ps qs)) || stands_equal t us)
     here true e h = ap (λ c. (same_kind kind kind2 && (c && same_parts ps qs)) || stands_equal t (numbered m us)) e ∙ ap (λ c. (same_kind kind kind2 && same_parts ps qs) || c) h
-    here false e h = h ∙ ap (λ c. c || stands_equal t us) (sym (and_false (same_kind kind kind2)))
+    here false e h = h ∙ ap (λ c. c || stands_equal t us) (sym (and-false (same_kind kind kind2)))

@@ -1,5 +1,6 @@
 -- Names are single where a look-up finds one of each.
 use Rattle.std.proofs.Common.{◌≡◌, refl, sym, ap, ◌∙◌, true≢false, ℕ, List, [], ◌∷◌, ◌++◌, map, Bool, true, false, cond, ◌&&◌, ◌||◌, bytes_eq, nat_eq, arith, Option, Some, None}
+use Rattle.std.proofs.Math.Bool.{and-false}
 use Rattle.std.proofs.lemmas.Bool.Decides.{nat_tests}
 use Rattle.std.proofs.lemmas.Slice.Eq.{bytes_eq-Decides}
 use Rattle.std.specs.Prelude.{not}
@@ -228,14 +229,10 @@ abbrev are_underscored : List LedgerEntry → Bool
 are_underscored [] = true
 are_underscored (e ∷ es) = is_underscored e.name && are_underscored es
 
-and_false : (a : Bool) → (a && false) ≡ false
-and_false true = refl
-and_false false = refl
-
 each : (u n m us ns ms : Bool) → ((u && not (n || m)) && (us && (ns && ms))) ≡ ((u && us) && ((not n && ns) && (not m && ms)))
 each false n m us ns ms = refl
-each true true m us ns ms = sym (and_false us)
-each true false true us ns ms = sym (ap (λ b. us && b) (and_false ns) ∙ and_false us)
+each true true m us ns ms = sym (and-false us)
+each true false true us ns ms = sym (ap (λ b. us && b) (and-false ns) ∙ and-false us)
 each true false false us ns ms = refl
 
 all_three : (es names subjects : List LedgerEntry) → are_single es names subjects ≡ (are_underscored es && (none_twice same_name es names && none_twice same_member es subjects))
@@ -248,8 +245,8 @@ all_three (e ∷ es) names subjects =
 
 with_declared : (u n m d ds us ns ms : Bool) → ((u && not (n || m)) && (d && (ds && (us && (ns && ms))))) ≡ ((d && ds) && ((u && us) && ((not n && ns) && (not m && ms))))
 with_declared u n m true true us ns ms = each u n m us ns ms
-with_declared u n m true false us ns ms = and_false (u && not (n || m))
-with_declared u n m false ds us ns ms = and_false (u && not (n || m))
+with_declared u n m true false us ns ms = and-false (u && not (n || m))
+with_declared u n m false ds us ns ms = and-false (u && not (n || m))
 
 all_four : (first : ℕ) (es : List LedgerEntry) (q : Tree) → names_declared first es q ≡ (all_declared first q es && (are_underscored es && (none_again same_name es && none_again same_member es)))
 all_four first [] q = refl

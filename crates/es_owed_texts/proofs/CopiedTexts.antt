@@ -1,5 +1,6 @@
 -- What has the members of another has its text.
 use Rattle.std.proofs.Common.{◌≡◌, refl, sym, ap, ◌∙◌, true≢false, ℕ, List, [], ◌∷◌, ◌++◌, Bool, true, false, cond, ◌&&◌, ◌||◌, bytes_eq, nat_eq, Option, Some, None, Bor}
+use Rattle.std.proofs.Math.Bool.{and-false}
 use Rattle.std.proofs.lemmas.Slice.Eq.{bytes_eq-Decides}
 use Rattle.es_base.specs.Tree.{Tree, Part, Parts, end, more, child, absent, list, string, no_string, boolean, literal}
 use Rattle.es_base.specs.declared.kind.Kind.{Kind}
@@ -71,12 +72,8 @@ others ns ps qs other = here (same_parts ps qs) refl
 
 -- ---- copies are found by their texts
 
-and_false : (a : Bool) → (a && false) ≡ false
-and_false true = refl
-and_false false = refl
-
 no_copy : (kind : Kind) (ns : Numbers) (qs : Parts) (t : Tree) → nat_eq (spelling_number ns (text_of (at 0 qs))) (spelling_number ns (text_of (at 0 (parts_in t)))) ≡ false → is_copy_of kind qs t ≡ false
-no_copy kind ns qs t other = copy_node kind qs t ∙ ap (λ b. same_kind kind (kind_of t) && b) (others ns qs (parts_in t) other) ∙ and_false (same_kind kind (kind_of t))
+no_copy kind ns qs t other = copy_node kind qs t ∙ ap (λ b. same_kind kind (kind_of t) && b) (others ns qs (parts_in t) other) ∙ and-false (same_kind kind (kind_of t))
 
 no_literal : (kind : Kind) → has_text kind ≡ false → same_kind Kind.Literal kind ≡ false
 no_literal Kind.Literal e = absurd (true≢false e)
