@@ -1,5 +1,6 @@
 pub mod ClassIdentifiers
 pub mod ClassNames
+pub mod DeclaredClasses
 pub mod GivenForms
 pub mod GivenValues
 pub mod InnerClasses

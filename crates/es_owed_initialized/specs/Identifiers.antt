@@ -27,3 +27,8 @@ with_class (Some n) (b ∷ bs) = (n, b) ∷ with_class (Some n) bs
 abbrev pub identified : ℕ → List Tree → List (ℕ × ℕ)
 identified first [] = []
 identified first (Node kind m span semantic_id ps ∷ ts) = with_class (declared_class first kind m ps) (identifier_in (at 0 ps)) ++ identified first ts
+
+-- the numbers of values, by these
+abbrev pub turned : List (ℕ × ℕ) → List (ℕ × ℕ)
+turned [] = []
+turned (p ∷ ps) = (p.1, p.0) ∷ turned ps

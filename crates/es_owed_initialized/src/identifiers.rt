@@ -7,8 +7,9 @@ ghost use Rattle.es_by_number.specs.Numbered.{pairs};
 ghost use Rattle.es_grouped.specs.Groups.{group};
 ghost use Rattle.es_lowered.specs.Definitions as spec;
 ghost use Rattle.es_node.specs.View.{kind_of, number_in, parts_in, parts_of};
-ghost use Rattle.es_owed_initialized.specs.Identifiers.{declared_class, identified, is_old, with_class};
+ghost use Rattle.es_owed_initialized.specs.Identifiers.{declared_class, identified, is_old, turned, with_class};
 ghost use Rattle.es_steps.specs.Parts.{at};
+ghost use Rattle.es_steps.specs.References.{has_number};
 
 use es_base::kind::Kind;
 use es_binding_faults::bound::is_binding_identifier;
@@ -31,6 +32,36 @@ pub fn class_identifiers(
 {
     let identifiers = identified(alloc, first, nodes)?;
     Grouped::of(alloc, identifiers)
+}
+
+/// Of each identifier the classes that it declares. Fails on allocation failure alone.
+pub fn declared_classes(
+    alloc: Global,
+    first: u32,
+    nodes: &[&Node],
+) -> Result<Grouped<u32>, AllocError>
+    ensures { IfOk result (λ g. (b : ℕ) (n : ℕ) → has_number n (group b g) ≡ has_number b (spec.class_identifiers first n (seen nodes.now))) }
+{
+    let identifiers = identified(alloc, first, nodes)?;
+    let classes = by_identifier(alloc, identifiers.as_slice())?;
+    Grouped::of(alloc, classes)
+}
+
+/// The classes of these identifiers, each with its identifier. Fails on allocation failure alone.
+fn by_identifier(
+    alloc: Global,
+    identifiers: &[Numbered<u32>],
+) -> Result<Vec<Numbered<u32>>, AllocError>
+    ensures { IfOk result (λ r. pairs r.items ≡ turned (pairs identifiers.now)) }
+{
+    let mut classes = Vec::new(alloc);
+    for identifier in identifiers {
+        classes.push(Numbered {
+            number: identifier.value,
+            value: identifier.number,
+        })?;
+    }
+    Ok(classes)
 }
 
 /// The identifiers that declare a class, each with that. Fails on allocation failure alone.
