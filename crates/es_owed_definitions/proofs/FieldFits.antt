@@ -4,7 +4,7 @@ use Rattle.std.specs.Option.{option_to_list}
 use Rattle.std.specs.Prelude.{not}
 use Rattle.es_base.specs.Tree.{Tree, Node, child, trees}
 use Rattle.es_base.specs.declared.ledger.LedgerEntry.{LedgerEntry}
-use Rattle.es_lowered.specs.Definitions.{Names, all_fit, any_of, class_fits, classes_fit, defined_fields, key_fits, value_fits}
+use Rattle.es_lowered.specs.Definitions.{Names, all_fit, any_of, class_fits, classes_fit, defined_fields, key_fits, supers_stand, value_fits}
 use Rattle.es_node.specs.View.{kind_of, number_in, parts_in}
 use Rattle.es_owed_definitions.specs.Fields.{class_stands, element_views, if_defined, program_fits}
 use Rattle.es_owed_definitions.specs.Views.{definition_view, definition_views}
@@ -15,6 +15,7 @@ use Rattle.es_shapes.specs.declared.element.ElementRef.{ElementRef}
 use Rattle.es_steps.specs.LoweredClasses.{Element, body_elements, element_of, elements_in, elements_of}
 use Rattle.es_steps.specs.Parts.{at}
 use Rattle.es_steps.specs.PrivateNames.{PrivateMember, is_class}
+use Rattle.es_steps.specs.References.{Reference}
 use Rattle.es_steps.specs.declared.options.Options.{Options}
 
 -- ---- one element more
@@ -64,12 +65,21 @@ pub class_elsewhere : (first : ℕ) (o : Options) (ledger : List LedgerEntry) (m
 class_elsewhere first o ledger members p q t other = stands_node first o ledger members p q t ∙ ap (λ b. not b || class_fits first o ledger members p q (number_in t) (elements_of (parts_in t))) other
 
 -- the same of what is the same
-pub same_classes : (x : Terms) (ms ns : List PrivateMember) (p p2 q : Tree) (ts us : List Tree) → ms ≡ ns → p ≡ p2 → ts ≡ us
-    → classes_fit x.first x.options.now x.ledger.now ms p q ts ≡ classes_fit x.first x.options.now x.ledger.now ns p2 q us
-same_classes x ms ns p p2 q ts us members source nodes =
-    ap (λ (z : List PrivateMember). classes_fit x.first x.options.now x.ledger.now z p q ts) members
-    ∙ ap (λ (z : Tree). classes_fit x.first x.options.now x.ledger.now ns z q ts) source
-    ∙ ap (λ (z : List Tree). classes_fit x.first x.options.now x.ledger.now ns p2 q z) nodes
+pub same_classes : (x : Terms) (members : List PrivateMember) (p p2 q : Tree) (ts us : List Tree) → p ≡ p2 → ts ≡ us
+    → classes_fit x.first x.options.now x.ledger.now members p q ts ≡ classes_fit x.first x.options.now x.ledger.now members p2 q us
+same_classes x members p p2 q ts us source nodes =
+    ap (λ (z : Tree). classes_fit x.first x.options.now x.ledger.now members z q ts) source
+    ∙ ap (λ (z : List Tree). classes_fit x.first x.options.now x.ledger.now members p2 q z) nodes
 
-pub same_program : (x y : Terms) (p q r : Tree) → x ≡ y → q ≡ r → program_fits x p q ≡ program_fits y p r
-same_program x y p q r terms lowered = ap (λ (z : Terms). program_fits z p q) terms ∙ ap (λ (z : Tree). program_fits y p z) lowered
+pub same_program : (x y : Terms) (ms ns : List PrivateMember) (p q r : Tree) → x ≡ y → ms ≡ ns → q ≡ r → program_fits x ms p q ≡ program_fits y ns p r
+same_program x y ms ns p q r terms members lowered =
+    ap (λ (z : Terms). program_fits z ms p q) terms
+    ∙ ap (λ (z : List PrivateMember). program_fits y z p q) members
+    ∙ ap (λ (z : Tree). program_fits y ns p z) lowered
+
+-- what stands for `super(..)`, by the same references and nodes
+pub same_supers : (x : Terms) (rs ss : List Reference) (ts us : List Tree) → rs ≡ ss → ts ≡ us
+    → supers_stand x.first x.options.now x.ledger.now rs ts ≡ supers_stand x.first x.options.now x.ledger.now ss us
+same_supers x rs ss ts us references nodes =
+    ap (λ (z : List Reference). supers_stand x.first x.options.now x.ledger.now z ts) references
+    ∙ ap (supers_stand x.first x.options.now x.ledger.now ss) nodes

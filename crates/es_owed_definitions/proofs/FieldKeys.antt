@@ -1,6 +1,6 @@
 -- Keys of fields, node by node.
-use Rattle.std.proofs.Common.{◌≡◌, refl, ap, ℕ, List, ◌∷◌, Bool, true, false, cond, bytes_eq, Option, Some, None}
-use Rattle.std.specs.Prelude.{nat_eq, option_map}
+use Rattle.std.proofs.Common.{◌≡◌, refl, ap, ℕ, List, true, false, cond, bytes_eq, Option, Some, None}
+use Rattle.std.specs.Prelude.{option_map}
 use Rattle.es_base.specs.Tree.{Tree, Part, Node, end, more, child, literal}
 use Rattle.es_base.specs.declared.ids.NodeId.{NodeId}
 use Rattle.es_base.specs.declared.kind.Kind.{Kind}
@@ -74,13 +74,6 @@ same_bound (Some (Bound b)) (Some (Bound c)) = refl
 
 pub referent_node : (t : Tree) (rs : List Reference) → referent_at (child t) rs ≡ referent_of (number_in t) rs
 referent_node (Node kind m span semantic_id ps) rs = refl
-
-pub first_bound : (m : ℕ) (r : Reference) (rs : List Reference) → bound_number (referent_of m (r ∷ rs)) ≡ cond (nat_eq m r.number) (bound_number (Some r.to)) (bound_number (referent_of m rs))
-first_bound m r rs = here (nat_eq m r.number)
-  where
-    here : (b : Bool) → bound_number (cond b (Some r.to) (referent_of m rs)) ≡ cond b (bound_number (Some r.to)) (bound_number (referent_of m rs))
-    here true = refl
-    here false = refl
 
 pub bound_in : (s : String) (b : Option NodeId) → option_map (λ n. n.0) b ≡ bound_number (Some (code.referent_of s b))
 bound_in s None = refl

@@ -1,5 +1,5 @@
 -- Definitions in code, node by node.
-use Rattle.std.proofs.Common.{◌≡◌, refl, ap, ◌∙◌, ℕ, List, [], ◌∷◌, ◌++◌, true, false, cond, ◌&&◌, ◌||◌}
+use Rattle.std.proofs.Common.{◌≡◌, refl, sym, ap, ◌∙◌, ℕ, List, [], ◌∷◌, ◌++◌, Bool, true, false, cond, ◌&&◌, ◌||◌}
 use Rattle.std.specs.Prelude.{nat_eq}
 use Rattle.es_base.specs.Numbered.{is_new}
 use Rattle.es_base.specs.Tree.{Tree, Parts, Node, child, absent}
@@ -7,6 +7,7 @@ use Rattle.es_base.specs.declared.kind.Kind.{Kind}
 use Rattle.es_base.specs.declared.ledger.LedgerEntry.{LedgerEntry}
 use Rattle.es_lowered.specs.Definitions.{all_definitions, constructor_definitions, definition_at, definitions_in, definitions_of, function_definitions, given_part, given_to, is_given_super, is_new_this, super_definitions}
 use Rattle.es_node.specs.View.{kind_of, number_in, parts_in}
+use Rattle.es_owed.specs.Listed.{numbered}
 use Rattle.es_owed_definitions.specs.Views.{constructed, of_super}
 use Rattle.es_steps.specs.Context.{is_function}
 use Rattle.es_steps.specs.LoweredClasses.{constructor_in}
@@ -47,6 +48,23 @@ constructed_here first o ledger n t u is body = constructed_node first o ledger 
 
 pub constructed_elsewhere : (first : ℕ) (o : Options) (ledger : List LedgerEntry) (n : ℕ) (t : Tree) → (is_class (kind_of t) && nat_eq n (number_in t)) ≡ false → constructed first o ledger n t ≡ []
 constructed_elsewhere first o ledger n t other = constructed_node first o ledger n t ∙ ap (λ b. cond b (function_definitions first o ledger n (constructor_in (at 2 (parts_in t)))) []) other
+
+-- those of the classes of a number are all
+pub constructors_numbered : (first : ℕ) (o : Options) (ledger : List LedgerEntry) (n : ℕ) (ts : List Tree) → constructor_definitions first o ledger n (numbered n ts) ≡ constructor_definitions first o ledger n ts
+constructors_numbered first o ledger n [] = refl
+constructors_numbered first o ledger n (Node kind k span semantic_id ps ∷ ts) = here (nat_eq n k) refl (constructors_numbered first o ledger n ts)
+  where
+    none : (c : Bool) → cond (c && false) (function_definitions first o ledger n (constructor_in (at 2 ps))) [] ≡ []
+    none true = refl
+    none false = refl
+
+    here : (b : Bool) → nat_eq n k ≡ b → constructor_definitions first o ledger n (numbered n ts) ≡ constructor_definitions first o ledger n ts
+        → constructor_definitions first o ledger n (cond b (Node kind k span semantic_id ps ∷ []) [] ++ numbered n ts) ≡ constructor_definitions first o ledger n (Node kind k span semantic_id ps ∷ ts)
+    here true e h = ap (λ ds. cond (is_class kind && nat_eq n k) (function_definitions first o ledger n (constructor_in (at 2 ps))) [] ++ ds) h
+    here false e h =
+        h
+        ∙ sym (ap (λ ds. ds ++ constructor_definitions first o ledger n ts) (none (is_class kind)))
+        ∙ sym (ap (λ b. cond (is_class kind && b) (function_definitions first o ledger n (constructor_in (at 2 ps))) [] ++ constructor_definitions first o ledger n ts) e)
 
 pub this_node : (first : ℕ) (t : Tree) → kind_of t ≡ Kind.ThisExpression → is_new_this first (child t) ≡ is_new first (number_in t)
 this_node first (Node kind m span semantic_id ps) is = ap (λ k. is_new_this first (child (Node k m span semantic_id ps))) is

@@ -4,5 +4,8 @@ pub mod FieldFits
 pub mod FieldKeys
 pub mod FieldValues
 pub mod FoundDefinitions
+pub mod ReadNames
+pub mod StaticClasses
 pub mod SuperForms
+pub mod SuperNodes
 pub mod UnfitClasses

@@ -17,15 +17,15 @@ module _ (first : ℕ) (o : Options) (ledger : List LedgerEntry) (members : List
   unfit_behind h = ap (λ b. cond b (first_unfit first o ledger members p q ts) (Some (number_of t))) h
 
 -- the same of what is the same
-pub same_unfit : (x : Terms) (ms ns : List PrivateMember) (p p2 q : Tree) (ts us : List Tree) → ms ≡ ns → p ≡ p2 → ts ≡ us
-    → first_unfit x.first x.options.now x.ledger.now ms p q ts ≡ first_unfit x.first x.options.now x.ledger.now ns p2 q us
-same_unfit x ms ns p p2 q ts us members source nodes =
-    ap (λ (z : List PrivateMember). first_unfit x.first x.options.now x.ledger.now z p q ts) members
-    ∙ ap (λ (z : Tree). first_unfit x.first x.options.now x.ledger.now ns z q ts) source
-    ∙ ap (λ (z : List Tree). first_unfit x.first x.options.now x.ledger.now ns p2 q z) nodes
+pub same_unfit : (x : Terms) (members : List PrivateMember) (p p2 q : Tree) (ts us : List Tree) → p ≡ p2 → ts ≡ us
+    → first_unfit x.first x.options.now x.ledger.now members p q ts ≡ first_unfit x.first x.options.now x.ledger.now members p2 q us
+same_unfit x members p p2 q ts us source nodes =
+    ap (λ (z : Tree). first_unfit x.first x.options.now x.ledger.now members z q ts) source
+    ∙ ap (λ (z : List Tree). first_unfit x.first x.options.now x.ledger.now members p2 q z) nodes
 
-pub same_terms : (x y : Terms) (ms : List PrivateMember) (p q r : Tree) (ts : List Tree) → x ≡ y → q ≡ r
-    → first_unfit x.first x.options.now x.ledger.now ms p q ts ≡ first_unfit y.first y.options.now y.ledger.now ms p r ts
-same_terms x y ms p q r ts terms lowered =
+pub same_terms : (x y : Terms) (ms ns : List PrivateMember) (p q r : Tree) (ts : List Tree) → x ≡ y → ms ≡ ns → q ≡ r
+    → first_unfit x.first x.options.now x.ledger.now ms p q ts ≡ first_unfit y.first y.options.now y.ledger.now ns p r ts
+same_terms x y ms ns p q r ts terms members lowered =
     ap (λ (z : Terms). first_unfit z.first z.options.now z.ledger.now ms p q ts) terms
-    ∙ ap (λ (z : Tree). first_unfit y.first y.options.now y.ledger.now ms p z ts) lowered
+    ∙ ap (λ (z : List PrivateMember). first_unfit y.first y.options.now y.ledger.now z p q ts) members
+    ∙ ap (λ (z : Tree). first_unfit y.first y.options.now y.ledger.now ns p z ts) lowered

@@ -13,7 +13,7 @@ names_view x = record {
   ledger = x.ledger.now;
   source = resolve x.source.now.program.now;
   written = written x.source.now.program.now;
-  lowered = references_of x.lowered.now;
+  lowered = references_of x.lowered.now.list.items;
   identifiers = x.identifiers.now;
 }
 

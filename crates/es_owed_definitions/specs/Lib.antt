@@ -1,6 +1,8 @@
 pub mod Callees
 pub mod Fields
 pub mod Keys
+pub mod Statics
+pub mod SuperNames
 pub mod Supers
 pub mod Values
 pub mod Views

@@ -2,11 +2,11 @@
 
 ghost use Rattle.std.specs.Prelude.{◌≡◌, IfOk};
 ghost use Rattle.es_base.specs.Preorder.{preorder};
-ghost use Rattle.es_binding_faults.specs.Seen.{seen};
 ghost use Rattle.es_lowered.specs.Definitions as spec;
 ghost use Rattle.es_steps.specs.PrivateNames as privates;
-ghost use Rattle.es_owed_definitions.specs.Fields.{program_fits};
-ghost use Rattle.es_owed_definitions.specs.Views.{definition_views};
+ghost use Rattle.es_steps.specs.References.{resolve};
+ghost use Rattle.es_owed_definitions.specs.Fields.{HasStatics, program_fits};
+ghost use Rattle.es_seen_names.specs.PrivateMembers.{private_members_of};
 
 use crate::fields::classes_fit;
 use crate::lowered::LoweredProgram;
@@ -81,9 +81,10 @@ fn program_stands(
     source: &Listed,
     lowered: &Listed,
 ) -> Result<bool, AllocError>
-    ensures { IfOk result (λ holds. holds ≡ program_fits terms.entry source.now.program.now lowered.now.program.now) }
+    ensures { IfOk result (λ holds. holds ≡ program_fits terms.entry (privates.private_members source.now.program.now) source.now.program.now lowered.now.program.now) }
 {
-    let lowered = LoweredProgram::of(alloc, terms, lowered)?;
+    let members = private_members(alloc, source.program)?;
+    let lowered = LoweredProgram::of(alloc, terms, members.as_slice(), lowered)?;
     program_fits(alloc, source, &lowered)
 }
 
@@ -93,18 +94,13 @@ fn program_fits(
     source: &Listed,
     lowered: &LoweredProgram,
 ) -> Result<bool, AllocError>
-    requires { definition_views lowered.now.definitions.items ≡ spec.all_definitions lowered.now.terms.first lowered.now.terms.options.now lowered.now.terms.ledger.now (seen lowered.now.nodes.now) }
-    ensures { IfOk result (λ holds. holds ≡ program_fits lowered.now.terms source.now.program.now lowered.now.program.now) }
+    requires { HasStatics lowered.now.terms (private_members_of lowered.now.members.now) lowered.now.listed.now.program.now lowered.now.statics }
+    ensures { IfOk result (λ holds. holds ≡ program_fits lowered.now.terms (private_members_of lowered.now.members.now) source.now.program.now lowered.now.listed.now.program.now) }
 {
     if !fields_stand(alloc, source, lowered)? {
         return Ok(false);
     }
-    supers_stand(
-        alloc,
-        &lowered.terms,
-        lowered.references.as_slice(),
-        lowered.nodes,
-    )
+    calls_of_super_stand(alloc, lowered)
 }
 
 /// Whether each class of the source has its definitions. Fails on allocation failure alone.
@@ -113,16 +109,21 @@ fn fields_stand(
     source: &Listed,
     lowered: &LoweredProgram,
 ) -> Result<bool, AllocError>
-    requires { definition_views lowered.now.definitions.items ≡ spec.all_definitions lowered.now.terms.first lowered.now.terms.options.now lowered.now.terms.ledger.now (seen lowered.now.nodes.now) }
-    ensures { IfOk result (λ holds. holds ≡ spec.classes_fit lowered.now.terms.first lowered.now.terms.options.now lowered.now.terms.ledger.now (privates.private_members source.now.program.now) source.now.program.now lowered.now.program.now (preorder source.now.program.now)) }
+    requires { HasStatics lowered.now.terms (private_members_of lowered.now.members.now) lowered.now.listed.now.program.now lowered.now.statics }
+    ensures { IfOk result (λ holds. holds ≡ spec.classes_fit lowered.now.terms.first lowered.now.terms.options.now lowered.now.terms.ledger.now (private_members_of lowered.now.members.now) source.now.program.now lowered.now.listed.now.program.now (preorder source.now.program.now)) }
 {
     let names = ProgramNames::of(alloc, source.program)?;
-    let members = private_members(alloc, source.program)?;
-    classes_fit(
+    classes_fit(alloc, &names, lowered, source.nodes.as_slice())
+}
+
+/// Whether what stands for `super(..)` and is not called has definitions alone. Fails on allocation failure alone.
+fn calls_of_super_stand(alloc: Global, lowered: &LoweredProgram) -> Result<bool, AllocError>
+    ensures { IfOk result (λ holds. holds ≡ spec.supers_stand lowered.now.terms.first lowered.now.terms.options.now lowered.now.terms.ledger.now (resolve lowered.now.listed.now.program.now) (preorder lowered.now.listed.now.program.now)) }
+{
+    supers_stand(
         alloc,
-        &names,
-        members.as_slice(),
-        lowered,
-        source.nodes.as_slice(),
+        &lowered.terms,
+        lowered.references.list.as_slice(),
+        lowered.nodes(),
     )
 }

@@ -1,128 +1,32 @@
 // The definitions of a class are those of its fields.
 
-ghost use Rattle.std.specs.Prelude.{◌≡◌, ◌&&◌, ◌||◌, ◌++◌, ◌∷◌, [], cond, option_map, IfOk, OnOk};
+ghost use Rattle.std.specs.Prelude.{◌≡◌, ◌&&◌, ◌++◌, option_map, IfOk, OnOk};
 ghost use Rattle.std.specs.Option.{option_to_list};
 ghost use Rattle.es_base.specs.Tree.{trees};
 ghost use Rattle.es_binding_faults.specs.Seen.{seen};
 ghost use Rattle.es_lowered.specs.Definitions as spec;
-ghost use Rattle.es_seen_names.specs.PrivateMembers.{private_member_of, private_members_of};
+ghost use Rattle.es_seen_names.specs.PrivateMembers.{private_members_of};
 ghost use Rattle.es_shapes.specs.Classes.{element_view};
 ghost use Rattle.es_steps.specs.LoweredClasses as classes;
 ghost use Rattle.es_steps.specs.LoweredClasses.{element_of, elements_in};
-ghost use Rattle.es_references.specs.References.{references_of};
-ghost use Rattle.es_owed_definitions.specs.Fields.{class_stands, element_views, if_defined, is_defined_field};
+ghost use Rattle.es_owed_definitions.specs.Fields.{HasStatics, class_stands, element_views, if_defined, is_defined_field};
 ghost use Rattle.es_owed_definitions.specs.Keys.{names_view};
 ghost use Rattle.es_owed_definitions.specs.Views.{definition_view, definition_views, key_view};
 
 use crate::definition::{DefinedKey, FieldDefinition};
-use crate::found::instance_definitions;
 use crate::keys::{KeyNames, key_fits};
 use crate::lowered::LoweredProgram;
 use crate::values::value_fits;
-use es_base::ledger::{GeneratedKind, LedgerEntry};
+use es_base::ledger::GeneratedKind;
 use es_generated::ledger::generated_as;
 use es_node::node::Node;
 use es_outside::names::ProgramNames;
 use es_owed::classes::class_body;
-use es_owed_initialized::class_names::{class_identifiers, names_class};
-use es_seen_names::private_member::{PrivateMember, member_at};
 use es_shapes::asked::leaves_out_fields;
 use es_shapes::class::elements_of;
 use es_shapes::element::{ElementRef, element_of};
 use es_steps::options::Options;
 use std::alloc::{AllocError, Global};
-
-// ---- the definitions of a class
-
-/// The definitions on the class among those of a program: on a name of it, or of one of its static private fields. Fails on
-/// allocation failure alone.
-pub fn static_definitions<'a>(
-    alloc: Global,
-    lowered: &LoweredProgram<'a>,
-    members: &[PrivateMember],
-    class: u32,
-    identifiers: &[u32],
-) -> Result<Vec<FieldDefinition<'a>>, AllocError>
-    ensures { IfOk result (λ r. definition_views r.items ≡ spec.statics_of (spec.is_static_of class lowered.now.terms.ledger.now (private_members_of members.now) (references_of lowered.now.references.items) identifiers.now) (definition_views lowered.now.definitions.items)) }
-{
-    let mut found = Vec::new(alloc);
-    for definition in &lowered.definitions {
-        let is_static = is_static_of(lowered, members, class, identifiers, *definition);
-        add_if(is_static, *definition, &mut found)?;
-    }
-    Ok(found)
-}
-
-fn add_if<'a>(
-    holds: bool,
-    definition: FieldDefinition<'a>,
-    found: &mut Vec<FieldDefinition<'a>>,
-) -> Result<(), AllocError>
-    ensures { OnOk result (definition_views found.new.items ≡ definition_views found.old.items ++ cond holds (definition_view definition.entry ∷ []) []) }
-{
-    if holds {
-        found.push(definition)?;
-    }
-    Ok(())
-}
-
-/// Whether the definition is on a name of the class, or of one of its static private fields.
-fn is_static_of(
-    lowered: &LoweredProgram,
-    members: &[PrivateMember],
-    class: u32,
-    identifiers: &[u32],
-    definition: FieldDefinition,
-) -> bool
-    ensures { result ≡ spec.is_static_of class lowered.now.terms.ledger.now (private_members_of members.now) (references_of lowered.now.references.items) identifiers.now (definition_view definition.entry) }
-{
-    let ledger = lowered.terms.ledger;
-    match definition.object {
-        Some(object) => names_class(
-            class,
-            ledger,
-            lowered.references.as_slice(),
-            identifiers,
-            object,
-        ),
-        None => key_is_static(class, ledger, members, definition.key),
-    }
-}
-
-fn key_is_static(
-    class: u32,
-    ledger: &[LedgerEntry],
-    members: &[PrivateMember],
-    key: DefinedKey,
-) -> bool
-    ensures { result ≡ spec.key_is_static class ledger.now (private_members_of members.now) (key_view key.entry) }
-{
-    match key {
-        DefinedKey::Private(name) => is_static_member(class, generated_as(name, ledger), members),
-        _ => false,
-    }
-}
-
-fn is_static_member(class: u32, generated: Option<GeneratedKind>, members: &[PrivateMember]) -> bool
-    ensures { result ≡ spec.is_static_member class generated (private_members_of members.now) }
-{
-    match generated {
-        Some(GeneratedKind::StaticField(member)) => is_member_of(
-            class,
-            member_at(member.0, members),
-        ),
-        _ => false,
-    }
-}
-
-fn is_member_of(class: u32, member: Option<PrivateMember>) -> bool
-    ensures { result ≡ spec.is_member_of class (option_map private_member_of member.entry) }
-{
-    match member {
-        Some(member) => class == member.class,
-        None => false,
-    }
-}
 
 // ---- the fields of a class
 
@@ -270,32 +174,30 @@ fn fits(names: &KeyNames, field: &ElementRef, definition: FieldDefinition) -> bo
 fn class_fits(
     alloc: Global,
     source: &ProgramNames,
-    members: &[PrivateMember],
     lowered: &LoweredProgram,
     class: u32,
     elements: &[Node],
 ) -> Result<bool, AllocError>
-    requires { definition_views lowered.now.definitions.items ≡ spec.all_definitions lowered.now.terms.first lowered.now.terms.options.now lowered.now.terms.ledger.now (seen lowered.now.nodes.now) }
-    ensures { IfOk result (λ holds. holds ≡ spec.class_fits lowered.now.terms.first lowered.now.terms.options.now lowered.now.terms.ledger.now (private_members_of members.now) source.now.program.now lowered.now.program.now class (elements_in (trees elements.now))) }
+    requires { HasStatics lowered.now.terms (private_members_of lowered.now.members.now) lowered.now.listed.now.program.now lowered.now.statics }
+    ensures { IfOk result (λ holds. holds ≡ spec.class_fits lowered.now.terms.first lowered.now.terms.options.now lowered.now.terms.ledger.now (private_members_of lowered.now.members.now) source.now.program.now lowered.now.listed.now.program.now class (elements_in (trees elements.now))) }
 {
     let terms = &lowered.terms;
-    let identifiers = class_identifiers(alloc, terms.first, class, lowered.nodes)?;
+    let identifiers = lowered.identifiers_of(class);
     let names = KeyNames {
         ledger: terms.ledger,
         source,
-        lowered: lowered.references.as_slice(),
+        lowered: &lowered.references,
         class,
-        identifiers: identifiers.as_slice(),
+        identifiers,
     };
     let fields = defined_fields(alloc, terms.options, false, elements)?;
-    let definitions = instance_definitions(alloc, terms, lowered.nodes, class)?;
+    let definitions = lowered.instance_definitions(alloc, class)?;
     let has_brand = has_instance_method(elements);
     if !branded_fit(&names, has_brand, fields.as_slice(), definitions.as_slice()) {
         return Ok(false);
     }
     let fields = defined_fields(alloc, terms.options, true, elements)?;
-    let definitions = static_definitions(alloc, lowered, members, class, identifiers.as_slice())?;
-    Ok(all_fit(&names, fields.as_slice(), definitions.as_slice()))
+    Ok(all_fit(&names, fields.as_slice(), lowered.static_definitions(class)))
 }
 
 /// Whether each class among these nodes of the source has its definitions. Fails on allocation failure alone.
@@ -303,15 +205,14 @@ fn class_fits(
 pub fn classes_fit(
     alloc: Global,
     source: &ProgramNames,
-    members: &[PrivateMember],
     lowered: &LoweredProgram,
     nodes: &[&Node],
 ) -> Result<bool, AllocError>
-    requires { definition_views lowered.now.definitions.items ≡ spec.all_definitions lowered.now.terms.first lowered.now.terms.options.now lowered.now.terms.ledger.now (seen lowered.now.nodes.now) }
-    ensures { IfOk result (λ holds. holds ≡ spec.classes_fit lowered.now.terms.first lowered.now.terms.options.now lowered.now.terms.ledger.now (private_members_of members.now) source.now.program.now lowered.now.program.now (seen nodes.now)) }
+    requires { HasStatics lowered.now.terms (private_members_of lowered.now.members.now) lowered.now.listed.now.program.now lowered.now.statics }
+    ensures { IfOk result (λ holds. holds ≡ spec.classes_fit lowered.now.terms.first lowered.now.terms.options.now lowered.now.terms.ledger.now (private_members_of lowered.now.members.now) source.now.program.now lowered.now.listed.now.program.now (seen nodes.now)) }
 {
     for node in nodes {
-        if !class_stands(alloc, source, members, lowered, node)? {
+        if !class_stands(alloc, source, lowered, node)? {
             return Ok(false);
         }
     }
@@ -323,22 +224,14 @@ pub fn classes_fit(
 pub fn class_stands(
     alloc: Global,
     source: &ProgramNames,
-    members: &[PrivateMember],
     lowered: &LoweredProgram,
     node: &Node,
 ) -> Result<bool, AllocError>
-    requires { definition_views lowered.now.definitions.items ≡ spec.all_definitions lowered.now.terms.first lowered.now.terms.options.now lowered.now.terms.ledger.now (seen lowered.now.nodes.now) }
-    ensures { IfOk result (λ holds. holds ≡ class_stands lowered.now.terms.first lowered.now.terms.options.now lowered.now.terms.ledger.now (private_members_of members.now) source.now.program.now lowered.now.program.now node.now) }
+    requires { HasStatics lowered.now.terms (private_members_of lowered.now.members.now) lowered.now.listed.now.program.now lowered.now.statics }
+    ensures { IfOk result (λ holds. holds ≡ class_stands lowered.now.terms.first lowered.now.terms.options.now lowered.now.terms.ledger.now (private_members_of lowered.now.members.now) source.now.program.now lowered.now.listed.now.program.now node.now) }
 {
     match class_body(node) {
-        Some(body) => class_fits(
-            alloc,
-            source,
-            members,
-            lowered,
-            node.node_id().0,
-            elements_of(body),
-        ),
+        Some(body) => class_fits(alloc, source, lowered, node.node_id().0, elements_of(body)),
         None => Ok(true),
     }
 }

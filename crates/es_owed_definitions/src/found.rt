@@ -280,18 +280,20 @@ fn constructor_in(body: &Node) -> Option<&Node>
     constructor_among(elements_of(body))
 }
 
-/// The definitions on the instances of this class among these nodes. Fails on allocation failure alone.
-pub fn instance_definitions<'a>(
+/// The definitions on the instances of this class: those in what these nodes give to names that stand for `super(..)` of it, and
+/// those in the constructors of the class among the others. Fails on allocation failure alone.
+pub fn definitions_on_this<'a>(
     alloc: Global,
     terms: &Terms,
-    nodes: &[&'a Node],
     class: u32,
+    supers: &[&'a Node],
+    classes: &[&'a Node],
 ) -> Result<Vec<FieldDefinition<'a>>, AllocError>
-    ensures { IfOk result (λ r. definition_views r.items ≡ spec.on_this terms.now.first (spec.super_definitions terms.now.first terms.now.options.now terms.now.ledger.now class (seen nodes.now) ++ spec.constructor_definitions terms.now.first terms.now.options.now terms.now.ledger.now class (seen nodes.now))) }
+    ensures { IfOk result (λ r. definition_views r.items ≡ spec.on_this terms.now.first (spec.super_definitions terms.now.first terms.now.options.now terms.now.ledger.now class (seen supers.now) ++ spec.constructor_definitions terms.now.first terms.now.options.now terms.now.ledger.now class (seen classes.now))) }
 {
     let mut found = Vec::new(alloc);
-    add_super_definitions(terms, class, nodes, &mut found)?;
-    add_constructor_definitions(terms, class, nodes, &mut found)?;
+    add_super_definitions(terms, class, supers, &mut found)?;
+    add_constructor_definitions(terms, class, classes, &mut found)?;
     on_this(alloc, terms.first, found.as_slice())
 }
 

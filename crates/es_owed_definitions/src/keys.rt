@@ -14,6 +14,7 @@ ghost use Rattle.es_steps.specs.References.{resolve};
 ghost use Rattle.es_references.specs.References.{references_of};
 ghost use Rattle.es_owed_definitions.specs.Keys.{is_name_key, names_view, same_number};
 ghost use Rattle.es_owed_definitions.specs.Views.{key_view, node_part};
+ghost use Rattle.es_owed_initialized.specs.Meanings.{referent_in};
 
 use crate::definition::DefinedKey;
 use crate::forms::generated_at;
@@ -27,6 +28,7 @@ use es_node::node::Node;
 use es_outside::names::ProgramNames;
 use es_owed::same::same_node;
 use es_owed_initialized::class_names::names_class;
+use es_owed_initialized::meaning::Referents;
 use es_references::references::Reference;
 use es_seen_names::parts::string_at;
 use es_shapes::element::ElementRef;
@@ -42,7 +44,7 @@ pub struct KeyNames<'r, 'a> {
     /// The names of the source.
     pub source: &'r ProgramNames<'a>,
     /// The references of what it was lowered to.
-    pub lowered: &'r [Reference<'a>],
+    pub lowered: &'r Referents<'a>,
     /// The class, and the identifiers that declare it.
     pub class: u32,
     pub identifiers: &'r [u32],
@@ -194,7 +196,7 @@ fn is_temporary_name(names: &KeyNames, node: &Node) -> bool
 /// Whether a name of the source and one of what it was lowered to mean one binding.
 #[tactic(auto, using(crate::proofs::FieldKeys::same_bound, crate::proofs::FieldKeys::referent_node))]
 fn is_same_binding(names: &KeyNames, name: &Node, other: &Node) -> bool
-    ensures { result ≡ spec.same_referent (spec.referent_at (child name.now) (resolve names.now.source.now.program.now)) (spec.referent_at (child other.now) (references_of names.now.lowered.now)) }
+    ensures { result ≡ spec.same_referent (spec.referent_at (child name.now) (resolve names.now.source.now.program.now)) (spec.referent_at (child other.now) (references_of names.now.lowered.now.list.items)) }
 {
     same_number(
         names.source.binding_of(name.node_id()),
@@ -203,16 +205,20 @@ fn is_same_binding(names: &KeyNames, name: &Node, other: &Node) -> bool
 }
 
 /// The binding that the reference of this number means.
-#[tactic(auto, using(crate::proofs::FieldKeys::first_bound, crate::proofs::FieldKeys::bound_in))]
-fn binding_at(number: u32, references: &[Reference]) -> Option<NodeId>
-    ensures { option_map (λ n. n.0) result ≡ bound_number (referent_of number (references_of references.now)) }
+fn binding_at(number: u32, references: &Referents) -> Option<NodeId>
+    ensures { option_map (λ n. n.0) result ≡ bound_number (referent_of number (references_of references.now.list.items)) }
 {
-    for reference in references {
-        if number == reference.node.0 {
-            return reference.binding;
-        }
+    binding_of(references.at(number))
+}
+
+#[tactic(auto, using(crate::proofs::FieldKeys::bound_in))]
+fn binding_of(reference: Option<Reference>) -> Option<NodeId>
+    ensures { option_map (λ n. n.0) result ≡ bound_number (referent_in reference.entry) }
+{
+    match reference {
+        Some(reference) => reference.binding,
+        None => None,
     }
-    None
 }
 
 fn same_number(binding: Option<NodeId>, other: Option<NodeId>) -> bool

@@ -1,5 +1,6 @@
-//! The clause on definitions: that a lowered program defines the fields of the source, in its order. It is computed as the
-//! definitions have it: for each class of the source the nodes of the lowered program are gone over, which is quadratic.
+//! The clause on definitions: that a lowered program defines the fields of the source, in its order. The definitions of these go
+//! over the nodes of the lowered program for each class of the source; here they are gone over once, and what is of a class is
+//! looked up.
 #![tactic(auto)]
 
 pub mod callee;
@@ -10,6 +11,8 @@ pub mod forms;
 pub mod found;
 pub mod keys;
 pub mod lowered;
+mod statics;
+mod super_names;
 pub mod supers;
 pub mod terms;
 pub mod unfit;

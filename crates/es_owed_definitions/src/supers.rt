@@ -1,13 +1,14 @@
 // What stands for `super(..)` and is not called has definitions alone.
 
-ghost use Rattle.std.specs.Prelude.{◌≡◌, ◌&&◌, bytes_eq, not, IfOk};
+ghost use Rattle.std.specs.Prelude.{◌≡◌, ◌||◌, ℕ, List, IfOk, OnOk};
 ghost use Rattle.std.specs.Str.{chars};
+ghost use Rattle.es_base.specs.Conforms.{is_among};
 ghost use Rattle.es_base.specs.Tree.{child, trees};
 ghost use Rattle.es_binding_faults.specs.Seen.{seen};
 ghost use Rattle.es_lowered.specs.Definitions as spec;
 ghost use Rattle.es_node.specs.View.{kind_of, parts_in};
 ghost use Rattle.es_references.specs.References.{reference_of, references_of};
-ghost use Rattle.es_owed_definitions.specs.Supers.{is_plain_body, is_this};
+ghost use Rattle.es_owed_definitions.specs.Supers.{is_plain_body, is_this, reads_name};
 ghost use Rattle.es_owed_definitions.specs.Views.{definition_views, node_part};
 
 use crate::definition::FieldDefinition;
@@ -16,8 +17,8 @@ use crate::found::{given_name, given_part};
 use crate::terms::Terms;
 use es_base::kind::Kind;
 use es_base::ledger::GeneratedKind;
-use es_base::strings::is_word;
 use es_generated::ledger::generated_as;
+use es_name_set::Names;
 use es_node::node::Node;
 use es_references::references::Reference;
 use es_tree::expression::SequenceExpressionRef;
@@ -27,7 +28,6 @@ use std::alloc::{AllocError, Global};
 
 /// Whether each name among these nodes that stands for `super(..)` is read, or is given `(..) => (super(..), .., this)` with
 /// definitions alone. Fails on allocation failure alone.
-#[tactic(auto, using(crate::proofs::SuperForms::supers_more))]
 pub fn supers_stand(
     alloc: Global,
     terms: &Terms,
@@ -36,8 +36,21 @@ pub fn supers_stand(
 ) -> Result<bool, AllocError>
     ensures { IfOk result (λ holds. holds ≡ spec.supers_stand terms.now.first terms.now.options.now terms.now.ledger.now (references_of references.now) (seen nodes.now)) }
 {
+    let read = ReadNames::of(alloc, references)?;
+    all_stand(alloc, terms, &read, nodes)
+}
+
+#[tactic(auto, using(crate::proofs::SuperForms::supers_more))]
+fn all_stand(
+    alloc: Global,
+    terms: &Terms,
+    read: &ReadNames,
+    nodes: &[&Node],
+) -> Result<bool, AllocError>
+    ensures { IfOk result (λ holds. holds ≡ spec.supers_stand terms.now.first terms.now.options.now terms.now.ledger.now (references_of read.now.references.now) (seen nodes.now)) }
+{
     for node in nodes {
-        if !super_stands(alloc, terms, references, node)? {
+        if !super_stands(alloc, terms, read, node)? {
             return Ok(false);
         }
     }
@@ -48,13 +61,13 @@ pub fn supers_stand(
 fn super_stands(
     alloc: Global,
     terms: &Terms,
-    references: &[Reference],
+    read: &ReadNames,
     node: &Node,
 ) -> Result<bool, AllocError>
-    ensures { IfOk result (λ holds. holds ≡ spec.super_stands terms.now.first terms.now.options.now terms.now.ledger.now (references_of references.now) (kind_of node.now) (parts_in node.now)) }
+    ensures { IfOk result (λ holds. holds ≡ spec.super_stands terms.now.first terms.now.options.now terms.now.ledger.now (references_of read.now.references.now) (kind_of node.now) (parts_in node.now)) }
 {
     let name = given_name(node);
-    if !is_super_name(generated_as(name, terms.ledger)) || any_reads(name, references) {
+    if !is_super_name(generated_as(name, terms.ledger)) || read.has(name) {
         return Ok(true);
     }
     is_plain_super(alloc, terms, given_part(node))
@@ -66,23 +79,56 @@ fn is_super_name(generated: Option<GeneratedKind>) -> bool
     matches!(generated, Some(GeneratedKind::SuperFn(_)))
 }
 
-/// Whether one of these references reads the name.
-fn any_reads(name: &str, references: &[Reference]) -> bool
-    ensures { result ≡ spec.any_reads (chars name.now) (references_of references.now) }
-{
-    for reference in references {
-        if reads(name, *reference) {
-            return true;
-        }
-    }
-    false
+// ---- names that are read
+
+/// The names that references read.
+#[derive(Drop)]
+struct ReadNames<'r, 'a> {
+    references: &'r [Reference<'a>],
+    names: Names<'a>,
+
+    ghost are_read: { (s : List ℕ) → is_among s names ≡ spec.any_reads s (references_of references.now) },
 }
 
-fn reads(name: &str, reference: Reference) -> bool
-    ensures { result ≡ (bytes_eq (chars name.now) (reference_of reference.entry).spelling && not (reference_of reference.entry).writes) }
-{
-    is_word(reference.name, name) && !reference.writes
+impl<'r, 'a> ReadNames<'r, 'a> {
+    /// Those that these references read. Fails on allocation failure alone.
+    fn of(alloc: Global, references: &'r [Reference<'a>]) -> Result<ReadNames<'r, 'a>, AllocError>
+        ensures { IfOk result (λ r. r.references.now ≡ references.now) }
+    {
+        let names = names_read(alloc, references)?;
+        Ok(ReadNames { references, names })
+    }
+
+    /// Whether one of the references reads the name.
+    fn has(&self, name: &str) -> bool
+        ensures { result ≡ spec.any_reads (chars name.now) (references_of self.now.references.now) }
+    {
+        self.names.has(name)
+    }
 }
+
+/// The set of the names that these references read. Fails on allocation failure alone.
+fn names_read<'a>(alloc: Global, references: &[Reference<'a>]) -> Result<Names<'a>, AllocError>
+    ensures { IfOk result (λ names. (s : List ℕ) → is_among s names ≡ spec.any_reads s (references_of references.now)) }
+{
+    let mut names = Names::new(alloc);
+    for reference in references {
+        add_if_read(reference, &mut names)?;
+    }
+    Ok(names)
+}
+
+fn add_if_read<'a>(reference: &Reference<'a>, names: &mut Names<'a>) -> Result<(), AllocError>
+    ensures { OnOk result ((s : List ℕ) → is_among s names.new ≡ (reads_name s (reference_of reference.now) || is_among s names.old)) }
+{
+    if reference.writes {
+        Ok(())
+    } else {
+        names.insert(reference.name)
+    }
+}
+
+// ---- what is given
 
 /// Whether what is given is `(..) => (super(..), .., this)` with definitions alone. Fails on allocation failure alone.
 #[tactic(auto, using(crate::proofs::SuperForms::no_arrow, crate::proofs::SuperForms::arrow_node))]

@@ -3,9 +3,8 @@
 ghost use Rattle.std.specs.Prelude.{◌≡◌, IfOk};
 ghost use Rattle.es_base.specs.Preorder.{preorder};
 ghost use Rattle.es_binding_faults.specs.Seen.{seen};
-ghost use Rattle.es_lowered.specs.Definitions as spec;
+ghost use Rattle.es_owed_definitions.specs.Fields.{HasStatics};
 ghost use Rattle.es_owed_definitions.specs.Unfit.{first_unfit};
-ghost use Rattle.es_owed_definitions.specs.Views.{definition_views};
 ghost use Rattle.es_seen_names.specs.PrivateMembers.{private_members_of};
 ghost use Rattle.es_steps.specs.PrivateNames as privates;
 
@@ -16,7 +15,7 @@ use es_base::ledger::LedgerEntry;
 use es_node::node::Node;
 use es_outside::names::ProgramNames;
 use es_owed::listed::Listed;
-use es_seen_names::private_member::{PrivateMember, private_members};
+use es_seen_names::private_member::private_members;
 use es_steps::options::Options;
 use std::alloc::{AllocError, Global};
 
@@ -40,7 +39,6 @@ pub fn first_unfit(
     unfit_under(alloc, terms, source, lowered)
 }
 
-#[tactic(auto, using(crate::proofs::UnfitClasses::same_terms))]
 fn unfit_under(
     alloc: Global,
     terms: Terms,
@@ -49,7 +47,8 @@ fn unfit_under(
 ) -> Result<Option<u32>, AllocError>
     ensures { IfOk result (λ n. n ≡ first_unfit terms.entry.first terms.entry.options.now terms.entry.ledger.now (privates.private_members source.now.program.now) source.now.program.now lowered.now.program.now (preorder source.now.program.now)) }
 {
-    let lowered = LoweredProgram::of(alloc, terms, lowered)?;
+    let members = private_members(alloc, source.program)?;
+    let lowered = LoweredProgram::of(alloc, terms, members.as_slice(), lowered)?;
     unfit_in(alloc, source, &lowered)
 }
 
@@ -58,33 +57,25 @@ fn unfit_in(
     source: &Listed,
     lowered: &LoweredProgram,
 ) -> Result<Option<u32>, AllocError>
-    requires { definition_views lowered.now.definitions.items ≡ spec.all_definitions lowered.now.terms.first lowered.now.terms.options.now lowered.now.terms.ledger.now (seen lowered.now.nodes.now) }
-    ensures { IfOk result (λ n. n ≡ first_unfit lowered.now.terms.first lowered.now.terms.options.now lowered.now.terms.ledger.now (privates.private_members source.now.program.now) source.now.program.now lowered.now.program.now (preorder source.now.program.now)) }
+    requires { HasStatics lowered.now.terms (private_members_of lowered.now.members.now) lowered.now.listed.now.program.now lowered.now.statics }
+    ensures { IfOk result (λ n. n ≡ first_unfit lowered.now.terms.first lowered.now.terms.options.now lowered.now.terms.ledger.now (private_members_of lowered.now.members.now) source.now.program.now lowered.now.listed.now.program.now (preorder source.now.program.now)) }
 {
     let names = ProgramNames::of(alloc, source.program)?;
-    let members = private_members(alloc, source.program)?;
-    unfit_among(
-        alloc,
-        &names,
-        members.as_slice(),
-        lowered,
-        source.nodes.as_slice(),
-    )
+    unfit_among(alloc, &names, lowered, source.nodes.as_slice())
 }
 
 #[tactic(auto, using(crate::proofs::UnfitClasses::unfit_here, crate::proofs::UnfitClasses::unfit_behind))]
 fn unfit_among(
     alloc: Global,
     source: &ProgramNames,
-    members: &[PrivateMember],
     lowered: &LoweredProgram,
     nodes: &[&Node],
 ) -> Result<Option<u32>, AllocError>
-    requires { definition_views lowered.now.definitions.items ≡ spec.all_definitions lowered.now.terms.first lowered.now.terms.options.now lowered.now.terms.ledger.now (seen lowered.now.nodes.now) }
-    ensures { IfOk result (λ n. n ≡ first_unfit lowered.now.terms.first lowered.now.terms.options.now lowered.now.terms.ledger.now (private_members_of members.now) source.now.program.now lowered.now.program.now (seen nodes.now)) }
+    requires { HasStatics lowered.now.terms (private_members_of lowered.now.members.now) lowered.now.listed.now.program.now lowered.now.statics }
+    ensures { IfOk result (λ n. n ≡ first_unfit lowered.now.terms.first lowered.now.terms.options.now lowered.now.terms.ledger.now (private_members_of lowered.now.members.now) source.now.program.now lowered.now.listed.now.program.now (seen nodes.now)) }
 {
     for node in nodes {
-        if !class_stands(alloc, source, members, lowered, node)? {
+        if !class_stands(alloc, source, lowered, node)? {
             return Ok(Some(node.node_id().0));
         }
     }

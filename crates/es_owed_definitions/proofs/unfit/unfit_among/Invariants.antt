@@ -6,5 +6,5 @@ use Rattle.es_owed_definitions.proofs.unfit.unfit_among.Given as goal
 
 abbrev pub invariant-loop-node : goal.invariant-loop-node
 invariant-loop-node l =
-    let unfit = first_unfit l.lowered.terms.first l.lowered.terms.options.now l.lowered.terms.ledger.now (private_members_of l.members) l.source.program.now l.lowered.program.now in
+    let unfit = first_unfit l.lowered.terms.first l.lowered.terms.options.now l.lowered.terms.ledger.now (private_members_of l.lowered.members.now) l.source.program.now l.lowered.listed.now.program.now in
     unfit (seen (drop l.node-index l.nodes)) ≡ unfit (seen l.nodes)

@@ -1,8 +1,0 @@
-use Rattle.std.proofs.Common.{◌≡◌, drop}
-use Rattle.es_references.specs.References.{references_of}
-use Rattle.es_shapes.specs.Names.{bound_number}
-use Rattle.es_steps.specs.LoweredClasses.{referent_of}
-use Rattle.es_owed_definitions.proofs.keys.binding_at.Given as goal
-
-abbrev pub invariant-loop-reference : goal.invariant-loop-reference
-invariant-loop-reference l = bound_number (referent_of l.number (references_of (drop l.reference-index l.references))) ≡ bound_number (referent_of l.number (references_of l.references))
