@@ -39,8 +39,8 @@ pub fn keys_stand(
         ledger,
     };
     let members = private_members(alloc, source.program)?;
-    let program = LoweredProgram::of(alloc, terms, lowered)?;
-    let temporaries = all_temporaries(alloc, members.as_slice(), &program)?;
+    let program = LoweredProgram::of(alloc, terms, members.as_slice(), lowered)?;
+    let temporaries = all_temporaries(alloc, &program)?;
     keys::keys_stand(
         alloc,
         first,

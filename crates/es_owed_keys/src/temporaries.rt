@@ -8,6 +8,7 @@ ghost use Rattle.es_binding_faults.specs.Seen.{seen};
 ghost use Rattle.es_seen_names.specs.PrivateMembers.{private_members_of};
 ghost use Rattle.es_lowered.specs.Definitions as spec;
 ghost use Rattle.es_owed_initialized.specs.Keys.{keys_of};
+ghost use Rattle.es_owed_definitions.specs.Fields.{HasStatics};
 ghost use Rattle.es_owed_definitions.specs.Views.{definition_views, key_view};
 ghost use Rattle.es_owed_keys.specs.Temporaries.{temporaries_at, temporary_of};
 
@@ -15,14 +16,10 @@ use es_base::ledger::{GeneratedKind, LedgerEntry};
 use es_generated::ledger::generated_as;
 use es_node::node::Node;
 use es_owed_definitions::definition::{DefinedKey, FieldDefinition};
-use es_owed_definitions::fields::static_definitions;
-use es_owed_definitions::found::instance_definitions;
 use es_owed_definitions::lowered::LoweredProgram;
-use es_owed_initialized::class_names::class_identifiers;
 use es_owed_initialized::keys::KeyTemporary;
 use es_owed_initialized::kinds::is_class;
 use es_owed_initialized::spelling::spelling;
-use es_seen_names::private_member::PrivateMember;
 use std::alloc::{AllocError, Global};
 
 /// Adds the temporary that this key is, if it is one. Fails on allocation failure alone.
@@ -78,35 +75,31 @@ fn add_keys<'a>(
 /// Those of a class. Fails on allocation failure alone.
 fn add_class<'a>(
     alloc: Global,
-    members: &[PrivateMember],
     lowered: &LoweredProgram<'a>,
     class: u32,
     found: &mut Vec<KeyTemporary<'a>>,
 ) -> Result<(), AllocError>
-    requires { definition_views lowered.now.definitions.items ≡ spec.all_definitions lowered.now.terms.first lowered.now.terms.options.now lowered.now.terms.ledger.now (seen lowered.now.nodes.now) }
-    ensures { OnOk result (keys_of found.new.items ≡ keys_of found.old.items ++ spec.with_class class (spec.class_temporaries lowered.now.terms.first lowered.now.terms.options.now lowered.now.terms.ledger.now (private_members_of members.now) lowered.now.program.now class)) }
+    requires { HasStatics lowered.now.terms (private_members_of lowered.now.members.now) lowered.now.listed.now.program.now lowered.now.statics }
+    ensures { OnOk result (keys_of found.new.items ≡ keys_of found.old.items ++ spec.with_class class (spec.class_temporaries lowered.now.terms.first lowered.now.terms.options.now lowered.now.terms.ledger.now (private_members_of lowered.now.members.now) lowered.now.listed.now.program.now class)) }
 {
-    let terms = &lowered.terms;
-    let instance = instance_definitions(alloc, terms, lowered.nodes, class)?;
-    add_keys(terms.ledger, class, instance.as_slice(), found)?;
-    let identifiers = class_identifiers(alloc, terms.first, class, lowered.nodes)?;
-    let statics = static_definitions(alloc, lowered, members, class, identifiers.as_slice())?;
-    add_keys(terms.ledger, class, statics.as_slice(), found)
+    let ledger = lowered.terms.ledger;
+    let instance = lowered.instance_definitions(alloc, class)?;
+    add_keys(ledger, class, instance.as_slice(), found)?;
+    add_keys(ledger, class, lowered.static_definitions(class), found)
 }
 
 /// Those of a node, if it is a class. Fails on allocation failure alone.
 fn add_node<'a>(
     alloc: Global,
-    members: &[PrivateMember],
     lowered: &LoweredProgram<'a>,
     node: &Node,
     found: &mut Vec<KeyTemporary<'a>>,
 ) -> Result<(), AllocError>
-    requires { definition_views lowered.now.definitions.items ≡ spec.all_definitions lowered.now.terms.first lowered.now.terms.options.now lowered.now.terms.ledger.now (seen lowered.now.nodes.now) }
-    ensures { OnOk result (keys_of found.new.items ≡ keys_of found.old.items ++ temporaries_at lowered.now.terms (private_members_of members.now) lowered.now.program.now node.now) }
+    requires { HasStatics lowered.now.terms (private_members_of lowered.now.members.now) lowered.now.listed.now.program.now lowered.now.statics }
+    ensures { OnOk result (keys_of found.new.items ≡ keys_of found.old.items ++ temporaries_at lowered.now.terms (private_members_of lowered.now.members.now) lowered.now.listed.now.program.now node.now) }
 {
     if is_class(node.kind()) {
-        return add_class(alloc, members, lowered, node.node_id().0, found);
+        return add_class(alloc, lowered, node.node_id().0, found);
     }
     Ok(())
 }
@@ -115,31 +108,29 @@ fn add_node<'a>(
 #[tactic(auto, using(crate::proofs::Classed::node_more))]
 fn add_nodes<'a>(
     alloc: Global,
-    members: &[PrivateMember],
     lowered: &LoweredProgram<'a>,
     nodes: &[&Node],
     found: &mut Vec<KeyTemporary<'a>>,
 ) -> Result<(), AllocError>
-    requires { definition_views lowered.now.definitions.items ≡ spec.all_definitions lowered.now.terms.first lowered.now.terms.options.now lowered.now.terms.ledger.now (seen lowered.now.nodes.now) }
-    ensures { OnOk result (keys_of found.new.items ≡ keys_of found.old.items ++ spec.all_temporaries lowered.now.terms.first lowered.now.terms.options.now lowered.now.terms.ledger.now (private_members_of members.now) lowered.now.program.now (seen nodes.now)) }
+    requires { HasStatics lowered.now.terms (private_members_of lowered.now.members.now) lowered.now.listed.now.program.now lowered.now.statics }
+    ensures { OnOk result (keys_of found.new.items ≡ keys_of found.old.items ++ spec.all_temporaries lowered.now.terms.first lowered.now.terms.options.now lowered.now.terms.ledger.now (private_members_of lowered.now.members.now) lowered.now.listed.now.program.now (seen nodes.now)) }
 {
     for node in nodes {
-        add_node(alloc, members, lowered, node, found)?;
+        add_node(alloc, lowered, node, found)?;
     }
     Ok(())
 }
 
-/// The temporaries that keep the keys of the fields of a lowered program, each with the class of its field; `members` are the
-/// private members of its source. Fails on allocation failure alone.
+/// The temporaries that keep the keys of the fields of a lowered program, each with the class of its field. Fails on allocation
+/// failure alone.
 pub fn all_temporaries<'a>(
     alloc: Global,
-    members: &[PrivateMember],
     lowered: &LoweredProgram<'a>,
 ) -> Result<Vec<KeyTemporary<'a>>, AllocError>
-    requires { definition_views lowered.now.definitions.items ≡ spec.all_definitions lowered.now.terms.first lowered.now.terms.options.now lowered.now.terms.ledger.now (seen lowered.now.nodes.now) }
-    ensures { IfOk result (λ ks. keys_of ks.items ≡ spec.all_temporaries lowered.now.terms.first lowered.now.terms.options.now lowered.now.terms.ledger.now (private_members_of members.now) lowered.now.program.now (preorder lowered.now.program.now)) }
+    requires { HasStatics lowered.now.terms (private_members_of lowered.now.members.now) lowered.now.listed.now.program.now lowered.now.statics }
+    ensures { IfOk result (λ ks. keys_of ks.items ≡ spec.all_temporaries lowered.now.terms.first lowered.now.terms.options.now lowered.now.terms.ledger.now (private_members_of lowered.now.members.now) lowered.now.listed.now.program.now (preorder lowered.now.listed.now.program.now)) }
 {
     let mut found = Vec::new(alloc);
-    add_nodes(alloc, members, lowered, lowered.nodes, &mut found)?;
+    add_nodes(alloc, lowered, lowered.nodes(), &mut found)?;
     Ok(found)
 }

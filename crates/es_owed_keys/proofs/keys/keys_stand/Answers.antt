@@ -20,9 +20,9 @@ returns c =
     let given =
     ap keys_of c.as_slice-2.ensures.value
     ∙ c.in_ok-temporaries.ensures
-    ∙ ap (λ t. definitions.all_temporaries t.first t.options.now t.ledger.now (private_members_of c.as_slice.result.now) x.program.now (preorder x.program.now)) c.in_ok-program.ensures.terms
-    ∙ ap (λ p. definitions.all_temporaries first o ledger (private_members_of c.as_slice.result.now) p (preorder p)) c.in_ok-program.ensures.program
-    ∙ ap (λ ms. definitions.all_temporaries first o ledger (private_members_of ms) q (preorder q)) c.as_slice.ensures.value
+    ∙ ap (λ t. definitions.all_temporaries t.first t.options.now t.ledger.now (private_members_of x.members.now) x.listed.now.program.now (preorder x.listed.now.program.now)) c.in_ok-program.ensures.terms
+    ∙ ap (λ p. definitions.all_temporaries first o ledger (private_members_of x.members.now) p (preorder p)) c.in_ok-program.ensures.program
+    ∙ ap (λ ms. definitions.all_temporaries first o ledger (private_members_of ms) q (preorder q)) (c.in_ok-program.ensures.members ∙ c.as_slice.ensures.value)
     ∙ ap (λ ms. definitions.all_temporaries first o ledger ms q (preorder q)) c.in_ok-members.ensures in
     IfOk-map c.keys_stand.result
     (λ (holds : Bool). (ms : List privates.PrivateMember) → holds ≡ spec.keys_stand first o ledger ms q (keys_of c.as_slice-2.result.now))
