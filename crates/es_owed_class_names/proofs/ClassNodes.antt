@@ -1,5 +1,6 @@
 -- What stands in a class, node by node.
 use Rattle.std.proofs.Common.{◌≡◌, refl, sym, ap, ◌∙◌, ℕ, List, [], ◌∷◌, ◌++◌, map, Bool, true, false, cond, ◌&&◌, ◌||◌, append-nil, Option}
+use Rattle.std.proofs.Math.Bool.{and-false}
 use Rattle.std.specs.Prelude.{nat_eq}
 use Rattle.es_base.specs.Preorder.{number_of, preorder, preorder_of, preorder_of_part}
 use Rattle.es_base.specs.Tree.{Tree, Parts, Node, end, more, child}
@@ -10,6 +11,7 @@ use Rattle.es_lowered.specs.Temporaries.{nodes_of_class}
 use Rattle.es_node.specs.View.{kind_of, number_in, parts_in}
 use Rattle.es_steps.specs.Parts.{at}
 use Rattle.es_steps.specs.PrivateNames.{is_class}
+use Rattle.es_owed.specs.Listed as listed
 use Rattle.es_owed_class_names.specs.Inside.{element_number, numbers_in, runs_by}
 
 numbers_append : (ts us : List Tree) → numbers_of (ts ++ us) ≡ numbers_of ts ++ numbers_of us
@@ -27,10 +29,34 @@ numbered n (Node kind m span semantic_id ps ∷ ts) =
     here true = refl
     here false = refl
 
+pub of_numbered : (n : ℕ) (ts : List Tree) → numbers_of_class n (listed.numbered n ts) ≡ numbers_of_class n ts
+of_numbered n [] = refl
+of_numbered n (Node kind m span semantic_id ps ∷ ts) = here (nat_eq n m) refl (of_numbered n ts)
+  where
+    all : List ℕ
+    all = numbers_of (preorder_of ps)
+
+    here : (b : Bool) → nat_eq n m ≡ b → numbers_of_class n (listed.numbered n ts) ≡ numbers_of_class n ts
+        → numbers_of_class n (cond b (Node kind m span semantic_id ps ∷ []) [] ++ listed.numbered n ts) ≡ cond (is_class kind && nat_eq n m) all [] ++ numbers_of_class n ts
+    here true e h = ap (λ ns. cond (is_class kind && nat_eq n m) all [] ++ ns) h
+    here false e h = h ∙ ap (λ b. cond b all [] ++ numbers_of_class n ts) (sym (ap (λ b. is_class kind && b) e ∙ and-false (is_class kind)))
+
 -- ---- in elements
 
 pub inside_more : (n : ℕ) (t : Tree) (ts : List Tree) → numbers_inside n (t ∷ ts) ≡ numbers_in n t ++ numbers_inside n ts
 inside_more n (Node kind m span semantic_id ps) ts = refl
+
+pub inside_numbered : (n : ℕ) (ts : List Tree) → numbers_inside n (listed.numbered n ts) ≡ numbers_inside n ts
+inside_numbered n [] = refl
+inside_numbered n (Node kind m span semantic_id ps ∷ ts) = here (nat_eq n m) refl (inside_numbered n ts)
+  where
+    own : List ℕ
+    own = body_numbers (at 2 ps)
+
+    here : (b : Bool) → nat_eq n m ≡ b → numbers_inside n (listed.numbered n ts) ≡ numbers_inside n ts
+        → numbers_inside n (cond b (Node kind m span semantic_id ps ∷ []) [] ++ listed.numbered n ts) ≡ cond (is_class kind && nat_eq n m) own [] ++ numbers_inside n ts
+    here true e h = ap (λ ns. cond (is_class kind && nat_eq n m) own [] ++ ns) h
+    here false e h = h ∙ ap (λ b. cond b own [] ++ numbers_inside n ts) (sym (ap (λ b. is_class kind && b) e ∙ and-false (is_class kind)))
 
 by_class : (n : ℕ) (t : Tree) → numbers_in n t ≡ cond (is_class (kind_of t) && nat_eq n (number_in t)) (body_numbers (at 2 (parts_in t))) []
 by_class n (Node kind m span semantic_id ps) = refl
@@ -77,3 +103,12 @@ runs_class n t u is body = runs_node n t ∙ ap (λ b. b && body_runs (at 2 (par
 
 pub runs_other : (n : ℕ) (t : Tree) → (is_class (kind_of t) && nat_eq n (number_in t)) ≡ false → runs_by n t ≡ false
 runs_other n t other = runs_node n t ∙ ap (λ b. b && body_runs (at 2 (parts_in t))) other
+
+pub runs_numbered : (n : ℕ) (ts : List Tree) → class_runs n (listed.numbered n ts) ≡ class_runs n ts
+runs_numbered n [] = refl
+runs_numbered n (Node kind m span semantic_id ps ∷ ts) = here (nat_eq n m) refl (runs_numbered n ts)
+  where
+    here : (b : Bool) → nat_eq n m ≡ b → class_runs n (listed.numbered n ts) ≡ class_runs n ts
+        → class_runs n (cond b (Node kind m span semantic_id ps ∷ []) [] ++ listed.numbered n ts) ≡ (((is_class kind && nat_eq n m) && body_runs (at 2 ps)) || class_runs n ts)
+    here true e h = ap (λ b. ((is_class kind && nat_eq n m) && body_runs (at 2 ps)) || b) h
+    here false e h = h ∙ ap (λ b. (b && body_runs (at 2 ps)) || class_runs n ts) (sym (ap (λ b. is_class kind && b) e ∙ and-false (is_class kind)))

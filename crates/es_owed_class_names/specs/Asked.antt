@@ -11,9 +11,13 @@ use Rattle.es_steps.specs.References.{resolve}
 abbrev pub kept_names : ℕ → Tree → Tree → ℕ → List ℕ → List ℕ
 kept_names first p q n names = kept_places first n p q names (free_naming (class_runs n (preorder q)) n (preorder p) (preorder q) names)
 
+-- the references to names of class n in q, but those that write one
+abbrev pub naming_in_lowered : ℕ → List LedgerEntry → Tree → ℕ → List ℕ
+naming_in_lowered first ledger q n = naming n ledger (resolve q) (class_identifiers first n (preorder q)) (preorder q)
+
 -- the references to names of the class that are asked for, these being those of the source
 abbrev pub asked_besides : ℕ → List LedgerEntry → Tree → Tree → ℕ → List ℕ → List ℕ
-asked_besides first ledger p q n names = without (kept_names first p q n names) (naming n ledger (resolve q) (class_identifiers first n (preorder q)) (preorder q))
+asked_besides first ledger p q n names = without (kept_names first p q n names) (naming_in_lowered first ledger q n)
 
 -- whether names that are asked for are read behind the class, or in its elements
 abbrev pub read_in_time : ℕ → List LedgerEntry → Tree → ℕ → List ℕ → Bool

@@ -1,36 +1,19 @@
 // The references that are to stand behind a class: those to its names, and those to functions that read them.
 
-ghost use Rattle.std.specs.Prelude.{◌≡◌, IfOk};
+ghost use Rattle.std.specs.Prelude.{◌≡◌, true, IfOk};
 ghost use Rattle.es_lowered.specs.ClassNames as spec;
 ghost use Rattle.es_owed_references.specs.Moved.{functions_of};
 ghost use Rattle.es_owed_class_names.specs.Asked.{asked_besides, kept_names};
+ghost use Rattle.es_steps.specs.References.{has_number};
 
 use crate::inside::{class_runs, numbers_inside};
 use crate::kept_places::kept_places;
+use crate::lists::without;
 use crate::lowering::Lowering;
 use crate::marked::with_class;
-use crate::naming::{free_naming, naming};
-use es_owed_initialized::numbers::without;
+use crate::naming::free_naming;
 use es_owed_references::moved::MovedFunction;
 use std::alloc::{AllocError, Global};
-
-/// The references to names of this class in the source, but those that write one. Fails on allocation failure alone.
-pub fn naming_in_source(
-    alloc: Global,
-    lowering: &Lowering,
-    class: u32,
-) -> Result<Vec<u32>, AllocError>
-    ensures { IfOk result (λ r. r.items ≡ spec.naming_in_source lowering.now.first class lowering.now.source.now) }
-{
-    naming(
-        alloc,
-        lowering.first,
-        &[],
-        class,
-        lowering.source_references,
-        lowering.source_nodes,
-    )
-}
 
 /// The references to names of this class that are asked for, where these are those of the source. Fails on allocation failure
 /// alone.
@@ -40,18 +23,11 @@ pub fn asked_names(
     class: u32,
     in_source: &[u32],
 ) -> Result<Vec<u32>, AllocError>
-    ensures { IfOk result (λ r. r.items ≡ asked_besides lowering.now.first lowering.now.reads.ledger.now lowering.now.source.now lowering.now.program.now class in_source.now) }
+    requires { has_number class lowering.now.classes.items ≡ true }
+    ensures { IfOk result (λ r. r.items ≡ asked_besides lowering.now.first lowering.now.reads.ledger.now lowering.now.source.now.program.now lowering.now.lowered.now.program.now class in_source.now) }
 {
     let kept = kept_names(alloc, lowering, class, in_source)?;
-    let names = naming(
-        alloc,
-        lowering.first,
-        lowering.reads.ledger,
-        class,
-        lowering.reads.references,
-        lowering.reads.nodes,
-    )?;
-    without(alloc, kept.as_slice(), names.as_slice())
+    without(alloc, kept.as_slice(), lowering.names.get(class))
 }
 
 /// Those of these names of this class in the source that may stand where they stand, and do. Fails on allocation failure alone.
@@ -61,17 +37,10 @@ fn kept_names(
     class: u32,
     names: &[u32],
 ) -> Result<Vec<u32>, AllocError>
-    ensures { IfOk result (λ r. r.items ≡ kept_names lowering.now.first lowering.now.source.now lowering.now.program.now class names.now) }
+    ensures { IfOk result (λ r. r.items ≡ kept_names lowering.now.first lowering.now.source.now.program.now lowering.now.lowered.now.program.now class names.now) }
 {
-    let runs = class_runs(class, lowering.reads.nodes);
-    let free = free_naming(
-        alloc,
-        runs,
-        class,
-        lowering.source_nodes,
-        lowering.reads.nodes,
-        names,
-    )?;
+    let runs = class_runs(class, lowering.lowered);
+    let free = free_naming(alloc, runs, class, lowering.source, lowering.lowered, names)?;
     kept_places(alloc, lowering, class, names, free.as_slice())
 }
 
@@ -79,12 +48,12 @@ fn kept_names(
 /// on allocation failure alone.
 pub fn functions_outside<'a>(
     alloc: Global,
-    lowering: &Lowering<'_, '_, 'a>,
+    lowering: &Lowering<'_, 'a>,
     class: u32,
 ) -> Result<Vec<MovedFunction<'a>>, AllocError>
-    ensures { IfOk result (λ r. functions_of r.items ≡ spec.functions_outside lowering.now.reads.ledger.now lowering.now.program.now class) }
+    ensures { IfOk result (λ r. functions_of r.items ≡ spec.functions_outside lowering.now.reads.ledger.now lowering.now.lowered.now.program.now class) }
 {
-    let elements = numbers_inside(alloc, class, lowering.reads.nodes)?;
+    let elements = numbers_inside(alloc, class, lowering.lowered)?;
     let inside = with_class(alloc, class, elements.as_slice())?;
     lowering.reads.functions_outside(alloc, inside.as_slice())
 }
@@ -98,11 +67,11 @@ pub fn asked_references(
     functions: &[MovedFunction],
     names: &[u32],
 ) -> Result<Vec<u32>, AllocError>
-    ensures { IfOk result (λ r. r.items ≡ spec.asked_references lowering.now.reads.ledger.now lowering.now.program.now class (functions_of functions.now) names.now) }
+    ensures { IfOk result (λ r. r.items ≡ spec.asked_references lowering.now.reads.ledger.now lowering.now.lowered.now.program.now class (functions_of functions.now) names.now) }
 {
     let reached = lowering.reads.reaching(alloc, functions, names)?;
     let outside = without_functions(alloc, functions, reached)?;
-    let inside = numbers_inside(alloc, class, lowering.reads.nodes)?;
+    let inside = numbers_inside(alloc, class, lowering.lowered)?;
     without(alloc, inside.as_slice(), outside.as_slice())
 }
 

@@ -1,46 +1,53 @@
 // What stands in a class: in its heritage and keys, and in its elements.
 
 ghost use Rattle.std.specs.Prelude.{◌≡◌, ◌++◌, IfOk, OnOk};
-ghost use Rattle.es_base.specs.Preorder.{preorder_of};
+ghost use Rattle.es_base.specs.Preorder.{preorder, preorder_of};
 ghost use Rattle.es_base.specs.Tree.{child, trees};
 ghost use Rattle.es_binding_faults.specs.Seen.{seen};
 ghost use Rattle.es_lowered.specs.ClassNames as spec;
 ghost use Rattle.es_node.specs.View.{parts_in};
 ghost use Rattle.es_owed_class_names.specs.Inside.{element_number, numbers_in, runs_by};
 
+use crate::lists::without;
 use es_base::kind::Kind;
 use es_node::node::Node;
 use es_owed::classes::body_if;
+use es_owed::listed::Listed;
 use es_owed::numbers::{numbers_below, numbers_of};
 use es_owed_initialized::inner::nodes_of_class;
-use es_owed_initialized::numbers::{add_numbers, without};
+use es_owed_initialized::numbers::add_numbers;
 use es_owed_initialized::runs::body_runs;
 use es_tree::class::{ClassBodyRef, MethodDefinitionRef, PropertyDefinitionRef};
 use std::alloc::{AllocError, Global};
 
 /// The numbers of what stands in the heritage and keys of this class. Fails on allocation failure alone.
-pub fn head_numbers(alloc: Global, class: u32, nodes: &[&Node]) -> Result<Vec<u32>, AllocError>
-    ensures { IfOk result (λ r. r.items ≡ spec.head_numbers class (seen nodes.now)) }
+pub fn head_numbers(alloc: Global, class: u32, listed: &Listed) -> Result<Vec<u32>, AllocError>
+    ensures { IfOk result (λ r. r.items ≡ spec.head_numbers class (preorder listed.now.program.now)) }
 {
-    let inside = numbers_inside(alloc, class, nodes)?;
-    let all = numbers_of_class(alloc, class, nodes)?;
+    let inside = numbers_inside(alloc, class, listed)?;
+    let all = numbers_of_class(alloc, class, listed)?;
     without(alloc, inside.as_slice(), all.as_slice())
 }
 
 /// The numbers of what stands in this class. Fails on allocation failure alone.
-#[tactic(auto, using(crate::proofs::ClassNodes::numbered))]
-pub fn numbers_of_class(alloc: Global, class: u32, nodes: &[&Node]) -> Result<Vec<u32>, AllocError>
-    ensures { IfOk result (λ r. r.items ≡ spec.numbers_of_class class (seen nodes.now)) }
+pub fn numbers_of_class(alloc: Global, class: u32, listed: &Listed) -> Result<Vec<u32>, AllocError>
+    ensures { IfOk result (λ r. r.items ≡ spec.numbers_of_class class (preorder listed.now.program.now)) }
 {
-    let inner = nodes_of_class(alloc, class, nodes)?;
+    let inner = nodes_of_class(alloc, class, listed.numbered(class))?;
     numbers_of(alloc, inner.as_slice())
 }
 
 // ---- what stands in elements
 
 /// The numbers of what stands in the elements of this class, but for their keys. Fails on allocation failure alone.
+pub fn numbers_inside(alloc: Global, class: u32, listed: &Listed) -> Result<Vec<u32>, AllocError>
+    ensures { IfOk result (λ r. r.items ≡ spec.numbers_inside class (preorder listed.now.program.now)) }
+{
+    numbers_inside_any(alloc, class, listed.numbered(class))
+}
+
 #[tactic(auto, using(crate::proofs::ClassNodes::inside_more))]
-pub fn numbers_inside(alloc: Global, class: u32, nodes: &[&Node]) -> Result<Vec<u32>, AllocError>
+fn numbers_inside_any(alloc: Global, class: u32, nodes: &[&Node]) -> Result<Vec<u32>, AllocError>
     ensures { IfOk result (λ r. r.items ≡ spec.numbers_inside class (seen nodes.now)) }
 {
     let mut numbers = Vec::new(alloc);
@@ -130,8 +137,15 @@ fn add_below(alloc: Global, node: &Node, numbers: &mut Vec<u32>) -> Result<(), A
 // ---- elements that run with the class
 
 /// Whether this class has elements that run with it.
+#[tactic(auto, using(crate::proofs::ClassNodes::runs_numbered))]
+pub fn class_runs(class: u32, listed: &Listed) -> bool
+    ensures { result ≡ spec.class_runs class (preorder listed.now.program.now) }
+{
+    any_runs(class, listed.numbered(class))
+}
+
 #[tactic(auto, using(crate::proofs::ClassNodes::runs_more))]
-pub fn class_runs(class: u32, nodes: &[&Node]) -> bool
+fn any_runs(class: u32, nodes: &[&Node]) -> bool
     ensures { result ≡ spec.class_runs class (seen nodes.now) }
 {
     for node in nodes {

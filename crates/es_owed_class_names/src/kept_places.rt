@@ -36,16 +36,16 @@ pub fn kept_places(
     names: &[u32],
     numbers: &[u32],
 ) -> Result<Vec<u32>, AllocError>
-    ensures { IfOk result (λ r. r.items ≡ spec.kept_places lowering.now.first class lowering.now.source.now lowering.now.program.now names.now numbers.now) }
+    ensures { IfOk result (λ r. r.items ≡ spec.kept_places lowering.now.first class lowering.now.source.now.program.now lowering.now.lowered.now.program.now names.now numbers.now) }
 {
     if numbers.is_empty() {
         return Ok(Vec::new(alloc));
     }
     let first = lowering.first;
-    let there = placed_numbered(alloc, first, names, lowering.source)?;
-    let found = placed_numbered(alloc, first, names, lowering.program)?;
-    let behind_there = names_behind(alloc, first, class, names, lowering.source)?;
-    let behind = names_behind(alloc, first, class, names, lowering.program)?;
+    let there = placed_numbered(alloc, first, names, lowering.source.program)?;
+    let found = placed_numbered(alloc, first, names, lowering.lowered.program)?;
+    let behind_there = names_behind(alloc, first, class, names, lowering.source.program)?;
+    let behind = names_behind(alloc, first, class, names, lowering.lowered.program)?;
     let places = Places {
         first,
         there,

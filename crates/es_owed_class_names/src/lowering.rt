@@ -1,62 +1,119 @@
 // A source, and what it was lowered to.
 
-ghost use Rattle.std.specs.Prelude.{◌≡◌, IfOk};
+ghost use Rattle.std.specs.Prelude.{◌≡◌, ℕ, true, IfOk};
 ghost use Rattle.es_base.specs.Preorder.{preorder};
 ghost use Rattle.es_binding_faults.specs.Seen.{seen};
+ghost use Rattle.es_grouped.specs.Groups.{group};
+ghost use Rattle.es_lowered.specs.ClassNames as spec;
+ghost use Rattle.es_owed_class_names.specs.Asked.{naming_in_lowered};
 ghost use Rattle.es_references.specs.References.{references_of};
-ghost use Rattle.es_steps.specs.References.{resolve};
+ghost use Rattle.es_steps.specs.References.{has_number, resolve};
 
+use crate::naming::names_by_class;
 use es_base::ledger::LedgerEntry;
+use es_grouped::Grouped;
 use es_node::node::Node;
 use es_owed::listed::Listed;
+use es_owed_initialized::inner::class_numbers;
+use es_owed_initialized::meaning::Referents;
 use es_owed_references::lowered_reads::Reads;
-use es_references::references::Reference;
 use std::alloc::{AllocError, Global};
 
-/// A source, and what it was lowered to, with the references of both.
+/// A source, and what it was lowered to, with the references to names of the source's classes in both.
 #[derive(Drop)]
-pub struct Lowering<'r, 's, 'a> {
+pub struct Lowering<'r, 'a> {
     /// The number of the first new node.
     pub first: u32,
-    pub source: &'a Node,
-    pub source_nodes: &'r [&'a Node],
-    pub source_references: &'s [Reference<'a>],
-    pub program: &'a Node,
+    pub source: &'r Listed<'a>,
+    pub lowered: &'r Listed<'a>,
+    /// The nodes of the lowered program.
+    pub nodes: &'r [&'a Node],
+    /// The classes of the source.
+    pub classes: Vec<u32>,
+    /// Of each of these the references to names of it in the source, but those that write one.
+    pub source_names: Grouped<u32>,
+    /// The same in the lowered program.
+    pub names: Grouped<u32>,
     /// What is read in the lowered program.
     pub reads: Reads<'r, 'a>,
 
-    ghost source_nodes_are: { seen source_nodes.now ≡ preorder source.now },
-    ghost source_references_are: { references_of source_references.now ≡ resolve source.now },
-    ghost nodes_are: { seen reads.nodes.now ≡ preorder program.now },
-    ghost references_are: { references_of reads.references.now ≡ resolve program.now },
+    ghost classes_are: { classes.items ≡ spec.class_numbers (preorder source.now.program.now) },
+    ghost source_names_are: { (n : ℕ) → has_number n classes.items ≡ true → group n source_names ≡ spec.naming_in_source first n source.now.program.now },
+    ghost names_are: { (n : ℕ) → has_number n classes.items ≡ true → group n names ≡ naming_in_lowered first reads.ledger.now lowered.now.program.now n },
+    ghost nodes_are: { seen nodes.now ≡ preorder lowered.now.program.now },
+    ghost read_nodes_are: { seen reads.nodes.now ≡ preorder lowered.now.program.now },
+    ghost read_references_are: { references_of reads.references.now ≡ resolve lowered.now.program.now },
 }
 
-impl<'r, 's, 'a> Lowering<'r, 's, 'a> {
+impl<'r, 'a> Lowering<'r, 'a> {
     /// That of this source to this program, of which these are the references. Fails on allocation failure alone.
     pub fn of(
         alloc: Global,
         first: u32,
         ledger: &'r [LedgerEntry],
         source: &'r Listed<'a>,
-        source_references: &'s [Reference<'a>],
         lowered: &'r Listed<'a>,
-        references: &'r [Reference<'a>],
-    ) -> Result<Lowering<'r, 's, 'a>, AllocError>
-        requires source_references { references_of source_references.now ≡ resolve source.now.program.now }
-        requires references { references_of references.now ≡ resolve lowered.now.program.now }
+        references: &'r Referents<'a>,
+    ) -> Result<Lowering<'r, 'a>, AllocError>
+        requires { references_of references.now.list.items ≡ resolve lowered.now.program.now }
         ensures first { IfOk result (λ l. l.first ≡ first) }
         ensures ledger { IfOk result (λ l. l.reads.ledger.now ≡ ledger.now) }
-        ensures source { IfOk result (λ l. l.source.now ≡ source.now.program.now) }
-        ensures program { IfOk result (λ l. l.program.now ≡ lowered.now.program.now) }
+        ensures source { IfOk result (λ l. l.source.now.program.now ≡ source.now.program.now) }
+        ensures lowered { IfOk result (λ l. l.lowered.now.program.now ≡ lowered.now.program.now) }
     {
-        let reads = Reads::of(alloc, ledger, references, lowered.nodes.as_slice())?;
+        let classes = class_numbers(alloc, source.nodes.as_slice())?;
+        let source_names = names_in_source(alloc, first, classes.as_slice(), source)?;
+        let names = names_in_lowered(
+            alloc,
+            first,
+            ledger,
+            classes.as_slice(),
+            lowered,
+            references,
+        )?;
+        let nodes = lowered.nodes.as_slice();
+        let reads = Reads::of(alloc, ledger, references.list.as_slice(), nodes)?;
         Ok(Lowering {
             first,
-            source: source.program,
-            source_nodes: source.nodes.as_slice(),
-            source_references,
-            program: lowered.program,
+            source,
+            lowered,
+            nodes,
+            classes,
+            source_names,
+            names,
             reads,
         })
     }
+}
+
+/// Of each of these classes the references to names of it in a source, but those that write one. Fails on allocation failure
+/// alone.
+fn names_in_source(
+    alloc: Global,
+    first: u32,
+    classes: &[u32],
+    source: &Listed,
+) -> Result<Grouped<u32>, AllocError>
+    ensures { IfOk result (λ g. (n : ℕ) → has_number n classes.now ≡ true → group n g ≡ spec.naming_in_source first n source.now.program.now) }
+{
+    let references = Referents::of(alloc, source.program)?;
+    let nodes = source.nodes.as_slice();
+    names_by_class(alloc, first, &[], classes, &references, nodes)
+}
+
+/// Of each of these classes the references to names of it in a lowered program, but those that write one. Fails on allocation
+/// failure alone.
+fn names_in_lowered(
+    alloc: Global,
+    first: u32,
+    ledger: &[LedgerEntry],
+    classes: &[u32],
+    lowered: &Listed,
+    references: &Referents,
+) -> Result<Grouped<u32>, AllocError>
+    requires { references_of references.now.list.items ≡ resolve lowered.now.program.now }
+    ensures { IfOk result (λ g. (n : ℕ) → has_number n classes.now ≡ true → group n g ≡ naming_in_lowered first ledger.now lowered.now.program.now n) }
+{
+    let nodes = lowered.nodes.as_slice();
+    names_by_class(alloc, first, ledger, classes, references, nodes)
 }

@@ -29,13 +29,13 @@ pub fn new_names_fit(
     class: u32,
     names: &[u32],
 ) -> Result<bool, AllocError>
-    ensures { IfOk result (λ fit. fit ≡ spec.new_names_fit lowering.now.first lowering.now.source.now lowering.now.program.now class names.now) }
+    ensures { IfOk result (λ fit. fit ≡ spec.new_names_fit lowering.now.first lowering.now.source.now.program.now lowering.now.lowered.now.program.now class names.now) }
 {
     if is_none(names) {
         return Ok(true);
     }
     let of_class = numbers_with_class(alloc, lowering, class)?;
-    let placed = placed_numbered(alloc, lowering.first, names, lowering.program)?;
+    let placed = placed_numbered(alloc, lowering.first, names, lowering.lowered.program)?;
     Ok(all_stand_among(&of_class, placed.as_slice()))
 }
 
@@ -44,10 +44,10 @@ pub fn new_names_fit(
 /// The numbers of what stands in this class in the source, and of the nodes that hold it in what that was lowered to. Fails on
 /// allocation failure alone.
 fn numbers_with_class(alloc: Global, lowering: &Lowering, class: u32) -> Result<Numbers, AllocError>
-    ensures { IfOk result (λ r. (k : ℕ) → has_number k r ≡ (has_number k (spec.numbers_of_class class (preorder lowering.now.source.now)) || spec.holds_class k class (preorder lowering.now.program.now))) }
+    ensures { IfOk result (λ r. (k : ℕ) → has_number k r ≡ (has_number k (spec.numbers_of_class class (preorder lowering.now.source.now.program.now)) || spec.holds_class k class (preorder lowering.now.lowered.now.program.now))) }
 {
-    let mut numbers = numbers_of_class(alloc, class, lowering.source_nodes)?;
-    add_holding(class, lowering.reads.nodes, &mut numbers)?;
+    let mut numbers = numbers_of_class(alloc, class, lowering.source)?;
+    add_holding(class, lowering.nodes, &mut numbers)?;
     set_of(alloc, numbers.as_slice())
 }
 

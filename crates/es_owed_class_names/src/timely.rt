@@ -1,25 +1,26 @@
 // The names of each class are read behind it, or in its elements.
 //
-// For each class of the source all nodes and references of both programs are gone over.
+// A class none of whose names is asked for takes time in proportion to its own nodes. For any other, the references in the source
+// that may stand where they stand, and those that are asked for, are looked for in the whole programs.
 
-ghost use Rattle.std.specs.Prelude.{◌≡◌, ◌&&◌, IfOk};
+ghost use Rattle.std.specs.Prelude.{◌≡◌, ◌&&◌, true, IfOk};
 ghost use Rattle.es_base.specs.Preorder.{preorder};
 ghost use Rattle.es_lowered.specs.ClassNames as spec;
 ghost use Rattle.es_owed_class_names.specs.Asked.{read_in_time};
 ghost use Rattle.es_owed_references.specs.Moved.{functions_of, names_of};
+ghost use Rattle.es_steps.specs.References.{has_number};
 
-use crate::asked::{asked_names, asked_references, functions_outside, naming_in_source};
+use crate::asked::{asked_names, asked_references, functions_outside};
 use crate::inside::class_runs;
+use crate::lists::{is_none, without};
 use crate::lowering::Lowering;
 use crate::marked::stand_in_time;
 use crate::new_names::new_names_fit;
 use es_base::ledger::LedgerEntry;
 use es_owed::listed::Listed;
-use es_owed_initialized::inner::class_numbers;
-use es_owed_initialized::numbers::without;
+use es_owed_initialized::meaning::Referents;
 use es_owed_references::moved::{MovedFunction, names_holding};
 use es_owed_references::numbers::set_of;
-use es_references::references::references;
 use std::alloc::{AllocError, Global};
 
 /// Whether in what a source was lowered to the names of each of its classes, those that the lowering gave it too, are read behind
@@ -34,29 +35,15 @@ pub fn classes_timely<'r, 'a>(
 ) -> Result<bool, AllocError>
     ensures { IfOk result (λ holds. holds ≡ spec.classes_timely first ledger.now source.now.program.now lowered.now.program.now) }
 {
-    let source_references = references(alloc, source.program)?;
-    let references = references(alloc, lowered.program)?;
-    let lowering = Lowering::of(
-        alloc,
-        first,
-        ledger,
-        source,
-        source_references.as_slice(),
-        lowered,
-        references.as_slice(),
-    )?;
-    let classes = class_numbers(alloc, source.nodes.as_slice())?;
-    all_classes_timely(alloc, &lowering, classes.as_slice())
+    let references = Referents::of(alloc, lowered.program)?;
+    let lowering = Lowering::of(alloc, first, ledger, source, lowered, &references)?;
+    all_classes_timely(alloc, &lowering)
 }
 
-fn all_classes_timely(
-    alloc: Global,
-    lowering: &Lowering,
-    classes: &[u32],
-) -> Result<bool, AllocError>
-    ensures { IfOk result (λ holds. holds ≡ spec.all_classes_timely lowering.now.first lowering.now.reads.ledger.now lowering.now.source.now lowering.now.program.now classes.now) }
+fn all_classes_timely(alloc: Global, lowering: &Lowering) -> Result<bool, AllocError>
+    ensures { IfOk result (λ holds. holds ≡ spec.all_classes_timely lowering.now.first lowering.now.reads.ledger.now lowering.now.source.now.program.now lowering.now.lowered.now.program.now lowering.now.classes.items) }
 {
-    for class in classes {
+    for class in lowering.classes.as_slice() {
         if !class_timely(alloc, lowering, *class)? {
             return Ok(false);
         }
@@ -66,11 +53,12 @@ fn all_classes_timely(
 
 /// The same of one class. Fails on allocation failure alone.
 fn class_timely(alloc: Global, lowering: &Lowering, class: u32) -> Result<bool, AllocError>
-    ensures { IfOk result (λ holds. holds ≡ spec.class_timely lowering.now.first lowering.now.reads.ledger.now lowering.now.source.now lowering.now.program.now class) }
+    requires { has_number class lowering.now.classes.items ≡ true }
+    ensures { IfOk result (λ holds. holds ≡ spec.class_timely lowering.now.first lowering.now.reads.ledger.now lowering.now.source.now.program.now lowering.now.lowered.now.program.now class) }
 {
-    let in_source = naming_in_source(alloc, lowering, class)?;
-    let names = asked_names(alloc, lowering, class, in_source.as_slice())?;
-    let new = without(alloc, in_source.as_slice(), names.as_slice())?;
+    let in_source = lowering.source_names.get(class);
+    let names = asked_names(alloc, lowering, class, in_source)?;
+    let new = without(alloc, in_source, names.as_slice())?;
     if !new_names_fit(alloc, lowering, class, new.as_slice())? {
         return Ok(false);
     }
@@ -85,8 +73,11 @@ fn are_read_in_time(
     class: u32,
     names: &[u32],
 ) -> Result<bool, AllocError>
-    ensures { IfOk result (λ holds. holds ≡ read_in_time lowering.now.first lowering.now.reads.ledger.now lowering.now.program.now class names.now) }
+    ensures { IfOk result (λ holds. holds ≡ read_in_time lowering.now.first lowering.now.reads.ledger.now lowering.now.lowered.now.program.now class names.now) }
 {
+    if is_none(names) {
+        return Ok(true);
+    }
     let functions = functions_outside(alloc, lowering, class)?;
     if is_read_early(alloc, lowering, class, functions.as_slice(), names)? {
         return Ok(false);
@@ -97,7 +88,7 @@ fn are_read_in_time(
         lowering.first,
         class,
         asked.as_slice(),
-        lowering.program,
+        lowering.lowered.program,
     )
 }
 
@@ -110,9 +101,9 @@ fn is_read_early(
     functions: &[MovedFunction],
     names: &[u32],
 ) -> Result<bool, AllocError>
-    ensures { IfOk result (λ early. early ≡ (spec.class_runs class (preorder lowering.now.program.now) && spec.any_name (spec.names_holding names.now (functions_of functions.now)))) }
+    ensures { IfOk result (λ early. early ≡ (spec.class_runs class (preorder lowering.now.lowered.now.program.now) && spec.any_name (spec.names_holding names.now (functions_of functions.now)))) }
 {
-    if !class_runs(class, lowering.reads.nodes) {
+    if !class_runs(class, lowering.lowered) {
         return Ok(false);
     }
     let held = set_of(alloc, names)?;

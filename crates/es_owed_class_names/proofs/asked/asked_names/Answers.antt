@@ -1,8 +1,8 @@
-use Rattle.std.proofs.Common.{◌∙◌}
+use Rattle.std.proofs.Common.{◌≡◌, ◌∙◌}
 use Rattle.es_binding_faults.proofs.Appending.{IfOk-map}
-use Rattle.es_binding_faults.specs.Seen.{seen}
-use Rattle.es_references.specs.References.{references_of}
-use Rattle.es_owed_class_names.proofs.AskedNames.{asked_among, named_in}
+use Rattle.es_lowered.specs.ClassNames.{without}
+use Rattle.es_owed_class_names.proofs.AskedNames.{asked_among}
+use Rattle.es_owed_class_names.specs.Asked.{asked_besides}
 use Rattle.es_owed_class_names.proofs.asked.asked_names.Goals as goal
 
 pub returns : goal.returns
@@ -11,7 +11,12 @@ returns c =
     let first = lowering.first in
     let n = c.args.class in
     let ledger = lowering.reads.ledger.now in
-    let q = lowering.program.now in
-    IfOk-map c.without.result _ _ (λ r is.
-    asked_among first n ledger lowering.source.now q c.args.in_source.now c.as_slice.result.now c.as_slice-2.result.now r.items is (c.as_slice.ensures.value ∙ c.in_ok-kept.ensures)
-    (named_in first n ledger q (references_of lowering.reads.references.now) (seen lowering.reads.nodes.now) c.as_slice-2.result.now (c.as_slice-2.ensures.value ∙ c.in_ok-names.ensures) lowering.references_are lowering.nodes_are)) c.without.ensures
+    let p = lowering.source.now.program.now in
+    let q = lowering.lowered.now.program.now in
+    let kept = c.as_slice.result.now in
+    let names = c.get.result.now in
+    IfOk-map c.without.result
+    (λ r. r.items ≡ without kept names)
+    (λ r. r.items ≡ asked_besides first ledger p q n c.args.in_source.now)
+    (λ r is. asked_among first n ledger p q c.args.in_source.now kept names r.items is (c.as_slice.ensures.value ∙ c.in_ok-kept.ensures) (c.get.ensures ∙ lowering.names_are n c.requires))
+    c.without.ensures

@@ -13,14 +13,14 @@ returns-then-is_empty c =
     let lowering = c.args.lowering.now in
     let numbers = c.args.numbers.now in
     let none : numbers ≡ [] = nil_from_length numbers (eqb-true (length numbers) 0 (sym c.if-is_empty.ensures)) in
-    c.new.ensures.items ∙ sym (ap (λ ms. spec.kept_places lowering.first c.args.class lowering.source.now lowering.program.now c.args.names.now ms) none)
+    c.new.ensures.items ∙ sym (ap (λ ms. spec.kept_places lowering.first c.args.class lowering.source.now.program.now lowering.lowered.now.program.now c.args.names.now ms) none)
 
 pub returns : goal.returns
 returns c =
     let first = c.args.lowering.now.first in
     let n = c.args.class in
-    let p = c.args.lowering.now.source.now in
-    let q = c.args.lowering.now.program.now in
+    let p = c.args.lowering.now.source.now.program.now in
+    let q = c.args.lowering.now.lowered.now.program.now in
     let names = c.args.names.now in
     let numbers = c.args.numbers.now in
     let placed = spec.placed first n p q names in

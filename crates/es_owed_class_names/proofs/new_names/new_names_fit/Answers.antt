@@ -12,8 +12,8 @@ pub returns : goal.returns
 returns c =
     let lowering = c.args.lowering.now in
     let n = c.args.class in
-    let q = lowering.program.now in
-    let inside = numbers_of_class n (preorder lowering.source.now) in
+    let q = lowering.lowered.now.program.now in
+    let inside = numbers_of_class n (preorder lowering.source.now.program.now) in
     let placed = placed_references lowering.first (λ m s. has_number m c.args.names.now) false [] q in
     let of_class = c.in_ok-of_class.of_class in
     c.all_stand_among.ensures
