@@ -9,7 +9,7 @@ use Rattle.es_base.specs.declared.kind.Kind.{Kind}
 use Rattle.es_base.specs.declared.ledger.GeneratedKind.{GeneratedKind}
 use Rattle.es_base.specs.declared.ledger.LedgerEntry.{LedgerEntry}
 use Rattle.es_lowered.specs.ClassNames.{numbers_of, any_among}
-use Rattle.es_lowered.specs.DeadZones.{touches, bound_numbers, variables_by, variables, class_names, touch, is_still, is_closure, Closures, closure, closures_by, closures, call_form, is_chain, is_function_declaration, is_link, is_turned, is_keyed, is_member, is_pattern, converted, touch_around, throws_always, ends_in_throw, defines_by, defines, is_named_or_this, is_value_slot, sets_member, is_property_definition, is_private, updates_private, private_updates, right_of, right_operands, throws_at, new_throws, all_throws, nothing_around, in_no_chain, held_behind, held_in, chain_in, spot_in, is_apart, read_form, reference_touches, assignment_form, own_touches, keyed, inner_touches, joined, touches_in, touches_at, touches_of, turned, class_touches, key_touches, keys_touched, value_touches, values_touched, derived_constructor, derived_constructors, constructs, arrows, arrows_at, arrows_in, arrows_of_body, arrows_of_keys, derived_arrows, is_call_of_super, classes_given, parameters_at, field_touches, held_with, with_fields, function_touches, body_touches, bodies_by, bodies, super_calls, reference_number, key_references, moving_keys, moving_blocks, moving_numbers, class_elements, class_parts, is_touched, times, is_definition, definitions_touched, is_between, is_this, is_same_form, is_asked, is_excepted, stands_in_node, is_run, was_run, stands_in_closure, is_in_same, is_arrow_of, is_run_by, is_put_off, put_off, all_behind, is_like, stands_like, is_of_body, stands_in_any, is_touched_as, is_touched_in, reads_key, is_behind_super, touch_fits, in_same, run_with, runs_fit, touches_fit, bodies_fit, bodies_of, dead_zones_stay, TouchForm, Touch, Body, Spot, ClassParts, reads, names_class, makes_class, runs_closure, defines_field, between_parts, another}
+use Rattle.es_lowered.specs.DeadZones.{touches, bound_numbers, variables_by, variables, class_names, touch, is_still, is_closure, Closures, closure, closures_by, closures, call_form, is_chain, is_function_declaration, is_link, is_turned, is_keyed, is_member, is_pattern, converted, touch_around, throws_always, ends_in_throw, defines_by, defines, is_named_or_this, is_value_slot, sets_member, is_property_definition, is_private, updates_private, private_updates, right_of, right_operands, throws_at, new_throws, all_throws, nothing_around, in_no_chain, held_behind, held_in, chain_in, spot_in, is_apart, read_form, reference_touches, assignment_form, own_touches, keyed, inner_touches, joined, touches_in, touches_at, touches_of, turned, class_touches, key_touches, keys_touched, value_touches, values_touched, derived_constructor, derived_constructors, constructs, arrows, arrows_at, arrows_in, arrows_of_body, arrows_of_keys, derived_arrows, is_call_of_super, classes_given, parameters_at, field_touches, held_with, with_fields, function_touches, body_touches, bodies_by, bodies, super_calls, reference_number, key_references, moving_keys, moving_blocks, moving_numbers, class_elements, class_parts, is_touched, times, is_definition, definitions_touched, is_between, is_this, is_same_form, is_asked, is_excepted, held_within, held_inside, where_run, stands_in_node, is_run, was_run, stands_in_closure, is_in_same, is_arrow_of, is_run_by, is_put_off, put_off, all_behind, is_like, stands_like, is_of_body, stands_in_any, is_touched_as, is_touched_in, reads_key, is_behind_super, touch_fits, in_same, run_with, runs_fit, touches_fit, bodies_fit, bodies_of, dead_zones_stay, TouchForm, Touch, Body, Spot, ClassParts, reads, names_class, makes_class, runs_closure, defines_field, between_parts, another}
 use Rattle.es_lowered.specs.Definitions.{spelling, is_assignment, writable_part}
 use Rattle.es_lowered.specs.HelperCalls.{part_number, is_class_body, runs_with_class}
 use Rattle.es_lowered.specs.Timely.{is_same, is_held, super_functions}
@@ -48,6 +48,10 @@ module _ (f : ℕ → ℕ) where
 
   abbrev mapped_touch : Touch → Touch
   mapped_touch t = record { number = f t.number; form = mapped_form t.form; held = held_there t.held }
+
+  -- the touch of another with these parts around it
+  abbrev made : Touch → List (ℕ × ℕ) → Touch
+  made u held = record { number = f u.number; form = mapped_form u.form; held = held }
 
   abbrev moved : List Touch → List Touch
   moved ts = map mapped_touch ts
@@ -635,7 +639,7 @@ module _ {first : ℕ} {f : ℕ → ℕ} (r : Renames first f) where
 
   is_excepted-mapped : (m n : ℕ) (cs : List ClassParts) → is_excepted (f m) (f n) (map (mapped_class f) cs) ≡ is_excepted m n cs
   is_excepted-mapped m n [] = refl
-  is_excepted-mapped m n (c ∷ cs) = ap₂ (λ x y. x || y) (ap₂ (λ x y. x && y) (has_number-mapped r m c.moving) (has_number-mapped r n c.heritage)) (is_excepted-mapped m n cs)
+  is_excepted-mapped m n (c ∷ cs) = ap₂ (λ x y. x || y) (ap₂ (λ x y. x && y) (has_number-mapped r m c.moving) (ap₂ (λ x y. x || y) (has_number-mapped r n c.heritage) (r.apart n c.number))) (is_excepted-mapped m n cs)
 
   is_same_form-mapped : (x y : TouchForm) → is_same_form (mapped_form f x) (mapped_form f y) ≡ is_same_form x y
   is_same_form-mapped (reads b) (reads c) = r.apart b c
@@ -678,6 +682,20 @@ module _ {first : ℕ} {f : ℕ → ℕ} (r : Renames first f) where
   is_run_by-mapped cs u (runs_closure k) = ap₂ (λ x y. x && y) (is_arrow_of-mapped k cs) (stands_in_node-mapped k u.held)
   is_run_by-mapped cs u (reads b) = refl
   is_run_by-mapped cs u form = refl
+
+  held_within-mapped : (k : ℕ) (ps : List (ℕ × ℕ)) → held_within (f k) (held_there f ps) ≡ held_there f (held_within k ps)
+  held_within-mapped k [] = refl
+  held_within-mapped k (p ∷ ps) =
+      ap₂ (λ b rest. cond b [] (mapped_held f p ∷ rest)) (r.apart k p.0) (held_within-mapped k ps)
+      ∙ cond-mapped (held_there f) (nat_eq k p.0) [] (p ∷ held_within k ps) refl refl
+
+  held_inside-mapped : (form : TouchForm) (ps : List (ℕ × ℕ)) → held_inside (mapped_form f form) (held_there f ps) ≡ held_there f (held_inside form ps)
+  held_inside-mapped (runs_closure k) ps = held_within-mapped k ps
+  held_inside-mapped (reads b) ps = refl
+  held_inside-mapped form ps = refl
+
+  where_run-mapped : (t u : Touch) → where_run (mapped_touch f t) (mapped_touch f u) ≡ mapped_touch f (where_run t u)
+  where_run-mapped t u = ap (λ (held : List (ℕ × ℕ)). made f u held) (append-mapped (mapped_held f) (held_inside t.form u.held) t.held (held_inside-mapped t.form u.held) refl)
 
   is_put_off-mapped : (cs : Closures) (front : List Touch) (t u : Touch) → is_put_off (mapped_closures f cs) (moved f front) (mapped_touch f t) (mapped_touch f u) ≡ is_put_off cs front t u
   is_put_off-mapped [] front t u = refl
@@ -773,8 +791,9 @@ module _ {first : ℕ} {f : ℕ → ℕ} (r : Renames first f) where
     runs_fit-mapped b front t ts (u ∷ us) =
         ap₂ (λ x y. x && y)
         (ap₂ (λ x y. not x || y) (is_run_by-mapped called u t.form)
-        (ap (touch_fits first supers_there classes_there closures_there sources_there (mapped_body f b) (moved f (t ∷ front)) (mapped_touch f (record { number = u.number; form = u.form; held = t.held }))) (append-mapped (mapped_touch f) (run_with first supers classes called sources t us) ts (run_with-mapped t us) refl)
-        ∙ touch_fits-mapped b (t ∷ front) (record { number = u.number; form = u.form; held = t.held }) (run_with first supers classes called sources t us ++ ts)))
+        (ap (λ (x : Touch). touch_fits first supers_there classes_there closures_there sources_there (mapped_body f b) (moved f (t ∷ front)) x (run_with first supers_there classes_there closures_there sources_there (mapped_touch f t) (moved f us) ++ moved f ts)) (where_run-mapped t u)
+        ∙ ap (touch_fits first supers_there classes_there closures_there sources_there (mapped_body f b) (moved f (t ∷ front)) (mapped_touch f (where_run t u))) (append-mapped (mapped_touch f) (run_with first supers classes called sources t us) ts (run_with-mapped t us) refl)
+        ∙ touch_fits-mapped b (t ∷ front) (where_run t u) (run_with first supers classes called sources t us ++ ts)))
         (runs_fit-mapped b front t ts us)
 
     touches_fit-mapped : (b : Body) (front ts : List Touch) → touches_fit first supers_there classes_there closures_there sources_there (mapped_body f b) (moved f front) (moved f ts) ≡ touches_fit first supers classes called sources b front ts

@@ -525,10 +525,14 @@ abbrev pub is_definition : TouchForm → Bool
 is_definition defines_field = true
 is_definition form = false
 
--- what moves in front of the heritage of a class, of which a shape tells, if that has events
+-- what moves in front of the heritage of a class, of which a shape tells, if that has events, and so in front of the class, which has none
+-- of its own
+abbrev pub is_passed : ℕ → ClassParts → Bool
+is_passed n c = has_number n c.heritage || nat_eq n c.number
+
 abbrev pub is_excepted : ℕ → ℕ → List ClassParts → Bool
 is_excepted m n [] = false
-is_excepted m n (c ∷ cs) = (has_number m c.moving && has_number n c.heritage) || is_excepted m n cs
+is_excepted m n (c ∷ cs) = (has_number m c.moving && is_passed n c) || is_excepted m n cs
 
 -- ---- what a closure does, which was made in front of t and was not run yet, is behind t, too
 
@@ -561,6 +565,19 @@ definitions_touched called t (e ∷ es) = cond (is_definition e.form && is_in_sa
 abbrev pub is_arrow_of : ℕ → Closures → Bool
 is_arrow_of k [] = false
 is_arrow_of k (c ∷ cs) = nat_eq k c.1 || is_arrow_of k cs
+
+-- the parts around u that are in the closure, which is arrow k
+abbrev pub held_within : ℕ → List (ℕ × ℕ) → List (ℕ × ℕ)
+held_within k [] = []
+held_within k (p ∷ ps) = cond (nat_eq k p.0) [] (p ∷ held_within k ps)
+
+abbrev pub held_inside : TouchForm → List (ℕ × ℕ) → List (ℕ × ℕ)
+held_inside (runs_closure k) held = held_within k held
+held_inside form held = []
+
+-- u where t runs the closure in which it stands: it may run or not by what is around it there, and by what is around t
+abbrev pub where_run : Touch → Touch → Touch
+where_run t u = record { number = u.number; form = u.form; held = held_inside t.form u.held ++ t.held }
 
 -- whether a call runs a closure in which u stands
 abbrev pub is_run_by : Closures → Touch → TouchForm → Bool
@@ -635,7 +652,7 @@ module _ (first : ℕ) (supers : List ℕ) (classes : List ClassParts) (called :
   -- what a closure reads is read where it runs
   abbrev pub runs_fit : Body → List Touch → Touch → List Touch → List Touch → Bool
   runs_fit b front t ts [] = true
-  runs_fit b front t ts (u ∷ us) = (not (is_run_by called u t.form) || touch_fits b (t ∷ front) (record { number = u.number; form = u.form; held = t.held }) (run_with t us ++ ts)) && runs_fit b front t ts us
+  runs_fit b front t ts (u ∷ us) = (not (is_run_by called u t.form) || touch_fits b (t ∷ front) (where_run t u) (run_with t us ++ ts)) && runs_fit b front t ts us
 
   -- what is in front, and what is touched from here on
   abbrev pub touches_fit : Body → List Touch → List Touch → Bool

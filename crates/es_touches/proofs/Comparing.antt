@@ -7,7 +7,7 @@ use Rattle.es_lowered.specs.DeadZones as spec
 use Rattle.es_lowered.specs.DeadZones.{Body, Touch, TouchForm, runs_closure}
 use Rattle.es_steps.specs.KeptNodes.{all_pairs_stand}
 use Rattle.es_steps.specs.References.{has_number}
-use Rattle.es_touches.specs.Comparison.{held_as, in_same, is_any_run, is_behind_super, run_with, runs_fit, runs_fit_behind, touch_fits, touches_fit, turned}
+use Rattle.es_touches.specs.Comparison.{in_same, is_any_run, is_behind_super, run_with, runs_fit, runs_fit_behind, touch_fits, touches_fit, turned}
 use Rattle.es_touches.specs.Touches.{closures_of, touch_of, touches_of}
 use Rattle.es_touches.specs.declared.source.Source.{Source}
 use Rattle.es_touches.specs.declared.touch.Touch as code
@@ -58,7 +58,7 @@ next_front xs i x below =
 
 pub runs_behind : (s : Source) (b : Body) (front : List Touch) (t : Touch) (ts us : List Touch) → runs_fit s b front t ts us ≡ runs_fit_behind s b (t ∷ front) t ts us
 runs_behind s b front t ts [] = refl
-runs_behind s b front t ts (u ∷ us) = ap (λ rest. (not (spec.is_run_by (closures_of s.called.now) u t.form) || touch_fits s b (t ∷ front) (held_as t u) (run_with s t us ++ ts)) && rest) (runs_behind s b front t ts us)
+runs_behind s b front t ts (u ∷ us) = ap (λ rest. (not (spec.is_run_by (closures_of s.called.now) u t.form) || touch_fits s b (t ∷ front) (spec.where_run t u) (run_with s t us ++ ts)) && rest) (runs_behind s b front t ts us)
 
 not_run : (cs : spec.Closures) (u : Touch) (form : TouchForm) → is_any_run form ≡ false → spec.is_run_by cs u form ≡ false
 not_run cs u (runs_closure k) runs_none = absurd (cc)
@@ -68,7 +68,7 @@ not_run cs u form runs_none = refl
 pub no_runs : (s : Source) (b : Body) (front : List Touch) (t : Touch) (ts us : List Touch) → is_any_run t.form ≡ false → runs_fit_behind s b front t ts us ≡ true
 no_runs s b front t ts [] runs_none = refl
 no_runs s b front t ts (u ∷ us) runs_none =
-    ap (λ run. (not run || touch_fits s b front (held_as t u) (run_with s t us ++ ts)) && runs_fit_behind s b front t ts us) (not_run (closures_of s.called.now) u t.form runs_none)
+    ap (λ run. (not run || touch_fits s b front (spec.where_run t u) (run_with s t us ++ ts)) && runs_fit_behind s b front t ts us) (not_run (closures_of s.called.now) u t.form runs_none)
     ∙ no_runs s b front t ts us runs_none
 
 -- the touches from the i-th on, with those in front

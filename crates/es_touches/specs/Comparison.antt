@@ -11,10 +11,6 @@ abbrev pub turned : List Touch → List Touch → List Touch
 turned [] front = front
 turned (t ∷ ts) front = turned ts (t ∷ front)
 
--- t with what is around another
-abbrev pub held_as : Touch → Touch → Touch
-held_as t u = record { number = u.number; form = u.form; held = t.held }
-
 -- the call of a closure
 abbrev pub is_any_run : TouchForm → Bool
 is_any_run (runs_closure k) = true
@@ -69,4 +65,4 @@ module _ (s : Source) where
   -- whether each of these that t runs fits, where t is the first of what is in front
   abbrev pub runs_fit_behind : Body → List Touch → Touch → List Touch → List Touch → Bool
   runs_fit_behind b front t ts [] = true
-  runs_fit_behind b front t ts (u ∷ us) = (not (spec.is_run_by (closures_of s.called.now) u t.form) || touch_fits b front (held_as t u) (run_with t us ++ ts)) && runs_fit_behind b front t ts us
+  runs_fit_behind b front t ts (u ∷ us) = (not (spec.is_run_by (closures_of s.called.now) u t.form) || touch_fits b front (spec.where_run t u) (run_with t us ++ ts)) && runs_fit_behind b front t ts us

@@ -1,6 +1,6 @@
 // The closures of generated names: what stands in them, and what they do where they are run.
 
-ghost use Rattle.std.specs.Prelude.{◌≡◌, ◌++◌, ◌∷◌, [], cond, not, ◌&&◌, OnOk};
+ghost use Rattle.std.specs.Prelude.{◌≡◌, ◌++◌, ◌∷◌, [], cond, not, ◌&&◌, IfOk, OnOk};
 ghost use Rattle.es_lowered.specs.DeadZones as spec;
 ghost use Rattle.es_marks.specs.Around.{held_parts};
 ghost use Rattle.es_touches.specs.Comparison.{turned};
@@ -8,7 +8,7 @@ ghost use Rattle.es_touches.specs.Touches.{closure_of, closures_of, form_of, tou
 
 use crate::touch::{Touch, TouchForm, is_definition, is_run};
 use es_marks::around::HeldPart;
-use std::alloc::AllocError;
+use std::alloc::{AllocError, Global};
 
 /// A closure of a generated name.
 #[derive(Debug, Clone, Copy)]
@@ -104,6 +104,44 @@ pub fn is_run_by(called: &[Closure], touch: Touch, form: TouchForm) -> bool
         }
         _ => false,
     }
+}
+
+/// What is around the other touch where this one runs the closure in which it stands. Fails on allocation failure alone.
+pub fn held_where_run(
+    alloc: Global,
+    touch: Touch,
+    other: Touch,
+) -> Result<Vec<HeldPart>, AllocError>
+    ensures { IfOk result (λ r. held_parts r.items ≡ (spec.where_run (touch_of touch.entry) (touch_of other.entry)).held) }
+{
+    let mut held = Vec::new(alloc);
+    if let TouchForm::RunsClosure(arrow) = touch.form {
+        add_within(arrow, other.held, &mut held)?;
+    }
+    add_parts(touch.held, &mut held)?;
+    Ok(held)
+}
+
+/// Adds those of these parts that are in this closure. Fails on allocation failure alone.
+fn add_within(arrow: u32, parts: &[HeldPart], held: &mut Vec<HeldPart>) -> Result<(), AllocError>
+    ensures { OnOk result (held_parts held.new.items ≡ held_parts held.old.items ++ spec.held_within arrow (held_parts parts.now)) }
+{
+    for part in parts {
+        if arrow == part.node {
+            return Ok(());
+        }
+        held.push(*part)?;
+    }
+    Ok(())
+}
+
+fn add_parts(parts: &[HeldPart], held: &mut Vec<HeldPart>) -> Result<(), AllocError>
+    ensures { OnOk result (held_parts held.new.items ≡ held_parts held.old.items ++ held_parts parts.now) }
+{
+    for part in parts {
+        held.push(*part)?;
+    }
+    Ok(())
 }
 
 // ---- what was made in front and is run behind

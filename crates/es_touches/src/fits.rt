@@ -5,11 +5,13 @@ ghost use Rattle.es_steps.specs.KeptNodes.{all_pairs_stand};
 ghost use Rattle.es_steps.specs.References as references;
 ghost use Rattle.es_lowered.specs.DeadZones as spec;
 ghost use Rattle.es_touches.specs.Comparison as compared;
-ghost use Rattle.es_touches.specs.Comparison.{held_as, turned};
+ghost use Rattle.es_touches.specs.Comparison.{turned};
 ghost use Rattle.es_touches.specs.Touches.{bodies_of, body_of, class_of, classes_of, closures_of, form_of, touch_of, touches_of};
 
 use crate::behind::stands_like;
-use crate::closures::{add_if, add_put_off, is_in_same, is_run_by, stands_in_closure};
+use crate::closures::{
+    add_if, add_put_off, held_where_run, is_in_same, is_run_by, stands_in_closure,
+};
 use crate::source::{Body, ClassParts, Source};
 use crate::touch::{
     Touch, TouchForm, is_any_run, is_asked, is_between, is_call_of_super, is_same_form, is_this,
@@ -139,17 +141,18 @@ fn run_fits<'a>(
     other: Touch<'a>,
     others: &[Touch<'a>],
 ) -> Result<bool, AllocError>
-    ensures { IfOk result (λ holds. holds ≡ (not (spec.is_run_by (closures_of source.now.called.now) (touch_of other.entry) (touch_of touch.entry).form) || compared.touch_fits source.now (body_of body.now) (turned (touches_of front.now) []) (held_as (touch_of touch.entry) (touch_of other.entry)) (compared.run_with source.now (touch_of touch.entry) (touches_of others.now) ++ touches_of behind.now))) }
+    ensures { IfOk result (λ holds. holds ≡ (not (spec.is_run_by (closures_of source.now.called.now) (touch_of other.entry) (touch_of touch.entry).form) || compared.touch_fits source.now (body_of body.now) (turned (touches_of front.now) []) (spec.where_run (touch_of touch.entry) (touch_of other.entry)) (compared.run_with source.now (touch_of touch.entry) (touches_of others.now) ++ touches_of behind.now))) }
 {
     if !is_run_by(source.called, other, touch.form) {
         return Ok(true);
     }
     let mut all_behind = run_with(alloc, source, touch, others)?;
     add_all(behind, &mut all_behind)?;
+    let held = held_where_run(alloc, touch, other)?;
     let run = Touch {
         number: other.number,
         form: other.form,
-        held: touch.held,
+        held: held.as_slice(),
     };
     touch_fits(alloc, source, body, front, run, all_behind.as_slice())
 }
