@@ -9,10 +9,12 @@ use Rattle.es_base.specs.declared.kind.Kind.{Kind}
 use Rattle.es_base.specs.declared.ledger.GeneratedKind.{GeneratedKind}
 use Rattle.es_base.specs.declared.ledger.LedgerEntry.{LedgerEntry}
 use Rattle.es_lowered.specs.ClassNames.{numbers_of, any_among}
-use Rattle.es_lowered.specs.DeadZones.{touches, bound_numbers, variables_by, variables, class_names, touch, is_still, is_closure, Closures, closure, closures_by, closures, call_form, is_chain, is_function_declaration, is_link, is_turned, is_keyed, is_member, is_pattern, converted, touch_around, throws_always, ends_in_throw, defines_by, defines, is_named_or_this, is_value_slot, sets_member, is_property_definition, is_private, updates_private, private_updates, right_of, right_operands, throws_at, new_throws, all_throws, nothing_around, in_no_chain, held_behind, held_in, chain_in, spot_in, is_apart, read_form, reference_touches, assignment_form, own_touches, keyed, inner_touches, joined, touches_in, touches_at, touches_of, turned, class_touches, key_touches, keys_touched, value_touches, values_touched, derived_constructor, derived_constructors, constructs, arrows, arrows_at, arrows_in, arrows_of_body, arrows_of_keys, derived_arrows, is_call_of_super, classes_given, parameters_at, field_touches, held_with, with_fields, function_touches, body_touches, bodies_by, bodies, super_calls, reference_number, key_references, moving_keys, moving_blocks, moving_numbers, class_elements, class_parts, is_touched, times, is_definition, definitions_touched, is_between, is_this, is_same_form, is_asked, is_excepted, held_within, held_inside, where_run, stands_in_node, is_run, was_run, stands_in_closure, is_in_same, is_arrow_of, is_run_by, is_put_off, put_off, all_behind, is_like, stands_like, is_of_body, stands_in_any, is_touched_as, is_touched_in, reads_key, is_behind_super, touch_fits, in_same, run_with, runs_fit, touches_fit, bodies_fit, bodies_of, dead_zones_stay, TouchForm, Touch, Body, Spot, ClassParts, reads, names_class, makes_class, runs_closure, defines_field, between_parts, another}
+use Rattle.es_lowered.specs.DeadZones.{touches, bound_numbers, variables_by, variables, class_names, touch, is_still, is_closure, Closures, closure, closures_by, closures, call_form, is_chain, is_function_declaration, is_link, is_turned, is_keyed, is_member, is_pattern, converted, touch_around, throws_always, ends_in_throw, defines_by, defines, is_named_or_this, is_value_slot, sets_member, is_property_definition, is_private, updates_private, private_updates, right_of, right_operands, throws_at, new_throws, all_throws, nothing_around, in_no_chain, held_behind, held_in, chain_in, spot_in, is_apart, read_form, reference_touches, assignment_form, own_touches, keyed, inner_touches, joined, touches_in, touches_at, touches_of, turned, class_touches, key_touches, keys_touched, value_touches, values_touched, without_this, derived_constructor, derived_constructors, constructs, arrows, arrows_at, arrows_in, arrows_of_body, arrows_of_keys, derived_arrows, is_call_of_super, classes_given, parameters_at, field_touches, held_with, with_fields, function_touches, body_touches, bodies_by, bodies, super_calls, reference_number, key_references, passed_numbers, moving_keys, moving_blocks, moving_numbers, class_elements, class_parts, is_touched, times, is_definition, definitions_touched, is_between, is_this, is_same_form, is_asked, is_excepted, held_within, held_inside, where_run, stands_in_node, is_run, was_run, stands_in_closure, is_in_same, is_arrow_of, is_run_by, is_put_off, put_off, all_behind, is_like, stands_like, is_of_body, stands_in_any, is_touched_as, is_touched_in, reads_key, is_behind_super, touch_fits, in_same, run_with, runs_fit, touches_fit, bodies_fit, bodies_of, dead_zones_stay, TouchForm, Touch, Body, Spot, ClassParts, reads, names_class, makes_class, runs_closure, defines_field, between_parts, another}
 use Rattle.es_lowered.specs.Definitions.{spelling, is_assignment, writable_part}
 use Rattle.es_lowered.specs.HelperCalls.{part_number, is_class_body, runs_with_class}
 use Rattle.es_lowered.specs.Timely.{is_same, is_held, super_functions}
+use Rattle.es_steps.specs.ClassHeads.{names_itself}
+use Rattle.es_steps.specs.Options.{lowers_fields}
 use Rattle.es_steps.specs.Context.{generated_as, is_function, is_super_call}
 use Rattle.es_steps.specs.KeptNodes.{is_within}
 use Rattle.es_steps.specs.LoweredClasses.{constructor_in}
@@ -23,6 +25,7 @@ use Rattle.es_steps.specs.PrivateNames.{is_class, is_element}
 use Rattle.es_steps.specs.LoweredClasses.{Element, elements_of, any_element, needs_temporary, is_lowered_class}
 use Rattle.es_steps.specs.References.{Reference, resolve, has_number, written}
 use Rattle.es_steps.specs.Shapes.{class_at, is_static_field, runs_before_class}
+use Rattle.es_steps.specs.Scopes.{is_class_expression}
 use Rattle.es_steps.specs.declared.options.Options.{Options}
 use Rattle.es_steps.specs.Repeated.{is_arrow}
 use Rattle.es_steps.specs.Values.{String, Referent, Bound, Free}
@@ -30,6 +33,7 @@ use Rattle.es_lowered.proofs.ClassNamesMapped.{numbers_of_part-mapped, numbers_o
 use Rattle.es_lowered.proofs.DefinitionsMapped.{spelling-mapped, writable_part-mapped}
 use Rattle.es_lowered.proofs.HelperCallsMapped.{part_number-mapped, runs_with_class-mapped}
 use Rattle.es_lowered.proofs.TimelyMapped.{mapped_held, is_held-mapped, all_pairs_stand-mapped, super_functions-mapped}
+use Rattle.es_lowered.proofs.HeadsMapped.{names_itself-mapped}
 use Rattle.es_steps.proofs.ContextMapped.{generated_as-mapped, is_super_call-mapped}
 use Rattle.es_steps.proofs.KeptNodesMapped.{mapped_element, elements_of-mapped, constructor_in-mapped, is_within-mapped, is_lowered_class-mapped, needs_temporary-mapped}
 use Rattle.es_steps.proofs.Mapped.{Renames, mapped, mapped_part, mapped_parts, mapped_pair, mapped_option, mapped_generated, mapped_ledger, mapped_referent, mapped_reference}
@@ -63,7 +67,7 @@ module _ (f : ℕ → ℕ) where
   mapped_body b = record { number = f b.number; is_of_fields = b.is_of_fields; of_class = map f b.of_class; derives = b.derives; touches = moved b.touches }
 
   abbrev mapped_class : ClassParts → ClassParts
-  mapped_class c = record { number = f c.number; heritage = map f c.heritage; keys = map f c.keys; moving = map f c.moving }
+  mapped_class c = record { number = f c.number; passed = map f c.passed; keys = map f c.keys; moving = map f c.moving }
 
   abbrev there : List Reference → List Reference
   there rs = map (mapped_reference f) rs
@@ -72,6 +76,13 @@ module _ (f : ℕ → ℕ) where
   is_this-mapped (reads b) = refl
   is_this-mapped (runs_closure k) = refl
   is_this-mapped form = refl
+
+  without_this-mapped : (ts : List Touch) → without_this (moved ts) ≡ moved (without_this ts)
+  without_this-mapped [] = refl
+  without_this-mapped (t ∷ ts) =
+      append-mapped mapped_touch (cond (is_this t.form) [] (t ∷ [])) (without_this ts)
+      (rw (is_this-mapped t.form) (cond-mapped moved (is_this t.form) [] (t ∷ []) refl refl))
+      (without_this-mapped ts)
 
   is_call_of_super-mapped : (form : TouchForm) → is_call_of_super (mapped_form form) ≡ is_call_of_super form
   is_call_of_super-mapped (reads b) = refl
@@ -323,12 +334,20 @@ module _ {first : ℕ} {f : ℕ → ℕ} (r : Renames first f) where
       (ap (moving_keys (map f changed) (there f rs)) (elements_of-mapped f ps) ∙ moving_keys-mapped changed rs (elements_of ps))
       (rw (runs_before-mapped f o kind n ps) (cond-mapped (map f) (runs_before_class o (class_at kind n ps)) (moving_blocks (class_elements (at 2 ps))) [] (ap moving_blocks (elements_at-mapped f ps) ∙ moving_blocks-mapped f (class_elements (at 2 ps))) refl))
 
+  passed-mapped : (o : Options) (kind : Kind) (n : ℕ) (ps : Parts) → passed_numbers o (class_at kind (f n) (mapped_parts f ps)) ≡ map f (passed_numbers o (class_at kind n ps))
+  passed-mapped o kind n ps =
+      let heritage : List ℕ = numbers_of (preorder_of_part (at 1 ps)) in
+      let still : Bool = is_class_expression kind && not (names_itself n ps) in
+      append-mapped f (cond (lowers_fields o) heritage []) (cond still (n ∷ []) [])
+      (cond-mapped (map f) (lowers_fields o) heritage [] (ap (λ p. numbers_of (preorder_of_part p)) (at-mapped f 1 ps) ∙ numbers_of_part-mapped f (at 1 ps)) refl)
+      (rw (names_itself-mapped f n ps) (cond-mapped (map f) still (n ∷ []) [] refl refl))
+
   parts-mapped : (o : Options) (changed : List ℕ) (rs : List Reference) (kind : Kind) (n : ℕ) (ps : Parts)
-      → record { number = f n; heritage = numbers_of (preorder_of_part (at 1 (mapped_parts f ps))); keys = key_references (class_elements (at 2 (mapped_parts f ps))); moving = cond (is_lowered_class o kind (mapped_parts f ps)) (moving_numbers o (map f changed) (there f rs) (class_at kind (f n) (mapped_parts f ps)) (at 2 (mapped_parts f ps))) [] } ∷ []
-      ≡ map (mapped_class f) (record { number = n; heritage = numbers_of (preorder_of_part (at 1 ps)); keys = key_references (class_elements (at 2 ps)); moving = cond (is_lowered_class o kind ps) (moving_numbers o changed rs (class_at kind n ps) (at 2 ps)) [] } ∷ [])
+      → record { number = f n; passed = passed_numbers o (class_at kind (f n) (mapped_parts f ps)); keys = key_references (class_elements (at 2 (mapped_parts f ps))); moving = cond (is_lowered_class o kind (mapped_parts f ps)) (moving_numbers o (map f changed) (there f rs) (class_at kind (f n) (mapped_parts f ps)) (at 2 (mapped_parts f ps))) [] } ∷ []
+      ≡ map (mapped_class f) (record { number = n; passed = passed_numbers o (class_at kind n ps); keys = key_references (class_elements (at 2 ps)); moving = cond (is_lowered_class o kind ps) (moving_numbers o changed rs (class_at kind n ps) (at 2 ps)) [] } ∷ [])
   parts-mapped o changed rs kind n ps = λ i. record {
     number = f n;
-    heritage = (ap (λ p. numbers_of (preorder_of_part p)) (at-mapped f 1 ps) ∙ numbers_of_part-mapped f (at 1 ps)) i;
+    passed = passed-mapped o kind n ps i;
     keys = (ap key_references (elements_at-mapped f ps) ∙ key_references-mapped f (class_elements (at 2 ps))) i;
     moving = (ap (λ b. cond b (moving_numbers o (map f changed) (there f rs) (class_at kind (f n) (mapped_parts f ps)) (at 2 (mapped_parts f ps))) []) (is_lowered_class-mapped f o kind ps) ∙ cond-mapped (map f) (is_lowered_class o kind ps) (moving_numbers o changed rs (class_at kind n ps) (at 2 ps)) [] (moving_numbers-mapped o changed rs kind n ps) refl) i;
   } ∷ []
@@ -337,7 +356,7 @@ module _ {first : ℕ} {f : ℕ → ℕ} (r : Renames first f) where
   class_parts-mapped o changed rs [] = refl
   class_parts-mapped o changed rs (Node kind n span semantic_id ps ∷ ts) =
       let moved_here : List ℕ = moving_numbers o changed rs (class_at kind n ps) (at 2 ps) in
-      let own : List ClassParts = record { number = n; heritage = numbers_of (preorder_of_part (at 1 ps)); keys = key_references (class_elements (at 2 ps)); moving = cond (is_lowered_class o kind ps) moved_here [] } ∷ [] in
+      let own : List ClassParts = record { number = n; passed = passed_numbers o (class_at kind n ps); keys = key_references (class_elements (at 2 ps)); moving = cond (is_lowered_class o kind ps) moved_here [] } ∷ [] in
       append-mapped (mapped_class f) (cond (is_class kind) own []) (class_parts o changed rs ts)
       (cond-mapped (map (mapped_class f)) (is_class kind) own [] (parts-mapped o changed rs kind n ps) refl)
       (class_parts-mapped o changed rs ts)
@@ -515,12 +534,13 @@ module _ {first : ℕ} {f : ℕ → ℕ} (r : Renames first f) where
 
       class_touches-mapped : (x : Spot) (n : ℕ) (ps : Parts) → class_touches first called_there asked_there named_there (there f rs) (mapped_spot f x) (f n) (mapped_parts f ps) ≡ moved f (class_touches first called asked named rs x n ps)
       class_touches-mapped x n (more id (more heritage (more body rest))) =
-          let values : List Touch = value_touches first called asked named rs true x body in
+          let all : List Touch = value_touches first called asked named rs true x body in
+          let values : List Touch = without_this all in
           let made : List Touch = touch x.held n makes_class ++ (touch x.held n another ++ values) in
           append-mapped (mapped_touch f) (touches_at first called asked named rs x heritage) (key_touches first called asked named rs x body ++ made) (touches_at-mapped x heritage)
           (append-mapped (mapped_touch f) (key_touches first called asked named rs x body) made (key_touches-mapped x body)
           (append-mapped (mapped_touch f) (touch x.held n makes_class) (touch x.held n another ++ values) refl
-          (append-mapped (mapped_touch f) (touch x.held n another) values refl (value_touches-mapped true x body))))
+          (append-mapped (mapped_touch f) (touch x.held n another) values refl (ap without_this (value_touches-mapped true x body) ∙ without_this-mapped f all))))
       class_touches-mapped x n (more id (more heritage end)) = refl
       class_touches-mapped x n (more id end) = refl
       class_touches-mapped x n end = refl
@@ -639,7 +659,7 @@ module _ {first : ℕ} {f : ℕ → ℕ} (r : Renames first f) where
 
   is_excepted-mapped : (m n : ℕ) (cs : List ClassParts) → is_excepted (f m) (f n) (map (mapped_class f) cs) ≡ is_excepted m n cs
   is_excepted-mapped m n [] = refl
-  is_excepted-mapped m n (c ∷ cs) = ap₂ (λ x y. x || y) (ap₂ (λ x y. x && y) (has_number-mapped r m c.moving) (ap₂ (λ x y. x || y) (has_number-mapped r n c.heritage) (r.apart n c.number))) (is_excepted-mapped m n cs)
+  is_excepted-mapped m n (c ∷ cs) = ap₂ (λ x y. x || y) (ap₂ (λ x y. x && y) (has_number-mapped r m c.moving) (has_number-mapped r n c.passed)) (is_excepted-mapped m n cs)
 
   is_same_form-mapped : (x y : TouchForm) → is_same_form (mapped_form f x) (mapped_form f y) ≡ is_same_form x y
   is_same_form-mapped (reads b) (reads c) = r.apart b c

@@ -1,4 +1,5 @@
 pub mod DefinitionsMapped
+pub mod HeadsMapped
 pub mod HelperCallsMapped
 pub mod TemporariesMapped
 pub mod TextsMapped

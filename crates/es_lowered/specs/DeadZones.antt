@@ -12,10 +12,12 @@ use Rattle.es_lowered.specs.ClassNames.{numbers_of, any_among}
 use Rattle.es_lowered.specs.Definitions.{spelling, is_assignment, writable_part}
 use Rattle.es_lowered.specs.HelperCalls.{part_number, is_class_body, runs_with_class}
 use Rattle.es_lowered.specs.Timely.{is_same, is_held, super_functions}
+use Rattle.es_steps.specs.ClassHeads.{body_keys, is_named_pair, named_by}
 use Rattle.es_steps.specs.Context.{generated_as, is_function, is_super_call}
 use Rattle.es_steps.specs.KeptNodes.{all_pairs_stand, is_within}
 use Rattle.es_steps.specs.LoweredClasses.{Element, constructor_in, is_hoisted_key, is_lowered_class}
 use Rattle.es_steps.specs.NameScopes.{is_any_function}
+use Rattle.es_steps.specs.Options.{lowers_fields}
 use Rattle.es_steps.specs.Parts.{at, items, is_present, string_of}
 use Rattle.es_steps.specs.Printable.{has_optional}
 use Rattle.es_steps.specs.PrivateNames.{is_class, is_element}
@@ -252,6 +254,15 @@ abbrev pub sets_member : Part → Bool
 sets_member (child (Node Kind.MemberExpression m span semantic_id (more o (more k rest)))) = is_named_or_this o && not (is_value_slot k)
 sets_member p = false
 
+-- `this` in what runs with a class is the class (15.7.10, 15.7.11), which is there
+abbrev pub is_this : TouchForm → Bool
+is_this reads_this = true
+is_this form = false
+
+abbrev pub without_this : List Touch → List Touch
+without_this [] = []
+without_this (t ∷ ts) = cond (is_this t.form) [] (t ∷ []) ++ without_this ts
+
 abbrev pub is_property_definition : Kind → Bool
 is_property_definition Kind.PropertyDefinition = true
 is_property_definition kind = false
@@ -330,7 +341,7 @@ module _ (first : ℕ) (called : Closures) (asked named : List ℕ) (references 
     -- the heritage, the keys, the class, which gets its name, and the elements that run with it (15.7.14)
     pub class_touches : Spot → ℕ → Parts → List Touch
     class_touches x n (more id (more heritage (more body rest))) =
-        touches_at x heritage ++ (key_touches x body ++ (touch x.held n makes_class ++ (touch x.held n another ++ value_touches true x body)))
+        touches_at x heritage ++ (key_touches x body ++ (touch x.held n makes_class ++ (touch x.held n another ++ without_this (value_touches true x body))))
     class_touches x n ps = []
 
     pub key_touches : Spot → Part → List Touch
@@ -452,10 +463,10 @@ abbrev pub super_calls : List Tree → List ℕ
 super_calls [] = []
 super_calls (Node kind m span semantic_id ps ∷ ts) = cond (is_super_call kind ps) (m ∷ []) [] ++ super_calls ts
 
--- the nodes of a class: of its heritage; of its keys that are references; of what moves in front of its heritage
+-- the nodes of a class: those in front of which something may move; of its keys that are references; of what moves so
 pub record ClassParts : Type 0 where
   pub number : ℕ
-  pub heritage : List ℕ
+  pub passed : List ℕ
   pub keys : List ℕ
   pub moving : List ℕ
 
@@ -486,16 +497,20 @@ moving_blocks (more p es) = moving_blocks es
 abbrev pub moving_numbers : Options → List ℕ → List Reference → ClassAt → Part → List ℕ
 moving_numbers o changed references k body = moving_keys changed references k.elements ++ cond (runs_before_class o k) (moving_blocks (class_elements body)) []
 
+-- whether a class expression reads its own name in its heritage or its keys: it has an event there, as its name is given (15.7.14)
+abbrev pub names_own : ClassAt → Bool
+names_own k = is_named_pair (named_by k.number k.id (preorder_of_part k.heritage ++ body_keys k.body))
+
+-- the heritage, of whose events a shape tells where fields are lowered, and a class expression whose making is no event
+abbrev pub passed_numbers : Options → ClassAt → List ℕ
+passed_numbers o k = cond (lowers_fields o) (numbers_of (preorder_of_part k.heritage)) [] ++ cond (k.is_expression && not (names_own k)) (k.number ∷ []) []
+
 abbrev pub class_parts : Options → List ℕ → List Reference → List Tree → List ClassParts
 class_parts o changed references [] = []
 class_parts o changed references (Node kind n span semantic_id ps ∷ ts) =
-    cond (is_class kind) (record { number = n; heritage = numbers_of (preorder_of_part (at 1 ps)); keys = key_references (class_elements (at 2 ps)); moving = cond (is_lowered_class o kind ps) (moving_numbers o changed references (class_at kind n ps) (at 2 ps)) [] } ∷ []) [] ++ class_parts o changed references ts
+    cond (is_class kind) (record { number = n; passed = passed_numbers o (class_at kind n ps); keys = key_references (class_elements (at 2 ps)); moving = cond (is_lowered_class o kind ps) (moving_numbers o changed references (class_at kind n ps) (at 2 ps)) [] } ∷ []) [] ++ class_parts o changed references ts
 
 -- ---- what stands behind
-
-abbrev pub is_this : TouchForm → Bool
-is_this reads_this = true
-is_this form = false
 
 abbrev pub is_same_form : TouchForm → TouchForm → Bool
 is_same_form (reads b) (reads c) = nat_eq b c
@@ -525,14 +540,10 @@ abbrev pub is_definition : TouchForm → Bool
 is_definition defines_field = true
 is_definition form = false
 
--- what moves in front of the heritage of a class, of which a shape tells, if that has events, and so in front of the class, which has none
--- of its own
-abbrev pub is_passed : ℕ → ClassParts → Bool
-is_passed n c = has_number n c.heritage || nat_eq n c.number
-
+-- what moves in front of a class and its heritage
 abbrev pub is_excepted : ℕ → ℕ → List ClassParts → Bool
 is_excepted m n [] = false
-is_excepted m n (c ∷ cs) = (has_number m c.moving && is_passed n c) || is_excepted m n cs
+is_excepted m n (c ∷ cs) = (has_number m c.moving && has_number n c.passed) || is_excepted m n cs
 
 -- ---- what a closure does, which was made in front of t and was not run yet, is behind t, too
 

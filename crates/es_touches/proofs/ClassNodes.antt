@@ -1,26 +1,42 @@
 -- The nodes of classes, one by one.
-use Rattle.std.proofs.Common.{◌≡◌, refl, sym, ap, ◌∙◌, ℕ, List, [], ◌∷◌, ◌++◌, append-nil, append_assoc, Bool, true, false, cond, ◌&&◌, Some, None}
+use Rattle.std.proofs.Common.{◌≡◌, refl, sym, ap, ◌∙◌, ℕ, List, [], ◌∷◌, ◌++◌, append-nil, append_assoc, Bool, true, false, cond, not, ◌&&◌, Option, Some, None}
 use Rattle.es_base.specs.Preorder.{preorder_of, preorder_of_part}
 use Rattle.es_base.specs.Tree.{Tree, Part, Parts, Node, end, more, child}
 use Rattle.es_base.specs.declared.kind.Kind.{Kind}
 use Rattle.es_lowered.specs.ClassNames.{numbers_of}
-use Rattle.es_lowered.specs.DeadZones.{class_elements, class_parts, key_references, moving_blocks, moving_keys, moving_numbers, reference_number}
+use Rattle.es_lowered.specs.DeadZones.{class_elements, class_parts, key_references, moving_blocks, moving_keys, moving_numbers, passed_numbers, reference_number}
 use Rattle.es_node.specs.View.{kind_of, number_in, parts_in}
 use Rattle.es_shapes.specs.Classes.{class_of}
 use Rattle.es_steps.specs.LoweredClasses.{Element, any_element, element_of, elements_in, elements_of, is_hoisted_key, is_lowered_element}
 use Rattle.es_steps.specs.Parts.{at}
 use Rattle.es_steps.specs.PrivateNames.{is_class, is_element}
 use Rattle.es_steps.specs.References.{Reference}
-use Rattle.es_steps.specs.Shapes.{class_at}
+use Rattle.es_steps.specs.Shapes.{ClassAt, class_at}
 use Rattle.es_steps.specs.declared.options.Options.{Options}
-use Rattle.es_touches.specs.ClassNodes.{keys_of, moved_block, parts_if}
+use Rattle.es_touches.specs.ClassNodes.{is_still, keys_of, moved_block, parts_if}
+use Rattle.es_steps.specs.ClassHeads.{names_itself}
 
 pub classes_more : (o : Options) (changed : List ℕ) (references : List Reference) (t : Tree) (ts : List Tree) → class_parts o changed references (t ∷ ts) ≡ parts_if o changed references (class_of t) ++ class_parts o changed references ts
 classes_more o changed references (Node kind n span semantic_id ps) ts = here (is_class kind)
   where
-    here : (b : Bool) → cond b (record { number = n; heritage = numbers_of (preorder_of_part (at 1 ps)); keys = key_references (class_elements (at 2 ps)); moving = cond (b && any_element (is_lowered_element o) (elements_of ps)) (moving_numbers o changed references (class_at kind n ps) (at 2 ps)) [] } ∷ []) [] ++ class_parts o changed references ts ≡ parts_if o changed references (cond b (Some (class_at kind n ps)) None) ++ class_parts o changed references ts
+    here : (b : Bool) → cond b (record { number = n; passed = passed_numbers o (class_at kind n ps); keys = key_references (class_elements (at 2 ps)); moving = cond (b && any_element (is_lowered_element o) (elements_of ps)) (moving_numbers o changed references (class_at kind n ps) (at 2 ps)) [] } ∷ []) [] ++ class_parts o changed references ts ≡ parts_if o changed references (cond b (Some (class_at kind n ps)) None) ++ class_parts o changed references ts
     here true = refl
     here false = refl
+
+-- ---- whether the making of a class is no event
+
+class_or : ClassAt → Option ClassAt → ClassAt
+class_or k None = k
+class_or k (Some l) = l
+
+pub still_expression : (t : Tree) (k : ClassAt) → Some k ≡ class_of t → kind_of t ≡ Kind.ClassExpression → is_still k ≡ not (names_itself (number_in t) (parts_in t))
+still_expression (Node Kind.ClassExpression n span semantic_id ps) k is expression = ap (λ o. is_still (class_or k o)) is
+still_expression (Node kind n span semantic_id ps) k is expression = absurd (cc)
+
+pub still_no_expression : (t : Tree) (k : ClassAt) → Some k ≡ class_of t → (kind_of t ≡ Kind.ClassExpression → ⊥) → is_still k ≡ false
+still_no_expression (Node Kind.ClassExpression n span semantic_id ps) k is other = absurd (other refl)
+still_no_expression (Node Kind.ClassDeclaration n span semantic_id ps) k is other = ap (λ o. is_still (class_or k o)) is
+still_no_expression (Node kind n span semantic_id ps) k is other = absurd (cc)
 
 pub no_elements : (t : Tree) → (kind_of t ≡ Kind.ClassBody → ⊥) → class_elements (child t) ≡ end
 no_elements (Node Kind.ClassBody m span semantic_id ps) other = absurd (other refl)

@@ -40,7 +40,7 @@ abbrev pub closures_of : List Closure → spec.Closures
 closures_of xs = map closure_of xs
 
 abbrev pub class_of : ClassParts → spec.ClassParts
-class_of x = record { number = x.number; heritage = x.heritage.items; keys = x.keys.items; moving = x.moving.items }
+class_of x = record { number = x.number; passed = x.passed.items; keys = x.keys.items; moving = x.moving.items }
 
 abbrev pub classes_of : List ClassParts → List spec.ClassParts
 classes_of xs = map class_of xs

@@ -4,7 +4,7 @@ ghost use Rattle.std.specs.Prelude.{◌≡◌, ◌&&◌, ◌||◌, nat_eq, nat_l
 ghost use Rattle.es_steps.specs.KeptNodes.{all_pairs_stand};
 ghost use Rattle.es_lowered.specs.DeadZones as spec;
 ghost use Rattle.es_touches.specs.Comparison as compared;
-ghost use Rattle.es_touches.specs.Touches.{class_of, classes_of, closures_of, touch_of, touches_of};
+ghost use Rattle.es_touches.specs.Touches.{classes_of, closures_of, touch_of, touches_of};
 
 use crate::closures::definitions_touched;
 use crate::source::{ClassParts, Source};
@@ -48,24 +48,18 @@ fn times(number: u32, touches: &[Touch]) -> usize
 
 // ---- what stands behind
 
-/// Whether one of these classes has the first node among what moves in front of it and its heritage, and is the other or has it
-/// in that.
+/// Whether one of these classes has the first node among what may move in front of the other.
 fn is_excepted(moving: u32, number: u32, classes: &[ClassParts]) -> bool
     ensures { result ≡ spec.is_excepted moving number (classes_of classes.now) }
 {
     for class in classes {
-        if has_number(moving, class.moving.as_slice()) && is_passed(number, class) {
+        if has_number(moving, class.moving.as_slice())
+            && has_number(number, class.passed.as_slice())
+        {
             return true;
         }
     }
     false
-}
-
-/// Whether the node is the class, or in its heritage.
-fn is_passed(number: u32, class: &ClassParts) -> bool
-    ensures { result ≡ spec.is_passed number (class_of class.now) }
-{
-    has_number(number, class.heritage.as_slice()) || number == class.number
 }
 
 /// Whether an event, of those behind a touch in the lowered program, stands behind this touch of the source as often.

@@ -9,7 +9,8 @@ ghost use Rattle.es_shapes.specs.Classes.{class_of, class_view};
 ghost use Rattle.es_steps.specs.Options.{lowers_blocks};
 ghost use Rattle.es_steps.specs.LoweredClasses.{element_of, elements_in};
 ghost use Rattle.es_steps.specs.References.{resolve, written};
-ghost use Rattle.es_touches.specs.ClassNodes.{keys_of, moved_block, moving_of, parts_if};
+ghost use Rattle.es_steps.specs.Shapes.{ClassAt};
+ghost use Rattle.es_touches.specs.ClassNodes.{is_still, keys_of, moved_block, moving_of, parts_if, parts_of_class, passed_if};
 ghost use Rattle.es_touches.specs.Touches as code;
 ghost use Rattle.es_touches.specs.Touches.{classes_of};
 
@@ -19,8 +20,9 @@ use es_base::kind::Kind;
 use es_node::node::{Node, Part};
 use es_owed_initialized::kinds::is_element;
 use es_owed_initialized::numbers::add_numbers;
-use es_shapes::asked::lowers_blocks;
+use es_shapes::asked::{lowers_blocks, lowers_fields};
 use es_shapes::class::{ClassRef, class_of, elements_of};
+use es_shapes::class_head::names_itself;
 use es_shapes::element::{ElementKinds, element_kinds, element_of};
 use es_shapes::facts::NameFacts;
 use es_shapes::heritage::needs_temporary;
@@ -57,7 +59,7 @@ fn add_class<F: NameFacts>(
     match class_of(node) {
         // class A extends B { [c]; static {} }
         Some(class) => {
-            let parts = parts_of(alloc, options, facts, class)?;
+            let parts = parts_of(alloc, options, facts, is_still(node), class)?;
             classes.push(parts)?;
             Ok(())
         }
@@ -65,26 +67,57 @@ fn add_class<F: NameFacts>(
     }
 }
 
+/// Whether the node is a class expression whose making is no event.
+#[tactic(auto, using(crate::proofs::ClassNodes::still_expression, crate::proofs::ClassNodes::still_no_expression))]
+fn is_still(node: &Node) -> bool
+    ensures { (k : ClassAt) → Some k ≡ class_of node.now → is_still k ≡ result }
+{
+    match node.kind() {
+        // (class A {})
+        Kind::ClassExpression => !names_itself(node),
+        _ => false,
+    }
+}
+
 fn parts_of<F: NameFacts>(
     alloc: Global,
     options: &Options,
     facts: &F,
+    is_still: bool,
     class: ClassRef,
 ) -> Result<ClassParts, AllocError>
-    ensures { IfOk result (λ r. code.class_of r ∷ [] ≡ parts_if options.now (written (F.program facts.now)) (resolve (F.program facts.now)) (Some (class_view class.entry))) }
+    ensures { IfOk result (λ r. code.class_of r ≡ parts_of_class is_still options.now (written (F.program facts.now)) (resolve (F.program facts.now)) (class_view class.entry)) }
 {
-    let mut heritage = Vec::new(alloc);
-    add_numbers_of(alloc, class.super_class, &mut heritage)?;
+    let passed = passed_numbers(alloc, options, is_still, class)?;
     let mut keys = Vec::new(alloc);
     add_keys(class_elements(class.body), &mut keys)?;
     let mut moving = Vec::new(alloc);
     add_moving(alloc, options, facts, class, &mut moving)?;
     Ok(ClassParts {
         number: class.node_id.0,
-        heritage,
+        passed,
         keys,
         moving,
     })
+}
+
+/// The heritage of a class where fields are lowered, and the class if its making is no event. Fails on allocation failure alone.
+fn passed_numbers(
+    alloc: Global,
+    options: &Options,
+    is_still: bool,
+    class: ClassRef,
+) -> Result<Vec<u32>, AllocError>
+    ensures { IfOk result (λ r. r.items ≡ passed_if is_still options.now (class_view class.entry)) }
+{
+    let mut passed = Vec::new(alloc);
+    if lowers_fields(options) {
+        add_numbers_of(alloc, class.super_class, &mut passed)?;
+    }
+    if is_still {
+        passed.push(class.node_id.0)?;
+    }
+    Ok(passed)
 }
 
 /// The elements in the body of a class.

@@ -20,11 +20,11 @@ pub struct Body<'a> {
 #[derive(Debug, Drop)]
 pub struct ClassParts {
     pub number: u32,
-    /// Those of its heritage.
-    pub heritage: Vec<u32>,
+    /// Those in front of which something may move.
+    pub passed: Vec<u32>,
     /// Its keys that are references.
     pub keys: Vec<u32>,
-    /// What moves in front of its heritage.
+    /// What moves so.
     pub moving: Vec<u32>,
 }
 
