@@ -164,7 +164,7 @@ module _ (t : Terms) where
 
   -- ---- classes
 
-  pub class_parts : (x : Spot) (n : ℕ) (id heritage body : Part) (rest qs : Parts) → qs ≡ more id (more heritage (more body rest)) → class_touches t x n qs ≡ touches_at t x heritage ++ (key_touches t x body ++ ((touch x.held n spec.makes_class ++ touch x.held n spec.another) ++ value_touches t true x body))
+  pub class_parts : (x : Spot) (n : ℕ) (id heritage body : Part) (rest qs : Parts) → qs ≡ more id (more heritage (more body rest)) → class_touches t x n qs ≡ touches_at t x heritage ++ (key_touches t x body ++ ((touch x.held n spec.makes_class ++ touch x.held n spec.another) ++ spec.without_this (value_touches t true x body)))
   class_parts x n id heritage body rest qs is = ap (λ rs. class_touches t x n rs) is
 
   pub keys_first : (x : Spot) (u : Tree) (p : Part) (ps : Parts) → parts_in u ≡ more p ps → key_touches t x (child u) ≡ keys_of_part t x p
@@ -296,13 +296,13 @@ module _ (t : Terms) (x : ℕ → Spot) where
       ∙ ap (λ (k : code.Part). touches_at t (x 1) (part_of k) ++ touches_at t (x 2) (part_of b)) (sym is_l)
       ∙ ap (λ (k : code.Part). touches_at t (x 1) (part_of l) ++ touches_at t (x 2) (part_of k)) (sym is_r)
 
-  pub class_at : (y : Spot) (n : ℕ) (xs : List code.Part) (h b : code.Part) → 3 ≤ length xs → h ≡ get_or xs 1 h → b ≡ get_or xs 2 b → class_touches t y n (parts_of xs) ≡ touches_at t y (part_of h) ++ (key_touches t y (part_of b) ++ ((touch y.held n spec.makes_class ++ touch y.held n spec.another) ++ value_touches t true y (part_of b)))
+  pub class_at : (y : Spot) (n : ℕ) (xs : List code.Part) (h b : code.Part) → 3 ≤ length xs → h ≡ get_or xs 1 h → b ≡ get_or xs 2 b → class_touches t y n (parts_of xs) ≡ touches_at t y (part_of h) ++ (key_touches t y (part_of b) ++ ((touch y.held n spec.makes_class ++ touch y.held n spec.another) ++ spec.without_this (value_touches t true y (part_of b))))
   class_at y n [] h b long is_h is_b = absurd (omega arith)
   class_at y n (i ∷ []) h b long is_h is_b = absurd (omega arith)
   class_at y n (i ∷ (k ∷ [])) h b long is_h is_b = absurd (omega arith)
   class_at y n (i ∷ (k ∷ (l ∷ xs))) h b long is_h is_b =
-      ap (λ (p : code.Part). touches_at t y (part_of p) ++ (key_touches t y (part_of l) ++ ((touch y.held n spec.makes_class ++ touch y.held n spec.another) ++ value_touches t true y (part_of l)))) (sym is_h)
-      ∙ ap (λ (p : code.Part). touches_at t y (part_of h) ++ (key_touches t y (part_of p) ++ ((touch y.held n spec.makes_class ++ touch y.held n spec.another) ++ value_touches t true y (part_of p)))) (sym is_b)
+      ap (λ (p : code.Part). touches_at t y (part_of p) ++ (key_touches t y (part_of l) ++ ((touch y.held n spec.makes_class ++ touch y.held n spec.another) ++ spec.without_this (value_touches t true y (part_of l))))) (sym is_h)
+      ∙ ap (λ (p : code.Part). touches_at t y (part_of h) ++ (key_touches t y (part_of p) ++ ((touch y.held n spec.makes_class ++ touch y.held n spec.another) ++ spec.without_this (value_touches t true y (part_of p))))) (sym is_b)
 
 pub value_at : (t : Terms) (runs : Bool) (x : Spot) (u : Tree) (xs : List code.Part) → parts_in u ≡ parts_of xs → 1 ≤ length xs → is_same runs (runs_with_class (child u)) ≡ true → value_touch t runs x u ≡ first_touches t (not (is_element (kind_of u))) x (parts_of xs) ++ (touches_of t x (behind_first (parts_of xs)) ++ field_touch t x (kind_of u) (number_in u))
 value_at t runs x u [] is long same = absurd (omega arith)

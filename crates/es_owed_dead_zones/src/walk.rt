@@ -1,6 +1,6 @@
 // The touches of a program in the order of evaluation.
 
-ghost use Rattle.std.specs.Prelude.{◌≡◌, ◌++◌, [], cond, not, OnOk};
+ghost use Rattle.std.specs.Prelude.{◌≡◌, ◌++◌, ◌∷◌, [], cond, not, true, OnOk};
 ghost use Rattle.es_base.specs.Numbered as numbered;
 ghost use Rattle.es_base.specs.Tree.{child, nullable, nullable_trees, trees};
 ghost use Rattle.es_base.specs.declared.kind.Kind.{Kind};
@@ -10,7 +10,7 @@ ghost use Rattle.es_node.specs.View.{kind_of, number_in, part_of, parts_in, part
 ghost use Rattle.es_steps.specs.Printable.{behind_first, has_optional};
 ghost use Rattle.es_steps.specs.PrivateNames as names;
 ghost use Rattle.es_owed_timely.specs.Walk.{parts_from};
-ghost use Rattle.es_touches.specs.Touches.{kept_touches};
+ghost use Rattle.es_touches.specs.Touches.{kept_touch, kept_touches};
 ghost use Rattle.es_owed_dead_zones.specs.Walk as walked;
 ghost use Rattle.es_owed_dead_zones.specs.Walk.{field_touch, first_touches, if_tree, key_touch, keys_of_part, spot_at, spot_of, touches_from, touches_inside, value_touch, values_of_part};
 
@@ -26,7 +26,7 @@ use es_shapes::walk::is_any_function;
 use es_touches::forms::{
     is_function_declaration, is_keyed, is_member, is_pattern, is_property_definition, is_turned,
 };
-use es_touches::touch::{KeptTouch, TouchForm};
+use es_touches::touch::{KeptTouch, TouchForm, is_this};
 use es_tree::expression::{CallExpressionRef, TemplateLiteralRef};
 use std::alloc::{AllocError, Global};
 
@@ -510,10 +510,47 @@ fn add_class(
             add_at(alloc, terms, &*spot, heritage, touches)?;
             add_keys_in(alloc, terms, &*spot, body, touches)?;
             add_made(alloc, &*spot, node.node_id().0, touches)?;
-            add_values_in(alloc, terms, true, spot, body, touches)
+            add_running(alloc, terms, spot, body, touches)
         }
         _ => Ok(()),
     }
+}
+
+/// Adds those of the elements that run with a class, in which `this` is the class. Fails on allocation failure alone.
+#[cycle(touches)]
+fn add_running(
+    alloc: Global,
+    terms: &Terms,
+    spot: &Spot,
+    body: &Part,
+    touches: &mut Vec<KeptTouch>,
+) -> Result<(), AllocError>
+    ensures { OnOk result (kept_touches touches.new.items ≡ kept_touches touches.old.items ++ spec.without_this (walked.value_touches terms.now true (spot_of spot.now) (part_of body.now))) }
+{
+    let mut values = Vec::new(alloc);
+    add_values_in(alloc, terms, true, spot, body, &mut values)?;
+    add_without_this(values, touches)
+}
+
+/// Adds these but for what reads `this`. Fails on allocation failure alone.
+fn add_without_this(values: Vec<KeptTouch>, touches: &mut Vec<KeptTouch>) -> Result<(), AllocError>
+    ensures { OnOk result (kept_touches touches.new.items ≡ kept_touches touches.old.items ++ spec.without_this (kept_touches values.items)) }
+{
+    for touch in values {
+        add_unless_this(touch, touches)?;
+    }
+    Ok(())
+}
+
+fn add_unless_this(touch: KeptTouch, touches: &mut Vec<KeptTouch>) -> Result<(), AllocError>
+    ensures { OnOk result (kept_touches touches.new.items ≡ kept_touches touches.old.items ++ cond (spec.is_this (kept_touch touch).form) [] (kept_touch touch ∷ [])) }
+{
+    if is_this(touch.form) {
+        drop(touch);
+    } else {
+        touches.push(touch)?;
+    }
+    Ok(())
 }
 
 /// Adds that a class is made and gets its name. Fails on allocation failure alone.

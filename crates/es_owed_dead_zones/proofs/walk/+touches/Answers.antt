@@ -222,8 +222,8 @@ add_call-returns-in_ok-add_from t c =
     ∙ ap (λ ps. old ++ (touches_from s at 1 (parts_from 1 ps) ++ run)) (sym c.parts-parts.ensures.list)
     ∙ ap (λ ts. old ++ ts) (sym (call_arrow s (in_no_chain x) at n _ _ _ callee _ c.from_node.ensures arrow))) c.add_called.ensures
 
-pub add_class-add_values_in-requires : goal.add_class-add_values_in-requires
-add_class-add_values_in-requires t c =
+pub add_class-add_running-requires : goal.add_class-add_running-requires
+add_class-add_running-requires t c =
     let xs = c.parts.result.now in
     let long : 2 < length xs = omega (arith, c.in-len3-up.len_at_least) in
     (omega (arith, part_below xs 2 c.body-item.result long, ap (λ p. nodes_of_part (part_of p)) c.body-item.is, ap nodes_of c.parts.ensures.list, c.decreases), tt)
@@ -237,13 +237,13 @@ add_class-returns-in_ok-add_made-in-len3-up t c =
     let xs = c.parts.result.now in
     let h = touches_at s x (part_of c.heritage-item.result) in
     let k = key_touches s x (part_of c.body-item.result) in
-    let v = value_touches s true x (part_of c.body-item.result) in
+    let v = spec.without_this (value_touches s true x (part_of c.body-item.result)) in
     let made : ℕ → List Touch = λ m. touch x.held m spec.makes_class ++ touch x.held m spec.another in
     let long : 3 ≤ length xs = omega (arith, c.in-len3-up.len_at_least) in
-    OnOk-map c.add_values_in.result _ _ (λ e.
-    appended_four old (kept_touches c.add_at.new.touches.items) (kept_touches c.add_keys_in.new.touches.items) (kept_touches c.add_made.new.touches.items) (kept_touches c.add_values_in.new.touches.items) h k (made c.node_id.result.0) v c.in_ok-add_at-in-len3-up.ensures c.in_ok-add_keys_in-in-len3-up.ensures c.in_ok-add_made-in-len3-up.ensures e
+    OnOk-map c.add_running.result _ _ (λ e.
+    appended_four old (kept_touches c.add_at.new.touches.items) (kept_touches c.add_keys_in.new.touches.items) (kept_touches c.add_made.new.touches.items) (kept_touches c.add_running.new.touches.items) h k (made c.node_id.result.0) v c.in_ok-add_at-in-len3-up.ensures c.in_ok-add_keys_in-in-len3-up.ensures c.in_ok-add_made-in-len3-up.ensures e
     ∙ ap (λ m. old ++ (h ++ (k ++ (made m ++ v)))) c.node_id.ensures
-    ∙ ap (λ ts. old ++ ts) (sym (class_at s (spot_at x n) x (number_in n) xs c.heritage-item.result c.body-item.result long c.heritage-item.is c.body-item.is) ∙ ap (λ ps. class_touches s x (number_in n) ps) (sym c.parts.ensures.list))) c.add_values_in.ensures
+    ∙ ap (λ ts. old ++ ts) (sym (class_at s (spot_at x n) x (number_in n) xs c.heritage-item.result c.body-item.result long c.heritage-item.is c.body-item.is) ∙ ap (λ ps. class_touches s x (number_in n) ps) (sym c.parts.ensures.list))) c.add_running.ensures
 
 pub add_keyed-returns-in_ok-add_conversion-in-len1-up : goal.add_keyed-returns-in_ok-add_conversion-in-len1-up
 add_keyed-returns-in_ok-add_conversion-in-len1-up t c =

@@ -87,6 +87,9 @@ decreases-add_key l = 30 * nodes l.element.now
 abbrev pub decreases-add_at_if : goal.decreases-add_at_if
 decreases-add_at_if l = 30 * nodes_of_part (part_of l.part.now) + 15
 
+abbrev pub decreases-add_running : goal.decreases-add_running
+decreases-add_running l = 30 * nodes_of_part (part_of l.body.now) + 16
+
 abbrev pub decreases-add_values_in : goal.decreases-add_values_in
 decreases-add_values_in l = 30 * nodes_of_part (part_of l.body.now) + 13
 
