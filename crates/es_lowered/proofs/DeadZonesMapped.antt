@@ -33,7 +33,7 @@ use Rattle.es_lowered.proofs.ClassNamesMapped.{numbers_of_part-mapped, numbers_o
 use Rattle.es_lowered.proofs.DefinitionsMapped.{spelling-mapped, writable_part-mapped}
 use Rattle.es_lowered.proofs.HelperCallsMapped.{part_number-mapped, runs_with_class-mapped}
 use Rattle.es_lowered.proofs.TimelyMapped.{mapped_held, is_held-mapped, all_pairs_stand-mapped, super_functions-mapped}
-use Rattle.es_lowered.proofs.HeadsMapped.{names_itself-mapped}
+use Rattle.es_steps.proofs.ClassHeadsMapped.{names_itself-mapped}
 use Rattle.es_steps.proofs.ContextMapped.{generated_as-mapped, is_super_call-mapped}
 use Rattle.es_steps.proofs.KeptNodesMapped.{mapped_element, elements_of-mapped, constructor_in-mapped, is_within-mapped, is_lowered_class-mapped, needs_temporary-mapped}
 use Rattle.es_steps.proofs.Mapped.{Renames, mapped, mapped_part, mapped_parts, mapped_pair, mapped_option, mapped_generated, mapped_ledger, mapped_referent, mapped_reference}

@@ -1,5 +1,4 @@
 pub mod DefinitionsMapped
-pub mod HeadsMapped
 pub mod HelperCallsMapped
 pub mod TemporariesMapped
 pub mod TextsMapped

@@ -4,7 +4,7 @@ use Rattle.std.proofs.Common.{refl, ap, ◌∙◌}
 use Rattle.es_base.specs.Preorder.{preorder, preorder_of_part}
 use Rattle.es_base.specs.Tree.{Tree, Part, Parts, Node, end, more, child, absent, string}
 use Rattle.es_base.specs.declared.kind.Kind.{Kind}
-use Rattle.es_steps.specs.ClassHeads.{key_nodes, body_keys, head_nodes, reads_spelling, named_by, unnamed_class, named_among, named_classes, named_as, declared_or_named}
+use Rattle.es_steps.specs.ClassHeads.{key_nodes, body_keys, head_nodes, reads_spelling, is_named_pair, names_itself, named_by, unnamed_class, named_among, named_classes, named_as, declared_or_named}
 use Rattle.es_steps.specs.Parts.{at, items}
 use Rattle.es_steps.specs.PrivateNames.{is_element}
 use Rattle.es_steps.specs.Values.{String}
@@ -36,6 +36,15 @@ module _ (f : ℕ → ℕ) where
   named_by-mapped n (child (Node Kind.BindingIdentifier b span semantic_id (more (string s) end))) heads =
       rw (reads_spelling-mapped s heads) (cond-mapped (map (mapped_pair f)) (reads_spelling s heads) ((n, b) ∷ []) [] refl refl)
   named_by-mapped n p heads = refl
+
+  is_named_pair-mapped : (ps : List (ℕ × ℕ)) → is_named_pair (map (mapped_pair f) ps) ≡ is_named_pair ps
+  is_named_pair-mapped [] = refl
+  is_named_pair-mapped (p ∷ ps) = refl
+
+  pub names_itself-mapped : (n : ℕ) (ps : Parts) → names_itself (f n) (mapped_parts f ps) ≡ names_itself n ps
+  names_itself-mapped n ps =
+      ap is_named_pair (rw (at-mapped f 0 ps, head_nodes-mapped ps) (named_by-mapped n (at 0 ps) (head_nodes ps)))
+      ∙ is_named_pair-mapped (named_by n (at 0 ps) (head_nodes ps))
 
   unnamed_class-mapped : (n : ℕ) (p : Part) → unnamed_class (f n) (mapped_part f p) ≡ map (mapped_pair f) (unnamed_class n p)
   unnamed_class-mapped n absent = refl
