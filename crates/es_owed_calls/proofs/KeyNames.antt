@@ -1,18 +1,17 @@
 -- Keys that are names, by the nodes and the references of both programs.
 use Rattle.std.proofs.Common.{◌≡◌, refl, sym, ap, ◌∙◌, ℕ, ◌+◌, ◌<◌, List, [], ◌∷◌, ◌++◌, length, drop, get_or, Bool, true, false, cond, ◌&&◌, ◌||◌, Bor}
-use Rattle.std.specs.Prelude.{map, nat_eq, not}
+use Rattle.std.specs.Prelude.{nat_eq, not}
 use Rattle.std.proofs.lemmas.Bool.{eqb-true}
 use Rattle.std.proofs.lemmas.List.{at_drop_more}
 use Rattle.es_base.specs.Preorder.{number_of, preorder}
 use Rattle.es_base.specs.Tree.{Tree, child}
 use Rattle.es_base.specs.declared.ledger.LedgerEntry.{LedgerEntry}
 use Rattle.es_binding_faults.specs.Seen.{seen}
-use Rattle.es_lowered.specs.ClassNames.{class_numbers, is_written_at, naming}
-use Rattle.es_lowered.specs.Definitions.{names_class}
-use Rattle.es_lowered.specs.HelperCalls.{computed_keys}
-use Rattle.es_lowered.specs.KeptKeys.{keys_that_stay, means_the_same, names_one_class, which_stay}
-use Rattle.es_owed_calls.specs.KeptKeys.{Identified, any_names, identified, is_name, names_both, numbered, staying}
-use Rattle.es_steps.specs.LoweredClasses.{referent_of}
+use Rattle.es_lowered.specs.ClassNames.{is_written_at, naming}
+use Rattle.es_lowered.specs.Definitions.{class_identifiers, names_class}
+use Rattle.es_lowered.specs.KeptKeys.{which_stay}
+use Rattle.es_owed.specs.Listed.{numbered}
+use Rattle.es_owed_calls.specs.KeptKeys.{is_name}
 use Rattle.es_steps.specs.References.{Reference, resolve, has_number}
 
 -- ---- nodes of a number
@@ -56,33 +55,24 @@ module _ (m n : ℕ) (ledger : List LedgerEntry) (rs : List Reference) (ids : Li
       ∙ naming_more (get_or nodes i x).now (seen (drop (i + 1) nodes))
       ∙ ap (λ b. b || has_number m (naming n ledger rs ids (seen (drop (i + 1) nodes)))) (ap (λ (y : Bor Tree). is_name m n ledger rs ids y.now) (sym is) ∙ none)
 
--- ---- both programs
+-- ---- a program
 
-module _ (m : ℕ) (ledger there : List LedgerEntry) (rs ss : List Reference) (ts us : List Tree) where
-  both_numbered : (c : Identified) → names_both ledger there rs ss (numbered m ts) (numbered m us) c m ≡ names_both ledger there rs ss ts us c m
-  both_numbered c =
-      ap (λ b. b && has_number m (naming c.class ledger ss c.lowered (numbered m us))) (naming_numbered m c.class there rs c.source ts)
-      ∙ ap (λ b. has_number m (naming c.class there rs c.source ts) && b) (naming_numbered m c.class ledger ss c.lowered us)
+-- names by the nodes of their number alone
+pub naming_at : (first m n : ℕ) (ledger : List LedgerEntry) (q : Tree) (rs : List Reference) (ids : List ℕ) (xs ts : List Tree)
+    → rs ≡ resolve q → ids ≡ class_identifiers first n (preorder q) → xs ≡ numbered m ts → ts ≡ preorder q
+    → has_number m (naming n ledger rs ids xs) ≡ has_number m (naming n ledger (resolve q) (class_identifiers first n (preorder q)) (preorder q))
+naming_at first m n ledger q rs ids xs ts references identifiers nodes all =
+    ap (λ (z : List Tree). has_number m (naming n ledger rs ids z)) (nodes ∙ ap (numbered m) all)
+    ∙ naming_numbered m n ledger rs ids (preorder q)
+    ∙ ap (λ (z : List Reference). has_number m (naming n ledger z ids (preorder q))) references
+    ∙ ap (λ (z : List ℕ). has_number m (naming n ledger (resolve q) z (preorder q))) identifiers
 
-  any_numbered : (cs : List Identified) → any_names ledger there rs ss (numbered m ts) (numbered m us) cs m ≡ any_names ledger there rs ss ts us cs m
-  any_numbered [] = refl
-  any_numbered (c ∷ cs) =
-      ap (λ b. b || any_names ledger there rs ss (numbered m ts) (numbered m us) cs m) (both_numbered c)
-      ∙ ap (λ b. names_both ledger there rs ss ts us c m || b) (any_numbered cs)
-
-  pub any_by_number : (xs ys : List Tree) (cs : List Identified) → xs ≡ numbered m ts → ys ≡ numbered m us → any_names ledger there rs ss xs ys cs m ≡ any_names ledger there rs ss ts us cs m
-  any_by_number xs ys cs of_source of_lowered = rw (of_source, of_lowered) (any_numbered cs)
-
-module _ (first : ℕ) (ledger : List LedgerEntry) (p q : Tree) where
-  named_by : (m : ℕ) (ns : List ℕ) → any_names ledger [] (resolve p) (resolve q) (preorder p) (preorder q) (map (identified first (preorder p) (preorder q)) ns) m ≡ names_one_class first ledger p q ns m
-  named_by m [] = refl
-  named_by m (n ∷ ns) = ap (λ b. names_both ledger [] (resolve p) (resolve q) (preorder p) (preorder q) (identified first (preorder p) (preorder q) n) m || b) (named_by m ns)
-
-  stay_by : (ns : List ℕ) → staying ledger [] (resolve p) (resolve q) (preorder p) (preorder q) (map (identified first (preorder p) (preorder q)) (class_numbers (preorder p))) ns ≡ which_stay first ledger p q (resolve p) (resolve q) ns
-  stay_by [] = refl
-  stay_by (n ∷ ns) =
-      ap (λ b. cond (means_the_same (referent_of n (resolve p)) (referent_of n (resolve q)) || b) (n ∷ []) [] ++ staying ledger [] (resolve p) (resolve q) (preorder p) (preorder q) (map (identified first (preorder p) (preorder q)) (class_numbers (preorder p))) ns) (named_by n (class_numbers (preorder p)))
-      ∙ ap (λ ks. cond (means_the_same (referent_of n (resolve p)) (referent_of n (resolve q)) || names_one_class first ledger p q (class_numbers (preorder p)) n) (n ∷ []) [] ++ ks) (stay_by ns)
-
-  pub keys_stay : (rs ss : List Reference) (ts us : List Tree) (cs : List Identified) (ns : List ℕ) → rs ≡ resolve p → ss ≡ resolve q → ts ≡ preorder p → us ≡ preorder q → cs ≡ map (identified first (preorder p) (preorder q)) (class_numbers (preorder p)) → ns ≡ computed_keys (preorder p) → staying ledger [] rs ss ts us cs ns ≡ keys_that_stay first ledger p q
-  keys_stay rs ss ts us cs ns of_source of_lowered nodes more_nodes of_classes of_keys = rw (of_keys, of_classes, more_nodes, nodes, of_lowered, of_source) (stay_by (computed_keys (preorder p)))
+-- the keys of a source that stay, by what is the same
+pub keys_stay : (first k : ℕ) (ledger es : List LedgerEntry) (p q r s : Tree) (ns ms : List ℕ) → k ≡ first → es ≡ ledger → r ≡ p → s ≡ q → ns ≡ ms
+    → which_stay k es r s (resolve r) (resolve s) ns ≡ which_stay first ledger p q (resolve p) (resolve q) ms
+keys_stay first k ledger es p q r s ns ms firsts entries sources targets keys =
+    ap (λ (z : ℕ). which_stay z es r s (resolve r) (resolve s) ns) firsts
+    ∙ ap (λ (z : List LedgerEntry). which_stay first z r s (resolve r) (resolve s) ns) entries
+    ∙ ap (λ (z : Tree). which_stay first ledger z s (resolve z) (resolve s) ns) sources
+    ∙ ap (λ (z : Tree). which_stay first ledger p z (resolve p) (resolve z) ns) targets
+    ∙ ap (which_stay first ledger p q (resolve p) (resolve q)) keys

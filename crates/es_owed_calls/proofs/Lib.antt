@@ -6,6 +6,7 @@ pub mod KeyNames
 pub mod Keys
 pub mod NamingNodes
 pub mod Results
+pub mod SourceClasses
 pub mod SpelledNodes
 pub mod StaticKeys
 pub mod TellingNodes

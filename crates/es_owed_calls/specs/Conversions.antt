@@ -14,7 +14,7 @@ use Rattle.es_steps.specs.Printable.{name_of_part}
 use Rattle.es_steps.specs.Values.{String}
 
 abbrev pub conversions_view : code.Conversions → Conversions
-conversions_view x = record { naming = x.naming.items; converted = strings x.converted.items; privates = strings x.privates.items }
+conversions_view x = record { naming = x.naming; converted = strings x.converted.items; privates = strings x.privates.items }
 
 abbrev pub new_private_name : ℕ → List LedgerEntry → Tree → List String
 new_private_name first ledger (Node Kind.PropertyDefinition m span semantic_id ps) = cond (is_new_private first ledger (at 0 ps)) (name_of_part (at 0 ps) ∷ []) []

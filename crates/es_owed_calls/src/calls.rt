@@ -18,7 +18,7 @@ use crate::terms::CallTerms;
 use es_base::kind::Kind;
 use es_base::literal::LiteralValue;
 use es_base::strings::is_among;
-use es_generated::numbers::{has_number, is_new};
+use es_generated::numbers::is_new;
 use es_node::node::{Node, Part};
 use es_tree::class::PropertyDefinitionRef;
 use es_tree::expression::{CallExpressionRef, PrivateFieldRef, PropertyRef, SequenceExpressionRef};
@@ -78,7 +78,7 @@ fn may_be_named(
 {
     match named.kind() {
         // babelHelpers.setFunctionName(this, 'x')
-        Kind::ThisExpression => Ok(has_number(number, facts.conversions.naming.as_slice())),
+        Kind::ThisExpression => Ok(facts.conversions.naming.has(number)),
         _ => is_nameless(alloc, &facts.terms, named),
     }
 }

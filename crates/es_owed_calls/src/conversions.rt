@@ -12,6 +12,7 @@ ghost use Rattle.es_owed_calls.specs.Strings.{if_string, strings};
 
 use crate::helper::is_key_conversion;
 use crate::naming::naming_calls;
+use crate::number_set::NumberSet;
 use crate::spelled::{add_name, generated_spelling};
 use crate::terms::CallTerms;
 use es_base::kind::Kind;
@@ -27,7 +28,7 @@ use std::alloc::{AllocError, Global};
 #[derive(Drop)]
 pub struct Conversions<'a> {
     /// The numbers of the calls that name classes by `this`.
-    pub naming: Vec<u32>,
+    pub naming: NumberSet,
     /// The generated names that are given a converted key.
     pub converted: Vec<&'a str>,
     /// The private names that are new.
@@ -42,7 +43,8 @@ pub fn conversions_in<'a>(
 ) -> Result<Conversions<'a>, AllocError>
     ensures { IfOk result (λ x. conversions_view x ≡ spec.conversions terms.now.first terms.now.ledger.now (seen nodes.now)) }
 {
-    let naming = naming_calls(alloc, terms, nodes)?;
+    let numbers = naming_calls(alloc, terms, nodes)?;
+    let naming = NumberSet::of(alloc, numbers)?;
     let converted = converted_keys(alloc, terms, nodes)?;
     let privates = new_private_names(alloc, terms, nodes)?;
     Ok(Conversions {

@@ -7,6 +7,7 @@ ghost use Rattle.es_lowered.specs.KeptKeys as kept;
 use crate::calls::{CallFacts, calls_fit};
 use crate::conversions::conversions_in;
 use crate::kept_keys::keys_that_stay;
+use crate::number_set::NumberSet;
 use crate::terms::CallTerms;
 use es_base::ledger::LedgerEntry;
 use es_owed::listed::Listed;
@@ -24,11 +25,12 @@ pub fn helper_calls_fit(
 ) -> Result<bool, AllocError>
     ensures { IfOk result (λ holds. holds ≡ spec.helper_calls_fit first ledger.now (kept.keys_that_stay first ledger.now source.now.program.now lowered.now.program.now) lowered.now.program.now) }
 {
-    let keys = keys_that_stay(alloc, first, ledger, source, lowered)?;
+    let staying = keys_that_stay(alloc, first, ledger, source, lowered)?;
+    let keys = NumberSet::of(alloc, staying)?;
     let terms = CallTerms {
         first,
         ledger,
-        keys: keys.as_slice(),
+        keys: &keys,
     };
     let conversions = conversions_in(alloc, &terms, lowered.nodes.as_slice())?;
     let facts = CallFacts { terms, conversions };

@@ -1,48 +1,29 @@
 // The computed keys of a source that are in what it was lowered to what they were.
 
-ghost use Rattle.std.specs.Prelude.{◌≡◌, ◌++◌, ◌∷◌, ◌&&◌, ◌||◌, [], Some, cond, map, nat_eq, not, IfOk, OnOk};
-ghost use Rattle.es_base.specs.Preorder.{number_of, preorder};
-ghost use Rattle.es_base.specs.Tree.{child};
+ghost use Rattle.std.specs.Prelude.{◌≡◌, ◌&&◌, ◌||◌, ℕ, Some, IfOk};
+ghost use Rattle.es_base.specs.Preorder.{preorder};
 ghost use Rattle.es_binding_faults.specs.Seen.{seen};
 ghost use Rattle.es_lowered.specs.ClassNames as names;
 ghost use Rattle.es_lowered.specs.Definitions as definitions;
 ghost use Rattle.es_lowered.specs.KeptKeys as spec;
-ghost use Rattle.es_node.specs.View.{number_in};
 ghost use Rattle.es_references.specs.References.{reference_of, references_of};
 ghost use Rattle.es_steps.specs.LoweredClasses.{referent_of};
-ghost use Rattle.es_steps.specs.References.{has_number};
-ghost use Rattle.es_owed_calls.specs.KeptKeys.{any_names, identified, is_name, names_both, numbered, staying, stays, view};
+ghost use Rattle.es_steps.specs.References.{has_number, resolve};
+ghost use Rattle.es_owed_calls.specs.KeptKeys.{any_class, any_named, declared_by, is_name, naming_in, names_both};
 ghost use Rattle.es_owed_initialized.specs.Meanings.{referent_in};
 
 use crate::computed_keys::computed_keys;
+use crate::lowering::Lowering;
 use es_base::ledger::LedgerEntry;
 use es_base::strings::{is_word, spells};
+use es_grouped::Grouped;
 use es_node::node::Node;
 use es_owed::listed::Listed;
-use es_owed_initialized::class_names::{class_identifiers, names_class};
-use es_owed_initialized::inner::class_numbers;
-use es_owed_initialized::meaning::reference_at;
-use es_references::references::{Reference, references};
+use es_owed_initialized::class_names::names_class;
+use es_owed_initialized::kinds::is_class;
+use es_owed_initialized::meaning::Referents;
+use es_references::references::Reference;
 use std::alloc::{AllocError, Global};
-
-/// A program with the names that were generated for it, and its references.
-#[derive(Clone, Copy)]
-pub struct Resolved<'r, 'a> {
-    pub ledger: &'r [LedgerEntry],
-    /// Its nodes in preorder.
-    pub nodes: &'r [&'a Node],
-    pub references: &'r [Reference<'a>],
-}
-
-/// A class of a source with the identifiers that declare it.
-#[derive(Drop)]
-pub struct IdentifiedClass {
-    pub class: u32,
-    /// Those of the source.
-    pub source: Vec<u32>,
-    /// Those of what that was lowered to.
-    pub lowered: Vec<u32>,
-}
 
 /// The numbers of the computed keys of the source that are what they were in what it was lowered to: what was a name means what
 /// it meant, or is one of the same class. Fails on allocation failure alone.
@@ -56,116 +37,40 @@ pub fn keys_that_stay(
     ensures { IfOk result (λ keys. keys.items ≡ spec.keys_that_stay first ledger.now source.now.program.now lowered.now.program.now) }
 {
     let keys = computed_keys(alloc, source.nodes.as_slice())?;
-    let classes = classes_of(alloc, first, source, lowered)?;
-    let there = references(alloc, source.program)?;
-    let found = references(alloc, lowered.program)?;
-    let source = Resolved {
-        ledger: &[],
-        nodes: source.nodes.as_slice(),
-        references: there.as_slice(),
-    };
-    let lowered = Resolved {
-        ledger,
-        nodes: lowered.nodes.as_slice(),
-        references: found.as_slice(),
-    };
-    which_stay(alloc, source, lowered, classes.as_slice(), keys.as_slice())
-}
-
-// ---- classes
-
-/// The classes of the source with their identifiers. Fails on allocation failure alone.
-fn classes_of(
-    alloc: Global,
-    first: u32,
-    source: &Listed,
-    lowered: &Listed,
-) -> Result<Vec<IdentifiedClass>, AllocError>
-    ensures { IfOk result (λ classes. map view classes.items ≡ map (identified first (preorder source.now.program.now) (preorder lowered.now.program.now)) (names.class_numbers (preorder source.now.program.now))) }
-{
-    let numbers = class_numbers(alloc, source.nodes.as_slice())?;
-    identified_classes(
-        alloc,
-        first,
-        numbers.as_slice(),
-        source.nodes.as_slice(),
-        lowered.nodes.as_slice(),
-    )
-}
-
-/// These classes with their identifiers, by the nodes of both programs. Fails on allocation failure alone.
-fn identified_classes(
-    alloc: Global,
-    first: u32,
-    numbers: &[u32],
-    source: &[&Node],
-    lowered: &[&Node],
-) -> Result<Vec<IdentifiedClass>, AllocError>
-    ensures { IfOk result (λ classes. map view classes.items ≡ map (identified first (seen source.now) (seen lowered.now)) numbers.now) }
-{
-    let mut classes = Vec::new(alloc);
-    for class in numbers {
-        let identified = identified_class(alloc, first, *class, source, lowered)?;
-        classes.push(identified)?;
-    }
-    Ok(classes)
-}
-
-fn identified_class(
-    alloc: Global,
-    first: u32,
-    class: u32,
-    source: &[&Node],
-    lowered: &[&Node],
-) -> Result<IdentifiedClass, AllocError>
-    ensures { IfOk result (λ c. view c ≡ identified first (seen source.now) (seen lowered.now) class) }
-{
-    let source = class_identifiers(alloc, first, class, source)?;
-    let lowered = class_identifiers(alloc, first, class, lowered)?;
-    Ok(IdentifiedClass {
-        class,
-        source,
-        lowered,
-    })
+    let lowering = Lowering::of(alloc, first, ledger, source, lowered)?;
+    which_stay(alloc, &lowering, keys.as_slice())
 }
 
 // ---- keys
 
-fn which_stay(
-    alloc: Global,
-    source: Resolved,
-    lowered: Resolved,
-    classes: &[IdentifiedClass],
-    keys: &[u32],
-) -> Result<Vec<u32>, AllocError>
-    ensures { IfOk result (λ r. r.items ≡ staying lowered.entry.ledger.now source.entry.ledger.now (references_of source.entry.references.now) (references_of lowered.entry.references.now) (seen source.entry.nodes.now) (seen lowered.entry.nodes.now) (map view classes.now) keys.now) }
+fn which_stay(alloc: Global, lowering: &Lowering, keys: &[u32]) -> Result<Vec<u32>, AllocError>
+    ensures { IfOk result (λ r. r.items ≡ spec.which_stay lowering.now.first lowering.now.ledger.now lowering.now.source.now.program.now lowering.now.lowered.now.program.now (resolve lowering.now.source.now.program.now) (resolve lowering.now.lowered.now.program.now) keys.now) }
 {
     let mut staying = Vec::new(alloc);
     for key in keys {
-        if stays(alloc, source, lowered, classes, *key)? {
+        if stays(lowering, *key) {
             staying.push(*key)?;
         }
     }
     Ok(staying)
 }
 
-/// Whether the number is none of a name, or of one that means what it meant, or of one of a class. Fails on allocation failure
-/// alone.
-fn stays(
-    alloc: Global,
-    source: Resolved,
-    lowered: Resolved,
-    classes: &[IdentifiedClass],
-    key: u32,
-) -> Result<bool, AllocError>
-    ensures { IfOk result (λ holds. holds ≡ stays lowered.entry.ledger.now source.entry.ledger.now (references_of source.entry.references.now) (references_of lowered.entry.references.now) (seen source.entry.nodes.now) (seen lowered.entry.nodes.now) (map view classes.now) key) }
+/// Whether the number is none of a name, or of one that means what it meant, or of one of a class.
+fn stays(lowering: &Lowering, key: u32) -> bool
+    ensures { result ≡ (spec.means_the_same (referent_of key (resolve lowering.now.source.now.program.now)) (referent_of key (resolve lowering.now.lowered.now.program.now))
+        || spec.names_one_class lowering.now.first lowering.now.ledger.now lowering.now.source.now.program.now lowering.now.lowered.now.program.now (names.class_numbers (preorder lowering.now.source.now.program.now)) key) }
 {
-    let there = reference_at(key, source.references);
-    let found = reference_at(key, lowered.references);
-    if means_the_same(there, found) {
-        return Ok(true);
-    }
-    names_one_class(alloc, source, lowered, classes, key)
+    still_means(lowering, key) || names_one_class(lowering, key)
+}
+
+/// Whether the number is none of a name, or of one that means what it meant.
+fn still_means(lowering: &Lowering, key: u32) -> bool
+    ensures { result ≡ spec.means_the_same (referent_of key (resolve lowering.now.source.now.program.now)) (referent_of key (resolve lowering.now.lowered.now.program.now)) }
+{
+    means_the_same(
+        lowering.source_references.at(key),
+        lowering.lowered_references.at(key),
+    )
 }
 
 /// What was no name is none; a free `arguments` may be that of another function.
@@ -198,35 +103,69 @@ fn means(there: Reference, found: Reference) -> bool
 
 // ---- names of classes
 
-/// Whether nodes of this number are names of one class in both programs. Fails on allocation failure alone.
-fn names_one_class(
-    alloc: Global,
-    source: Resolved,
-    lowered: Resolved,
-    classes: &[IdentifiedClass],
-    number: u32,
-) -> Result<bool, AllocError>
-    ensures { IfOk result (λ holds. holds ≡ any_names lowered.entry.ledger.now source.entry.ledger.now (references_of source.entry.references.now) (references_of lowered.entry.references.now) (seen source.entry.nodes.now) (seen lowered.entry.nodes.now) (map view classes.now) number) }
+/// Whether nodes of this number are names of one class in both programs: of the source, that is one of those that the identifier
+/// which a reference of this number means declares.
+fn names_one_class(lowering: &Lowering, number: u32) -> bool
+    ensures { result ≡ spec.names_one_class lowering.now.first lowering.now.ledger.now lowering.now.source.now.program.now lowering.now.lowered.now.program.now (names.class_numbers (preorder lowering.now.source.now.program.now)) number }
 {
-    let in_source = nodes_numbered(alloc, number, source.nodes)?;
-    let in_lowered = nodes_numbered(alloc, number, lowered.nodes)?;
-    let there = Resolved {
-        nodes: in_source.as_slice(),
-        ..source
-    };
-    let found = Resolved {
-        nodes: in_lowered.as_slice(),
-        ..lowered
-    };
-    Ok(any_names(there, found, classes, number))
+    any_names(lowering, classes_meant(lowering, number), number)
 }
 
-/// Whether nodes of this number are names of one of these classes in both programs.
-fn any_names(source: Resolved, lowered: Resolved, classes: &[IdentifiedClass], number: u32) -> bool
-    ensures { result ≡ any_names lowered.entry.ledger.now source.entry.ledger.now (references_of source.entry.references.now) (references_of lowered.entry.references.now) (seen source.entry.nodes.now) (seen lowered.entry.nodes.now) (map view classes.now) number }
+/// The classes of the source that what a reference of this number means declares.
+fn classes_meant<'l>(lowering: &'l Lowering, number: u32) -> &'l [u32]
+    ensures { (n : ℕ) → has_number n result.now ≡ definitions.is_bound_among (definitions.class_identifiers lowering.now.first n (preorder lowering.now.source.now.program.now)) (referent_of number (resolve lowering.now.source.now.program.now)) }
+{
+    declared_by(
+        &lowering.source_classes,
+        lowering.source_references.at(number),
+    )
+}
+
+/// The classes that what the reference means declares.
+fn declared_by<'l>(classes: &'l Grouped<u32>, reference: Option<Reference>) -> &'l [u32]
+    ensures { result.now ≡ declared_by classes.now (referent_in reference.entry) }
+{
+    match reference {
+        Some(reference) => bound_to(classes, reference),
+        None => &[],
+    }
+}
+
+fn bound_to<'l>(classes: &'l Grouped<u32>, reference: Reference) -> &'l [u32]
+    ensures { result.now ≡ declared_by classes.now (Some (reference_of reference.entry).to) }
+{
+    match reference.binding {
+        Some(binding) => classes.get(binding.0),
+        None => &[],
+    }
+}
+
+/// Whether one of these is a class of the source, and nodes of this number are names of it in both programs.
+fn any_names(lowering: &Lowering, classes: &[u32], number: u32) -> bool
+    ensures { result ≡ any_named lowering.now.first lowering.now.ledger.now lowering.now.source.now.program.now lowering.now.lowered.now.program.now classes.now number }
 {
     for class in classes {
-        if names_both(source, lowered, class, number) {
+        if is_source_class(lowering, *class) && names_both(lowering, *class, number) {
+            return true;
+        }
+    }
+    false
+}
+
+/// Whether this is the number of a class of the source.
+fn is_source_class(lowering: &Lowering, class: u32) -> bool
+    ensures { result ≡ has_number class (names.class_numbers (preorder lowering.now.source.now.program.now)) }
+{
+    any_class(lowering.source.numbered(class))
+}
+
+/// Whether one of these nodes is a class.
+#[tactic(auto, using(crate::proofs::SourceClasses::class_more))]
+fn any_class(nodes: &[&Node]) -> bool
+    ensures { result ≡ any_class (seen nodes.now) }
+{
+    for node in nodes {
+        if is_class(node.kind()) {
             return true;
         }
     }
@@ -234,46 +173,51 @@ fn any_names(source: Resolved, lowered: Resolved, classes: &[IdentifiedClass], n
 }
 
 /// Whether nodes of this number are names of this class in both programs.
-fn names_both(source: Resolved, lowered: Resolved, class: &IdentifiedClass, number: u32) -> bool
-    ensures { result ≡ names_both lowered.entry.ledger.now source.entry.ledger.now (references_of source.entry.references.now) (references_of lowered.entry.references.now) (seen source.entry.nodes.now) (seen lowered.entry.nodes.now) (view class.now) number }
+fn names_both(lowering: &Lowering, class: u32, number: u32) -> bool
+    ensures { result ≡ names_both lowering.now.first lowering.now.ledger.now lowering.now.source.now.program.now lowering.now.lowered.now.program.now class number }
 {
-    is_naming(source, class.class, class.source.as_slice(), number)
-        && is_naming(lowered, class.class, class.lowered.as_slice(), number)
+    names_in_source(lowering, class, number) && names_in_lowered(lowering, class, number)
 }
 
-/// The nodes of this number. Fails on allocation failure alone.
-fn nodes_numbered<'a>(
-    alloc: Global,
-    number: u32,
-    nodes: &[&'a Node],
-) -> Result<Vec<&'a Node>, AllocError>
-    ensures { IfOk result (λ r. seen r.items ≡ numbered number (seen nodes.now)) }
+/// Whether a node of the source of this number is a name of this class that is not written.
+fn names_in_source(lowering: &Lowering, class: u32, number: u32) -> bool
+    ensures { result ≡ has_number number (names.naming_in_source lowering.now.first class lowering.now.source.now.program.now) }
 {
-    let mut found = Vec::new(alloc);
-    for node in nodes {
-        add_if(number, node, &mut found)?;
-    }
-    Ok(found)
+    let source = Resolved {
+        ledger: &[],
+        references: &lowering.source_references,
+        identifiers: lowering.source_identifiers.get(class),
+    };
+    is_naming(source, class, number, lowering.source.numbered(number))
 }
 
-#[tactic(auto, using(es_owed::proofs::Nodes::number_of_node))]
-fn add_if<'a>(number: u32, node: &'a Node, found: &mut Vec<&'a Node>) -> Result<(), AllocError>
-    ensures { OnOk result (seen found.new.items ≡ seen found.old.items ++ cond (nat_eq number (number_of node.now)) (node.now ∷ []) []) }
+/// The same in what that was lowered to.
+fn names_in_lowered(lowering: &Lowering, class: u32, number: u32) -> bool
+    ensures { result ≡ has_number number (naming_in lowering.now.first lowering.now.ledger.now lowering.now.lowered.now.program.now class) }
 {
-    if number == node.node_id().0 {
-        found.push(node)?;
-    }
-    Ok(())
+    let lowered = Resolved {
+        ledger: lowering.ledger,
+        references: &lowering.lowered_references,
+        identifiers: lowering.lowered_identifiers.get(class),
+    };
+    is_naming(lowered, class, number, lowering.lowered.numbered(number))
 }
 
-/// Whether a node of the program has this number, and is a name of the class that is not written.
+/// The references of a program, and the names by which it has a class.
+#[derive(Clone, Copy)]
+struct Resolved<'r, 'a> {
+    ledger: &'r [LedgerEntry],
+    references: &'r Referents<'a>,
+    identifiers: &'r [u32],
+}
+
+/// Whether one of these nodes has this number, and is a name of the class that is not written.
 #[tactic(auto, using(crate::proofs::KeyNames::naming_more))]
-fn is_naming(program: Resolved, class: u32, identifiers: &[u32], number: u32) -> bool
-    ensures { result ≡ has_number number (names.naming class program.entry.ledger.now (references_of program.entry.references.now) identifiers.now (seen program.entry.nodes.now)) }
+fn is_naming(program: Resolved, class: u32, number: u32, nodes: &[&Node]) -> bool
+    ensures { result ≡ has_number number (names.naming class program.entry.ledger.now (references_of program.entry.references.now.list.items) program.entry.identifiers.now (seen nodes.now)) }
 {
-    let nodes = program.nodes;
     for node in nodes {
-        if is_name(program, class, identifiers, number, node) {
+        if is_name(program, class, number, node) {
             return true;
         }
     }
@@ -281,21 +225,15 @@ fn is_naming(program: Resolved, class: u32, identifiers: &[u32], number: u32) ->
 }
 
 #[tactic(auto, using(es_owed::proofs::Nodes::number_of_node))]
-fn is_name(program: Resolved, class: u32, identifiers: &[u32], number: u32, node: &Node) -> bool
-    ensures { result ≡ is_name number class program.entry.ledger.now (references_of program.entry.references.now) identifiers.now node.now }
+fn is_name(program: Resolved, class: u32, number: u32, node: &Node) -> bool
+    ensures { result ≡ is_name number class program.entry.ledger.now (references_of program.entry.references.now.list.items) program.entry.identifiers.now node.now }
 {
     number == node.node_id().0
-        && (names_class(class, program.ledger, program.references, identifiers, node)
-            && !is_written_at(number, program.references))
-}
-
-fn is_written_at(number: u32, references: &[Reference]) -> bool
-    ensures { result ≡ names.is_written_at number (references_of references.now) }
-{
-    for reference in references {
-        if number == reference.node.0 && reference.writes {
-            return true;
-        }
-    }
-    false
+        && (names_class(
+            class,
+            program.ledger,
+            program.references,
+            program.identifiers,
+            node,
+        ) && !program.references.is_written_at(number))
 }

@@ -15,7 +15,6 @@ use crate::tells::tells;
 use crate::terms::CallTerms;
 use es_base::kind::Kind;
 use es_base::strings::is_word;
-use es_generated::numbers::has_number;
 use es_node::node::Node;
 use es_owed_initialized::spelling::spelling;
 use es_shapes::walk::{NodeTest, any_of_list};
@@ -27,7 +26,7 @@ pub fn is_key(terms: &CallTerms, node: &Node) -> bool
     ensures by_kind { result ≡ spec.is_key terms.now.first terms.now.ledger.now terms.now.keys.now (kind_of node.now) (number_in node.now) (parts_in node.now) }
     ensures as_part { result ≡ spec.is_key_part terms.now.first terms.now.ledger.now terms.now.keys.now (child node.now) }
 {
-    has_number(node.node_id().0, terms.keys) && tells(terms, node)
+    terms.keys.has(node.node_id().0) && tells(terms, node)
 }
 
 // ---- lists of nodes

@@ -1,5 +1,6 @@
 // What calls of helpers are read by.
 
+use crate::number_set::NumberSet;
 use es_base::ledger::LedgerEntry;
 
 /// What calls of helpers are read by.
@@ -10,5 +11,5 @@ pub struct CallTerms<'a> {
     /// The generated names.
     pub ledger: &'a [LedgerEntry],
     /// The computed keys of the source that are what they were.
-    pub keys: &'a [u32],
+    pub keys: &'a NumberSet,
 }

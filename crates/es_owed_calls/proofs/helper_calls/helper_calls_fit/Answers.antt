@@ -14,10 +14,10 @@ returns c =
     let ledger = c.args.ledger.now in
     let p = c.args.source.now.program.now in
     let q = c.args.lowered.now.program.now in
-    let keys : c.as_slice.result.now ≡ keys_that_stay first ledger p q = c.as_slice.ensures.value ∙ c.in_ok-keys.ensures in
-    let known : conversions_view c.in_ok-conversions.conversions ≡ conversions first ledger (preorder q) = c.in_ok-conversions.ensures ∙ ap (λ ns. conversions first ledger (seen ns)) c.as_slice-2.ensures.value ∙ ap (conversions first ledger) c.args.lowered.now.in_preorder in
+    let keys : c.in_ok-keys.keys ≡ keys_that_stay first ledger p q = c.in_ok-keys.ensures ∙ c.in_ok-staying.ensures in
+    let known : conversions_view c.in_ok-conversions.conversions ≡ conversions first ledger (preorder q) = c.in_ok-conversions.ensures ∙ ap (λ ns. conversions first ledger (seen ns)) c.as_slice.ensures.value ∙ ap (conversions first ledger) c.args.lowered.now.in_preorder in
     IfOk-same c.calls_fit.result (λ holds. holds)
-    (calls_fit first ledger c.as_slice.result.now (conversions_view c.in_ok-conversions.conversions) [] q)
+    (calls_fit first ledger c.in_ok-keys.keys (conversions_view c.in_ok-conversions.conversions) [] q)
     (helper_calls_fit first ledger (keys_that_stay first ledger p q) q)
-    (fit_by first ledger c.as_slice.result.now (keys_that_stay first ledger p q) (conversions_view c.in_ok-conversions.conversions) q keys known)
+    (fit_by first ledger c.in_ok-keys.keys (keys_that_stay first ledger p q) (conversions_view c.in_ok-conversions.conversions) q keys known)
     c.calls_fit.ensures

@@ -1,14 +1,8 @@
-use Rattle.std.proofs.Common.{◌∙◌, ap}
-use Rattle.std.specs.Prelude.{map}
-use Rattle.es_binding_faults.specs.Seen.{seen}
-use Rattle.es_references.specs.References.{references_of}
-use Rattle.es_owed_calls.specs.KeptKeys.{view}
-use Rattle.es_owed_calls.proofs.KeyNames.{any_by_number}
+use Rattle.std.proofs.Common.{◌∙◌}
+use Rattle.es_owed_calls.proofs.SourceClasses.{by_candidates}
 use Rattle.es_owed_calls.proofs.kept_keys.names_one_class.Goals as goal
 
 pub returns : goal.returns
 returns c =
-    let source = c.args.source in
-    let lowered = c.args.lowered in
-    c.any_names.ensures
-    ∙ any_by_number c.args.number lowered.ledger.now source.ledger.now (references_of source.references.now) (references_of lowered.references.now) (seen source.nodes.now) (seen lowered.nodes.now) (seen c.as_slice.result.now) (seen c.as_slice-2.result.now) (map view c.args.classes.now) (ap seen c.as_slice.ensures.value ∙ c.in_ok-in_source.ensures) (ap seen c.as_slice-2.ensures.value ∙ c.in_ok-in_lowered.ensures)
+    let x = c.args.lowering.now in
+    c.any_names.ensures ∙ by_candidates x.first x.ledger.now x.source.now.program.now x.lowered.now.program.now c.args.number c.classes_meant.result.now c.classes_meant.ensures
