@@ -1,21 +1,39 @@
 -- What the product lowers.
-use Rattle.std.specs.Prelude.{◌≡◌, ◌||◌, List, ℕ, Bool, false, is_none}
+use Rattle.std.specs.Prelude.{◌≡◌, ◌||◌, ◌⊎◌, List, ℕ, Bool, true, false, Option, Some, is_none}
 use Rattle.es_base.specs.Tree.{Tree}
 use Rattle.es_base.specs.declared.ledger.LedgerEntry.{LedgerEntry}
 use Rattle.es_steps.specs.LoweredClasses.{nothing_left}
 use Rattle.es_steps.specs.declared.options.Options.{Options}
+use Rattle.lower_io.specs.Causes.{Rose}
+use Rattle.lower_run.specs.FirstForm as first_form
 use Rattle.lower_run.specs.FirstForm.{not_yet_lowered}
 use Rattle.lower_run.specs.Lowering.{IsOwed, IsPlain}
-
--- what is made of a program: it owes nothing, and means what its source means where that has nothing to lower or no shape
-abbrev pub IsMade : Options → Tree → List ℕ → List LedgerEntry → Tree → Type 0
-IsMade o p foreign names q = IsOwed (IsPlain o p) o p names q
+use Rattle.lower_run.specs.Outcome.{IsOfValidProgram}
+use Rattle.lower_run.specs.declared.status.Status.{Status}
 
 -- the programs of which it is proved what they are lowered to: those with nothing to lower, and those of the first form where
 -- fields are defined
 abbrev pub is_proved : Options → Tree → List ℕ → Bool
 is_proved o p foreign = nothing_left o p || is_none (not_yet_lowered o p foreign)
 
+-- what is made of a program: it owes nothing, and means what its source means where that has nothing to lower or no shape; one of
+-- these has no generated name, and means what its source means
+pub record IsMade (o : Options) (p : Tree) (foreign : List ℕ) (names : List LedgerEntry) (q : Tree) : Type 0 where
+  pub owed : IsOwed (IsPlain o p) o p names q
+  pub proved : is_proved o p foreign ≡ true → first_form.IsMade o p foreign names q
+
 -- no other reason is told why a program is not lowered, but that it is none of these
 abbrev pub IsNotYet : Options → Tree → List ℕ → ℕ → Type 0
 IsNotYet o p foreign node = is_proved o p foreign ≡ false
+
+-- ---- completeness
+
+-- the bytes are JSON text of a valid program that is one of these
+pub record IsLowerable (o : Options) (b : List ℕ) : Type 0 where
+  pub program : IsOfValidProgram o b
+  pub proved : is_proved o program.p program.foreign ≡ true
+
+-- of such bytes, with arguments of the grammar, and where neither the source nor the sink failed, nothing is answered but that
+-- the tree was written, or that memory ran out
+abbrev pub IsComplete : Option Options → Option (List ℕ) → ℕ → ℕ → ℕ → ℕ → Status → Type 0
+IsComplete o left before now first last status = (options : Options) (b : List ℕ) → o ≡ Some options → left ≡ Some b → IsLowerable options b → ¬ Rose before now → ¬ Rose first last → (status ≡ Status.Done) ⊎ (status ≡ Status.NoMemory)

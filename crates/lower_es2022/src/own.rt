@@ -64,7 +64,7 @@ fn is_proved(
 }
 
 /// What a program of these is lowered to.
-#[tactic(auto, using(crate::proofs::Reasons::owed_where_plain, crate::proofs::Reasons::reason_of_form))]
+#[tactic(auto, using(crate::proofs::Reasons::made_of_form, crate::proofs::Reasons::reason_of_form))]
 fn lower_proved(
     alloc: Global,
     options: &Options,
@@ -88,7 +88,7 @@ fn lower_proved(
 }
 
 /// What another one is lowered to, if it is right.
-#[tactic(auto, using(crate::proofs::Reasons::reason_of_others))]
+#[tactic(auto, using(crate::proofs::Reasons::made_of_others, crate::proofs::Reasons::reason_of_others))]
 fn lower_judged(
     alloc: Global,
     options: &Options,
@@ -106,5 +106,8 @@ fn lower_judged(
     ensures declined { IfErr result (IsDeclined (IsNotYet options.now source (ids foreign.now))) }
 {
     let judged = Judged { lowering: &Classes };
-    judged.lower(alloc, options, source, foreign)
+    match judged.lower(alloc, options, source, foreign) {
+        Ok(lowered) => Ok(lowered),
+        Err(error) => Err(error),
+    }
 }

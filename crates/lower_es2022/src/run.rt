@@ -1,9 +1,8 @@
 // The run: from the bytes of a source to what a sink gets.
 
 ghost use Rattle.std.specs.Prelude.{◌≡◌, ◌≤◌, List, ℕ, Some, map, string_bytes};
-ghost use Rattle.lower_es2022.specs.Own.{IsMade, IsNotYet};
+ghost use Rattle.lower_es2022.specs.Own.{IsComplete, IsMade, IsNotYet};
 ghost use Rattle.lower_io.specs.Settings.{settings_of};
-ghost use Rattle.lower_run.specs.FirstForm.{IsComplete};
 ghost use Rattle.lower_run.specs.Outcome.{Cause, HasLowered, IsReadToEnd};
 ghost use Rattle.lower_run.specs.declared.status.Status.{Status};
 
@@ -20,10 +19,10 @@ use std::alloc::Global;
 /// With `Done` the source's tree is valid, and the sink has gained the compact JSON text of a lowered tree, with its generated
 /// names, the warnings and the shapes of the source, and a line feed: nothing that the options lower is left in that tree, every
 /// generated name has its declaration, and where the source has no shape, or nothing to lower, it means what the source means. A
-/// program that has nothing to lower, or is of the first form where fields are defined, is always lowered; of others that is not
-/// said. `NoMemory` comes before anything is written, `WriteFault` only where the sink failed, and then it has gained a part; with
-/// each other status it has gained a line that tells the cause. After `Done`, `NotATree` and `Refused` the source was read to its
-/// end.
+/// program that has nothing to lower, or is of the first form where fields are defined, is always lowered, and no name is generated
+/// for it; of others that is not said. `NoMemory` comes before anything is written, `WriteFault` only where the sink failed, and
+/// then it has gained a part; with each other status it has gained a line that tells the cause. After `Done`, `NotATree` and
+/// `Refused` the source was read to its end.
 pub fn run<S: Source, K: Sink>(
     alloc: Global,
     arguments: &[String],

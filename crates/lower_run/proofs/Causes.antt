@@ -1,18 +1,16 @@
 -- What follows from the cause of a status.
-use Rattle.std.proofs.Common.{inl, inr, ◌≡◌, refl, sym, ap, ap₂, ◌∙◌, subst, ℕ, ◌<◌, ◌≤◌, List, length, Option, Some, None, Result, Ok, Err, true, false, true≢false, arith}
+use Rattle.std.proofs.Common.{inl, inr, ◌≡◌, refl, sym, ap, ap₂, ◌∙◌, subst, ℕ, ◌<◌, ◌≤◌, List, length, Option, Some, None, Result, Ok, Err, true, arith}
 use Rattle.std.specs.Prelude.{◌⊎◌}
 use Rattle.es_base.specs.Tree.{Tree}
 use Rattle.es_reading.specs.Fault.{Fault, Read}
 use Rattle.es_reading.specs.Reading.{read, root}
 use Rattle.es_reading.specs.declared.numbers.Numbers.{Numbers}
-use Rattle.es_steps.specs.LoweredClasses.{nothing_left}
 use Rattle.es_steps.specs.declared.options.Options.{Options}
 use Rattle.es_validity.specs.Validity.{is_valid}
 use Rattle.es_validity.specs.declared.error.LowerError.{LowerError}
 use Rattle.lower_edge.proofs.Refusals.{valid-unrefused}
 use Rattle.lower_edge.specs.Ending.{IsRefusalText, IsWritten, Says, most_bytes}
 use Rattle.lower_io.specs.Held.{Extends}
-use Rattle.lower_run.specs.FirstForm.{IsComplete, IsNotYet, not_yet_lowered}
 use Rattle.lower_run.specs.Lowering.{Declining, Making}
 use Rattle.lower_run.specs.Outcome.{Cause, Complete, HasLowered, HasReason, IsAnswer, IsOfValidProgram, IsOutputOfBytes, IsRefused, edge_of}
 use Rattle.lower_run.specs.declared.status.Status.{Status}
@@ -101,20 +99,3 @@ module _ (Makes : Making) (Declines : Declining) where
         where
           whole : (o : Options) (text : List ℕ) → Says edge_of Output (Some o) (Some b) before now Status.Done text → Extends (Some old) (Some new) text → HasLowered Makes Declines (Some o) b old new
           whole o text output gained = record { options = o; arguments = refl; few = output.0; text = text; gained = gained; lowered = output.1 }
-
--- ---- completeness where the first form is lowered
-
--- where the first form alone is lowered, a program of that form is not refused
-never_declined : (o : Options) (p : Tree) (foreign : List ℕ) {B : Type 0} → (nothing_left o p ≡ true) ⊎ (not_yet_lowered o p foreign ≡ None) → HasReason (IsNotYet o p foreign) → B
-never_declined o p foreign (inl none) reason = absurd (true≢false (sym none ∙ reason.declined.0))
-never_declined o p foreign (inr none) reason = none_some (sym none ∙ reason.declined.1)
-
-done_or_not : (o : Options) (p : Tree) (foreign : List ℕ) (status : Status) → (nothing_left o p ≡ true) ⊎ (not_yet_lowered o p foreign ≡ None) → IsAnswer (IsNotYet o p foreign) status → (status ≡ Status.Done) ⊎ (status ≡ Status.NoMemory)
-done_or_not o p foreign Status.Done form answer = inl refl
-done_or_not o p foreign Status.NoMemory form answer = inr refl
-done_or_not o p foreign Status.Refused form answer = never_declined o p foreign form answer
-done_or_not o p foreign status form answer = absurd answer
-
-pub first_form-complete : (o : Option Options) (left : Option (List ℕ)) (before now first last : ℕ) (status : Status) → Complete IsNotYet o left before now first last status → IsComplete o left before now first last status
-first_form-complete o left before now first last status complete options b arguments told l unread unwritten =
-    done_or_not options l.program.p l.program.foreign status l.form (complete options b arguments told l.program unread unwritten)

@@ -1,4 +1,4 @@
--- What is lowered yet: programs with nothing to lower, and those of the first form where fields are defined.
+-- What is proved to be lowered: programs with nothing to lower, and those of the first form where fields are defined.
 use Rattle.std.specs.Prelude.{◌≡◌, List, [], ℕ, Option, Some, None, ◌⊎◌, true, false, cond}
 use Rattle.class_properties.specs.Options.{defines_fields}
 use Rattle.es_base.specs.Tree.{Tree}
@@ -7,10 +7,7 @@ use Rattle.es_left.specs.Left.{first_left}
 use Rattle.es_steps.specs.FirstForm.{not_yet, is_first_form}
 use Rattle.es_steps.specs.LoweredClasses.{nothing_left}
 use Rattle.es_steps.specs.declared.options.Options.{Options}
-use Rattle.lower_io.specs.Causes.{Rose}
 use Rattle.lower_run.specs.Lowering.{IsOwed}
-use Rattle.lower_run.specs.Outcome.{IsOfValidProgram}
-use Rattle.lower_run.specs.declared.status.Status.{Status}
 
 -- fields are defined, the program is of the first form, and none of its nodes has members outside the table
 abbrev pub IsOfForm : Options → Tree → List ℕ → Type 0
@@ -30,15 +27,3 @@ pub record IsMade (o : Options) (p : Tree) (foreign : List ℕ) (names : List Le
 -- why nothing is made of a program: it has something to lower, and is not lowered yet
 abbrev pub IsNotYet : Options → Tree → List ℕ → ℕ → Type 0
 IsNotYet o p foreign node = (nothing_left o p ≡ false) × (not_yet_lowered o p foreign ≡ Some node)
-
--- ---- completeness
-
--- the bytes are JSON text of a valid program that has nothing to lower under the options or is of the form
-pub record IsLowerable (o : Options) (b : List ℕ) : Type 0 where
-  pub program : IsOfValidProgram o b
-  pub form : (nothing_left o program.p ≡ true) ⊎ (not_yet_lowered o program.p program.foreign ≡ None)
-
--- of such bytes, with arguments of the grammar, and where neither the source nor the sink failed, nothing is answered but that
--- the tree was written, or that memory ran out
-abbrev pub IsComplete : Option Options → Option (List ℕ) → ℕ → ℕ → ℕ → ℕ → Status → Type 0
-IsComplete o left before now first last status = (options : Options) (b : List ℕ) → o ≡ Some options → left ≡ Some b → IsLowerable options b → ¬ Rose before now → ¬ Rose first last → (status ≡ Status.Done) ⊎ (status ≡ Status.NoMemory)

@@ -1,13 +1,11 @@
 // The run: from the bytes of a source to what a sink gets.
 
 ghost use Rattle.std.specs.Prelude.{◌≡◌, ◌≤◌, List, ℕ, Some, map, string_bytes};
-ghost use Rattle.lower_run.specs.FirstForm.{IsComplete, IsMade, IsNotYet};
 ghost use Rattle.lower_run.specs.Outcome.{Cause, Complete, HasLowered, IsReadToEnd};
 ghost use Rattle.lower_io.specs.Settings.{settings_of};
 ghost use Rattle.lower_run.specs.declared.status.Status.{Status};
 
 use crate::answer::answer;
-use crate::first_form::FirstForm;
 use crate::lowering::Lowers;
 use crate::status::Status;
 use es_steps::options::Options;
@@ -19,33 +17,14 @@ use lower_io::sink::Sink;
 use lower_io::source::Source;
 use std::alloc::{AllocError, Global};
 
-/// Reads the source to its end, lowers the tree that its bytes are, and writes the lowered tree, or why
-/// there is none, to the sink. The arguments are those of `read_settings`.
+/// Reads the source to its end, lowers the tree that its bytes are by a lowering, and writes the lowered tree, or why there is none,
+/// to the sink. The arguments are those of `read_settings`.
 ///
-/// With `Done` the source's tree has nothing to lower or is of the form that is lowered, and the sink has
-/// gained the compact JSON text of the lowered tree, with its names, warnings and shapes, and a line feed:
-/// nothing that the options lower is left in that tree, its new numbers are those of preorder, it means what
-/// the source's tree means, and it is that tree where there is nothing to lower. `NoMemory` comes before anything is written, `WriteFault`
-/// only where the sink failed, and then it has gained a part; with each other status it has gained a line
-/// that tells the cause. After `Done`, `NotATree` and `Refused` the source was read to its end.
-pub fn run<S: Source, K: Sink>(
-    alloc: Global,
-    arguments: &[String],
-    source: &mut S,
-    sink: &mut K,
-) -> Status
-    ensures done { result ≡ Status.Done → (b held now : List ℕ) → S.left source.old ≡ Some b → K.held sink.old ≡ Some held → K.held sink.new ≡ Some now → HasLowered IsMade IsNotYet (settings_of (map string_bytes arguments.now)) b held now }
-    ensures cause { Cause IsMade IsNotYet (settings_of (map string_bytes arguments.now)) (S.left source.old) (S.faults source.old) (S.faults source.new) (K.held sink.old) (K.held sink.new) (K.faults sink.old) (K.faults sink.new) result }
-    ensures complete { IsComplete (settings_of (map string_bytes arguments.now)) (S.left source.old) (S.faults source.old) (S.faults source.new) (K.faults sink.old) (K.faults sink.new) result }
-    ensures end { IsReadToEnd (S.left source.old) (S.left source.new) result }
-    ensures source_later { S.faults source.old ≤ S.faults source.new }
-    ensures sink_later { K.faults sink.old ≤ K.faults sink.new }
-{
-    run_by(alloc, &FirstForm, arguments, source, sink)
-}
-
-/// Reads the source to its end, lowers the tree that its bytes are by a lowering, and writes the lowered tree, or why
-/// there is none, to the sink, as `run` does.
+/// With `Done` the source's tree is valid, and the sink has gained the compact JSON text of what the lowering made of it, with its
+/// generated names, the warnings and the shapes of the source, and a line feed. `NoMemory` comes before anything is written,
+/// `WriteFault` only where the sink failed, and then it has gained a part; with each other status it has gained a line that tells
+/// the cause: with `Refused` a fault of the tree, or the node by which the lowering declined it. After `Done`, `NotATree` and
+/// `Refused` the source was read to its end.
 pub fn run_by<L: Lowers, S: Source, K: Sink>(
     alloc: Global,
     lowering: &L,

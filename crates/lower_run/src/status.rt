@@ -8,7 +8,7 @@ ghost use Rattle.lower_run.specs.Lines.{status_number};
 pub enum Status {
     /// The lowered tree was written.
     Done,
-    /// The tree is not of the form that is lowered yet.
+    /// The tree has a fault, or is not lowered yet.
     Refused,
     /// The arguments are not in the grammar.
     BadArguments,

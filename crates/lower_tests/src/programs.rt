@@ -60,6 +60,12 @@ pub fn one_field_lowered() -> &'static str {
 "#
 }
 
+/// `class C { constructor() { this.x = 1; } }`.
+pub fn one_field_set() -> &'static str {
+    r#"{"body":[{"body":{"body":[{"computed":false,"key":{"name":"constructor","node":8,"type":"Identifier"},"kind":"constructor","node":7,"static":false,"type":"MethodDefinition","value":{"async":false,"body":{"body":[{"expression":{"left":{"computed":false,"node":13,"object":{"node":14,"type":"ThisExpression"},"optional":false,"property":{"name":"x","node":15,"type":"Identifier"},"type":"MemberExpression"},"node":12,"operator":"=","right":{"node":6,"raw":"1","type":"Literal","value":null},"type":"AssignmentExpression"},"node":11,"type":"ExpressionStatement"}],"node":10,"type":"BlockStatement"},"generator":false,"id":null,"node":9,"params":[],"type":"FunctionExpression"}}],"node":3,"type":"ClassBody"},"id":{"name":"C","node":2,"type":"Identifier"},"node":1,"superClass":null,"type":"ClassDeclaration"}],"generated":[],"node":0,"outside":[],"sourceType":"script","type":"Program","warnings":[]}
+"#
+}
+
 /// `class C { x; y = z }`.
 pub fn two_fields() -> &'static str {
     r#"{"type":"Program","body":[{"type":"ClassDeclaration","id":{"type":"Identifier","name":"C"},"superClass":null,"body":{"type":"ClassBody","body":[{"type":"PropertyDefinition","static":false,"computed":false,"key":{"type":"Identifier","name":"x"},"value":null},{"type":"PropertyDefinition","static":false,"computed":false,"key":{"type":"Identifier","name":"y"},"value":{"type":"Identifier","name":"z"}}]}}],"sourceType":"script"}"#

@@ -7,12 +7,12 @@ use crate::arguments::arguments_of;
 use crate::programs::{
     awaits, awaits_warned, awaits_written, derived, derived_written, empty, empty_of_many_members,
     empty_written, no_field, no_field_written, one_field, one_field_kept, one_field_lowered,
-    two_awaits, two_awaits_warned, two_classes, two_classes_lowered, two_fields,
+    one_field_set, two_awaits, two_awaits_warned, two_classes, two_classes_lowered, two_fields,
     two_fields_lowered,
 };
+use lower_es2022::run::run;
 use lower_io::sink::{BytesSink, SureSink};
 use lower_io::source::{BytesSource, SureSource};
-use lower_run::run::run;
 use std::alloc::{AllocError, Global};
 use std::test::Fail;
 
@@ -237,7 +237,7 @@ fn programs_with_nothing_to_lower_stay(rt: HostRuntime) -> Result<(), Fail> {
 }
 
 #[test]
-fn fields_are_defined_or_not_lowered_yet(rt: HostRuntime) -> Result<(), Fail> {
+fn fields_are_defined_or_set(rt: HostRuntime) -> Result<(), Fail> {
     let alloc = rt.alloc();
     let defining = [
         "--class-properties\n--static-block\n",
@@ -262,7 +262,7 @@ fn fields_are_defined_or_not_lowered_yet(rt: HostRuntime) -> Result<(), Fail> {
     ];
     for arguments in setting {
         assert!(rt;
-            ends_so(alloc, arguments, one_field(), 1, "refused: NotYet at 4\n")?,
+            ends_so(alloc, arguments, one_field(), 0, one_field_set())?,
             "at {arguments}"
         );
     }

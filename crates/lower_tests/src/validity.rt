@@ -438,13 +438,13 @@ fn names_left_out() -> &'static [Case] {
         Case {
             text: r#"{"type":"Program","body":[{"type":"ClassDeclaration","id":{"type":"Identifier","name":"C"},"superClass":null,"body":{"type":"ClassBody","body":[{"type":"MethodDefinition","static":false,"computed":false,"key":{"type":"PrivateIdentifier","name":"m"},"kind":"method","value":{"type":"FunctionExpression","id":null,"generator":false,"async":false,"params":[],"body":{"type":"BlockStatement","body":[]}}}]}}],"sourceType":"script"}"#,
             arguments: LOWER,
-            line: "refused: NotYet at 4\n",
+            line: "refused: NotYet at 5\n",
         },
         // class C { #x; m(o) { #x in o; } }
         Case {
             text: r#"{"type":"Program","body":[{"type":"ClassDeclaration","id":{"type":"Identifier","name":"C"},"superClass":null,"body":{"type":"ClassBody","body":[{"type":"PropertyDefinition","static":false,"computed":false,"key":{"type":"PrivateIdentifier","name":"x"},"value":null},{"type":"MethodDefinition","static":false,"computed":false,"key":{"type":"Identifier","name":"m"},"kind":"method","value":{"type":"FunctionExpression","id":null,"generator":false,"async":false,"params":[{"type":"Identifier","name":"o"}],"body":{"type":"BlockStatement","body":[{"type":"ExpressionStatement","expression":{"type":"BinaryExpression","left":{"type":"PrivateIdentifier","name":"x"},"operator":"in","right":{"type":"Identifier","name":"o"}}}]}}}]}}],"sourceType":"script"}"#,
             arguments: LOWER,
-            line: "refused: NotYet at 4\n",
+            line: "refused: NotYet at 5\n",
         },
         // class C { static x = delete super.y; }
         Case {
@@ -462,7 +462,7 @@ fn supers_left_out() -> &'static [Case] {
         Case {
             text: r#"{"type":"Program","body":[{"type":"ClassDeclaration","id":{"type":"Identifier","name":"C"},"superClass":null,"body":{"type":"ClassBody","body":[{"type":"PropertyDefinition","static":false,"computed":false,"key":{"type":"Identifier","name":"x"},"value":{"type":"UnaryExpression","operator":"delete","prefix":true,"argument":{"type":"MemberExpression","object":{"type":"Super"},"property":{"type":"Identifier","name":"y"},"computed":false,"optional":false}}}]}}],"sourceType":"script"}"#,
             arguments: LOWER,
-            line: "refused: NotYet at 4\n",
+            line: "",
         },
         // class C { #m() { [super.x] = y; } }
         Case {
@@ -498,7 +498,7 @@ fn supers_left_out() -> &'static [Case] {
         Case {
             text: r#"{"type":"Program","body":[{"type":"ClassDeclaration","id":{"type":"Identifier","name":"C"},"superClass":{"type":"Identifier","name":"P"},"body":{"type":"ClassBody","body":[{"type":"PropertyDefinition","static":true,"computed":false,"key":{"type":"Identifier","name":"x"},"value":{"type":"MemberExpression","object":{"type":"Super"},"property":{"type":"Identifier","name":"y"},"computed":false,"optional":false}},{"type":"MethodDefinition","static":false,"computed":false,"key":{"type":"Identifier","name":"constructor"},"kind":"constructor","value":{"type":"FunctionExpression","id":null,"generator":false,"async":false,"params":[{"type":"AssignmentPattern","left":{"type":"Identifier","name":"a"},"right":{"type":"CallExpression","callee":{"type":"Super"},"arguments":[],"optional":false}}],"body":{"type":"BlockStatement","body":[]}}}]}}],"sourceType":"script"}"#,
             arguments: LOWER,
-            line: "refused: NotYet at 1\n",
+            line: "",
         },
         // with (a) return;
         Case {
@@ -720,11 +720,17 @@ fn left_to_come() -> &'static [Case] {
         Case {
             text: r#"{"type":"Program","body":[{"type":"ClassDeclaration","id":{"type":"Identifier","name":"C"},"superClass":{"type":"Identifier","name":"D"},"body":{"type":"ClassBody","body":[{"type":"PropertyDefinition","static":false,"computed":false,"key":{"type":"Identifier","name":"x"},"value":null}]}}],"sourceType":"script"}"#,
             arguments: LOWER,
-            line: "refused: NotYet at 1\n",
+            line: "",
         },
-        // class C extends D { x; }
+        // class C extends D { #x; }
         Case {
-            text: r#"{"type":"Program","body":[{"type":"ClassDeclaration","id":{"type":"Identifier","name":"C"},"superClass":{"type":"Identifier","name":"D"},"body":{"type":"ClassBody","body":[{"type":"PropertyDefinition","static":false,"computed":false,"key":{"type":"Identifier","name":"x"},"value":null}]}}],"sourceType":"script"}"#,
+            text: r#"{"type":"Program","body":[{"type":"ClassDeclaration","id":{"type":"Identifier","name":"C"},"superClass":{"type":"Identifier","name":"D"},"body":{"type":"ClassBody","body":[{"type":"PropertyDefinition","static":false,"computed":false,"key":{"type":"PrivateIdentifier","name":"x"},"value":null}]}}],"sourceType":"script"}"#,
+            arguments: LOWER,
+            line: "refused: NotYet at 6\n",
+        },
+        // class C extends D { #x; }
+        Case {
+            text: r#"{"type":"Program","body":[{"type":"ClassDeclaration","id":{"type":"Identifier","name":"C"},"superClass":{"type":"Identifier","name":"D"},"body":{"type":"ClassBody","body":[{"type":"PropertyDefinition","static":false,"computed":false,"key":{"type":"PrivateIdentifier","name":"x"},"value":null}]}}],"sourceType":"script"}"#,
             arguments: NONE,
             line: "",
         },
@@ -744,13 +750,13 @@ fn left_to_come() -> &'static [Case] {
         Case {
             text: r#"{"type":"Program","body":[{"type":"ClassDeclaration","id":{"type":"Identifier","name":"C"},"superClass":null,"body":{"type":"ClassBody","body":[{"type":"PropertyDefinition","static":false,"computed":false,"key":{"type":"Identifier","name":"x"},"value":{"type":"Literal","value":1,"raw":"1"}}]}}],"sourceType":"module"}"#,
             arguments: LOWER,
-            line: "refused: NotYet at 0\n",
+            line: "",
         },
         // a; class C { x = 1; }
         Case {
             text: r#"{"type":"Program","body":[{"type":"ExpressionStatement","expression":{"type":"Identifier","name":"a"}},{"type":"ClassDeclaration","id":{"type":"Identifier","name":"C"},"superClass":null,"body":{"type":"ClassBody","body":[{"type":"PropertyDefinition","static":false,"computed":false,"key":{"type":"Identifier","name":"x"},"value":{"type":"Literal","value":1,"raw":"1"}}]}}],"sourceType":"script"}"#,
             arguments: LOWER,
-            line: "refused: NotYet at 1\n",
+            line: "",
         },
     ]
 }
@@ -774,13 +780,13 @@ fn loose_privates() -> &'static [Case] {
         Case {
             text: r#"{"type":"Program","body":[{"type":"ClassDeclaration","id":{"type":"Identifier","name":"C"},"superClass":null,"body":{"type":"ClassBody","body":[{"type":"MethodDefinition","static":false,"computed":false,"key":{"type":"PrivateIdentifier","name":"m"},"kind":"method","value":{"type":"FunctionExpression","id":null,"expression":false,"generator":false,"async":false,"params":[],"body":{"type":"BlockStatement","body":[]}}}]}}],"sourceType":"script"}"#,
             arguments: LOWER,
-            line: "refused: NotYet at 4\n",
+            line: "refused: NotYet at 5\n",
         },
         // class C { #m = 1; }
         Case {
             text: r#"{"type":"Program","body":[{"type":"ClassDeclaration","id":{"type":"Identifier","name":"C"},"superClass":null,"body":{"type":"ClassBody","body":[{"type":"PropertyDefinition","static":false,"computed":false,"key":{"type":"PrivateIdentifier","name":"m"},"value":{"type":"Literal","value":1,"raw":"1"}}]}}],"sourceType":"script"}"#,
             arguments: LOOSE,
-            line: "refused: NotYet at 4\n",
+            line: "refused: NotYet at 5\n",
         },
         // class C { m() {} }
         Case {
@@ -804,7 +810,7 @@ fn loose_privates() -> &'static [Case] {
         Case {
             text: r#"{"type":"Program","body":[{"type":"ClassDeclaration","id":{"type":"Identifier","name":"C"},"superClass":null,"body":{"type":"ClassBody","body":[{"type":"PropertyDefinition","static":false,"computed":false,"key":{"type":"PrivateIdentifier","name":"x"},"value":null},{"type":"MethodDefinition","static":false,"computed":false,"key":{"type":"Identifier","name":"h"},"kind":"method","value":{"type":"FunctionExpression","id":null,"expression":false,"generator":false,"async":false,"params":[{"type":"Identifier","name":"o"}],"body":{"type":"BlockStatement","body":[{"type":"ReturnStatement","argument":{"type":"BinaryExpression","left":{"type":"PrivateIdentifier","name":"x"},"operator":"in","right":{"type":"Identifier","name":"o"}}}]}}}]}}],"sourceType":"script"}"#,
             arguments: LOWER,
-            line: "refused: NotYet at 4\n",
+            line: "refused: NotYet at 5\n",
         },
         // class C { h(o) { return x in o; } }
         Case {
@@ -816,7 +822,7 @@ fn loose_privates() -> &'static [Case] {
         Case {
             text: r#"{"type":"Program","body":[{"type":"ClassDeclaration","id":{"type":"Identifier","name":"C"},"superClass":null,"body":{"type":"ClassBody","body":[{"type":"MethodDefinition","static":false,"computed":false,"key":{"type":"Identifier","name":"h"},"kind":"method","value":{"type":"FunctionExpression","id":null,"expression":false,"generator":false,"async":false,"params":[{"type":"Identifier","name":"o"}],"body":{"type":"BlockStatement","body":[{"type":"ReturnStatement","argument":{"type":"BinaryExpression","left":{"type":"Identifier","name":"x"},"operator":"in","right":{"type":"Identifier","name":"o"}}}]}}},{"type":"PropertyDefinition","static":false,"computed":false,"key":{"type":"PrivateIdentifier","name":"x"},"value":null}]}}],"sourceType":"script"}"#,
             arguments: LOOSE,
-            line: "refused: NotYet at 13\n",
+            line: "refused: NotYet at 14\n",
         },
     ]
 }
@@ -846,7 +852,7 @@ fn supers_in_blocks() -> &'static [Case] {
         Case {
             text: r#"{"type":"Program","body":[{"type":"ClassDeclaration","id":{"type":"Identifier","name":"C"},"superClass":{"type":"Identifier","name":"P"},"body":{"type":"ClassBody","body":[{"type":"StaticBlock","body":[{"type":"ExpressionStatement","expression":{"type":"AssignmentExpression","operator":"=","left":{"type":"Identifier","name":"y"},"right":{"type":"MemberExpression","object":{"type":"Super"},"property":{"type":"Identifier","name":"x"},"computed":false,"optional":false}}}]}]}}],"sourceType":"script"}"#,
             arguments: BLOCKS,
-            line: "refused: NotYet at 1\n",
+            line: "",
         },
         // class C extends P { static { y = super.x; } }
         Case {
