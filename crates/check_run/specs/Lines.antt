@@ -11,9 +11,6 @@ agreed_line = line (codes "agreed")
 abbrev pub not_a_pair_line : List ℕ
 not_a_pair_line = line (codes "not a pair")
 
-abbrev pub too_deep_line : List ℕ
-too_deep_line = line (codes "too deep")
-
 -- The group of clauses that a clause is of: 2 what is left, 3 declarations of generated names, 4 other new declarations, 5 the
 -- values of generated names, 6 what stays of the source, 7 printing, 8 fields, other elements and calls of helpers. The first is
 -- that of numbers.

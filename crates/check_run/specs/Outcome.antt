@@ -2,7 +2,7 @@
 use Rattle.std.specs.Prelude.{◌≡◌, ◌≤◌, List, ◌++◌, ℕ, length, Option, Some, None, IsUtf8, ◌⊎◌, true}
 use Rattle.serde_json.specs.Data.{Data}
 use Rattle.serde_json.specs.Read.{read as read_text}
-use Rattle.check_run.specs.Lines.{agreed_line, differs_line, not_a_pair_line, too_deep_line}
+use Rattle.check_run.specs.Lines.{agreed_line, differs_line, not_a_pair_line}
 use Rattle.check_run.specs.Pair.{Pair, pair_in}
 use Rattle.check_run.specs.declared.status.CheckStatus.{CheckStatus}
 use Rattle.es_base.specs.declared.ids.NodeId.{NodeId}
@@ -11,6 +11,7 @@ use Rattle.es_validity.specs.Facts.{facts_of}
 use Rattle.es_validity.specs.Validity.{is_valid, IsRefusedBy}
 use Rattle.lower_edge.specs.Ending as ending
 use Rattle.lower_edge.specs.Ending.{most_bytes}
+use Rattle.lower_edge.specs.Lines.{too_deep_line}
 use Rattle.lower_edge.specs.Texts.{HasNoValue, IsTextOfValue}
 use Rattle.lower_edge.specs.declared.status.EdgeStatus.{EdgeStatus}
 use Rattle.lower_io.specs.Causes.{Rose}

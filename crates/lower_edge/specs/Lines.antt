@@ -16,6 +16,9 @@ read_fault_line = line (codes "read fault")
 abbrev pub too_long_line : List ℕ
 too_long_line = line (codes "too long")
 
+abbrev pub too_deep_line : List ℕ
+too_deep_line = line (codes "too deep")
+
 -- ---- refusals
 
 abbrev pub rule_name : TreeRule → List ℕ

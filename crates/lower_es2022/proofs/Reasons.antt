@@ -1,8 +1,9 @@
 -- What is made of programs, and of which there is no reason to decline them.
-use Rattle.std.proofs.Common.{inl, inr, ◌≡◌, sym, ap, ◌∙◌, List, ℕ, Bool, true, false, Option, Some, None, true≢false}
+use Rattle.std.proofs.Common.{inl, inr, ◌≡◌, sym, ap, ◌∙◌, List, ℕ, Bool, true, false, Option, Some, true≢false}
 use Rattle.std.specs.Prelude.{◌⊎◌, ◌||◌, is_none, refl}
 use Rattle.es_base.specs.Tree.{Tree}
 use Rattle.es_base.specs.declared.ledger.LedgerEntry.{LedgerEntry}
+use Rattle.es_lowering.specs.declared.lowering.Unlowered.{Unlowered}
 use Rattle.es_steps.specs.LoweredClasses.{nothing_left}
 use Rattle.es_steps.specs.declared.options.Options.{Options}
 use Rattle.lower_es2022.specs.Own.{IsComplete, IsMade, IsNotYet, is_proved}
@@ -10,7 +11,6 @@ use Rattle.lower_run.specs.FirstForm as first_form
 use Rattle.lower_run.specs.FirstForm.{not_yet_lowered}
 use Rattle.lower_run.specs.Lowering.{IsDeclined}
 use Rattle.lower_run.specs.Outcome.{Complete, IsAnswer}
-use Rattle.lower_run.specs.declared.lowering.Unlowered.{Unlowered}
 use Rattle.lower_run.specs.declared.status.Status.{Status}
 use Rattle.lower_with.specs.Judged as judged
 
@@ -29,6 +29,7 @@ made_of_others o p q foreign names unproved made = record { owed = made; proved 
 pub reason_of_others : (o : Options) (p : Tree) (foreign : List ℕ) (error : Unlowered) → is_proved o p foreign ≡ false → IsDeclined (IsNotYet o p foreign) error
 reason_of_others o p foreign Unlowered.NoMemory not = tt {0}
 reason_of_others o p foreign (Unlowered.NotYet node) not = not
+reason_of_others o p foreign Unlowered.TooDeep not = not
 
 both_false : (a b : Bool) → a ≡ false → b ≡ false → (a || b) ≡ false
 both_false false false e f = refl
@@ -42,12 +43,14 @@ some_is e = ap is_none e
 pub reason_of_form : (o : Options) (p : Tree) (foreign : List ℕ) (error : Unlowered) → IsDeclined (first_form.IsNotYet o p foreign) error → IsDeclined (IsNotYet o p foreign) error
 reason_of_form o p foreign Unlowered.NoMemory declined = tt {0}
 reason_of_form o p foreign (Unlowered.NotYet node) declined = both_false (nothing_left o p) (is_none (not_yet_lowered o p foreign)) declined.0 (some_is declined.1)
+reason_of_form o p foreign Unlowered.TooDeep declined = absurd declined
 
 -- a program that is among them is not declined
 done_or_not : (o : Options) (p : Tree) (foreign : List ℕ) (status : Status) → is_proved o p foreign ≡ true → IsAnswer (IsNotYet o p foreign) status → (status ≡ Status.Done) ⊎ (status ≡ Status.NoMemory)
 done_or_not o p foreign Status.Done proved answer = inl refl
 done_or_not o p foreign Status.NoMemory proved answer = inr refl
 done_or_not o p foreign Status.Refused proved answer = absurd (true≢false (sym proved ∙ answer.declined))
+done_or_not o p foreign Status.TooDeep proved answer = absurd (true≢false (sym proved ∙ answer))
 done_or_not o p foreign status proved answer = absurd answer
 
 pub proved_complete : (o : Option Options) (left : Option (List ℕ)) (before now first last : ℕ) (status : Status) → Complete IsNotYet o left before now first last status → IsComplete o left before now first last status

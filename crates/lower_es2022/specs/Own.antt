@@ -2,6 +2,7 @@
 use Rattle.std.specs.Prelude.{◌≡◌, ◌||◌, ◌⊎◌, List, ℕ, Bool, true, false, Option, Some, is_none}
 use Rattle.es_base.specs.Tree.{Tree}
 use Rattle.es_base.specs.declared.ledger.LedgerEntry.{LedgerEntry}
+use Rattle.es_lowering.specs.declared.lowering.Unlowered.{Unlowered}
 use Rattle.es_steps.specs.LoweredClasses.{nothing_left}
 use Rattle.es_steps.specs.declared.options.Options.{Options}
 use Rattle.lower_io.specs.Causes.{Rose}
@@ -23,8 +24,8 @@ pub record IsMade (o : Options) (p : Tree) (foreign : List ℕ) (names : List Le
   pub proved : is_proved o p foreign ≡ true → first_form.IsMade o p foreign names q
 
 -- no other reason is told why a program is not lowered, but that it is none of these
-abbrev pub IsNotYet : Options → Tree → List ℕ → ℕ → Type 0
-IsNotYet o p foreign node = is_proved o p foreign ≡ false
+abbrev pub IsNotYet : Options → Tree → List ℕ → Unlowered → Type 0
+IsNotYet o p foreign error = is_proved o p foreign ≡ false
 
 -- ---- completeness
 

@@ -2,11 +2,10 @@
 
 use es_base::ids::NodeId;
 use es_left::left::first_left;
+use es_lowering::lowering::{LoweredProgram, Lowering, Unlowered};
 use es_node::node::Node;
 use es_steps::options::Options;
 use es2022::lower::{LoweringError, lower};
-use lower_run::lowering::Unlowered;
-use lower_with::lowering::{LoweredProgram, Lowering};
 use std::alloc::Global;
 
 /// The lowering of class properties, where they are to be lowered (crate `es2022`).
@@ -14,6 +13,12 @@ use std::alloc::Global;
 pub struct Classes;
 
 impl Lowering for Classes {
+    ghost use Rattle.es_lowering.specs.Any.{DeclinesAny, MakesAny};
+
+    ghost makes = { MakesAny };
+
+    ghost declines = { DeclinesAny };
+
     fn lower(
         &self,
         alloc: Global,

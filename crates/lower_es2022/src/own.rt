@@ -13,10 +13,11 @@ ghost use Rattle.lower_run.specs.Lowering.{IsDeclined};
 use crate::classes::Classes;
 use es_base::ids::NodeId;
 use es_left::left::nothing_left;
+use es_lowering::lowering::Unlowered;
 use es_node::node::Node;
 use es_steps::options::Options;
 use lower_run::first_form::{FirstForm, not_yet_lowered};
-use lower_run::lowering::{Lowered, Lowers, Unlowered};
+use lower_run::lowering::{Lowered, Lowers};
 use lower_with::judged::Judged;
 use std::alloc::{AllocError, Global};
 

@@ -5,6 +5,7 @@ use Rattle.es_base.specs.Tree.{Tree}
 use Rattle.es_reading.specs.Fault.{Fault, Read}
 use Rattle.es_reading.specs.Reading.{read, root}
 use Rattle.es_reading.specs.declared.numbers.Numbers.{Numbers}
+use Rattle.es_lowering.specs.declared.lowering.Unlowered.{Unlowered}
 use Rattle.es_steps.specs.declared.options.Options.{Options}
 use Rattle.es_validity.specs.Validity.{is_valid}
 use Rattle.es_validity.specs.declared.error.LowerError.{LowerError}
@@ -55,7 +56,7 @@ module _ (Makes : Making) (Declines : Declining) where
 
   -- a valid program is refused for a reason to decline it
   has_reason : (o : Options) (p : Tree) (foreign : List ℕ) → is_valid o foreign p ≡ true → (error : LowerError) (text : List ℕ) → IsRefused Declines o p foreign error → IsRefusalText error text → HasReason (Declines o p foreign)
-  has_reason o p foreign valid (LowerError.NotYet node) text refused written = record { node = node.0; declined = refused.1 }
+  has_reason o p foreign valid (LowerError.NotYet node) text refused written = record { node = node; declined = refused.1 }
   has_reason o p foreign valid error text refused written = absurd (valid-unrefused o p foreign valid error text refused written)
 
   reason_of : (o : Options) (b : List ℕ) (l : IsOfValidProgram o b) (text : List ℕ) → Output o b Status.Refused text → HasReason (Declines o l.p l.foreign)
@@ -65,6 +66,12 @@ module _ (Makes : Making) (Declines : Declining) where
       subst (λ (p : Tree). HasReason (Declines o p l.foreign)) same.0
       (subst (λ (ns : List ℕ). HasReason (Declines o of.output.p ns)) same.1
       (has_reason o of.output.p of.output.foreign valid of.output.output.error text of.output.output.refused of.output.output.written))
+
+  deep_of : (o : Options) (b : List ℕ) (l : IsOfValidProgram o b) (text : List ℕ) → Output o b Status.TooDeep text → Declines o l.p l.foreign Unlowered.TooDeep
+  deep_of o b l text of =
+      let same = same_program o b l of.d of.output.p of.output.foreign of.value of.output.tree in
+      subst (λ (p : Tree). Declines o p l.foreign Unlowered.TooDeep) same.0
+      (subst (λ (ns : List ℕ). Declines o of.output.p ns Unlowered.TooDeep) same.1 of.output.output.0.1)
 
   no_want : (o : Options) (b : List ℕ) (l : IsOfValidProgram o b) (text : List ℕ) {B : Type 0} → Output o b Status.NotATree text → B
   no_want o b l text (inl none) = none_some (sym (none.0 l.utf8) ∙ l.value)
@@ -84,6 +91,7 @@ module _ (Makes : Making) (Declines : Declining) where
   cause-complete (Some o) None before now held after first last status c = λ options b arguments told l unread unwritten. none_some told
   cause-complete (Some o) (Some x) before now held after first last Status.TooLong c = λ options b arguments told l unread unwritten. too_many x b (same_some told) c.output.0 l.few
   cause-complete (Some o) (Some x) before now held after first last Status.Refused c = λ options b arguments told l unread unwritten. reason_of options b l c.text (moved o options x b Status.Refused c.text (same_some arguments) (same_some told) c.output.1)
+  cause-complete (Some o) (Some x) before now held after first last Status.TooDeep c = λ options b arguments told l unread unwritten. deep_of options b l c.text (moved o options x b Status.TooDeep c.text (same_some arguments) (same_some told) c.output.1)
   cause-complete (Some o) (Some x) before now held after first last Status.NotATree c = λ options b arguments told l unread unwritten. no_want options b l c.text (moved o options x b Status.NotATree c.text (same_some arguments) (same_some told) c.output.1)
 
   -- ---- the main statement

@@ -7,6 +7,7 @@ use Rattle.es_left.specs.Left.{first_left}
 use Rattle.es_steps.specs.FirstForm.{not_yet, is_first_form}
 use Rattle.es_steps.specs.LoweredClasses.{nothing_left}
 use Rattle.es_steps.specs.declared.options.Options.{Options}
+use Rattle.es_lowering.specs.declared.lowering.Unlowered.{Unlowered}
 use Rattle.lower_run.specs.Lowering.{IsOwed}
 
 -- fields are defined, the program is of the first form, and none of its nodes has members outside the table
@@ -25,5 +26,6 @@ pub record IsMade (o : Options) (p : Tree) (foreign : List ℕ) (names : List Le
   pub owed : IsOwed (Unit {0}) o p names q
 
 -- why nothing is made of a program: it has something to lower, and is not lowered yet
-abbrev pub IsNotYet : Options → Tree → List ℕ → ℕ → Type 0
-IsNotYet o p foreign node = (nothing_left o p ≡ false) × (not_yet_lowered o p foreign ≡ Some node)
+abbrev pub IsNotYet : Options → Tree → List ℕ → Unlowered → Type 0
+IsNotYet o p foreign (Unlowered.NotYet node) = (nothing_left o p ≡ false) × (not_yet_lowered o p foreign ≡ Some node.0)
+IsNotYet o p foreign error = ⊥

@@ -28,3 +28,4 @@ status_number Status.ReadFault = 4
 status_number Status.WriteFault = 5
 status_number Status.NoMemory = 6
 status_number Status.TooLong = 7
+status_number Status.TooDeep = 9

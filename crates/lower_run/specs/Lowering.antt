@@ -9,21 +9,21 @@ use Rattle.es_steps.specs.LoweredClasses.{nothing_left}
 use Rattle.es_steps.specs.Meaning.{has_meaning, lowered_means, source_means}
 use Rattle.es_steps.specs.Shapes.{shapes}
 use Rattle.es_steps.specs.declared.options.Options.{Options}
-use Rattle.lower_run.specs.declared.lowering.Unlowered.{Unlowered}
+use Rattle.es_lowering.specs.declared.lowering.Unlowered.{Unlowered}
 
 -- under options, of a program and the numbers of its nodes that have members outside the table: a program with these generated
 -- names
 abbrev pub Making : Type 1
 Making = Options → Tree → List ℕ → List LedgerEntry → Tree → Type 0
 
--- under options, of such a program: nothing, for a reason that the number of a node tells
+-- under options, of such a program: nothing, for this reason
 abbrev pub Declining : Type 1
-Declining = Options → Tree → List ℕ → ℕ → Type 0
+Declining = Options → Tree → List ℕ → Unlowered → Type 0
 
 -- why a valid program is not lowered, but for allocation failure
-abbrev pub IsDeclined : (ℕ → Type 0) → Unlowered → Type 0
+abbrev pub IsDeclined : (Unlowered → Type 0) → Unlowered → Type 0
 IsDeclined Declines Unlowered.NoMemory = Unit {0}
-IsDeclined Declines (Unlowered.NotYet node) = Declines node.0
+IsDeclined Declines error = Declines error
 
 -- what is owed of a program q, with these generated names, that p was lowered to: nothing that the options lower is left, every
 -- generated name has its declaration, a program with nothing to lower is unchanged; and where p is plain, q means what p means,

@@ -7,9 +7,11 @@ use Rattle.serde_json.specs.Written.{compact_text}
 use Rattle.es_base.specs.Conforms.{conforms}
 use Rattle.es_base.specs.Tree.{Tree}
 use Rattle.es_base.specs.declared.diagnostic.Diagnostic.{Diagnostic}
+use Rattle.es_base.specs.declared.ids.NodeId.{NodeId}
 use Rattle.es_base.specs.declared.ledger.LedgerEntry.{LedgerEntry}
 use Rattle.es_base.specs.declared.shape.Shape.{Shape}
 use Rattle.es_base.specs.declared.table.Place.{Place}
+use Rattle.es_lowering.specs.declared.lowering.Unlowered.{Unlowered}
 use Rattle.es_writing.specs.Kept.{IsKept}
 use Rattle.es_writing.specs.Lowered.{IsArranged, NamesFit, WarningsFit, WritesText, entry_cmp, write_lowered}
 use Rattle.es_reading.specs.Fault.{Fault, not_a_tree, float_at}
@@ -24,12 +26,13 @@ use Rattle.es_validity.specs.Validity.{is_valid, IsRefusedBy}
 use Rattle.es_validity.specs.declared.error.LowerError.{LowerError}
 use Rattle.lower_edge.specs.Ending as ending
 use Rattle.lower_edge.specs.Ending.{most_bytes}
-use Rattle.lower_edge.specs.Lines.{line}
+use Rattle.lower_edge.specs.Lines.{line, too_deep_line}
 use Rattle.lower_edge.specs.Texts.{HasNoValue, IsTextOfValue}
 use Rattle.lower_edge.specs.declared.status.EdgeStatus.{EdgeStatus}
 use Rattle.lower_io.specs.Causes.{Rose}
 use Rattle.lower_run.specs.Lines.{json_line, fault_line}
 use Rattle.lower_run.specs.Lowering.{Declining, Making}
+use Rattle.lower_run.specs.declared.answer.Untold.{Untold}
 use Rattle.lower_run.specs.declared.status.Status.{Status}
 
 -- ---- what is written of a program
@@ -59,17 +62,27 @@ pub record IsLoweredTree (Makes : Making) (o : Options) (p : Tree) (foreign : Li
 
 -- why a program is refused, but for allocation failure: it has a fault, or is too large, or is valid, and is declined
 abbrev pub IsRefused : Declining → Options → Tree → List ℕ → LowerError → Type 0
-IsRefused Declines o p foreign (LowerError.NotYet node) = (is_valid o foreign p ≡ true) × Declines o p foreign node.0
+IsRefused Declines o p foreign (LowerError.NotYet node) = (is_valid o foreign p ≡ true) × Declines o p foreign (Unlowered.NotYet node)
 IsRefused Declines o p foreign e = IsRefusedBy (facts_of p) o foreign p e
 
 -- the line of such an error
 abbrev pub IsRefusal : Declining → Options → Tree → List ℕ → List ℕ → Type 0
 IsRefusal Declines o p foreign text = ending.IsRefusal (IsRefused Declines o p foreign) text
 
+-- it is valid, and declined since codes stand in it too deep
+abbrev pub IsTooDeep : Declining → Options → Tree → List ℕ → Type 0
+IsTooDeep Declines o p foreign = (is_valid o foreign p ≡ true) × Declines o p foreign Unlowered.TooDeep
+
+-- why nothing is told of it
+abbrev pub IsUntold : Declining → Options → Tree → List ℕ → Untold → Type 0
+IsUntold Declines o p foreign (Untold.Refused error) = IsRefused Declines o p foreign error
+IsUntold Declines o p foreign Untold.TooDeep = IsTooDeep Declines o p foreign
+
 -- of a program, and its nodes that have members outside the table: what is lowered is valid
 abbrev pub IsOutputOfTree : Making → Declining → Options → Tree → List ℕ → Status → List ℕ → Type 0
 IsOutputOfTree Makes Declines o p foreign Status.Done text = (is_valid o foreign p ≡ true) × IsLoweredTree Makes o p foreign text
 IsOutputOfTree Makes Declines o p foreign Status.Refused text = IsRefusal Declines o p foreign text
+IsOutputOfTree Makes Declines o p foreign Status.TooDeep text = IsTooDeep Declines o p foreign × (text ≡ too_deep_line)
 IsOutputOfTree Makes Declines o p foreign status text = ⊥
 
 -- ---- of a value
@@ -142,15 +155,16 @@ pub record IsOfValidProgram (o : Options) (b : List ℕ) : Type 0 where
   pub valid : is_valid o foreign p ≡ true
 
 -- there is a reason, told by this node
-pub record HasReason (Declines : ℕ → Type 0) : Type 0 where
-  pub node : ℕ
-  pub declined : Declines node
+pub record HasReason (Declines : Unlowered → Type 0) : Type 0 where
+  pub node : NodeId
+  pub declined : Declines (Unlowered.NotYet node)
 
 -- what is answered of a valid program that is declined for these reasons
-abbrev pub IsAnswer : (ℕ → Type 0) → Status → Type 0
+abbrev pub IsAnswer : (Unlowered → Type 0) → Status → Type 0
 IsAnswer Declines Status.Done = Unit
 IsAnswer Declines Status.NoMemory = Unit
 IsAnswer Declines Status.Refused = HasReason Declines
+IsAnswer Declines Status.TooDeep = Declines Unlowered.TooDeep
 IsAnswer Declines status = ⊥
 
 -- of such bytes, with arguments of the grammar, and where neither the source nor the sink failed, nothing is answered but that

@@ -16,10 +16,10 @@ ghost use Rattle.es_shapes.specs.Warnings.{numbers};
 ghost use Rattle.es_steps.specs.Shapes.{shapes};
 ghost use Rattle.es_steps.specs.Told.{warnings_of};
 ghost use Rattle.lower_edge.specs.Ending.{most_bytes};
-ghost use Rattle.lower_run.specs.Outcome.{IsOutputOfBytes, IsOutputOfValue, IsOutputOfTree, IsLineOf, IsRefused, IsTextOf};
+ghost use Rattle.lower_run.specs.Outcome.{IsOutputOfBytes, IsOutputOfValue, IsOutputOfTree, IsLineOf, IsTextOf, IsUntold};
 
 use crate::lines::{float_line, not_a_tree_line};
-use crate::lowering::{Lowered, Lowers, Unlowered};
+use crate::lowering::{Lowered, Lowers};
 use crate::status::Status;
 use borrowed_json::parse::{ParseError, parse};
 use borrowed_json::value::Value;
@@ -27,6 +27,7 @@ use es_base::diagnostic::Diagnostic;
 use es_base::ids::NodeId;
 use es_base::list::List;
 use es_binding_faults::check::check_valid;
+use es_lowering::lowering::Unlowered;
 use es_node::node::Node;
 use es_reading::fault::ReadError;
 use es_reading::numbers::Numbers;
@@ -122,10 +123,11 @@ fn of_tree<L: Lowers>(
             status: Status::Done,
             text: text_of(alloc, told)?,
         }),
-        Err(error) => Ok(Output {
+        Err(Untold::Refused(error)) => Ok(Output {
             status: Status::Refused,
             text: refusal_line(alloc, error)?.into_bytes(),
         }),
+        Err(Untold::TooDeep) => output_with(alloc, Status::TooDeep, "too deep\n"),
     }
 }
 
@@ -136,6 +138,36 @@ struct Told {
     warnings: Vec<Diagnostic>,
 }
 
+/// Why a program is not lowered.
+#[derive(Clone, Copy)]
+enum Untold {
+    /// It has a fault, or is not lowered yet.
+    Refused(LowerError),
+    /// Codes stand in it too deep.
+    TooDeep,
+}
+
+impl From<LowerError> for Untold {
+    ghost use Rattle.lower_run.specs.declared.answer.Untold.{Untold};
+
+    ghost from_gives = { λ error untold. untold ≡ Untold.Refused error };
+
+    fn from(error: LowerError) -> Untold {
+        Untold::Refused(error)
+    }
+}
+
+impl From<AllocError> for Untold {
+    ghost use Rattle.es_validity.specs.declared.error.LowerError.{LowerError};
+    ghost use Rattle.lower_run.specs.declared.answer.Untold.{Untold};
+
+    ghost from_gives = { λ _ untold. untold ≡ Untold.Refused LowerError.NoMemory };
+
+    fn from(_: AllocError) -> Untold {
+        Untold::Refused(LowerError::NoMemory)
+    }
+}
+
 /// What a program is lowered to, if it is valid and the lowering does not decline it.
 fn lower_tree<L: Lowers>(
     alloc: Global,
@@ -143,7 +175,7 @@ fn lower_tree<L: Lowers>(
     options: &Options,
     tree: Node,
     foreign: &[NodeId],
-) -> Result<Told, LowerError>
+) -> Result<Told, Untold>
     requires conforms { conforms Place.Program tree ≡ true }
     requires preorder { tree ≡ numbered_from 0 tree }
     requires few { nodes tree < 2 ^ 32 }
@@ -152,14 +184,15 @@ fn lower_tree<L: Lowers>(
     ensures made { IfOk result (λ r. L.makes options.now tree (ids foreign.now) r.lowered.names.entries r.lowered.program) }
     ensures warned { IfOk result (λ r. numbers r.warnings.items ≡ warnings_of options.now tree) }
     ensures shaped { IfOk result (λ r. r.lowered.shapes.items ≡ shapes options.now tree) }
-    ensures refused { IfErr result (IsRefused L.declines options.now tree (ids foreign.now)) }
+    ensures refused { IfErr result (IsUntold L.declines options.now tree (ids foreign.now)) }
 {
     check_valid(alloc, &tree, foreign, options)?;
     let warnings = warnings(alloc, &tree, options)?;
     match lowering.lower(alloc, options, tree, foreign) {
         Ok(lowered) => Ok(Told { lowered, warnings }),
-        Err(Unlowered::NotYet { node }) => Err(LowerError::NotYet { node }),
-        Err(Unlowered::NoMemory) => Err(LowerError::NoMemory),
+        Err(Unlowered::NotYet { node }) => Err(Untold::Refused(LowerError::NotYet { node })),
+        Err(Unlowered::TooDeep) => Err(Untold::TooDeep),
+        Err(Unlowered::NoMemory) => Err(Untold::Refused(LowerError::NoMemory)),
     }
 }
 

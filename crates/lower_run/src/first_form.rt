@@ -9,11 +9,12 @@ ghost use Rattle.es_steps.specs.Shapes.{shapes};
 ghost use Rattle.lower_run.specs.FirstForm.{IsMade, IsNotYet, not_yet_lowered};
 ghost use Rattle.lower_run.specs.Lowering.{IsDeclined};
 
-use crate::lowering::{Lowered, Lowers, Unlowered, no_names, unchanged};
+use crate::lowering::{Lowered, Lowers, no_names, unchanged};
 use class_properties::not_yet::not_yet;
 use class_properties::{defines_fields, lower};
 use es_base::ids::NodeId;
 use es_left::left::{first_left, nothing_left};
+use es_lowering::lowering::Unlowered;
 use es_node::node::Node;
 use es_steps::options::Options;
 use std::alloc::{AllocError, Global};

@@ -12,11 +12,13 @@ ghost use Rattle.es_steps.specs.Shapes.{shapes};
 ghost use Rattle.es_steps.specs.declared.options.Options.{Options};
 ghost use Rattle.es_validity.specs.Validity.{is_valid};
 ghost use Rattle.lower_run.specs.Lowering.{IsDeclined};
+ghost use Rattle.es_lowering.specs.declared.lowering.Unlowered.{Unlowered};
 
 use es_base::ids::NodeId;
 use es_base::ledger::Ledger;
 use es_base::list::List;
 use es_base::shape::Shape;
+use es_lowering::lowering::Unlowered;
 use es_node::node::Node;
 use es_outside::outside::outside_shapes;
 use es_steps::options::Options;
@@ -32,32 +34,13 @@ pub struct Lowered {
     pub shapes: Vec<Shape>,
 }
 
-/// Why a valid program is not lowered.
-#[derive(Debug, Clone, Copy, PartialEq, Eq)]
-pub enum Unlowered {
-    /// There was not enough memory.
-    NoMemory,
-    /// It is not lowered yet, for a reason that this node tells.
-    NotYet { node: NodeId },
-}
-
-impl From<AllocError> for Unlowered {
-    ghost use Rattle.lower_run.specs.declared.lowering.Unlowered.{Unlowered};
-
-    ghost from_gives = { λ _ error. error ≡ Unlowered.NoMemory };
-
-    fn from(_: AllocError) -> Unlowered {
-        Unlowered::NoMemory
-    }
-}
-
 /// A lowering whose lowered programs are written as they are.
 pub trait Lowers {
     /// What it makes of a valid program under options.
     ghost makes: { Options → Tree → List ℕ → List LedgerEntry → Tree → Type 0 };
 
-    /// Why it makes nothing of one, told by the number of a node.
-    ghost declines: { Options → Tree → List ℕ → ℕ → Type 0 };
+    /// Why it makes nothing of one.
+    ghost declines: { Options → Tree → List ℕ → Unlowered → Type 0 };
 
     /// What a valid program is lowered to under the options; `foreign` has the numbers of its nodes that have members outside
     /// the table. Fails on allocation failure, and where it lowers no such program yet.

@@ -22,10 +22,12 @@ pub enum Status {
     NoMemory,
     /// The source has more than 67,108,864 bytes.
     TooLong,
+    /// Codes stand in each other too deep for what the tree was lowered to to be judged.
+    TooDeep,
 }
 
 impl Status {
-    /// The status with which the program ends, 0 to 7.
+    /// The status with which the program ends, 0 to 7 or 9.
     pub fn number(self) -> u8
         ensures { result ≡ status_number self }
     {
@@ -38,6 +40,7 @@ impl Status {
             Status::WriteFault => 5,
             Status::NoMemory => 6,
             Status::TooLong => 7,
+            Status::TooDeep => 9,
         }
     }
 }

@@ -10,18 +10,13 @@ use Rattle.es_steps.specs.LoweredClasses.{has_lowered_class, nothing_left}
 use Rattle.es_steps.specs.Meaning.{Meaning, has_meaning, lowered_means, source_means}
 use Rattle.es_steps.specs.Shapes.{shapes}
 use Rattle.es_steps.specs.declared.options.Options.{Options}
-use Rattle.lower_run.specs.Lowering.{IsDeclined, IsOwed, IsPlain}
-use Rattle.lower_run.specs.declared.lowering.Unlowered.{Unlowered}
+use Rattle.lower_run.specs.Lowering.{IsOwed, IsPlain}
 use Rattle.lower_with.specs.Judged.{IsJudged}
 use Rattle.step_check.specs.Comparison.{AreOne}
 use Rattle.step_check.specs.Judged.{IsRight}
 use Rattle.step_check.specs.declared.verdict.Verdict.{Verdict}
 
-pub for_some_reason : (error : Unlowered) → IsDeclined (λ node. Unit {0}) error
-for_some_reason Unlowered.NoMemory = tt {0}
-for_some_reason (Unlowered.NotYet node) = tt {0}
-
-cons_none : (s : Shape) (ss : List Shape) → s ∷ ss ≡ [] → ⊥
+pub cons_none : (s : Shape) (ss : List Shape) → s ∷ ss ≡ [] → ⊥
 cons_none s ss e = cc
 
 module _ (o : Options) (names : List LedgerEntry) (p q : Tree) (some : nothing_left o p ≡ false) (classes : has_lowered_class o p ≡ true) where

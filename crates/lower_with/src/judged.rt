@@ -1,25 +1,27 @@
 // A lowering whose lowered programs are judged.
 
-ghost use Rattle.std.specs.Prelude.{◌≡◌, ◌<◌, ◌^◌, IfErr, IfOk, false, true};
+ghost use Rattle.std.specs.Prelude.{◌≡◌, ◌<◌, ◌^◌, Err, IfErr, IfOk, [], false, true};
 ghost use Rattle.es_base.specs.Conforms.{conforms};
 ghost use Rattle.es_base.specs.Preorder.{nodes, numbered_from};
 ghost use Rattle.es_base.specs.declared.table.Place.{Place};
+ghost use Rattle.es_reading.specs.Told.{ids};
 ghost use Rattle.es_steps.specs.LoweredClasses.{has_lowered_class, nothing_left};
 ghost use Rattle.es_steps.specs.Shapes.{shapes};
-ghost use Rattle.lower_run.specs.Lowering.{IsOwed, IsPlain};
-ghost use Rattle.lower_with.specs.Judged.{IsFault, IsJudged};
+ghost use Rattle.lower_run.specs.Lowering.{IsDeclined, IsOwed, IsPlain};
+ghost use Rattle.lower_with.specs.Judged.{IsFault, IsJudged, IsReason, IsRefusedFor, IsUnmade};
+ghost use Rattle.step_check.specs.declared.verdict.CheckError.{CheckError};
 
-use crate::lowering::{LoweredProgram, Lowering};
 use es_base::ids::NodeId;
 use es_base::ledger::LedgerEntry;
 use es_base::shape::Shape;
 use es_base::table::Place;
 use es_left::left::nothing_left;
+use es_lowering::lowering::{LoweredProgram, Lowering, Unlowered};
 use es_node::node::Node;
 use es_outside::outside::outside_shapes;
 use es_owed::classes::has_lowered_class;
 use es_steps::options::Options;
-use lower_run::lowering::{Lowered, Lowers, Unlowered, unchanged};
+use lower_run::lowering::{Lowered, Lowers, unchanged};
 use std::alloc::Global;
 use step_check::check::{check_clauses, step_check};
 use step_check::verdict::{CheckError, Verdict};
@@ -37,7 +39,8 @@ pub fn judge(
 ) -> Result<Verdict, CheckError>
     requires few { nodes source.now < 2 ^ 32 }
     requires shaped { outside.now ≡ shapes options.now source.now }
-    ensures { IfOk result (λ v. IsJudged v options.now names.now source.now lowered.now) }
+    ensures judged { IfOk result (λ v. IsJudged v options.now names.now source.now lowered.now) }
+    ensures deep { result ≡ Err CheckError.TooDeep → shapes options.now source.now ≡ [] }
 {
     if outside.is_empty() {
         return step_check(alloc, options, names, source, lowered);
@@ -52,30 +55,31 @@ pub struct Judged<'a, L> {
 }
 
 impl<L: Lowering> Lowers for Judged<'_, L> {
-    ghost use Rattle.lower_with.specs.Judged.{ForSomeReason, IsMade};
+    ghost use Rattle.lower_with.specs.Judged.{IsMade, IsUnmade};
 
     ghost makes = { IsMade };
 
-    ghost declines = { ForSomeReason };
+    ghost declines = { IsUnmade L.makes L.declines };
 
-    #[tactic(auto, using(crate::proofs::Right::for_some_reason))]
     fn lower(
         &self,
         alloc: Global,
         options: &Options,
         source: Node,
-        _foreign: &[NodeId],
+        foreign: &[NodeId],
     ) -> Result<Lowered, Unlowered> {
-        lower_judged(alloc, self.lowering, options, source)
+        lower_judged(alloc, self.lowering, options, source, foreign)
     }
 }
 
 /// What a program is lowered to, if it has nothing to lower or what the lowering makes of it is right.
+#[tactic(auto, using(crate::proofs::Reasons::reason_unmade))]
 fn lower_judged<L: Lowering>(
     alloc: Global,
     lowering: &L,
     options: &Options,
     source: Node,
+    foreign: &[NodeId],
 ) -> Result<Lowered, Unlowered>
     requires conforms { conforms Place.Program source ≡ true }
     requires preorder { source ≡ numbered_from 0 source }
@@ -83,14 +87,19 @@ fn lower_judged<L: Lowering>(
     ensures program { IfOk result (λ r. conforms Place.Program r.program ≡ true) }
     ensures made { IfOk result (λ r. IsOwed (IsPlain options.now source) options.now source r.names.entries r.program) }
     ensures shaped { IfOk result (λ r. r.shapes.items ≡ shapes options.now source) }
+    ensures declined { IfErr result (IsDeclined (IsUnmade L.makes L.declines options.now source (ids foreign.now))) }
 {
     if nothing_left(&source, options) {
         return Ok(unchanged(alloc, options, source)?);
     }
-    lower_changed(alloc, lowering, options, &source)
+    match lower_changed(alloc, lowering, options, &source) {
+        Ok(lowered) => Ok(lowered),
+        Err(error) => Err(error),
+    }
 }
 
 /// The same of a program with something to lower.
+#[tactic(auto, using(crate::proofs::Reasons::declined_reason, crate::proofs::Reasons::refused_reason))]
 fn lower_changed<L: Lowering>(
     alloc: Global,
     lowering: &L,
@@ -102,28 +111,54 @@ fn lower_changed<L: Lowering>(
     ensures program { IfOk result (λ r. conforms Place.Program r.program ≡ true) }
     ensures made { IfOk result (λ r. IsOwed (IsPlain options.now source.now) options.now source.now r.names.entries r.program) }
     ensures shaped { IfOk result (λ r. r.shapes.items ≡ shapes options.now source.now) }
+    ensures declined { IfErr result (IsDeclined (IsReason L.makes L.declines options.now source.now)) }
 {
     // each valid program with something to lower has such a class, which is not proved
     if !has_lowered_class(options, source) {
         return Err(Unlowered::NotYet { node: NodeId(0) });
     }
+    match lowering.lower(alloc, options, source) {
+        Ok(lowered) => match if_right(alloc, options, source, lowered) {
+            Ok(lowered) => Ok(lowered),
+            Err(error) => Err(error),
+        },
+        Err(error) => Err(error),
+    }
+}
+
+/// What a program was lowered to, if it is right.
+fn if_right(
+    alloc: Global,
+    options: &Options,
+    source: &Node,
+    lowered: LoweredProgram,
+) -> Result<Lowered, Unlowered>
+    requires few { nodes source.now < 2 ^ 32 }
+    requires changed { nothing_left options.now source.now ≡ false }
+    requires classes { has_lowered_class options.now source.now ≡ true }
+    ensures program { IfOk result (λ r. conforms Place.Program r.program ≡ true) }
+    ensures made { IfOk result (λ r. IsOwed (IsPlain options.now source.now) options.now source.now r.names.entries r.program) }
+    ensures shaped { IfOk result (λ r. r.shapes.items ≡ shapes options.now source.now) }
+    ensures refused { IfErr result (IsDeclined (IsRefusedFor options.now lowered.names.entries source.now lowered.program)) }
+{
+    let LoweredProgram { program, names } = lowered;
     let shapes = outside_shapes(alloc, source, options)?;
-    let LoweredProgram { program, names } = lowering.lower(alloc, options, source)?;
-    if let Some(node) = fault_of(
+    match fault_of(
         alloc,
         options,
         shapes.as_slice(),
         source,
         &program,
         names.entries.as_slice(),
-    )? {
-        return Err(Unlowered::NotYet { node });
+    ) {
+        Ok(None) => Ok(Lowered {
+            program,
+            names,
+            shapes,
+        }),
+        Ok(Some(node)) => Err(Unlowered::NotYet { node }),
+        Err(error) => Err(error),
     }
-    Ok(Lowered {
-        program,
-        names,
-        shapes,
-    })
 }
 
 /// The node at which a lowered program is wrong; nothing where it is right.
@@ -139,15 +174,16 @@ fn fault_of(
     requires changed { nothing_left options.now source.now ≡ false }
     requires classes { has_lowered_class options.now source.now ≡ true }
     requires shaped { outside.now ≡ shapes options.now source.now }
-    ensures { IfOk result (λ fault. IsFault fault options.now names.now source.now lowered.now) }
+    ensures fault { IfOk result (λ fault. IsFault fault options.now names.now source.now lowered.now) }
+    ensures unjudged { IfErr result (IsDeclined (IsRefusedFor options.now names.now source.now lowered.now)) }
 {
     if !lowered.conforms(Place::Program) {
         return Ok(Some(NodeId(0)));
     }
     match judge(alloc, options, outside, source, lowered, names) {
         Ok(Verdict::Yes) => Ok(None),
-        Ok(Verdict::No { node, .. }) => Ok(Some(node)),
-        Err(CheckError::TooDeep) => Ok(Some(NodeId(0))),
+        Ok(Verdict::No { part: _, node }) => Ok(Some(node)),
+        Err(CheckError::TooDeep) => Err(Unlowered::TooDeep),
         Err(CheckError::NoMemory) => Err(Unlowered::NoMemory),
     }
 }

@@ -2,5 +2,5 @@
 #![tactic(auto)]
 
 pub mod judged;
-pub mod lowering;
+pub mod law;
 pub mod run;

@@ -3,14 +3,13 @@
 use borrowed_json::parse::parse;
 use es_base::ids::NodeId;
 use es_ledger::ledger::{LedgerError, read_ledger};
+use es_lowering::lowering::{LoweredProgram, Lowering, Unlowered};
 use es_node::node::Node;
 use es_reading::fault::ReadError;
 use es_reading::numbers::Numbers;
 use es_reading::tree::read_tree;
 use es_steps::options::Options;
 use json::Scratch;
-use lower_run::lowering::Unlowered;
-use lower_with::lowering::{LoweredProgram, Lowering};
 use std::alloc::Global;
 
 /// Texts have fewer bytes than this.
@@ -23,6 +22,12 @@ pub struct Recorded<'a> {
 }
 
 impl Lowering for Recorded<'_> {
+    ghost use Rattle.es_lowering.specs.Any.{DeclinesAny, MakesAny};
+
+    ghost makes = { MakesAny };
+
+    ghost declines = { DeclinesAny };
+
     fn lower(
         &self,
         alloc: Global,
