@@ -8,6 +8,7 @@ use crate::state::{Settings, State};
 use es_base::ids::NodeId;
 use es_base::ledger::Ledger;
 use es_ctx::ctx::TraverseCtx;
+use es_lowering::lowering::{LoweredProgram, Unlowered};
 use es_names::names::Names;
 use es_node::node::Node;
 use es_scopes::scoping::Scoping;
@@ -16,7 +17,6 @@ use es_steps::options::Options;
 use es_walk::program::walk_program;
 use program_names::collect::spellings_of;
 use std::alloc::{AllocError, Global};
-use thiserror::Error;
 
 /// Programs of more nodes are not lowered.
 const MAX_NODES: u32 = 1 << 20;
@@ -24,44 +24,16 @@ const MAX_NODES: u32 = 1 << 20;
 /// How many nodes are made for each node of a program, at most.
 const ROOM: u32 = 63;
 
-/// A program that a source was lowered to, with its generated names.
-#[derive(Drop)]
-pub struct Lowered {
-    pub program: Node,
-    pub names: Ledger,
-}
-
-/// Why a program is not lowered.
-#[derive(Debug, Clone, Copy, PartialEq, Eq, Error)]
-pub enum LoweringError {
-    /// There was not enough memory.
-    #[error("out of memory")]
-    NoMemory,
-    /// It has a form that is not lowered, at this node.
-    #[error("not lowered at {}", node.0)]
-    NotLowered { node: NodeId },
-}
-
-impl From<AllocError> for LoweringError {
-    ghost use Rattle.es2022.specs.declared.lower.LoweringError.{LoweringError};
-
-    ghost from_gives = { λ _ error. error ≡ LoweringError.NoMemory };
-
-    fn from(_: AllocError) -> LoweringError {
-        LoweringError::NoMemory
-    }
-}
-
 /// What a valid program is lowered to under the options, with class properties on: its nodes keep their numbers, which are those
 /// of preorder, and new nodes have the numbers from the number of its nodes on. It has at most 64 times the nodes of its source.
 /// Fails on allocation failure, and where a form is not lowered: private names, `super` in what goes out of a class, and a
 /// constructor that calls `super` in its parameters.
 #[tactic(auto, using(crate::specs::Paid::total_one))]
-pub fn lower(alloc: Global, options: &Options, source: &Node) -> Result<Lowered, LoweringError>
+pub fn lower(alloc: Global, options: &Options, source: &Node) -> Result<LoweredProgram, Unlowered>
     ensures { IfOk result (λ r. nodes r.program ≤ 64 * nodes source.now) }
 {
     if !source.has_at_most(MAX_NODES) {
-        return Err(LoweringError::NotLowered { node: NodeId(0) });
+        return Err(Unlowered::NotYet { node: NodeId(0) });
     }
     let first = source.nodes();
     let (mut program, scoping) = with_scopes(alloc, source)?;
@@ -74,8 +46,8 @@ pub fn lower(alloc: Global, options: &Options, source: &Node) -> Result<Lowered,
     walk_program(&mut transform, &mut program, &mut ctx)?;
     let state = transform.state;
     match state.declined {
-        Some(node) => Err(LoweringError::NotLowered { node }),
-        None => Ok(Lowered {
+        Some(node) => Err(Unlowered::NotYet { node }),
+        None => Ok(LoweredProgram {
             program: numbered(program, first),
             names: Ledger {
                 entries: state.ledger,

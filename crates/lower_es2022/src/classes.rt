@@ -5,7 +5,7 @@ use es_left::left::first_left;
 use es_lowering::lowering::{LoweredProgram, Lowering, Unlowered};
 use es_node::node::Node;
 use es_steps::options::Options;
-use es2022::lower::{LoweringError, lower};
+use es2022::lower::lower;
 use std::alloc::Global;
 
 /// The lowering of class properties, where they are to be lowered (crate `es2022`).
@@ -29,13 +29,6 @@ impl Lowering for Classes {
             let node = first_left(source, options).unwrap_or(NodeId(0));
             return Err(Unlowered::NotYet { node });
         }
-        match lower(alloc, options, source) {
-            Ok(lowered) => Ok(LoweredProgram {
-                program: lowered.program,
-                names: lowered.names,
-            }),
-            Err(LoweringError::NotLowered { node }) => Err(Unlowered::NotYet { node }),
-            Err(LoweringError::NoMemory) => Err(Unlowered::NoMemory),
-        }
+        lower(alloc, options, source)
     }
 }
