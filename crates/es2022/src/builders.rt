@@ -3,10 +3,10 @@
 use es_base::list::List;
 use es_base::literal::LiteralValue;
 use es_base::name::Name;
-use es_base::operator::{AssignmentOperator, UnaryOperator};
+use es_base::operator::AssignmentOperator;
 use es_node::node::Node;
 use es_tree::expression::{
-    make_assignment_expression, make_call_expression, make_member_expression, make_unary_expression,
+    make_assignment_expression, make_call_expression, make_member_expression,
 };
 use es_tree::identifier::{
     IdentifierReference, make_binding_identifier, make_identifier_name, make_identifier_reference,
@@ -57,13 +57,6 @@ pub fn create_string(alloc: Global, text: Name) -> Result<Node, AllocError> {
             raw: None,
         },
     )
-}
-
-/// `void 0`
-pub fn create_void_0(alloc: Global) -> Result<Node, AllocError> {
-    let raw = Name::from_ascii(alloc, "0")?;
-    let zero = make_literal(alloc, LiteralValue::Number { raw })?;
-    make_unary_expression(alloc, UnaryOperator::Void, zero)
 }
 
 /// `null`

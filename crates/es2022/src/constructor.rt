@@ -4,6 +4,7 @@ use crate::builders::{create_binding, create_declarator, create_reference, creat
 use crate::instance_prop_init::rename_clashing_symbols;
 use crate::rewrite::{Rewriter, rewrite_statements};
 use crate::state::State;
+use crate::static_block_and_prop_init::has_outer_this;
 use crate::utils::{append, directive_count, exprs_into_stmts, with_nodes_at};
 use es_base::ids::{NodeId, ScopeId};
 use es_base::kind::Kind;
@@ -262,7 +263,7 @@ struct SuperRewriter {
 
 impl Rewriter for SuperRewriter {
     fn goes_into(&mut self, node: &Node) -> Result<bool, AllocError> {
-        Ok(keeps_super(node))
+        Ok(has_outer_this(node))
     }
 
     fn rewrite_expression(&mut self, node: &mut Node) -> Result<(), AllocError> {
@@ -284,17 +285,6 @@ impl Rewriter for SuperRewriter {
     fn rewrite_binding(&mut self, _node: &mut Node) -> Result<(), AllocError> {
         Ok(())
     }
-}
-
-/// Whether `super(..)` means below a node what it means there.
-fn keeps_super(node: &Node) -> bool {
-    !matches!(
-        node.kind(),
-        Kind::FunctionDeclaration
-            | Kind::FunctionExpression
-            | Kind::PropertyDefinition
-            | Kind::StaticBlock
-    )
 }
 
 /// Whether a statement calls `super`.

@@ -1,8 +1,6 @@
 // Public fields as what defines or sets them.
 
-use crate::builders::{
-    create_helper_call, create_null, create_reference, create_string, create_void_0,
-};
+use crate::builders::{create_helper_call, create_null, create_reference, create_string};
 use crate::class_details::ClassDetails;
 use crate::computed_key::{create_computed_key_temp_var_if_required, extract_computed_key};
 use crate::state::State;
@@ -11,6 +9,7 @@ use es_base::kind::Kind;
 use es_base::list::List;
 use es_base::literal::LiteralValue;
 use es_base::operator::AssignmentOperator;
+use es_builders::builders::create_void_0;
 use es_node::node::Node;
 use es_tree::class::PropertyDefinition;
 use es_tree::expression::{

@@ -6,6 +6,7 @@ use es_base::ids::{NodeId, ReferenceId, ScopeId, SymbolId};
 use es_base::ledger::{GeneratedKind, LedgerEntry};
 use es_base::list::List;
 use es_base::name::Name;
+use es_duplicates::repetition::meant_symbol;
 use es_names::names::Names;
 use es_node::node::Node;
 use es_scopes::scoping::Scoping;
@@ -141,10 +142,7 @@ impl State {
 
     /// Whether a reference means this symbol.
     pub fn means(&self, reference: Option<ReferenceId>, symbol: SymbolId) -> bool {
-        let Some(reference) = reference.filter(|id| self.scoping.has_reference(*id)) else {
-            return false;
-        };
-        self.scoping.get_reference(reference).symbol_id() == Some(symbol)
+        meant_symbol(&self.scoping, reference) == Some(symbol)
     }
 
     /// What a scope binds a name to.

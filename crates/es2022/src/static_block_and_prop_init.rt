@@ -1,6 +1,6 @@
 // Initializers of static fields and static blocks, which go behind their class.
 
-use crate::builders::{create_reference_at, create_void_0};
+use crate::builders::create_reference_at;
 use crate::class_details::ClassDetails;
 use crate::rewrite::{Rewriter, rewrite_expression, rewrite_statements};
 use crate::state::State;
@@ -11,6 +11,7 @@ use es_base::ids::{NodeId, SymbolId};
 use es_base::kind::Kind;
 use es_base::list::List;
 use es_base::name::Name;
+use es_builders::builders::create_void_0;
 use es_node::node::Node;
 use es_tree::class::StaticBlock;
 use es_tree::expression::{MetaPropertyRef, make_call_expression};
@@ -114,8 +115,8 @@ fn class_temp(state: &mut State, details: &mut ClassDetails) -> Result<Name, All
     Ok(copy)
 }
 
-/// Whether `this` and `new.target` mean below a node what they mean there.
-fn has_outer_this(node: &Node) -> bool {
+/// Whether `this`, `super(..)` and `new.target` mean below a node what they mean there.
+pub fn has_outer_this(node: &Node) -> bool {
     !matches!(
         node.kind(),
         Kind::FunctionDeclaration

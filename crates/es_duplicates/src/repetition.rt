@@ -103,8 +103,8 @@ fn name_repetition(
     }
 }
 
-/// The symbol that a reference means: none where the name is free.
-fn meant_symbol(scoping: &Scoping, reference: Option<ReferenceId>) -> Option<SymbolId>
+/// The symbol of the table that a reference means: none where the name is free.
+pub fn meant_symbol(scoping: &Scoping, reference: Option<ReferenceId>) -> Option<SymbolId>
     ensures symbol { result ≡ meant_symbol scoping.now (reference_number reference) }
     ensures there { IfSome result (HasSymbol scoping.now) }
 {
