@@ -1,5 +1,5 @@
 -- The marks that code looks for, as definitions have them.
-use Rattle.std.specs.Prelude.{ℕ, List, Bool, false, Option}
+use Rattle.std.specs.Prelude.{ℕ, List, [], ◌∷◌, Bool, true, false, Option}
 use Rattle.es_base.specs.Tree.{Tree, Part, Parts}
 use Rattle.es_base.specs.declared.kind.Kind.{Kind}
 use Rattle.es_lowered.specs.ClassNames.{is_asked}
@@ -11,9 +11,15 @@ use Rattle.es_steps.specs.Values.{String}
 use Rattle.es_owed_timely.specs.declared.search.Asked.{Asked}
 use Rattle.es_owed_timely.specs.declared.search.Search.{Search}
 
+-- of a node
+abbrev pub has_node : String → List ℕ → Bool
+has_node s [] = false
+has_node s (n ∷ ns) = true
+
 abbrev pub asked_by : Asked → String → List ℕ → Bool
 asked_by (Asked.Generated ledger) = is_named ledger.now
 asked_by (Asked.Nodes numbers) = is_asked numbers.now
+asked_by Asked.AnyNode = has_node
 
 abbrev pub one : Around → MarkForm → String → List ℕ → Mark
 one x form s ns = record { name = s; node = ns; form = form; around = x }

@@ -33,6 +33,8 @@ pub enum Asked<'a> {
     Generated(&'a [LedgerEntry]),
     /// Those of the nodes of these numbers.
     Nodes(&'a [u32]),
+    /// Those of nodes: of all references and classes.
+    AnyNode,
 }
 
 /// What marks are looked for under.
@@ -58,6 +60,10 @@ impl<'a> Asked<'a> {
             Asked::Generated(ledger) => is_generated(name, ledger),
             Asked::Nodes(numbers) => match node {
                 Some(node) => has_number(node, numbers),
+                None => false,
+            },
+            Asked::AnyNode => match node {
+                Some(_) => true,
                 None => false,
             },
         }
