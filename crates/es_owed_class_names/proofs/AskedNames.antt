@@ -1,5 +1,5 @@
 -- Names of a class that are asked for, and whether they are read in time, step by step.
-use Rattle.std.proofs.Common.{◌≡◌, refl, sym, ap, ◌∙◌, ℕ, List, [], ◌∷◌, ◌++◌, Bool, true, false, cond, not, ◌&&◌}
+use Rattle.std.proofs.Common.{◌≡◌, refl, sym, ap, ◌∙◌, ℕ, List, [], ◌∷◌, ◌++◌, Bool, true, false, cond, not, ◌&&◌, append-nil}
 use Rattle.std.proofs.Math.Bool.{and-false}
 use Rattle.es_base.specs.Preorder.{preorder}
 use Rattle.es_base.specs.Tree.{Tree, Node}
@@ -30,7 +30,7 @@ in_time first n ledger q names asked fs early holds functions_are early_is not_e
 
 -- ---- where no name is asked for
 
-none_among : (ks : List ℕ) → any_among [] ks ≡ false
+pub none_among : (ks : List ℕ) → any_among [] ks ≡ false
 none_among [] = refl
 none_among (k ∷ ks) = none_among ks
 
@@ -38,7 +38,7 @@ none_holding : (fs : List MovedFunction) → names_holding [] fs ≡ []
 none_holding [] = refl
 none_holding (f ∷ fs) = ap (λ (b : Bool). cond b (f.name ∷ []) [] ++ names_holding [] fs) (none_among f.numbers) ∙ none_holding fs
 
-none_reads : (rs : List Reference) (ts : List Tree) → reading [] rs ts ≡ []
+pub none_reads : (rs : List Reference) (ts : List Tree) → reading [] rs ts ≡ []
 none_reads rs [] = refl
 none_reads rs (Node Kind.IdentifierReference m span semantic_id ps ∷ ts) = none_reads rs ts
 none_reads rs (Node kind m span semantic_id ps ∷ ts) = none_reads rs ts
@@ -49,6 +49,10 @@ none_reached (e ∷ es) fs rs ts =
     ap (λ (ns : List ℕ). reading (names_holding ns fs) rs ts) (none_reached es fs rs ts)
     ∙ ap (λ (ss : List String). reading ss rs ts) (none_holding fs)
     ∙ none_reads rs ts
+
+pub none_reaching : (es : List LedgerEntry) (rs : List Reference) (ts : List Tree) (ns : List ℕ) → reaching es [] rs ts ns ≡ ns
+none_reaching [] rs ts ns = refl
+none_reaching (e ∷ es) rs ts ns = ap (λ (ms : List ℕ). ns ++ ms) (none_reads rs ts) ∙ append-nil ns
 
 none_without : (fs : List MovedFunction) → without_functions fs [] ≡ []
 none_without [] = refl

@@ -1,7 +1,12 @@
 pub mod AskedNames
-pub mod BehindMarks
+pub mod ChosenMarks
+pub mod ChosenPlaces
 pub mod ClassNodes
+pub mod HeldNames
 pub mod KeptPlaces
+pub mod LocatedMarks
 pub mod NamedClasses
 pub mod NewNames
+pub mod NodeMarks
+pub mod PlacedNumbers
 pub mod Sets

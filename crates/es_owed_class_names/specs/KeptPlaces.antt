@@ -1,14 +1,26 @@
--- Names of a class that stand where they stood, by the places of all.
+-- Names of a class that stand where they stood, told by what is looked up by numbers: the placed references of a source and of what
+-- it was lowered to, and whether those stand behind the class.
 use Rattle.std.specs.Prelude.{ℕ, List, [], ◌∷◌, ◌++◌, Bool, cond, not, ◌&&◌, ◌||◌}
-use Rattle.es_lowered.specs.ClassNames.{numbered}
+use Rattle.std.specs.List.{list_all, list_any}
 use Rattle.es_lowered.specs.FunctionsAround.{PlacedReference, all_stand_where}
-use Rattle.es_steps.specs.References.{has_number}
 
--- there they are placed so, and these stand behind the class; and here
-module _ (first : ℕ) (there found : List PlacedReference) (behind_there behind : List ℕ) where
-  abbrev pub is_kept : ℕ → Bool
-  is_kept m = all_stand_where first (numbered m found) there && (not (has_number m behind_there) || has_number m behind)
+-- those of these numbers that pass
+abbrev pub kept_if : (ℕ → Bool) → List ℕ → List ℕ
+kept_if f [] = []
+kept_if f (m ∷ ms) = cond (f m) (m ∷ []) [] ++ kept_if f ms
 
-  abbrev pub kept : List ℕ → List ℕ
-  kept [] = []
-  kept (m ∷ ms) = cond (is_kept m) (m ∷ []) [] ++ kept ms
+module _ (first : ℕ) (names : List ℕ) (ps : ℕ → List PlacedReference) where
+  -- whether a reference stands where one of these names does
+  abbrev pub stands_named : PlacedReference → Bool
+  stands_named r = list_any (λ k. all_stand_where first (r ∷ []) (ps k)) names
+
+  -- the same, with its own number first
+  abbrev pub stands_own : PlacedReference → Bool
+  stands_own r = all_stand_where first (r ∷ []) (ps r.number) || stands_named r
+
+  module _ (qs : ℕ → List PlacedReference) (there found : ℕ → Bool) where
+    abbrev pub is_kept : ℕ → Bool
+    is_kept m = list_all stands_own (qs m) && (not (there m) || found m)
+
+    abbrev pub kept : List ℕ → List ℕ
+    kept ms = kept_if is_kept ms

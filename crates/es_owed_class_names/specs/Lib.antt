@@ -1,6 +1,8 @@
 pub mod Asked
-pub mod Behind
+pub mod HeldNumbers
 pub mod Inside
 pub mod KeptPlaces
+pub mod LocatedMarks
 pub mod NamedClasses
-pub mod NewNames
+pub mod NodeMarks
+pub mod PlacedNumbers

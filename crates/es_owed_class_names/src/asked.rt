@@ -1,9 +1,11 @@
 // The references that are to stand behind a class: those to its names, and those to functions that read them.
 
 ghost use Rattle.std.specs.Prelude.{◌≡◌, true, IfOk};
+ghost use Rattle.es_binding_faults.specs.Seen.{seen};
 ghost use Rattle.es_lowered.specs.ClassNames as spec;
 ghost use Rattle.es_owed_references.specs.Moved.{functions_of};
 ghost use Rattle.es_owed_class_names.specs.Asked.{asked_besides, kept_names};
+ghost use Rattle.es_references.specs.References.{references_of};
 ghost use Rattle.es_steps.specs.References.{has_number};
 
 use crate::inside::{class_runs, numbers_inside};
@@ -12,6 +14,7 @@ use crate::lists::without;
 use crate::lowering::Lowering;
 use crate::marked::with_class;
 use crate::naming::free_naming;
+use es_owed_initialized::numbers::add_numbers;
 use es_owed_references::moved::MovedFunction;
 use std::alloc::{AllocError, Global};
 
@@ -48,7 +51,7 @@ fn kept_names(
 /// on allocation failure alone.
 pub fn functions_outside<'a>(
     alloc: Global,
-    lowering: &Lowering<'_, 'a>,
+    lowering: &Lowering<'_, '_, 'a>,
     class: u32,
 ) -> Result<Vec<MovedFunction<'a>>, AllocError>
     ensures { IfOk result (λ r. functions_of r.items ≡ spec.functions_outside lowering.now.reads.ledger.now lowering.now.lowered.now.program.now class) }
@@ -69,10 +72,34 @@ pub fn asked_references(
 ) -> Result<Vec<u32>, AllocError>
     ensures { IfOk result (λ r. r.items ≡ spec.asked_references lowering.now.reads.ledger.now lowering.now.lowered.now.program.now class (functions_of functions.now) names.now) }
 {
-    let reached = lowering.reads.reaching(alloc, functions, names)?;
+    let reached = reaching(alloc, lowering, functions, names)?;
     let outside = without_functions(alloc, functions, reached)?;
     let inside = numbers_inside(alloc, class, lowering.lowered)?;
     without(alloc, inside.as_slice(), outside.as_slice())
+}
+
+/// These names, with the references to functions that read them, and so on. Fails on allocation failure alone.
+#[tactic(auto, using(crate::proofs::AskedNames::none_reaching))]
+fn reaching(
+    alloc: Global,
+    lowering: &Lowering,
+    functions: &[MovedFunction],
+    names: &[u32],
+) -> Result<Vec<u32>, AllocError>
+    ensures { IfOk result (λ r. r.items ≡ spec.reaching lowering.now.reads.ledger.now (functions_of functions.now) (references_of lowering.now.reads.references.now) (seen lowering.now.reads.nodes.now) names.now) }
+{
+    match functions {
+        [] => copied(alloc, names),
+        _ => lowering.reads.reaching(alloc, functions, names),
+    }
+}
+
+fn copied(alloc: Global, numbers: &[u32]) -> Result<Vec<u32>, AllocError>
+    ensures { IfOk result (λ r. r.items ≡ numbers.now) }
+{
+    let mut all = Vec::new(alloc);
+    add_numbers(numbers, &mut all)?;
+    Ok(all)
 }
 
 /// Those of these numbers that are of no node of these functions. Fails on allocation failure alone.

@@ -2,10 +2,10 @@
 #![tactic(auto)]
 
 pub mod asked;
-pub mod behind;
 pub mod inside;
 pub mod kept_places;
 pub mod lists;
+pub mod located;
 pub mod lowering;
 pub mod marked;
 pub mod naming;

@@ -1,12 +1,11 @@
-// The marks of a class and of references.
+// The marks of classes and of references.
 
-ghost use Rattle.std.specs.Prelude.{◌≡◌, ◌∷◌, [], None, IfOk};
-ghost use Rattle.es_lowered.specs.ClassNames as spec;
-ghost use Rattle.es_lowered.specs.Timely.{marks, nowhere};
+ghost use Rattle.std.specs.Prelude.{◌≡◌, ◌∷◌, IfOk};
 ghost use Rattle.es_marks.specs.Marks.{marks_of};
+ghost use Rattle.es_owed_class_names.specs.NodeMarks.{node_marks, stand_among};
 
-use crate::behind::{behind_class, stand_behind};
 use crate::lists::is_none;
+use crate::located::NodeMarks;
 use es_marks::around::Around;
 use es_marks::marks::Mark;
 use es_node::node::Node;
@@ -15,37 +14,45 @@ use es_owed_timely::search::{Asked, Search};
 use es_owed_timely::walk::add_marks;
 use std::alloc::{AllocError, Global};
 
-/// The nodes of those of these references that stand behind the class. Fails on allocation failure alone.
-pub fn names_behind(
-    alloc: Global,
-    first: u32,
-    class: u32,
-    names: &[u32],
-    program: &Node,
-) -> Result<Vec<u32>, AllocError>
-    ensures { IfOk result (λ r. r.items ≡ spec.behind_class [] (marks first [] [] (spec.is_asked (class ∷ names.now)) [] nowhere None program.now)) }
-{
-    let asked = with_class(alloc, class, names)?;
-    let marks = marks_asked(alloc, first, asked.as_slice(), program)?;
-    behind_class(alloc, marks.as_slice())
+/// The marks of the references and classes of a source, and of what it was lowered to.
+#[derive(Drop)]
+pub struct ProgramMarks<'a> {
+    pub source: Vec<Mark<'a>>,
+    pub lowered: Vec<Mark<'a>>,
 }
 
-/// Whether these references, if any, stand behind the class. Fails on allocation failure alone.
+impl<'a> ProgramMarks<'a> {
+    /// Those of these programs. Fails on allocation failure alone.
+    pub fn of(
+        alloc: Global,
+        first: u32,
+        source: &'a Node,
+        lowered: &'a Node,
+    ) -> Result<ProgramMarks<'a>, AllocError>
+        ensures source { IfOk result (λ m. marks_of m.source.items ≡ node_marks first source.now) }
+        ensures lowered { IfOk result (λ m. marks_of m.lowered.items ≡ node_marks first lowered.now) }
+    {
+        let source = node_marks(alloc, first, source)?;
+        let lowered = node_marks(alloc, first, lowered)?;
+        Ok(ProgramMarks { source, lowered })
+    }
+}
+
+/// Whether these references, if any, stand behind the class, these being the marks of a program. Fails on allocation failure
+/// alone.
 pub fn stand_in_time(
     alloc: Global,
-    first: u32,
+    marks: &NodeMarks,
     class: u32,
     names: &[u32],
-    program: &Node,
 ) -> Result<bool, AllocError>
-    ensures { IfOk result (λ holds. holds ≡ spec.stand_in_time first program.now class names.now) }
+    ensures { IfOk result (λ holds. holds ≡ stand_among (marks_of marks.now.marks.now) class names.now) }
 {
     if is_none(names) {
         return Ok(true);
     }
     let asked = with_class(alloc, class, names)?;
-    let marks = marks_asked(alloc, first, asked.as_slice(), program)?;
-    Ok(stand_behind(marks.as_slice()))
+    marks.stand_behind(alloc, asked.as_slice())
 }
 
 /// The number of the class with these. Fails on allocation failure alone.
@@ -58,20 +65,15 @@ pub fn with_class(alloc: Global, class: u32, numbers: &[u32]) -> Result<Vec<u32>
     Ok(all)
 }
 
-/// The marks of these nodes in a program. Fails on allocation failure alone.
-fn marks_asked<'a>(
-    alloc: Global,
-    first: u32,
-    asked: &'a [u32],
-    program: &'a Node,
-) -> Result<Vec<Mark<'a>>, AllocError>
-    ensures { IfOk result (λ r. marks_of r.items ≡ marks first [] [] (spec.is_asked asked.now) [] nowhere None program.now) }
+/// The marks of the references and classes of a program. Fails on allocation failure alone.
+fn node_marks<'a>(alloc: Global, first: u32, program: &'a Node) -> Result<Vec<Mark<'a>>, AllocError>
+    ensures { IfOk result (λ r. marks_of r.items ≡ node_marks first program.now) }
 {
     let search = Search {
         first,
         ledger: &[],
         members: &[],
-        asked: Asked::Nodes(asked),
+        asked: Asked::AnyNode,
         leading: &[],
     };
     let mut marks = Vec::new(alloc);

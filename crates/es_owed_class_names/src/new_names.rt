@@ -1,21 +1,22 @@
 // References to names of a class that are none in the source: they stand in functions of the class, or in those around it. Any
 // other may be called in front of the class.
 
-ghost use Rattle.std.specs.Prelude.{◌≡◌, ◌++◌, ◌||◌, ℕ, nat_eq, IfOk, OnOk};
+ghost use Rattle.std.specs.Prelude.{◌≡◌, ◌||◌, nat_eq, IfOk};
+ghost use Rattle.std.specs.List.{list_all, list_any};
 ghost use Rattle.es_base.specs.Preorder.{number_of, preorder};
 ghost use Rattle.es_binding_faults.specs.Seen.{seen};
+ghost use Rattle.es_grouped.specs.Groups.{group};
 ghost use Rattle.es_lowered.specs.ClassNames as spec;
-ghost use Rattle.es_owed_class_names.specs.NewNames.{all_stand_among, are_among, holding};
 ghost use Rattle.es_owed_places.specs.Placed.{part_pairs, references_of};
 ghost use Rattle.es_steps.specs.References.{has_number};
 
 use crate::inside::numbers_of_class;
-use crate::lists::{add_if, is_none};
+use crate::lists::is_none;
 use crate::lowering::Lowering;
-use crate::placed::placed_numbered;
 use es_base::ids::NodeId;
 use es_binding_faults::numbers::Numbers;
 use es_node::node::Node;
+use es_owed::listed::Listed;
 use es_owed_places::placed::{FunctionPart, PlacedReference};
 use es_owed_references::numbers::set_of;
 use es_shapes::walk::{NodeTest, any_node};
@@ -34,32 +35,69 @@ pub fn new_names_fit(
     if is_none(names) {
         return Ok(true);
     }
-    let of_class = numbers_with_class(alloc, lowering, class)?;
-    let placed = placed_numbered(alloc, lowering.first, names, lowering.lowered.program)?;
-    Ok(all_stand_among(&of_class, placed.as_slice()))
+    let numbers = numbers_of_class(alloc, class, lowering.source)?;
+    let inside = set_of(alloc, numbers.as_slice())?;
+    Ok(all_stand_with_class(lowering, class, &inside, names))
 }
 
-// ---- what is of the class or around it
-
-/// The numbers of what stands in this class in the source, and of the nodes that hold it in what that was lowered to. Fails on
-/// allocation failure alone.
-fn numbers_with_class(alloc: Global, lowering: &Lowering, class: u32) -> Result<Numbers, AllocError>
-    ensures { IfOk result (λ r. (k : ℕ) → has_number k r ≡ (has_number k (spec.numbers_of_class class (preorder lowering.now.source.now.program.now)) || spec.holds_class k class (preorder lowering.now.lowered.now.program.now))) }
+/// Whether the functions around each of these references are of these numbers, or hold the class.
+fn all_stand_with_class(lowering: &Lowering, class: u32, inside: &Numbers, names: &[u32]) -> bool
+    ensures { result ≡ list_all (λ k. spec.all_stand_with_class class inside.now (preorder lowering.now.lowered.now.program.now) (references_of (group k lowering.now.placed))) names.now }
 {
-    let mut numbers = numbers_of_class(alloc, class, lowering.source)?;
-    add_holding(class, lowering.nodes, &mut numbers)?;
-    set_of(alloc, numbers.as_slice())
+    for name in names {
+        if !stand_with_class(lowering.lowered, class, inside, lowering.placed.get(*name)) {
+            return false;
+        }
+    }
+    true
 }
 
-/// Adds the numbers of those of these nodes in which this class stands. Fails on allocation failure alone.
-#[tactic(auto, using(es_owed::proofs::Nodes::number_of_node))]
-fn add_holding(class: u32, nodes: &[&Node], numbers: &mut Vec<u32>) -> Result<(), AllocError>
-    ensures { OnOk result (numbers.new.items ≡ numbers.old.items ++ holding class (seen nodes.now)) }
+fn stand_with_class(
+    lowered: &Listed,
+    class: u32,
+    inside: &Numbers,
+    references: &[PlacedReference],
+) -> bool
+    ensures { result ≡ spec.all_stand_with_class class inside.now (preorder lowered.now.program.now) (references_of references.now) }
+{
+    for reference in references {
+        if !are_of_class(lowered, class, inside, reference.around.as_slice()) {
+            return false;
+        }
+    }
+    true
+}
+
+/// Whether each of these functions is of these numbers, or holds the class.
+fn are_of_class(lowered: &Listed, class: u32, inside: &Numbers, functions: &[FunctionPart]) -> bool
+    ensures { result ≡ spec.are_of_class class inside.now (preorder lowered.now.program.now) (part_pairs functions.now) }
+{
+    for part in functions {
+        if !(inside.has(NodeId(part.function)) || any_holding(lowered, class, part.function)) {
+            return false;
+        }
+    }
+    true
+}
+
+// ---- nodes in which the class stands
+
+/// Whether the class stands in a node of this number.
+fn any_holding(lowered: &Listed, class: u32, number: u32) -> bool
+    ensures { result ≡ spec.holds_class number class (preorder lowered.now.program.now) }
+{
+    any_holds(class, lowered.numbered(number))
+}
+
+fn any_holds(class: u32, nodes: &[&Node]) -> bool
+    ensures { result ≡ list_any (λ t. has_number class (spec.numbers_of (preorder t))) (seen nodes.now) }
 {
     for node in nodes {
-        add_if(holds(class, node), node.node_id().0, numbers)?;
+        if holds(class, node) {
+            return true;
+        }
     }
-    Ok(())
+    false
 }
 
 /// Whether this class is the node, or stands in it.
@@ -87,29 +125,4 @@ impl NodeTest for HasNumber {
     {
         self.number == node.node_id().0
     }
-}
-
-// ---- functions around references
-
-/// Whether the functions around each of these references are of these numbers.
-fn all_stand_among(numbers: &Numbers, references: &[PlacedReference]) -> bool
-    ensures { result ≡ all_stand_among numbers.now (references_of references.now) }
-{
-    for reference in references {
-        if !are_among(numbers, reference.around.as_slice()) {
-            return false;
-        }
-    }
-    true
-}
-
-fn are_among(numbers: &Numbers, functions: &[FunctionPart]) -> bool
-    ensures { result ≡ are_among numbers.now (part_pairs functions.now) }
-{
-    for part in functions {
-        if !numbers.has(NodeId(part.function)) {
-            return false;
-        }
-    }
-    true
 }

@@ -1,46 +1,60 @@
-// References of given numbers, with the functions of the source that they stand in.
+// The references of a program by their numbers, with the functions of the source that they stand in.
 
-ghost use Rattle.std.specs.Prelude.{◌≡◌, [], false, IfOk, ℕ};
-ghost use Rattle.es_lowered.specs.FunctionsAround as spec;
-ghost use Rattle.es_owed_places.specs.Placed.{references_of};
-ghost use Rattle.es_steps.specs.References.{has_number};
+ghost use Rattle.std.specs.Prelude.{◌≡◌, ℕ, map, true, IfOk};
+ghost use Rattle.es_by_number.specs.Numbered as by_number;
+ghost use Rattle.es_grouped.specs.Groups.{group};
+ghost use Rattle.es_lowered.specs.ClassNames.{numbered};
+ghost use Rattle.es_owed_class_names.specs.PlacedNumbers.{all_placed};
+ghost use Rattle.es_owed_places.specs.Placed.{reference_of, references_of};
 
-use es_base::ids::NodeId;
-use es_binding_faults::numbers::Numbers;
+use es_by_number::numbered::Numbered;
+use es_grouped::Grouped;
 use es_node::node::Node;
 use es_owed_places::placed::{Asks, PlacedReference, placed_references};
-use es_owed_references::numbers::set_of;
 use std::alloc::{AllocError, Global};
 
-/// The references of these numbers.
+/// All references.
 #[derive(Drop)]
-struct Numbered<'r> {
-    numbers: &'r [u32],
-    set: Numbers,
+struct AnyReference;
 
-    ghost are_its: { (n : ℕ) → has_number n set ≡ has_number n numbers.now },
-}
+impl Asks for AnyReference {
+    ghost use Rattle.std.specs.Prelude.{true};
 
-impl<'r> Asks for Numbered<'r> {
-    ghost asks = { λ k m s. has_number m k.numbers.now };
+    ghost asks = { λ k m s. true };
 
-    fn asks(&self, number: u32, _name: &str) -> bool
-        ensures { result ≡ has_number number self.now.numbers.now }
+    fn asks(&self, _number: u32, _name: &str) -> bool
+        ensures { result ≡ true }
     {
-        self.set.has(NodeId(number))
+        true
     }
 }
 
-/// The references of these numbers in a program. Fails on allocation failure alone.
-pub fn placed_numbered<'a>(
+/// The references of a program by their numbers. Fails on allocation failure alone.
+pub fn placed_by_number<'a>(
     alloc: Global,
     first: u32,
-    numbers: &[u32],
     program: &'a Node,
-) -> Result<Vec<PlacedReference<'a>>, AllocError>
-    ensures { IfOk result (λ r. references_of r.items ≡ spec.placed_references first (λ m s. has_number m numbers.now) false [] program.now) }
+) -> Result<Grouped<PlacedReference<'a>>, AllocError>
+    ensures { IfOk result (λ g. (k : ℕ) → references_of (group k g) ≡ numbered k (all_placed first program.now)) }
 {
-    let set = set_of(alloc, numbers)?;
-    let asked = Numbered { numbers, set };
-    placed_references(alloc, first, &asked, program)
+    let references = placed_references(alloc, first, &AnyReference, program)?;
+    let items = with_numbers(alloc, references)?;
+    Grouped::of(alloc, items)
+}
+
+/// These references, each with its number. Fails on allocation failure alone.
+fn with_numbers<'a>(
+    alloc: Global,
+    references: Vec<PlacedReference<'a>>,
+) -> Result<Vec<Numbered<PlacedReference<'a>>>, AllocError>
+    ensures { IfOk result (λ r. by_number.numbered reference_of r.items ≡ map (λ x. (x.number, x)) (references_of references.entry.items)) }
+{
+    let mut items = Vec::new(alloc);
+    for reference in references {
+        items.push(Numbered {
+            number: reference.number,
+            value: reference,
+        })?;
+    }
+    Ok(items)
 }

@@ -1,7 +1,8 @@
 // The names of each class are read behind it, or in its elements.
 //
-// A class none of whose names is asked for takes time in proportion to its own nodes. For any other, the references in the source
-// that may stand where they stand, and those that are asked for, are looked for in the whole programs.
+// Each class takes time in proportion to its own nodes and the references to it, but for two things: where a name of it stands in a
+// function of a generated name that is called, all such functions are gone over, and a function around a new reference is searched
+// for the class.
 
 ghost use Rattle.std.specs.Prelude.{◌≡◌, ◌&&◌, true, IfOk};
 ghost use Rattle.es_base.specs.Preorder.{preorder};
@@ -11,16 +12,16 @@ ghost use Rattle.es_owed_references.specs.Moved.{functions_of, names_of};
 ghost use Rattle.es_steps.specs.References.{has_number};
 
 use crate::asked::{asked_names, asked_references, functions_outside};
-use crate::inside::class_runs;
+use crate::inside::{class_runs, numbers_inside};
 use crate::lists::{is_none, without};
 use crate::lowering::Lowering;
-use crate::marked::stand_in_time;
+use crate::marked::{ProgramMarks, stand_in_time};
 use crate::new_names::new_names_fit;
 use es_base::ledger::LedgerEntry;
 use es_owed::listed::Listed;
 use es_owed_initialized::meaning::Referents;
 use es_owed_references::moved::{MovedFunction, names_holding};
-use es_owed_references::numbers::set_of;
+use es_owed_references::numbers::{any_among, set_of};
 use std::alloc::{AllocError, Global};
 
 /// Whether in what a source was lowered to the names of each of its classes, those that the lowering gave it too, are read behind
@@ -36,7 +37,8 @@ pub fn classes_timely<'r, 'a>(
     ensures { IfOk result (λ holds. holds ≡ spec.classes_timely first ledger.now source.now.program.now lowered.now.program.now) }
 {
     let references = Referents::of(alloc, lowered.program)?;
-    let lowering = Lowering::of(alloc, first, ledger, source, lowered, &references)?;
+    let marks = ProgramMarks::of(alloc, first, source.program, lowered.program)?;
+    let lowering = Lowering::of(alloc, first, ledger, source, lowered, &references, &marks)?;
     all_classes_timely(alloc, &lowering)
 }
 
@@ -78,18 +80,29 @@ fn are_read_in_time(
     if is_none(names) {
         return Ok(true);
     }
+    if !any_among(&lowering.held, names) {
+        return names_in_time(alloc, lowering, class, names);
+    }
     let functions = functions_outside(alloc, lowering, class)?;
     if is_read_early(alloc, lowering, class, functions.as_slice(), names)? {
         return Ok(false);
     }
     let asked = asked_references(alloc, lowering, class, functions.as_slice(), names)?;
-    stand_in_time(
-        alloc,
-        lowering.first,
-        class,
-        asked.as_slice(),
-        lowering.lowered.program,
-    )
+    stand_in_time(alloc, &lowering.marks, class, asked.as_slice())
+}
+
+/// Whether these names of the class, but those in its elements, stand behind it. Fails on allocation failure alone.
+fn names_in_time(
+    alloc: Global,
+    lowering: &Lowering,
+    class: u32,
+    names: &[u32],
+) -> Result<bool, AllocError>
+    ensures { IfOk result (λ holds. holds ≡ spec.stand_in_time lowering.now.first lowering.now.lowered.now.program.now class (spec.without (spec.numbers_inside class (preorder lowering.now.lowered.now.program.now)) names.now)) }
+{
+    let inside = numbers_inside(alloc, class, lowering.lowered)?;
+    let asked = without(alloc, inside.as_slice(), names)?;
+    stand_in_time(alloc, &lowering.marks, class, asked.as_slice())
 }
 
 /// Whether elements run with the class, which may call one of these functions that reads one of these names. Fails on allocation

@@ -1,9 +1,16 @@
-use Rattle.std.proofs.Common.{◌≡◌, ap, ◌∙◌}
+use Rattle.std.proofs.Common.{◌≡◌, sym, ap, ◌∙◌}
 use Rattle.es_base.specs.Preorder.{preorder}
 use Rattle.es_binding_faults.proofs.Appending.{IfOk-map}
 use Rattle.es_lowered.specs.ClassNames as spec
+use Rattle.es_steps.specs.References.{has_number}
+use Rattle.es_owed_class_names.proofs.KeptPlaces.{among_free}
 use Rattle.es_owed_class_names.specs.Asked.{kept_names}
 use Rattle.es_owed_class_names.proofs.asked.kept_names.Goals as goal
+
+pub kept_places-requires : goal.kept_places-requires
+kept_places-requires c =
+    let lowering = c.args.lowering.now in
+    λ m is. among_free m c.class_runs-runs.result c.args.class (preorder lowering.source.now.program.now) (preorder lowering.lowered.now.program.now) c.args.names.now (ap (has_number m) (sym (c.as_slice.ensures.value ∙ c.in_ok-free.ensures)) ∙ is)
 
 pub returns : goal.returns
 returns c =
