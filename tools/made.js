@@ -111,6 +111,7 @@ class Maker {
     const statement = use => `${this.expression(use)};`;
     const local = this.chance(0.3) ? `let ${this.pick(['x', 'y', 'z'].filter(n => n !== parameter))} = ${this.below(9)}; ` : '';
     const head = this.chance(0.15) ? `${parameter} = ${this.expression(before)}` : parameter;
+    if (extended && this.chance(0.2)) return this.constructorWithSuperInParameters(parameter, before, inside);
     if (!extended) return `constructor(${head}) { ${local}${this.many(2, () => statement(inside)).join(' ')} }`;
     const call = () => `super(${this.chance(0.5) ? this.expression(before) : ''})`;
     const body = this.pick([
@@ -122,6 +123,18 @@ class Maker {
       () => `try { ${call()}; } finally { t(${this.mark()}, 0); }`,
     ])();
     return `constructor(${head}) { ${local}${body} ${this.many(2, () => statement(inside)).join(' ')} }`;
+  }
+
+  // classes are constructed with two arguments, so the default value of a third parameter is taken
+  constructorWithSuperInParameters(parameter, before, inside) {
+    const call = () => `super(${this.chance(0.5) ? this.expression(before) : ''})`;
+    const head = this.pick([
+      () => `${parameter} = ${call()}`,
+      () => `${parameter} = () => ${call()}`,
+      () => `${parameter} = [${this.expression(before)}, ${call()}]`,
+    ])();
+    const first = this.chance(0.5) ? `try { ${call()}; } catch (e) { t(${this.mark()}, e); } ` : '';
+    return `constructor(w, v, ${head}) { if (typeof ${parameter} === 'function') ${parameter}(); ${first}${this.many(2, () => `${this.expression(inside)};`).join(' ')} }`;
   }
 
   classText(scope, name, isDeclaration) {

@@ -5,7 +5,10 @@ use crate::class_details::{ClassDetails, ClassHead};
 use crate::computed_key::{
     extract_instance_prop_computed_key, substitute_temp_var_for_method_computed_key,
 };
-use crate::constructor::insert_instance_inits;
+use crate::constructor::{calls_super_in_parameters, insert_instance_inits};
+use crate::outside_super::{
+    begin_outside_super, convert_outside_property, end_outside_super, wrap_super_calls,
+};
 use crate::prop_decl::{convert_instance_property, convert_static_property};
 use crate::state::State;
 use crate::static_block_and_prop_init::convert_static_block;
@@ -51,6 +54,8 @@ pub fn enter_class(state: &mut State, class: Node) -> Result<Node, AllocError> {
 #[derive(Debug, Clone, Copy)]
 struct Census {
     instance_fields: bool,
+    /// Instance fields that are not left out.
+    instance_inits: bool,
     static_fields: bool,
     static_blocks: bool,
 }
@@ -59,6 +64,7 @@ struct Census {
 fn census_of(state: &mut State, elements: &[Node]) -> Census {
     let mut census = Census {
         instance_fields: false,
+        instance_inits: false,
         static_fields: false,
         static_blocks: false,
     };
@@ -71,6 +77,9 @@ fn census_of(state: &mut State, elements: &[Node]) -> Census {
                     census.static_fields = true;
                 } else {
                     census.instance_fields = true;
+                    if field.value.is_some() || !state.settings.removes_empty_fields() {
+                        census.instance_inits = true;
+                    }
                 }
             }
             Kind::MethodDefinition => {
@@ -109,10 +118,14 @@ fn enter_elements(
     elements: List<Node>,
 ) -> Result<List<Node>, AllocError> {
     let census = census_of(state, elements.as_slice());
-    let details = class_details_of(state, head, census)?;
+    let mut details = class_details_of(state, head, census)?;
     let (number, has_super_class) = (details.head.number, details.head.has_super_class);
+    let has_outside_super = has_super_class
+        && census.instance_inits
+        && calls_super_in_parameters(elements.as_slice());
+    details.has_outside_super = has_outside_super;
     state.classes.push(details)?;
-    if !census.instance_fields {
+    if !census.instance_fields || has_outside_super {
         return Ok(elements);
     }
     let mut inits = List::new(state.alloc);
@@ -138,7 +151,7 @@ fn enter_element(
             if field.is_static {
                 return Ok(field.into_node());
             }
-            convert_instance_property(state, field, inits)
+            Ok(convert_instance_property(state, field, inits)?.into_node())
         }
         _ => Ok(element),
     }
@@ -157,6 +170,9 @@ fn class_details_of(
         is_transform_required: census.instance_fields
             || census.static_fields
             || census.static_blocks,
+        is_in_strict_list: false,
+        has_outside_super: false,
+        outside_super: None,
         temp_is_declared: needs_temp,
         head,
         temp,
@@ -183,11 +199,17 @@ fn temp_of(
 
 // ---- leaving
 
-/// Leaves a class: its fields go, and the blocks that are lowered; static fields and blocks go behind it, keys in front of it.
-pub fn exit_class(state: &mut State, class: Node) -> Result<Node, AllocError> {
-    let Some(details) = innermost(state) else {
+/// Leaves a class, which stands in a list of statements in strict code or not: its fields go, and the blocks that are lowered; static
+/// fields and blocks go behind it, keys in front of it.
+pub fn exit_class(
+    state: &mut State,
+    class: Node,
+    is_in_strict_list: bool,
+) -> Result<Node, AllocError> {
+    let Some(mut details) = innermost(state) else {
         return Ok(class);
     };
+    details.is_in_strict_list = is_in_strict_list;
     if !details.is_transform_required {
         return Ok(class);
     }
@@ -317,12 +339,14 @@ fn exit_elements(
     details: &mut ClassDetails,
     elements: List<Node>,
 ) -> Result<List<Node>, AllocError> {
+    begin_outside_super(state, details)?;
     let mut kept = List::new(state.alloc);
     for element in elements.into_vec() {
         if let Some(element) = exit_element(state, details, element)? {
             kept.push(element)?;
         }
     }
+    end_outside_super(state, details)?;
     Ok(kept)
 }
 
@@ -344,6 +368,7 @@ fn exit_element(
         Kind::MethodDefinition => {
             let method = MethodDefinition::from_node(element);
             let method = substitute_temp_var_for_method_computed_key(state, details, method)?;
+            let method = wrap_super_calls(state.alloc, details, method)?;
             Ok(Some(method.into_node()))
         }
         _ => Ok(Some(element)),
@@ -356,8 +381,8 @@ fn exit_field(
     field: PropertyDefinition,
 ) -> Result<(), AllocError> {
     if field.is_static {
-        convert_static_property(state, details, field)
-    } else {
-        extract_instance_prop_computed_key(state, details, field)
+        return convert_static_property(state, details, field);
     }
+    let field = convert_outside_property(state, details, field)?;
+    extract_instance_prop_computed_key(state, details, field)
 }

@@ -64,12 +64,26 @@ fn name_of(
     }
 }
 
+/// What stands for `super(..)` outside of a class: its name, and what defines the instance fields in it.
+#[derive(Drop)]
+pub struct OutsideSuper {
+    pub name: Name,
+    pub inits: List<Node>,
+}
+
 /// A class that the walk is in (oxc_transformer, `ClassDetails`).
 #[derive(Drop)]
 pub struct ClassDetails {
     pub head: ClassHead,
     /// Whether something of it is lowered.
     pub is_transform_required: bool,
+    /// Whether the list of statements around it is in strict code, which is told as the class is left.
+    pub is_in_strict_list: bool,
+    /// Whether its constructor calls `super` in its parameters, and has instance fields to define behind that. They stay in the class
+    /// until it is left.
+    pub has_outside_super: bool,
+    /// What stands for `super(..)` outside of it, as the class is left.
+    pub outside_super: Option<OutsideSuper>,
     /// The temporary that holds the class, and whether it is declared.
     pub temp: Option<Name>,
     pub temp_is_declared: bool,

@@ -10,12 +10,14 @@ ghost use Rattle.es_ctx.specs.Stores.{stored};
 
 use crate::class::{enter_class, exit_class};
 use crate::state::{Insertions, State};
+use bitflags::Flags;
 use es_base::ids::NodeId;
 use es_base::kind::Kind;
 use es_base::list::List;
 use es_ctx::beside::{insert_after, insert_before};
 use es_ctx::ctx::TraverseCtx;
 use es_node::node::Node;
+use es_scopes::flags::ScopeFlags;
 use es_walk::program::Lawful;
 use es_walk::walk::Traverse;
 use std::alloc::AllocError;
@@ -94,8 +96,9 @@ impl ClassProperties {
     {
         let statement = statement_of(node, ctx);
         let count = node.nodes();
+        let is_in_strict_list = self.is_in_strict_list(ctx);
         let class = node.take();
-        let class = self.change(class, enters)?;
+        let class = self.change(class, enters, is_in_strict_list)?;
         let insertions = self.state.take_insertions();
         if !self.pay(count, &class) {
             self.state.decline(statement);
@@ -105,14 +108,30 @@ impl ClassProperties {
         self.insert_all(statement, insertions, ctx)
     }
 
+    /// Whether the innermost list of statements around is in strict code.
+    fn is_in_strict_list(&self, ctx: &TraverseCtx) -> bool {
+        let scoping = &self.state.scoping;
+        let scope = ctx.current_block_scope_id();
+        if scoping.has_scope(scope) {
+            scoping.scope_flags(scope).contains(ScopeFlags::STRICT)
+        } else {
+            false
+        }
+    }
+
     /// The class as it is entered or left.
-    fn change(&mut self, class: Node, enters: bool) -> Result<Node, AllocError>
+    fn change(
+        &mut self,
+        class: Node,
+        enters: bool,
+        is_in_strict_list: bool,
+    ) -> Result<Node, AllocError>
         ensures { OnOk result (self.new.room ≡ self.old.room) }
     {
         if enters {
             enter_class(&mut self.state, class)
         } else {
-            exit_class(&mut self.state, class)
+            exit_class(&mut self.state, class, is_in_strict_list)
         }
     }
 

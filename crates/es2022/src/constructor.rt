@@ -2,7 +2,7 @@
 
 use crate::builders::{create_binding, create_declarator, create_reference, create_statement};
 use crate::instance_prop_init::rename_clashing_symbols;
-use crate::rewrite::{Rewriter, rewrite_statements};
+use crate::rewrite::{Rewriter, rewrite_statements, with_number};
 use crate::state::State;
 use crate::static_block_and_prop_init::has_outer_this;
 use crate::utils::{append, directive_count, exprs_into_stmts, with_nodes_at};
@@ -12,6 +12,7 @@ use es_base::ledger::GeneratedKind;
 use es_base::list::List;
 use es_base::name::Name;
 use es_base::operator::{MethodDefinitionKind, VariableDeclarationKind};
+use es_builders::builders::create_call_call;
 use es_node::node::Node;
 use es_tree::class::{MethodDefinition, MethodDefinitionRef, make_method_definition};
 use es_tree::expression::{
@@ -99,6 +100,33 @@ fn create_super_call(alloc: Global, args: &Name) -> Result<Node, AllocError> {
     make_call_expression(alloc, make_super(alloc)?, arguments, false)
 }
 
+/// Whether a class has a constructor that calls `super` in its parameters.
+pub fn calls_super_in_parameters(elements: &[Node]) -> bool {
+    for element in elements {
+        if is_constructor(element) && has_super_in_parameters(element) {
+            return true;
+        }
+    }
+    false
+}
+
+// constructor(a = super(..)) {}
+fn has_super_in_parameters(constructor: &Node) -> bool {
+    match constructor.kind() {
+        Kind::MethodDefinition => {
+            let function = MethodDefinitionRef::from_node(constructor).value;
+            match function.kind() {
+                Kind::FunctionExpression => {
+                    let params = FunctionExpressionRef::from_node(function).params;
+                    calls_super(Role::Other, params)
+                }
+                _ => false,
+            }
+        }
+        _ => false,
+    }
+}
+
 /// A constructor with these initializers.
 fn insert_into(
     state: &mut State,
@@ -144,11 +172,6 @@ fn insert_into_function(
     match function.kind() {
         Kind::FunctionExpression => {
             let mut function = FunctionExpression::from_node(function);
-            if has_super_class && calls_super(Role::Other, function.params.as_slice()) {
-                // an outer `_super` is not made yet
-                state.decline(function.node_id);
-                return Ok(function.into_node());
-            }
             function.body = insert_into_body(state, class, has_super_class, function.body, inits)?;
             Ok(function.into_node())
         }
@@ -225,6 +248,14 @@ fn is_plain_super_call(expression: &Node) -> bool {
     }
 }
 
+// super(..)
+fn is_call_of_super(node: &Node) -> bool {
+    match node.kind() {
+        Kind::CallExpression => CallExpressionRef::from_node(node).callee.kind() == Kind::Super,
+        _ => false,
+    }
+}
+
 /// `var _super = (..._args) => (super(..._args), inits, this);` in front of the statements, in which `super(..)` becomes
 /// `_super(..)`.
 fn insert_super_function(
@@ -248,17 +279,23 @@ fn insert_super_function(
     let declarators = List::from_vec(vec![in alloc; declarator]?);
     let declaration = make_variable_declaration(alloc, VariableDeclarationKind::Var, declarators)?;
     let mut statements = statements;
-    rewrite_statements(&mut SuperRewriter { alloc, name }, &mut statements)?;
+    let mut rewriter = SuperRewriter {
+        alloc,
+        name,
+        is_outside: false,
+    };
+    rewrite_statements(&mut rewriter, &mut statements)?;
     let place = directive_count(statements.as_slice());
     let declarations = List::from_vec(vec![in alloc; declaration]?);
     with_nodes_at(alloc, statements, place, declarations)
 }
 
-/// `super(..)` becomes `_super(..)`.
+/// `super(..)` becomes `_super(..)`, and `_super.call(super(..))` where that is a function outside of the class.
 #[derive(Drop)]
-struct SuperRewriter {
-    alloc: Global,
-    name: Name,
+pub struct SuperRewriter {
+    pub alloc: Global,
+    pub name: Name,
+    pub is_outside: bool,
 }
 
 impl Rewriter for SuperRewriter {
@@ -267,14 +304,14 @@ impl Rewriter for SuperRewriter {
     }
 
     fn rewrite_expression(&mut self, node: &mut Node) -> Result<(), AllocError> {
-        if node.kind() != Kind::CallExpression {
+        if !is_call_of_super(node) {
             return Ok(());
         }
-        let mut call = CallExpression::from_node(node.take());
-        if call.callee.kind() == Kind::Super {
-            call.callee = create_reference(self.alloc, &self.name)?;
+        let function = create_reference(self.alloc, &self.name)?;
+        if self.is_outside {
+            return wrap(self.alloc, function, node);
         }
-        *node = call.into_node();
+        *node = with_callee(node.take(), function);
         Ok(())
     }
 
@@ -285,6 +322,27 @@ impl Rewriter for SuperRewriter {
     fn rewrite_binding(&mut self, _node: &mut Node) -> Result<(), AllocError> {
         Ok(())
     }
+}
+
+/// A call of another function.
+fn with_callee(call: Node, function: Node) -> Node {
+    match call.kind() {
+        Kind::CallExpression => {
+            let mut call = CallExpression::from_node(call);
+            call.callee = function;
+            call.into_node()
+        }
+        _ => call,
+    }
+}
+
+/// `super(..)` becomes `_super.call(super(..))`, which takes its number.
+fn wrap(alloc: Global, function: Node, node: &mut Node) -> Result<(), AllocError> {
+    let (number, span) = (node.node_id(), node.span());
+    let call = with_number(node.take(), NodeId::DUMMY, None);
+    let wrapped = create_call_call(alloc, function, call)?;
+    *node = with_number(wrapped, number, span);
+    Ok(())
 }
 
 /// Whether a statement calls `super`.
@@ -318,9 +376,7 @@ impl Visit for SuperSearch {
 
     // super(..)
     fn visit_expression(&mut self, node: &Node) -> bool {
-        if node.kind() == Kind::CallExpression
-            && CallExpressionRef::from_node(node).callee.kind() == Kind::Super
-        {
+        if is_call_of_super(node) {
             self.is_found = true;
         }
         true

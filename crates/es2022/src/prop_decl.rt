@@ -25,10 +25,10 @@ pub fn convert_instance_property(
     state: &mut State,
     field: PropertyDefinition,
     inits: &mut List<Node>,
-) -> Result<Node, AllocError> {
+) -> Result<PropertyDefinition, AllocError> {
     let mut field = field;
     if field.value.is_none() && state.settings.removes_empty_fields() {
-        return Ok(field.into_node());
+        return Ok(field);
     }
     let value = match field.value.take() {
         Some(value) => replace_new_target(state.alloc, value)?,
@@ -51,7 +51,7 @@ pub fn convert_instance_property(
             field.computed = false;
         }
     }
-    Ok(field.into_node())
+    Ok(field)
 }
 
 /// `static k = v;` becomes `babelHelpers.defineProperty(C, "k", v)`, or `C.k = v` where fields are set, behind the class.

@@ -3,7 +3,7 @@
 ghost use Rattle.std.specs.Prelude.{ℕ, Bool};
 ghost use Rattle.es_base.specs.Tree.{Tree};
 
-use es_base::ids::ScopeId;
+use es_base::ids::{NodeId, ScopeId, Span};
 use es_base::list::List;
 use es_node::node::Node;
 use es_visit::roles::Role;
@@ -34,6 +34,12 @@ pub fn rewrite_expression<R: Rewriter>(
     walk_node_mut(&mut rewriting, Role::Expression, expression)
 }
 
+/// Changes what is in a parameter or the body of a function.
+pub fn rewrite_part<R: Rewriter>(rewriter: &mut R, part: &mut Node) -> Result<(), AllocError> {
+    let mut rewriting = Rewriting { rewriter };
+    walk_node_mut(&mut rewriting, Role::Other, part)
+}
+
 /// Changes what is in statements.
 pub fn rewrite_statements<R: Rewriter>(
     rewriter: &mut R,
@@ -41,6 +47,15 @@ pub fn rewrite_statements<R: Rewriter>(
 ) -> Result<(), AllocError> {
     let mut rewriting = Rewriting { rewriter };
     walk_nodes_mut(&mut rewriting, Role::Statement, statements)
+}
+
+/// The node with the number and the span of what it stands for.
+pub fn with_number(node: Node, number: NodeId, span: Option<Span>) -> Node {
+    let kind = node.kind();
+    let mut contents = node.into_contents();
+    contents.node_id = number;
+    contents.span = span;
+    Node::new(kind, contents)
 }
 
 /// A rewriter as a visitor.

@@ -104,6 +104,29 @@ pub fn replace_new_target(alloc: Global, value: Node) -> Result<Node, AllocError
     Ok(value)
 }
 
+/// What defines an instance field outside of its class expression, where the name of the class is its temporary.
+pub fn transform_outside_initializer(
+    state: &mut State,
+    details: &mut ClassDetails,
+    init: Node,
+) -> Result<Node, AllocError> {
+    let mut init = init;
+    if details.head.is_declaration {
+        return Ok(init);
+    }
+    if let Some(symbol) = details.head.symbol {
+        rewrite_expression(
+            &mut NameRewriter {
+                state,
+                details,
+                symbol,
+            },
+            &mut init,
+        )?;
+    }
+    Ok(init)
+}
+
 /// The temporary of a class, which is made where it is first needed (oxc_transformer, `get_or_init_static_binding`).
 fn class_temp(state: &mut State, details: &mut ClassDetails) -> Result<Name, AllocError> {
     if let Some(temp) = &details.temp {
