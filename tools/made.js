@@ -51,6 +51,19 @@ class Maker {
   many(most, make) { return Array.from({ length: this.below(most + 1) }, make); }
   mark() { return ++this.count; }
 
+  // a member of `super` in static code of a class with a heritage, read, called and written; `q` logs
+  superText(scope) {
+    const key = this.pick(['s', 'q']), member = this.pick([`super.${key}`, `super[t(${this.mark()}, '${key}')]`]);
+    return this.pick([
+      () => `t(${this.mark()}, ${member})`,
+      () => `super.f(${this.expression(scope)})`,
+      () => `t(${this.mark()}, ${member} ${this.pick(['=', '+=', '**=', '??=', '&&=', '||='])} ${this.expression(scope)})`,
+      () => `t(${this.mark()}, ${member}${this.pick(['++', '--'])})`,
+      () => `t(${this.mark()}, ${this.pick(['++', '--'])}${member})`,
+      () => `t(${this.mark()}, delete this)`,
+    ])();
+  }
+
   // an expression that logs; `scope` has the names that can be read, what `this` is, and how deep it may go
   expression(scope) {
     const forms = [
@@ -62,7 +75,8 @@ class Maker {
     if (scope.hasTarget) forms.push(() => `t(${this.mark()}, new.target)`);
     if (scope.depth > 0) {
       const inner = { ...scope, depth: scope.depth - 1 };
-      const own = { ...inner, hasThis: true, hasTarget: true };
+      const own = { ...inner, hasThis: true, hasTarget: true, hasSuper: false };
+      if (scope.hasSuper) forms.push(() => this.superText(inner), () => this.superText(inner));
       forms.push(
         () => `[${this.many(3, () => this.expression(inner)).join(', ')}]`,
         () => `{ a: ${this.expression(inner)} }`.replace(/^/, '(').replace(/$/, ')'),
@@ -86,17 +100,18 @@ class Maker {
   }
 
   element(scope, name, extended) {
-    const fields = { ...scope, names: name ? [...scope.names, name] : scope.names, hasThis: true, hasTarget: true };
-    const value = () => (this.chance(0.85) ? ` = ${this.expression(fields)}` : '');
+    const fields = { ...scope, names: name ? [...scope.names, name] : scope.names, hasThis: true, hasTarget: true, hasSuper: false };
+    const statics = { ...fields, hasSuper: extended };
+    const value = (use = fields) => (this.chance(0.85) ? ` = ${this.expression(use)}` : '');
     const blocks = [
-      () => `static { ${this.expression(fields)}; }`,
-      () => `static { var v = ${this.expression(fields)}; { let w = v; ${this.expression({ ...fields, names: [...fields.names, 'v', 'w'] })}; } }`,
+      () => `static { ${this.expression(statics)}; }`,
+      () => `static { var v = ${this.expression(statics)}; { let w = v; ${this.expression({ ...statics, names: [...fields.names, 'v', 'w'] })}; } }`,
     ];
     return this.pick([
       ...(this.hasBlocks ? blocks : []),
       () => `${this.key(scope)}${value()};`,
       () => `${this.key(scope)}${value()};`,
-      () => `static ${this.key(scope)}${value()};`,
+      () => `static ${this.key(scope)}${value(statics)};`,
       () => `${this.pick(['', 'static ', 'async '])}${this.hasAccessors ? this.key(scope) : `m${this.below(6)}`}() { return ${this.expression({ ...fields, hasTarget: true })}; }`,
       ...(this.hasAccessors ? [() => `get ${this.key(scope)}() { return ${this.expression(fields)}; }`] : []),
     ])();
@@ -106,7 +121,7 @@ class Maker {
   constructorText(scope, name, extended) {
     const parameter = this.pick(['x', 'y', 'z', 'p']);
     const names = [...scope.names, parameter];
-    const inside = { ...scope, names, hasThis: true, hasTarget: true };
+    const inside = { ...scope, names, hasThis: true, hasTarget: true, hasSuper: false };
     const before = { ...inside, hasThis: !extended };
     const statement = use => `${this.expression(use)};`;
     const local = this.chance(0.3) ? `let ${this.pick(['x', 'y', 'z'].filter(n => n !== parameter))} = ${this.below(9)}; ` : '';
@@ -166,7 +181,7 @@ class Maker {
     const scope = { names: ['x', 'y', 'z'], hasThis: true, hasTarget: false, depth: 3 };
     const strict = this.chance(0.3) ? "'use strict';\n" : '';
     const statements = Array.from({ length: 1 + this.below(3) }, () => this.statement(scope));
-    return `${strict}var x = 'x', z = 'z'; let y = 'y';\nclass P { constructor(a) { t('P', a); t('target', new.target); } m() { return t('m', this); } }\n${statements.join('\n')}\n`;
+    return `${strict}var x = 'x', z = 'z'; let y = 'y';\nclass P { constructor(a) { t('P', a); t('target', new.target); } m() { return t('m', this); } static get q() { return t('q', 2); } static set q(v) { t('set q', v); } static f(a) { return t('f', this) && a; } }\nP.s = 1;\n${statements.join('\n')}\n`;
   }
 }
 

@@ -26,8 +26,7 @@ const ROOM: u32 = 63;
 
 /// What a valid program is lowered to under the options, with class properties on: its nodes keep their numbers, which are those
 /// of preorder, and new nodes have the numbers from the number of its nodes on. It has at most 64 times the nodes of its source.
-/// Fails on allocation failure, and where a form is not lowered: private names, and writes of members of `super` in what goes out of a
-/// class.
+/// Fails on allocation failure, and where a form is not lowered: private names, and a class without a place for what it needs.
 #[tactic(auto, using(crate::specs::Paid::total_one))]
 pub fn lower(alloc: Global, options: &Options, source: &Node) -> Result<LoweredProgram, Unlowered>
     ensures { IfOk result (λ r. nodes r.program ≤ 64 * nodes source.now) }

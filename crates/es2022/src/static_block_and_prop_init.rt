@@ -5,18 +5,22 @@ use crate::class_details::ClassDetails;
 use crate::rewrite::{Rewriter, rewrite_expression, rewrite_statements};
 use crate::state::State;
 use crate::super_converter::{
-    convert_super, finish_super_call, is_super_call, is_super_member, is_super_write,
+    WriteTemps, convert_super_member, convert_super_write, declare_key_temp, declare_update_temps,
+    finish_super_call, is_super_call, is_super_member, is_super_write,
 };
 use es_base::ids::{NodeId, SymbolId};
 use es_base::kind::Kind;
 use es_base::list::List;
+use es_base::literal::LiteralValue;
 use es_base::name::Name;
+use es_base::operator::UnaryOperator;
 use es_builders::builders::create_void_0;
 use es_node::node::Node;
 use es_tree::class::StaticBlock;
-use es_tree::expression::{MetaPropertyRef, make_call_expression};
+use es_tree::expression::{MetaPropertyRef, UnaryExpressionRef, make_call_expression};
 use es_tree::function::make_arrow_function_expression;
 use es_tree::identifier::{IdentifierNameRef, IdentifierReferenceRef};
+use es_tree::literal::make_literal;
 use es_tree::statement::{ExpressionStatement, make_block_statement};
 use std::alloc::{AllocError, Global};
 
@@ -29,6 +33,11 @@ pub fn transform_static_initializer(
 ) -> Result<Node, AllocError> {
     let mut value = value;
     let symbol = details.head.symbol;
+    let mut constants = ConstantRewriter {
+        alloc: state.alloc,
+        is_static: true,
+    };
+    rewrite_expression(&mut constants, &mut value)?;
     rewrite_expression(
         &mut ThisRewriter::new(&mut *state, &mut *details),
         &mut value,
@@ -54,6 +63,11 @@ pub fn convert_static_block(
 ) -> Result<(), AllocError> {
     let mut statements = block.body;
     let symbol = details.head.symbol;
+    let mut constants = ConstantRewriter {
+        alloc: state.alloc,
+        is_static: true,
+    };
+    rewrite_statements(&mut constants, &mut statements)?;
     rewrite_statements(
         &mut ThisRewriter::new(&mut *state, &mut *details),
         &mut statements,
@@ -100,7 +114,11 @@ fn in_expression(
 /// The initializer of an instance field, where `new.target` is `void 0`.
 pub fn replace_new_target(alloc: Global, value: Node) -> Result<Node, AllocError> {
     let mut value = value;
-    rewrite_expression(&mut NewTargetRewriter { alloc }, &mut value)?;
+    let mut rewriter = ConstantRewriter {
+        alloc,
+        is_static: false,
+    };
+    rewrite_expression(&mut rewriter, &mut value)?;
     Ok(value)
 }
 
@@ -161,13 +179,25 @@ fn is_new_target(node: &Node) -> bool {
     }
 }
 
-/// `new.target` becomes `void 0`.
-#[derive(Drop)]
-struct NewTargetRewriter {
-    alloc: Global,
+// delete this
+fn is_delete_this(node: &Node) -> bool {
+    match node.kind() {
+        Kind::UnaryExpression => {
+            let unary = UnaryExpressionRef::from_node(node);
+            unary.operator == UnaryOperator::Delete && unary.argument.kind() == Kind::ThisExpression
+        }
+        _ => false,
+    }
 }
 
-impl Rewriter for NewTargetRewriter {
+/// `new.target` becomes `void 0` and, in static code, `delete this` becomes `true` (ECMA-262, 13.5.1.2).
+#[derive(Drop)]
+struct ConstantRewriter {
+    alloc: Global,
+    is_static: bool,
+}
+
+impl Rewriter for ConstantRewriter {
     fn goes_into(&mut self, node: &Node) -> Result<bool, AllocError> {
         Ok(has_outer_this(node))
     }
@@ -175,6 +205,8 @@ impl Rewriter for NewTargetRewriter {
     fn rewrite_expression(&mut self, node: &mut Node) -> Result<(), AllocError> {
         if is_new_target(node) {
             *node = create_void_0(self.alloc)?;
+        } else if self.is_static && is_delete_this(node) {
+            *node = make_literal(self.alloc, LiteralValue::Boolean(true))?;
         }
         Ok(())
     }
@@ -188,57 +220,87 @@ impl Rewriter for NewTargetRewriter {
     }
 }
 
-/// `this` becomes the temporary of the class, `new.target` becomes `void 0`, and `super` what reads, calls and writes by the
-/// temporary.
+/// `this` becomes the temporary of the class, and `super` what reads, calls and writes by the temporary.
 #[derive(Drop)]
 struct ThisRewriter<'a> {
     state: &'a mut State,
     details: &'a mut ClassDetails,
     /// The numbers of the calls of members of `super`.
     super_calls: List<NodeId>,
+    /// The temporaries of the writes of members of `super` around, the innermost last.
+    super_writes: List<WriteTemps>,
 }
 
 impl<'a> ThisRewriter<'a> {
     fn new(state: &'a mut State, details: &'a mut ClassDetails) -> ThisRewriter<'a> {
-        let super_calls = List::new(state.alloc);
+        let alloc = state.alloc;
         ThisRewriter {
             state,
             details,
-            super_calls,
+            super_calls: List::new(alloc),
+            super_writes: List::new(alloc),
         }
     }
 
-    /// `super.k`, `super.k(a)` and `super.k = v`, where the node is one of them.
+    /// Draws the temporaries of `super.k`, `super.k(a)`, `super.k = v` and `super.k++`, where the node is one of them.
+    fn enter_super(&mut self, node: &Node) -> Result<(), AllocError> {
+        if is_super_call(node) {
+            self.super_calls.push(node.node_id())
+        } else if is_super_member(node) {
+            drop(class_temp(self.state, self.details)?);
+            Ok(())
+        } else if is_super_write(node) {
+            let key = declare_key_temp(self.state, node)?;
+            drop(class_temp(self.state, self.details)?);
+            let update = declare_update_temps(self.state, node)?;
+            self.super_writes.push(WriteTemps { key, update })
+        } else {
+            Ok(())
+        }
+    }
+
+    /// Converts these.
     fn rewrite_super(&mut self, node: &mut Node) -> Result<(), AllocError> {
-        if is_super_member(node) || is_super_write(node) {
+        let alloc = self.state.alloc;
+        if is_super_member(node) {
             let temp = class_temp(self.state, self.details)?;
-            return convert_super(self.state, &temp, node);
+            return convert_super_member(alloc, &temp, node);
+        }
+        if is_super_write(node) {
+            let temp = class_temp(self.state, self.details)?;
+            if let Some(temps) = self.innermost_write() {
+                return convert_super_write(alloc, &temp, temps, node);
+            }
         }
         if self.super_calls.as_slice().contains(&node.node_id()) {
-            return finish_super_call(self.state.alloc, node);
+            return finish_super_call(alloc, node);
         }
         Ok(())
+    }
+
+    /// The temporaries of the innermost write around, which is left.
+    fn innermost_write(&mut self) -> Option<WriteTemps> {
+        let last = self.super_writes.len().checked_sub(1)?;
+        Some(self.super_writes.remove(last))
     }
 }
 
 impl Rewriter for ThisRewriter<'_> {
     fn goes_into(&mut self, node: &Node) -> Result<bool, AllocError> {
-        if is_super_call(node) {
-            self.super_calls.push(node.node_id())?;
+        if !has_outer_this(node) {
+            return Ok(false);
         }
-        Ok(has_outer_this(node))
+        self.enter_super(node)?;
+        Ok(true)
     }
 
     fn rewrite_expression(&mut self, node: &mut Node) -> Result<(), AllocError> {
         if node.kind() == Kind::ThisExpression {
             let temp = class_temp(self.state, self.details)?;
             *node = create_reference_at(self.state.alloc, &temp, node)?;
-        } else if is_new_target(node) {
-            *node = create_void_0(self.state.alloc)?;
-        } else {
-            self.rewrite_super(node)?;
+            return Ok(());
         }
-        Ok(())
+        self.rewrite_super(node)
     }
 
     fn rewrite_reference(&mut self, _node: &mut Node) -> Result<(), AllocError> {

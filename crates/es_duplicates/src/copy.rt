@@ -29,7 +29,8 @@ pub(crate) fn copies(
     Ok(copies)
 }
 
-fn copy(alloc: Global, expression: &Node) -> Result<Node, AllocError>
+/// A copy of an expression that is written again, without numbers. Fails on allocation failure alone, as the calls below do.
+pub fn copy(alloc: Global, expression: &Node) -> Result<Node, AllocError>
     ensures { IfOk result (λ t. t ≡ copy_of expression.now) }
 {
     match expression.kind() {

@@ -3,7 +3,7 @@
 #![tactic(auto)]
 
 pub mod computed_key;
-mod copy;
+pub mod copy;
 pub mod duplicate;
 pub mod law;
 mod read;
