@@ -25,7 +25,7 @@ classes_more o changed references (Node kind n span semantic_id ps) ts = here (i
 
 -- ---- whether the making of a class is no event
 
-class_or : ClassAt → Option ClassAt → ClassAt
+abbrev class_or : ClassAt → Option ClassAt → ClassAt
 class_or k None = k
 class_or k (Some l) = l
 

@@ -216,7 +216,7 @@ fn touch_fits<'a>(
     source: &Source,
     body: &Body<'a>,
     front: &[Touch<'a>],
-    touch: Touch<'a>,
+    touch: Touch,
     behind: &[Touch<'a>],
 ) -> Result<bool, AllocError>
     ensures { IfOk result (λ holds. holds ≡ compared.touch_fits source.now (body_of body.now) (turned (touches_of front.now) []) (touch_of touch.entry) (touches_of behind.now)) }
