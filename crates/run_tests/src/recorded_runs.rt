@@ -1,18 +1,18 @@
 // Runs over recorded lowerings, from the bytes of a source to what is written of it.
 
+use crate::arguments::arguments_of;
 use crate::programs::{
-    heritage, heritage_lowered, other_name, other_name_captured, other_name_lowered, own_name,
-    own_name_dropped, own_name_exchanged, own_name_kept, own_name_lowered, own_name_undeclared,
-};
-use crate::recorded::Recorded;
-use lower_io::sink::SureSink;
-use lower_io::source::SureSource;
-use lower_run::status::Status;
-use lower_tests::arguments::arguments_of;
-use lower_tests::programs::{
     derived, derived_written, one_field, one_field_kept, one_field_lowered, two_fields,
     two_fields_lowered,
 };
+use crate::recorded::Recorded;
+use crate::recorded_programs::{
+    heritage, heritage_lowered, other_name, other_name_captured, other_name_lowered, own_name,
+    own_name_dropped, own_name_exchanged, own_name_kept, own_name_lowered, own_name_undeclared,
+};
+use lower_io::sink::SureSink;
+use lower_io::source::SureSource;
+use lower_run::status::Status;
 use lower_with::run::run_with;
 use std::alloc::{AllocError, Global};
 use std::test::Fail;

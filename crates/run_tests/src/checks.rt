@@ -1,13 +1,13 @@
 // Pairs of programs, from their bytes to the line that is written of them.
 
-use check_run::run::check_run;
-use lower_io::sink::SureSink;
-use lower_io::source::SureSource;
-use lower_tests::arguments::arguments_of;
-use lower_tests::programs::{
+use crate::arguments::arguments_of;
+use crate::programs::{
     empty, empty_written, no_field, no_field_misnumbered, no_field_written, one_field,
     one_field_kept, one_field_lowered, two_fields, two_fields_lowered,
 };
+use check_run::run::check_run;
+use lower_io::sink::SureSink;
+use lower_io::source::SureSource;
 use std::alloc::{AllocError, Global};
 use std::test::Fail;
 
