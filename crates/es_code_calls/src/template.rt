@@ -12,6 +12,7 @@ use es_base::list::List;
 use es_base::name::Name;
 use es_code_members::codes::take_codes;
 use es_code_members::member::{Member, copy_word, flag_of, take_code};
+use es_codes::boxed::Boxed;
 use es_codes::code::{Code, TemplateString};
 use std::alloc::{AllocError, Global};
 use std::mem;
