@@ -4,7 +4,7 @@ use Rattle.es_base.specs.Tree.{Tree}
 use Rattle.es_base.specs.declared.ids.ScopeId.{ScopeId}
 use Rattle.es_base.specs.declared.ledger.GeneratedKind.TheVariants as kinds
 use Rattle.es_ctx.specs.declared.stores.OpenList.{OpenList}
-use Rattle.es_duplicates.specs.Duplicated.{IsDuplicated, IsHeld, with_name_read}
+use Rattle.es_duplicates.specs.Duplicated.{IsDuplicated, IsHeld}
 use Rattle.es_duplicates.specs.declared.repetition.Repetition.{Repetition}
 use Rattle.es_duplicates.proofs.Reading.{one_more, reads_count}
 use Rattle.es_duplicates.proofs.Tables.{generated_references, name_references}

@@ -1,6 +1,6 @@
 // Expressions that are read more than once, in a program where `foo` is unbound.
 
-ghost use Rattle.std.specs.Prelude.{◌≡◌, ◌+◌, ◌<◌, ◌≤◌, [], IfOk, OnOk, length};
+ghost use Rattle.std.specs.Prelude.{◌≡◌, ◌+◌, ◌<◌, ◌≤◌, [], OnOk, length};
 ghost use Rattle.es_scopes.specs.Table.{HasRoom, HasScope};
 ghost use Rattle.es_uids.specs.Uids.{AreTaken};
 ghost use Rattle.common_tests.specs.Root.{root};
