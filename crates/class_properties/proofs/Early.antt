@@ -272,15 +272,15 @@ module _ (first : ℕ) (supers : List ℕ) (classes : List ClassParts) (sources 
   runs-none u (runs_closure k) = refl
   runs-none u form = refl
 
-  runs-fit : (b : Body) (front : List Touch) (t : Touch) (ts us : List Touch) → runs_fit first supers classes [] sources b front t ts us ≡ true
-  runs-fit b front t ts [] = refl
-  runs-fit b front t ts (u ∷ us) = rw (runs-none u t.form) (runs-fit b front t ts us)
+  runs-fit : (b : Body) (front : List Touch) (t : Touch) (ts before us : List Touch) → runs_fit first supers classes [] sources b front t ts before us ≡ true
+  runs-fit b front t ts before [] = refl
+  runs-fit b front t ts before (u ∷ us) = rw (runs-none u t.form) (runs-fit b front t ts (u ∷ before) us)
 
   quiet-fit : (b : Body) → b.derives ≡ false → (front ts : List Touch) → all_quiet ts ≡ true → touches_fit first supers classes [] sources b front ts ≡ true
   quiet-fit b e front [] h = refl
   quiet-fit b e front (t ∷ ts) h =
       let parts = and_parts (not (is_asked false t.form)) (all_quiet ts) h in
-      both (both (or-first {a = not (is_asked b.derives t.form)} (rw e parts.0) _) (runs-fit b front t ts b.touches)) (quiet-fit b e (t ∷ front) ts parts.1)
+      both (both (or-first {a = not (is_asked b.derives t.form)} (rw e parts.0) _) (runs-fit b (t ∷ front) t ts [] b.touches)) (quiet-fit b e (t ∷ front) ts parts.1)
 
   append-fit : (bs cs : List Body) → bodies_fit first supers classes [] sources bs ≡ true → bodies_fit first supers classes [] sources cs ≡ true → bodies_fit first supers classes [] sources (bs ++ cs) ≡ true
   append-fit [] cs e f = f
@@ -350,7 +350,7 @@ no-arrows (Node kind m span semantic_id ps ∷ ts) = rw (and-false (is_any_funct
 -- ---- the program
 
 bodies-plain : (first : ℕ) (ps : List Tree) (t : Tree) → derived_constructors ps ≡ [] → derived_constructors (preorder t) ≡ [] → bodies_of first [] [] ps t ≡ bodies first [] (variables ps) (class_names ps) (resolve t) [] (super_functions [] (preorder t)) (preorder t) (preorder t)
-bodies-plain first ps t c d = rw (c, d, no-arrows ps) refl
+bodies-plain first ps t c d = rw (c, d, no-arrows ps, no-arrows (preorder t)) refl
 
 -- ---- nothing throws always
 

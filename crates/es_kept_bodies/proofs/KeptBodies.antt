@@ -1,11 +1,12 @@
 -- What a body touches that is kept stands behind what it stood behind.
-use Rattle.std.proofs.Common.{◌≡◌, refl, sym, ap, ◌∙◌, ℕ, ◌≤◌, List, [], ◌∷◌, ◌++◌, Bool, true, false, cond, not, ◌&&◌, ◌||◌, nat_eq, nat_le}
-use Rattle.std.proofs.lemmas.Bool.{and_from, and_left, and_parts, eq-eqb, eqb-true, le-leb, not_from_false, or_left, or_parts, or_right}
+use Rattle.std.proofs.Common.{◌≡◌, refl, sym, ap, ◌∙◌, ℕ, List, [], ◌∷◌, ◌++◌, Bool, true, false, cond, not, ◌&&◌, ◌||◌, nat_eq, nat_le}
+use Rattle.std.proofs.lemmas.Bool.{and_from, and_parts, eq-eqb, eqb-true, le-leb, not_from_false, or_left, or_parts, or_right}
 use Rattle.std.proofs.Math.Nat.{le_refl}
 use Rattle.es_base.specs.Numbered.{is_new}
 use Rattle.es_lowered.specs.DeadZones as spec
-use Rattle.es_lowered.specs.DeadZones.{Body, ClassParts, Closures, Touch, TouchForm, reads, names_class, reads_this, makes_class, runs_closure, is_asked, is_arrow_of, is_in_same, is_put_off, is_run_by, is_same_form, is_this, put_off, stands_in_closure, stands_in_node, was_run}
+use Rattle.es_lowered.specs.DeadZones.{Body, ClassParts, Closures, Touch, TouchForm, reads, names_class, reads_this, makes_class, runs_closure, is_asked, is_arrow_of, is_in_same, is_run_before, is_run_by, is_same_form, is_this, put_off, put_off_behind, stands_in_closure, stands_in_node, were_run}
 use Rattle.es_steps.specs.KeptNodes.{all_pairs_stand, pair_stands}
+use Rattle.es_steps.specs.References.{has_number}
 use Rattle.es_kept_bodies.specs.Kept.{any_same, is_kept_body, is_same_body, none_in_closure, same_touch}
 use Rattle.es_steps.specs.SameMeanings.{same_list}
 use Rattle.es_kept_bodies.proofs.SameTouches.{one_list}
@@ -34,17 +35,19 @@ in_all (c ∷ cs) t u out =
     (or_left (not (stands_in_node c.1 t.held)) (stands_in_node c.1 u.held) (not_from_false (stands_in_node c.1 t.held) parts.0))
     (in_all cs t u parts.1)
 
-not_off : (cs : Closures) (front : List Touch) (t u : Touch) → stands_in_closure cs u ≡ false → is_put_off cs front t u ≡ false
-not_off [] front t u out = refl
-not_off (c ∷ cs) front t u out =
+runs_before : (cs : Closures) (ran : List ℕ) (t u : Touch) → stands_in_closure cs u ≡ false → is_run_before cs ran t u ≡ true
+runs_before [] ran t u out = refl
+runs_before (c ∷ cs) ran t u out =
     let parts = or_parts (stands_in_node c.1 u.held) (stands_in_closure cs u) out in
-    ap (λ b. (b && (not (stands_in_node c.1 t.held) && not (was_run c.1 front))) || is_put_off cs front t u) parts.0 ∙ not_off cs front t u parts.1
+    and_from (not (stands_in_node c.1 u.held) || (stands_in_node c.1 t.held || has_number c.1 ran)) (is_run_before cs ran t u)
+    (or_left (not (stands_in_node c.1 u.held)) (stands_in_node c.1 t.held || has_number c.1 ran) (not_from_false (stands_in_node c.1 u.held) parts.0))
+    (runs_before cs ran t u parts.1)
 
-none_off : (cs : Closures) (front : List Touch) (t : Touch) (us : List Touch) → none_in_closure cs us ≡ true → put_off cs front t us ≡ []
-none_off cs front t [] out = refl
-none_off cs front t (u ∷ us) out =
+none_off : (cs : Closures) (ran : List ℕ) (t : Touch) (us : List Touch) → none_in_closure cs us ≡ true → put_off cs ran t us ≡ []
+none_off cs ran t [] out = refl
+none_off cs ran t (u ∷ us) out =
     let parts = and_parts (not (stands_in_closure cs u)) (none_in_closure cs us) out in
-    ap (λ b. cond b (u ∷ []) [] ++ put_off cs front t us) (not_off cs front t u (not-false (stands_in_closure cs u) parts.0)) ∙ none_off cs front t us parts.1
+    ap (λ b. cond (not b) (u ∷ []) [] ++ put_off cs ran t us) (runs_before cs ran t u (not-false (stands_in_closure cs u) parts.0)) ∙ none_off cs ran t us parts.1
 
 not_of : (cs : Closures) (k : ℕ) (u : Touch) → stands_in_closure cs u ≡ false → (is_arrow_of k cs && stands_in_node k u.held) ≡ false
 not_of [] k u out = refl
@@ -148,24 +151,27 @@ module _ (first : ℕ) (supers : List ℕ) (classes : List ClassParts) (called :
       here true e more rest = or_left _ (stands_in_any ready b t ts cs) (in_one ready b c t ts front asked are e)
       here false e more rest = or_right _ (stands_in_any ready b t ts cs) (rest more)
 
-  touch_kept : (b : Body) (t : Touch) (ts front : List Touch) → b.touches ≡ turned front (t ∷ ts) → none_in_closure called front ≡ true → any_same b sources ≡ true → spec.touch_fits first supers classes called sources b front t ts ≡ true
-  touch_kept b t ts front are out same = here (is_asked b.derives t.form) refl
+  behind_kept : (t : Touch) (ts front : List Touch) → stands_in_closure called t ≡ false → none_in_closure called front ≡ true → put_off_behind called t front ++ in_same t ts ≡ ts
+  behind_kept t ts front out outs =
+      ap (λ (xs : List Touch). xs ++ in_same t ts) (none_off called (were_run called t [] front) t front outs) ∙ kept_all t ts out
+
+  touch_kept : (b : Body) (t : Touch) (ts front : List Touch) → b.touches ≡ turned front (t ∷ ts) → any_same b sources ≡ true → spec.touch_fits first supers classes called sources b front t ts ≡ true
+  touch_kept b t ts front are same = here (is_asked b.derives t.form) refl
     where
       ready : Bool
       ready = not b.derives || spec.is_behind_super first supers classes called sources t front
 
       here : (is : Bool) → is_asked b.derives t.form ≡ is → spec.touch_fits first supers classes called sources b front t ts ≡ true
-      here true e = or_right (not (is_asked b.derives t.form)) _ (or_right _ (stands_in_any ready b t (put_off called front t front ++ ts) sources)
-          (ap (λ xs. stands_in_any ready b t (xs ++ ts) sources) (none_off called front t front out) ∙ in_any ready b t ts front sources e are same))
+      here true e = or_right (not (is_asked b.derives t.form)) _ (or_right _ (stands_in_any ready b t ts sources) (in_any ready b t ts front sources e are same))
       here false e = or_left (not (is_asked b.derives t.form)) _ (not_from_false (is_asked b.derives t.form) e)
 
-  runs_kept : (b : Body) (t : Touch) (ts front us : List Touch) → none_in_closure called us ≡ true → spec.runs_fit first supers classes called sources b front t ts us ≡ true
-  runs_kept b t ts front [] out = refl
-  runs_kept b t ts front (u ∷ us) out =
+  runs_kept : (b : Body) (t : Touch) (ts front before us : List Touch) → none_in_closure called us ≡ true → spec.runs_fit first supers classes called sources b front t ts before us ≡ true
+  runs_kept b t ts front before [] out = refl
+  runs_kept b t ts front before (u ∷ us) out =
       let parts = and_parts (not (stands_in_closure called u)) (none_in_closure called us) out in
-      and_from _ (spec.runs_fit first supers classes called sources b front t ts us)
+      and_from _ (spec.runs_fit first supers classes called sources b front t ts (u ∷ before) us)
       (or_left (not (is_run_by called u t.form)) _ (not_from_false (is_run_by called u t.form) (no_run called u t.form (not-false (stands_in_closure called u) parts.0))))
-      (runs_kept b t ts front us parts.1)
+      (runs_kept b t ts front (u ∷ before) us parts.1)
 
   touches_kept : (b : Body) (front ts : List Touch) → b.touches ≡ turned front ts → none_in_closure called b.touches ≡ true → any_same b sources ≡ true → spec.touches_fit first supers classes called sources b front ts ≡ true
   touches_kept b front [] are out same = refl
@@ -173,9 +179,9 @@ module _ (first : ℕ) (supers : List ℕ) (classes : List ClassParts) (called :
       let outs = none_turned called front (t ∷ ts) (ap (none_in_closure called) (sym are) ∙ out) in
       let parts = and_parts (not (stands_in_closure called t)) (none_in_closure called ts) outs.1 in
       and_from _ (spec.touches_fit first supers classes called sources b (t ∷ front) ts)
-      (and_from _ (spec.runs_fit first supers classes called sources b front t ts b.touches)
-      (ap (spec.touch_fits first supers classes called sources b front t) (kept_all t ts (not-false (stands_in_closure called t) parts.0)) ∙ touch_kept b t ts front are outs.0 same)
-      (runs_kept b t ts front b.touches out))
+      (and_from _ (spec.runs_fit first supers classes called sources b (t ∷ front) t ts [] b.touches)
+      (ap (spec.touch_fits first supers classes called sources b front t) (behind_kept t ts front (not-false (stands_in_closure called t) parts.0) outs.0) ∙ touch_kept b t ts front are same)
+      (runs_kept b t ts (t ∷ front) [] b.touches out))
       (touches_kept b (t ∷ front) ts are out same)
 
 -- a body that is kept fits

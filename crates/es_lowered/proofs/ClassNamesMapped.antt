@@ -131,7 +131,7 @@ module _ {first : ℕ} {f : ℕ → ℕ} (r : Renames first f) where
   without-mapped ns [] = refl
   without-mapped ns (m ∷ ms) = append-mapped f _ _ (rw (has_number-mapped r m ns) (cond-mapped (map f) (has_number m ns) [] (m ∷ []) refl refl)) (without-mapped ns ms)
 
-  common-mapped : (ns ms : List ℕ) → common (map f ns) (map f ms) ≡ map f (common ns ms)
+  pub common-mapped : (ns ms : List ℕ) → common (map f ns) (map f ms) ≡ map f (common ns ms)
   common-mapped ns [] = refl
   common-mapped ns (m ∷ ms) = append-mapped f _ _ (rw (has_number-mapped r m ns) (cond-mapped (map f) (has_number m ns) (m ∷ []) [] refl refl)) (common-mapped ns ms)
 

@@ -8,8 +8,8 @@ use Rattle.es_base.specs.Tree.{Tree, Part, Parts, Node, end, more, child, list}
 use Rattle.es_base.specs.declared.kind.Kind.{Kind}
 use Rattle.es_base.specs.declared.ledger.GeneratedKind.{GeneratedKind}
 use Rattle.es_base.specs.declared.ledger.LedgerEntry.{LedgerEntry}
-use Rattle.es_lowered.specs.ClassNames.{numbers_of, any_among}
-use Rattle.es_lowered.specs.DeadZones.{touches, bound_numbers, variables_by, variables, class_names, touch, is_still, is_closure, Closures, closure, closures_by, closures, call_form, is_chain, is_function_declaration, is_link, is_turned, is_keyed, is_member, is_pattern, converted, touch_around, throws_always, ends_in_throw, defines_by, defines, is_named_or_this, is_value_slot, sets_member, is_property_definition, is_private, updates_private, private_updates, right_of, right_operands, throws_at, new_throws, all_throws, nothing_around, in_no_chain, held_behind, held_in, chain_in, spot_in, is_apart, read_form, reference_touches, assignment_form, own_touches, keyed, inner_touches, joined, touches_in, touches_at, touches_of, turned, class_touches, key_touches, keys_touched, value_touches, values_touched, without_this, derived_constructor, derived_constructors, constructs, arrows, arrows_at, arrows_in, arrows_of_body, arrows_of_keys, derived_arrows, is_call_of_super, classes_given, parameters_at, field_touches, held_with, with_fields, function_touches, body_touches, bodies_by, bodies, super_calls, reference_number, key_references, passed_numbers, moving_keys, moving_blocks, moving_numbers, class_elements, class_parts, is_touched, times, is_definition, definitions_touched, is_between, is_this, is_same_form, is_asked, is_excepted, held_within, held_inside, where_run, stands_in_node, is_run, was_run, stands_in_closure, is_in_same, is_arrow_of, is_run_by, is_put_off, put_off, all_behind, is_like, stands_like, is_of_body, stands_in_any, is_touched_as, is_touched_in, reads_key, is_behind_super, touch_fits, in_same, run_with, runs_fit, touches_fit, bodies_fit, bodies_of, dead_zones_stay, TouchForm, Touch, Body, Spot, ClassParts, reads, names_class, makes_class, runs_closure, defines_field, between_parts, another}
+use Rattle.es_lowered.specs.ClassNames.{numbers_of, any_among, common}
+use Rattle.es_lowered.specs.DeadZones.{touches, bound_numbers, variables_by, variables, class_names, touch, is_still, is_closure, Closures, closure, closures_by, closures, call_form, is_chain, is_function_declaration, is_link, is_turned, is_keyed, is_member, is_pattern, converted, touch_around, throws_always, ends_in_throw, defines_by, defines, is_named_or_this, is_value_slot, sets_member, is_property_definition, is_private, updates_private, private_updates, right_of, right_operands, throws_at, new_throws, all_throws, nothing_around, in_no_chain, held_behind, held_in, chain_in, spot_in, is_apart, read_form, reference_touches, assignment_form, own_touches, keyed, inner_touches, joined, touches_in, touches_at, touches_of, turned, class_touches, key_touches, keys_touched, value_touches, values_touched, without_this, derived_constructor, derived_constructors, constructs, arrows, arrows_at, arrows_in, arrows_of_body, arrows_of_keys, derived_arrows, value_arrows, static_arrows, derived_functions, is_call_of_super, classes_given, parameters_at, field_touches, held_with, with_fields, function_touches, body_touches, bodies_by, bodies, super_calls, reference_number, key_references, passed_numbers, moving_keys, moving_blocks, moving_numbers, class_elements, class_parts, is_touched, times, is_definition, definitions_touched, is_between, is_this, is_same_form, is_asked, is_excepted, held_within, held_inside, in_both, where_run, stands_in_node, is_run_before, closure_run, were_run, stands_in_closure, is_in_same, is_arrow_of, is_run_by, put_off, put_off_behind, all_behind, is_like, stands_like, is_of_body, stands_in_any, is_touched_as, is_touched_in, reads_key, is_behind_super, touch_fits, in_same, run_with, run_without, front_of_run, runs_fit, touches_fit, bodies_fit, bodies_of, dead_zones_stay, TouchForm, Touch, Body, Spot, ClassParts, reads, names_class, makes_class, runs_closure, defines_field, between_parts, another}
 use Rattle.es_lowered.specs.Definitions.{spelling, is_assignment, writable_part}
 use Rattle.es_lowered.specs.HelperCalls.{part_number, is_class_body, runs_with_class}
 use Rattle.es_lowered.specs.Timely.{is_same, is_held, super_functions}
@@ -29,7 +29,7 @@ use Rattle.es_steps.specs.Scopes.{is_class_expression}
 use Rattle.es_steps.specs.declared.options.Options.{Options}
 use Rattle.es_steps.specs.Repeated.{is_arrow}
 use Rattle.es_steps.specs.Values.{String, Referent, Bound, Free}
-use Rattle.es_lowered.proofs.ClassNamesMapped.{numbers_of_part-mapped, numbers_of_parts-mapped, any_among-mapped}
+use Rattle.es_lowered.proofs.ClassNamesMapped.{numbers_of_part-mapped, numbers_of_parts-mapped, any_among-mapped, common-mapped}
 use Rattle.es_lowered.proofs.DefinitionsMapped.{spelling-mapped, writable_part-mapped}
 use Rattle.es_lowered.proofs.HelperCallsMapped.{part_number-mapped, runs_with_class-mapped}
 use Rattle.es_lowered.proofs.TimelyMapped.{mapped_held, is_held-mapped, all_pairs_stand-mapped, super_functions-mapped}
@@ -250,6 +250,18 @@ module _ (f : ℕ → ℕ) where
         (arrows_of_keys-mapped es)
     arrows_of_keys-mapped (more p es) = arrows_of_keys-mapped es
 
+  value_arrows-mapped : (kind : Kind) (ps : Parts) → value_arrows kind (mapped_parts f ps) ≡ map f (value_arrows kind ps)
+  value_arrows-mapped kind ps =
+      cond-mapped (map f) (is_element kind) (arrows_at (at 1 ps)) (arrows_in ps) (ap arrows_at (at-mapped f 1 ps) ∙ arrows_at-mapped (at 1 ps)) (arrows_in-mapped ps)
+
+  static_arrows-mapped : (ts : List Tree) → static_arrows (map (mapped f) ts) ≡ map f (static_arrows ts)
+  static_arrows-mapped [] = refl
+  static_arrows-mapped (Node kind m span semantic_id ps ∷ ts) =
+      let runs : Bool = runs_with_class (child (Node kind m span semantic_id ps)) in
+      append-mapped f (cond runs (value_arrows kind ps) []) (static_arrows ts)
+      (rw (runs_with_class-mapped f (child (Node kind m span semantic_id ps))) (cond-mapped (map f) runs (value_arrows kind ps) [] (value_arrows-mapped kind ps) refl))
+      (static_arrows-mapped ts)
+
   class_names-mapped : (ts : List Tree) → class_names (map (mapped f) ts) ≡ map f (class_names ts)
   class_names-mapped [] = refl
   class_names-mapped (Node kind m span semantic_id ps ∷ ts) =
@@ -367,6 +379,17 @@ module _ {first : ℕ} {f : ℕ → ℕ} (r : Renames first f) where
       append-mapped f (cond (is_any_function kind && has_number m ks) (arrows_in ps) []) (derived_arrows ks ts)
       (rw (has_number-mapped r m ks) (cond-mapped (map f) (is_any_function kind && has_number m ks) (arrows_in ps) [] (arrows_in-mapped f ps) refl))
       (derived_arrows-mapped ks ts)
+
+  arrows_of_derived-mapped : (ts : List Tree) → derived_arrows (derived_constructors (map (mapped f) ts)) (map (mapped f) ts) ≡ map f (derived_arrows (derived_constructors ts) ts)
+  arrows_of_derived-mapped ts = ap (λ ks. derived_arrows ks (map (mapped f) ts)) (derived_constructors-mapped f ts) ∙ derived_arrows-mapped (derived_constructors ts) ts
+
+  derived_functions-mapped : (ps ts : List Tree) → derived_functions (map (mapped f) ps) (map (mapped f) ts) ≡ map f (derived_functions ps ts)
+  derived_functions-mapped ps ts =
+      let here : List ℕ = derived_arrows (derived_constructors ps) ps in
+      let given : List ℕ = common (static_arrows ps) (derived_arrows (derived_constructors ts) ts) in
+      append-mapped f (derived_constructors ts) (here ++ given) (derived_constructors-mapped f ts)
+      (append-mapped f here given (arrows_of_derived-mapped ps)
+      (ap₂ common (static_arrows-mapped f ps) (arrows_of_derived-mapped ts) ∙ common-mapped r (static_arrows ps) (derived_arrows (derived_constructors ts) ts)))
 
   constructs-mapped : (k : ℕ) (ts : List Tree) → constructs (f k) (map (mapped f) ts) ≡ map f (constructs k ts)
   constructs-mapped k [] = refl
@@ -673,14 +696,25 @@ module _ {first : ℕ} {f : ℕ → ℕ} (r : Renames first f) where
   stands_in_node-mapped k [] = refl
   stands_in_node-mapped k (p ∷ ps) = ap₂ (λ x y. x || y) (r.apart k p.0) (stands_in_node-mapped k ps)
 
-  is_run-mapped : (k : ℕ) (form : TouchForm) → is_run (f k) (mapped_form f form) ≡ is_run k form
-  is_run-mapped k (runs_closure n) = r.apart k n
-  is_run-mapped k (reads b) = refl
-  is_run-mapped k form = refl
+  is_run_before-mapped : (cs : Closures) (ran : List ℕ) (t u : Touch) → is_run_before (mapped_closures f cs) (map f ran) (mapped_touch f t) (mapped_touch f u) ≡ is_run_before cs ran t u
+  is_run_before-mapped [] ran t u = refl
+  is_run_before-mapped (c ∷ cs) ran t u =
+      ap₂ (λ x y. x && y)
+      (ap₂ (λ x y. not x || y) (stands_in_node-mapped c.1 u.held) (ap₂ (λ x y. x || y) (stands_in_node-mapped c.1 t.held) (has_number-mapped r c.1 ran)))
+      (is_run_before-mapped cs ran t u)
 
-  was_run-mapped : (k : ℕ) (ts : List Touch) → was_run (f k) (moved f ts) ≡ was_run k ts
-  was_run-mapped k [] = refl
-  was_run-mapped k (t ∷ ts) = ap₂ (λ x y. x || y) (is_run-mapped k t.form) (was_run-mapped k ts)
+  closure_run-mapped : (form : TouchForm) → closure_run (mapped_form f form) ≡ map f (closure_run form)
+  closure_run-mapped (runs_closure k) = refl
+  closure_run-mapped (reads b) = refl
+  closure_run-mapped form = refl
+
+  were_run-mapped : (cs : Closures) (t : Touch) (ran : List ℕ) (us : List Touch) → were_run (mapped_closures f cs) (mapped_touch f t) (map f ran) (moved f us) ≡ map f (were_run cs t ran us)
+  were_run-mapped cs t ran [] = refl
+  were_run-mapped cs t ran (u ∷ us) =
+      let runs : Bool = is_run_before cs ran t u in
+      ap (λ (ks : List ℕ). were_run (mapped_closures f cs) (mapped_touch f t) ks (moved f us))
+      (append-mapped f ran (cond runs (closure_run u.form) []) refl (rw (is_run_before-mapped cs ran t u) (cond-mapped (map f) runs (closure_run u.form) [] (closure_run-mapped u.form) refl)))
+      ∙ were_run-mapped cs t (ran ++ cond runs (closure_run u.form) []) us
 
   stands_in_closure-mapped : (cs : Closures) (t : Touch) → stands_in_closure (mapped_closures f cs) (mapped_touch f t) ≡ stands_in_closure cs t
   stands_in_closure-mapped [] t = refl
@@ -717,19 +751,20 @@ module _ {first : ℕ} {f : ℕ → ℕ} (r : Renames first f) where
   where_run-mapped : (t u : Touch) → where_run (mapped_touch f t) (mapped_touch f u) ≡ mapped_touch f (where_run t u)
   where_run-mapped t u = ap (λ (held : List (ℕ × ℕ)). made f u held) (append-mapped (mapped_held f) (held_inside t.form u.held) t.held (held_inside-mapped t.form u.held) refl)
 
-  is_put_off-mapped : (cs : Closures) (front : List Touch) (t u : Touch) → is_put_off (mapped_closures f cs) (moved f front) (mapped_touch f t) (mapped_touch f u) ≡ is_put_off cs front t u
-  is_put_off-mapped [] front t u = refl
-  is_put_off-mapped (c ∷ cs) front t u =
-      ap₂ (λ x y. x || y)
-      (ap₂ (λ x y. x && y) (stands_in_node-mapped c.1 u.held) (ap₂ (λ x y. not x && not y) (stands_in_node-mapped c.1 t.held) (was_run-mapped c.1 front)))
-      (is_put_off-mapped cs front t u)
+  in_both-mapped : (t u : Touch) → in_both (mapped_touch f t) (mapped_touch f u) ≡ mapped_touch f (in_both t u)
+  in_both-mapped t u = ap (λ (held : List (ℕ × ℕ)). made f u held) (append-mapped (mapped_held f) u.held t.held refl refl)
 
-  put_off-mapped : (cs : Closures) (front : List Touch) (t : Touch) (us : List Touch) → put_off (mapped_closures f cs) (moved f front) (mapped_touch f t) (moved f us) ≡ moved f (put_off cs front t us)
-  put_off-mapped cs front t [] = refl
-  put_off-mapped cs front t (u ∷ us) =
-      append-mapped (mapped_touch f) (cond (is_put_off cs front t u) (u ∷ []) []) (put_off cs front t us)
-      (rw (is_put_off-mapped cs front t u) (cond-mapped (moved f) (is_put_off cs front t u) (u ∷ []) [] refl refl))
-      (put_off-mapped cs front t us)
+  put_off-mapped : (cs : Closures) (ran : List ℕ) (t : Touch) (us : List Touch) → put_off (mapped_closures f cs) (map f ran) (mapped_touch f t) (moved f us) ≡ moved f (put_off cs ran t us)
+  put_off-mapped cs ran t [] = refl
+  put_off-mapped cs ran t (u ∷ us) =
+      append-mapped (mapped_touch f) (cond (not (is_run_before cs ran t u)) (u ∷ []) []) (put_off cs ran t us)
+      (rw (is_run_before-mapped cs ran t u) (cond-mapped (moved f) (not (is_run_before cs ran t u)) (u ∷ []) [] refl refl))
+      (put_off-mapped cs ran t us)
+
+  put_off_behind-mapped : (cs : Closures) (t : Touch) (front : List Touch) → put_off_behind (mapped_closures f cs) (mapped_touch f t) (moved f front) ≡ moved f (put_off_behind cs t front)
+  put_off_behind-mapped cs t front =
+      ap (λ (ks : List ℕ). put_off (mapped_closures f cs) ks (mapped_touch f t) (moved f front)) (were_run-mapped cs t [] front)
+      ∙ put_off-mapped cs (were_run cs t [] front) t front
 
   module _ (supers : List ℕ) (classes : List ClassParts) (called : Closures) (sources : List Body) where
     abbrev closures_there : Closures
@@ -790,7 +825,7 @@ module _ {first : ℕ} {f : ℕ → ℕ} (r : Renames first f) where
 
     touch_fits-mapped : (b : Body) (front : List Touch) (t : Touch) (ts : List Touch) → touch_fits first supers_there classes_there closures_there sources_there (mapped_body f b) (moved f front) (mapped_touch f t) (moved f ts) ≡ touch_fits first supers classes called sources b front t ts
     touch_fits-mapped b front t ts =
-        rw (is_asked-mapped f b.derives t.form, is_this-mapped f t.form, is_behind_super-mapped t front, reads_key-mapped b.of_class t.form classes, append-mapped (mapped_touch f) (put_off called front t front) ts (put_off-mapped called front t front) refl, stands_in_any-mapped (not b.derives || is_behind_super first supers classes called sources t front) b t (put_off called front t front ++ ts) sources) refl
+        rw (is_asked-mapped f b.derives t.form, is_this-mapped f t.form, is_behind_super-mapped t front, reads_key-mapped b.of_class t.form classes, stands_in_any-mapped (not b.derives || is_behind_super first supers classes called sources t front) b t ts sources) refl
 
     in_same-mapped : (t : Touch) (us : List Touch) → in_same first supers_there classes_there closures_there sources_there (mapped_touch f t) (moved f us) ≡ moved f (in_same first supers classes called sources t us)
     in_same-mapped t [] = refl
@@ -806,21 +841,36 @@ module _ {first : ℕ} {f : ℕ → ℕ} (r : Renames first f) where
         (rw (is_run_by-mapped called u t.form) (cond-mapped (moved f) (is_run_by called u t.form) (u ∷ []) [] refl refl))
         (run_with-mapped t us)
 
-    runs_fit-mapped : (b : Body) (front : List Touch) (t : Touch) (ts us : List Touch) → runs_fit first supers_there classes_there closures_there sources_there (mapped_body f b) (moved f front) (mapped_touch f t) (moved f ts) (moved f us) ≡ runs_fit first supers classes called sources b front t ts us
-    runs_fit-mapped b front t ts [] = refl
-    runs_fit-mapped b front t ts (u ∷ us) =
+    run_without-mapped : (t : Touch) (us : List Touch) → run_without first supers_there classes_there closures_there sources_there (mapped_touch f t) (moved f us) ≡ moved f (run_without first supers classes called sources t us)
+    run_without-mapped t [] = refl
+    run_without-mapped t (u ∷ us) =
+        append-mapped (mapped_touch f) (cond (not (is_run_by called u t.form)) (u ∷ []) []) (run_without first supers classes called sources t us)
+        (rw (is_run_by-mapped called u t.form) (cond-mapped (moved f) (not (is_run_by called u t.form)) (u ∷ []) [] refl refl))
+        (run_without-mapped t us)
+
+    front_of_run-mapped : (front : List Touch) (t : Touch) (before : List Touch) → front_of_run first supers_there classes_there closures_there sources_there (moved f front) (mapped_touch f t) (moved f before) ≡ moved f (front_of_run first supers classes called sources front t before)
+    front_of_run-mapped front t before = append-mapped (mapped_touch f) (run_with first supers classes called sources t before) (run_without first supers classes called sources t front) (run_with-mapped t before) (run_without-mapped t front)
+
+    runs_fit-mapped : (b : Body) (front : List Touch) (t : Touch) (ts before us : List Touch) → runs_fit first supers_there classes_there closures_there sources_there (mapped_body f b) (moved f front) (mapped_touch f t) (moved f ts) (moved f before) (moved f us) ≡ runs_fit first supers classes called sources b front t ts before us
+    runs_fit-mapped b front t ts before [] = refl
+    runs_fit-mapped b front t ts before (u ∷ us) =
+        let here : List Touch = front_of_run first supers classes called sources front t before in
+        let late : List Touch = put_off_behind called (in_both t u) here in
+        let rest : List Touch = run_with first supers classes called sources t us ++ ts in
         ap₂ (λ x y. x && y)
         (ap₂ (λ x y. not x || y) (is_run_by-mapped called u t.form)
-        (ap (λ (x : Touch). touch_fits first supers_there classes_there closures_there sources_there (mapped_body f b) (moved f (t ∷ front)) x (run_with first supers_there classes_there closures_there sources_there (mapped_touch f t) (moved f us) ++ moved f ts)) (where_run-mapped t u)
-        ∙ ap (touch_fits first supers_there classes_there closures_there sources_there (mapped_body f b) (moved f (t ∷ front)) (mapped_touch f (where_run t u))) (append-mapped (mapped_touch f) (run_with first supers classes called sources t us) ts (run_with-mapped t us) refl)
-        ∙ touch_fits-mapped b (t ∷ front) (where_run t u) (run_with first supers classes called sources t us ++ ts)))
-        (runs_fit-mapped b front t ts us)
+        (ap₂ (λ (x : Touch) (xs : List Touch). touch_fits first supers_there classes_there closures_there sources_there (mapped_body f b) (moved f front) x xs) (where_run-mapped t u)
+        (append-mapped (mapped_touch f) late rest
+        (ap₂ (λ (x : Touch) (xs : List Touch). put_off_behind closures_there x xs) (in_both-mapped t u) (front_of_run-mapped front t before) ∙ put_off_behind-mapped called (in_both t u) here)
+        (append-mapped (mapped_touch f) (run_with first supers classes called sources t us) ts (run_with-mapped t us) refl))
+        ∙ touch_fits-mapped b front (where_run t u) (late ++ rest)))
+        (runs_fit-mapped b front t ts (u ∷ before) us)
 
     touches_fit-mapped : (b : Body) (front ts : List Touch) → touches_fit first supers_there classes_there closures_there sources_there (mapped_body f b) (moved f front) (moved f ts) ≡ touches_fit first supers classes called sources b front ts
     touches_fit-mapped b front [] = refl
     touches_fit-mapped b front (t ∷ ts) =
         ap₂ (λ x y. x && y)
-        (ap₂ (λ x y. x && y) (ap (touch_fits first supers_there classes_there closures_there sources_there (mapped_body f b) (moved f front) (mapped_touch f t)) (in_same-mapped t ts) ∙ touch_fits-mapped b front t (in_same first supers classes called sources t ts)) (runs_fit-mapped b front t ts b.touches))
+        (ap₂ (λ x y. x && y) (ap (touch_fits first supers_there classes_there closures_there sources_there (mapped_body f b) (moved f front) (mapped_touch f t)) (append-mapped (mapped_touch f) (put_off_behind called t front) (in_same first supers classes called sources t ts) (put_off_behind-mapped called t front) (in_same-mapped t ts)) ∙ touch_fits-mapped b front t (put_off_behind called t front ++ in_same first supers classes called sources t ts)) (runs_fit-mapped b (t ∷ front) t ts [] b.touches))
         (touches_fit-mapped b (t ∷ front) ts)
 
     bodies_fit-mapped : (bs : List Body) → bodies_fit first supers_there classes_there closures_there sources_there (map (mapped_body f) bs) ≡ bodies_fit first supers classes called sources bs
@@ -829,10 +879,8 @@ module _ {first : ℕ} {f : ℕ → ℕ} (r : Renames first f) where
 
   bodies_of-mapped : (ledger : List LedgerEntry) (cs : Closures) (ps : List Tree) (t : Tree) → bodies_of first (mapped_ledger f ledger) (mapped_closures f cs) (map (mapped f) ps) (mapped f t) ≡ map (mapped_body f) (bodies_of first ledger cs ps t)
   bodies_of-mapped ledger cs ps t =
-      let constructors : List ℕ = derived_constructors (preorder t) in
-      let behind_super : List ℕ = derived_arrows (derived_constructors ps) ps in
-      rw (variables-mapped f ps, class_names-mapped f ps, resolve-mapped f t, preorder-mapped f t, super_functions-mapped r ledger (preorder t), append-mapped f constructors behind_super (derived_constructors-mapped f (preorder t)) (ap (λ ks. derived_arrows ks (map (mapped f) ps)) (derived_constructors-mapped f ps) ∙ derived_arrows-mapped (derived_constructors ps) ps))
-      (bodies-mapped cs (variables ps) (class_names ps) (resolve t) (constructors ++ behind_super) (super_functions ledger (preorder t)) (preorder t) (preorder t))
+      rw (variables-mapped f ps, class_names-mapped f ps, resolve-mapped f t, preorder-mapped f t, super_functions-mapped r ledger (preorder t), derived_functions-mapped ps (preorder t))
+      (bodies-mapped cs (variables ps) (class_names ps) (resolve t) (derived_functions ps (preorder t)) (super_functions ledger (preorder t)) (preorder t) (preorder t))
 
   throws_at-mapped : (kind : Kind) (ps : Parts) → throws_at kind (mapped_parts f ps) ≡ throws_at kind ps
   throws_at-mapped Kind.SequenceExpression ps = ap ends_in_throw (items_at-mapped f 0 ps) ∙ ends_in_throw-mapped f (items (at 0 ps))

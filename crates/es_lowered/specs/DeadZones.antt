@@ -8,7 +8,7 @@ use Rattle.es_base.specs.Tree.{Tree, Part, Parts, Node, end, more, child, list}
 use Rattle.es_base.specs.declared.kind.Kind.{Kind}
 use Rattle.es_base.specs.declared.ledger.GeneratedKind.{GeneratedKind}
 use Rattle.es_base.specs.declared.ledger.LedgerEntry.{LedgerEntry}
-use Rattle.es_lowered.specs.ClassNames.{numbers_of, any_among}
+use Rattle.es_lowered.specs.ClassNames.{numbers_of, any_among, common}
 use Rattle.es_lowered.specs.Definitions.{spelling, is_assignment, writable_part}
 use Rattle.es_lowered.specs.HelperCalls.{part_number, is_class_body, runs_with_class}
 use Rattle.es_lowered.specs.Timely.{is_same, is_held, super_functions}
@@ -406,6 +406,15 @@ abbrev pub derived_arrows : List ℕ → List Tree → List ℕ
 derived_arrows constructors [] = []
 derived_arrows constructors (Node kind m span semantic_id ps ∷ ts) = cond (is_any_function kind && has_number m constructors) (arrows_in ps) [] ++ derived_arrows constructors ts
 
+-- the arrows of what runs with a class, whose `this` is the class: what becomes `(() => { this; })(), class { }` of
+-- `class { static { (() => { this; })(); } }` reads the `this` that is around the class
+abbrev pub value_arrows : Kind → Parts → List ℕ
+value_arrows kind ps = cond (is_element kind) (arrows_at (at 1 ps)) (arrows_in ps)
+
+abbrev pub static_arrows : List Tree → List ℕ
+static_arrows [] = []
+static_arrows (Node kind m span semantic_id ps ∷ ts) = cond (runs_with_class (child (Node kind m span semantic_id ps))) (value_arrows kind ps) [] ++ static_arrows ts
+
 abbrev pub is_call_of_super : TouchForm → Bool
 is_call_of_super calls_super = true
 is_call_of_super form = false
@@ -545,19 +554,26 @@ abbrev pub is_excepted : ℕ → ℕ → List ClassParts → Bool
 is_excepted m n [] = false
 is_excepted m n (c ∷ cs) = (has_number m c.moving && has_number n c.passed) || is_excepted m n cs
 
--- ---- what a closure does, which was made in front of t and was not run yet, is behind t, too
+-- ---- what a closure does, which was made in front of t and was not run yet, is behind t, too: of `_c = () => a(), _k = () => _c(), y, _k()`
+-- nothing runs `_c` in front of y, since nothing runs `_k`
 
 abbrev pub stands_in_node : ℕ → List (ℕ × ℕ) → Bool
 stands_in_node k [] = false
 stands_in_node k (p ∷ ps) = nat_eq k p.0 || stands_in_node k ps
 
-abbrev pub is_run : ℕ → TouchForm → Bool
-is_run k (runs_closure n) = nat_eq k n
-is_run k form = false
+-- whether u, which stands in front of t, runs there: in no closures but those that t stands in, and these
+abbrev pub is_run_before : Closures → List ℕ → Touch → Touch → Bool
+is_run_before [] ran t u = true
+is_run_before (c ∷ cs) ran t u = (not (stands_in_node c.1 u.held) || (stands_in_node c.1 t.held || has_number c.1 ran)) && is_run_before cs ran t u
 
-abbrev pub was_run : ℕ → List Touch → Bool
-was_run k [] = false
-was_run k (t ∷ ts) = is_run k t.form || was_run k ts
+abbrev pub closure_run : TouchForm → List ℕ
+closure_run (runs_closure k) = k ∷ []
+closure_run form = []
+
+-- the closures that are run in front of t, by calls that run there; the last call comes first, as it may run those that the others stand in
+abbrev pub were_run : Closures → Touch → List ℕ → List Touch → List ℕ
+were_run called t ran [] = ran
+were_run called t ran (r ∷ rs) = were_run called t (ran ++ cond (is_run_before called ran t r) (closure_run r.form) []) rs
 
 abbrev pub stands_in_closure : Closures → Touch → Bool
 stands_in_closure [] t = false
@@ -586,6 +602,10 @@ abbrev pub held_inside : TouchForm → List (ℕ × ℕ) → List (ℕ × ℕ)
 held_inside (runs_closure k) held = held_within k held
 held_inside form held = []
 
+-- u with all that it stands in where t runs it
+abbrev pub in_both : Touch → Touch → Touch
+in_both t u = record { number = u.number; form = u.form; held = u.held ++ t.held }
+
 -- u where t runs the closure in which it stands: it may run or not by what is around it there, and by what is around t
 abbrev pub where_run : Touch → Touch → Touch
 where_run t u = record { number = u.number; form = u.form; held = held_inside t.form u.held ++ t.held }
@@ -595,13 +615,13 @@ abbrev pub is_run_by : Closures → Touch → TouchForm → Bool
 is_run_by cs u (runs_closure k) = is_arrow_of k cs && stands_in_node k u.held
 is_run_by cs u form = false
 
-abbrev pub is_put_off : Closures → List Touch → Touch → Touch → Bool
-is_put_off [] front t u = false
-is_put_off (c ∷ cs) front t u = (stands_in_node c.1 u.held && (not (stands_in_node c.1 t.held) && not (was_run c.1 front))) || is_put_off cs front t u
+-- ran are the closures that are run in front of t
+abbrev pub put_off : Closures → List ℕ → Touch → List Touch → List Touch
+put_off called ran t [] = []
+put_off called ran t (u ∷ us) = cond (not (is_run_before called ran t u)) (u ∷ []) [] ++ put_off called ran t us
 
-abbrev pub put_off : Closures → List Touch → Touch → List Touch → List Touch
-put_off called front t [] = []
-put_off called front t (u ∷ us) = cond (is_put_off called front t u) (u ∷ []) [] ++ put_off called front t us
+abbrev pub put_off_behind : Closures → Touch → List Touch → List Touch
+put_off_behind called t front = put_off called (were_run called t [] front) t front
 
 -- sources are the bodies of the source, supers its calls of `super`, called the closures of the lowered program
 module _ (first : ℕ) (supers : List ℕ) (classes : List ClassParts) (called : Closures) (sources : List Body) where
@@ -648,7 +668,7 @@ module _ (first : ℕ) (supers : List ℕ) (classes : List ClassParts) (called :
 
   abbrev pub touch_fits : Body → List Touch → Touch → List Touch → Bool
   touch_fits b front t ts =
-      not (is_asked b.derives t.form) || (cond (is_this t.form) (is_behind_super t front) (reads_key b.of_class t.form classes) || stands_in_any (not b.derives || is_behind_super t front) b t (put_off called front t front ++ ts) sources)
+      not (is_asked b.derives t.form) || (cond (is_this t.form) (is_behind_super t front) (reads_key b.of_class t.form classes) || stands_in_any (not b.derives || is_behind_super t front) b t ts sources)
 
   -- what stands in the same closures as t
   abbrev pub in_same : Touch → List Touch → List Touch
@@ -660,24 +680,39 @@ module _ (first : ℕ) (supers : List ℕ) (classes : List ClassParts) (called :
   run_with t [] = []
   run_with t (u ∷ us) = cond (is_run_by called u t.form) (u ∷ []) [] ++ run_with t us
 
-  -- what a closure reads is read where it runs
-  abbrev pub runs_fit : Body → List Touch → Touch → List Touch → List Touch → Bool
-  runs_fit b front t ts [] = true
-  runs_fit b front t ts (u ∷ us) = (not (is_run_by called u t.form) || touch_fits b (t ∷ front) (where_run t u) (run_with t us ++ ts)) && runs_fit b front t ts us
+  -- and what it does not
+  abbrev pub run_without : Touch → List Touch → List Touch
+  run_without t [] = []
+  run_without t (u ∷ us) = cond (not (is_run_by called u t.form)) (u ∷ []) [] ++ run_without t us
+
+  -- what stands in front of u where t runs it: what stood in front of t but for the closure, of which what stands before u was run
+  abbrev pub front_of_run : List Touch → Touch → List Touch → List Touch
+  front_of_run front t before = run_with t before ++ run_without t front
+
+  -- what a closure reads is read where it runs; before is what stands before us
+  abbrev pub runs_fit : Body → List Touch → Touch → List Touch → List Touch → List Touch → Bool
+  runs_fit b front t ts before [] = true
+  runs_fit b front t ts before (u ∷ us) =
+      (not (is_run_by called u t.form) || touch_fits b front (where_run t u) (put_off_behind called (in_both t u) (front_of_run front t before) ++ (run_with t us ++ ts))) && runs_fit b front t ts (u ∷ before) us
 
   -- what is in front, and what is touched from here on
   abbrev pub touches_fit : Body → List Touch → List Touch → Bool
   touches_fit b front [] = true
-  touches_fit b front (t ∷ ts) = (touch_fits b front t (in_same t ts) && runs_fit b front t ts b.touches) && touches_fit b (t ∷ front) ts
+  touches_fit b front (t ∷ ts) = (touch_fits b front t (put_off_behind called t front ++ in_same t ts) && runs_fit b (t ∷ front) t ts [] b.touches) && touches_fit b (t ∷ front) ts
 
   abbrev pub bodies_fit : List Body → Bool
   bodies_fit [] = true
   bodies_fit (b ∷ bs) = touches_fit b [] b.touches && bodies_fit bs
 
+-- the functions where `this` is there behind `super(..)` alone, where ps are the nodes of the source and ts those of a program: what is
+-- an arrow of static code in the source may have got the `this` of a constructor
+abbrev pub derived_functions : List Tree → List Tree → List ℕ
+derived_functions ps ts = derived_constructors ts ++ (derived_arrows (derived_constructors ps) ps ++ common (static_arrows ps) (derived_arrows (derived_constructors ts) ts))
+
 -- the bodies of t, where ps are the nodes of the source
 abbrev pub bodies_of : ℕ → List LedgerEntry → Closures → List Tree → Tree → List Body
 bodies_of first ledger called ps t =
-    bodies first called (variables ps) (class_names ps) (resolve t) (derived_constructors (preorder t) ++ derived_arrows (derived_constructors ps) ps) (super_functions ledger (preorder t)) (preorder t) (preorder t)
+    bodies first called (variables ps) (class_names ps) (resolve t) (derived_functions ps (preorder t)) (super_functions ledger (preorder t)) (preorder t) (preorder t)
 
 -- ---- what always throws has its number, by which it is held against what stands behind it; but in an update or a compound write of a
 -- private member the operation has that number, as in `(o, o.#m + e, B.readOnlyError("#m"))` and `o.#m || (o, e, B.readOnlyError("#m"))`

@@ -2,6 +2,7 @@
 
 ghost use Rattle.std.specs.Prelude.{◌≡◌, [], IfOk};
 ghost use Rattle.es_base.specs.Preorder.{preorder};
+ghost use Rattle.es_binding_faults.specs.Seen.{seen};
 ghost use Rattle.es_lowered.specs.DeadZones as spec;
 ghost use Rattle.es_steps.specs.KeptNodes as kept;
 ghost use Rattle.es_steps.specs.References.{resolve, written};
@@ -23,7 +24,7 @@ use es_steps::options::Options;
 use es_touches::called::closures;
 use es_touches::class_parts::class_parts;
 use es_touches::closures::Closure;
-use es_touches::derived::{derived_arrows, derived_constructors};
+use es_touches::derived::{add_common, derived_arrows, derived_constructors, static_arrows};
 use es_touches::facts::{class_names, private_updates, super_calls, variables};
 use es_touches::source::{ClassParts, Source};
 use es_touches::throws::all_throws;
@@ -125,10 +126,13 @@ struct SourceFacts<'a> {
     class_names: Vec<u32>,
     /// The arrows where `this` is there behind `super(..)` alone.
     arrows: Vec<u32>,
+    /// The arrows of static code.
+    statics: Vec<u32>,
 
     ghost variables_are: { variables.items ≡ spec.variables (preorder program.now) },
     ghost class_names_are: { class_names.items ≡ spec.class_names (preorder program.now) },
     ghost arrows_are: { arrows.items ≡ spec.derived_arrows (spec.derived_constructors (preorder program.now)) (preorder program.now) },
+    ghost statics_are: { statics.items ≡ spec.static_arrows (preorder program.now) },
 }
 
 fn facts_of<'a>(alloc: Global, source: &Listed<'a>) -> Result<SourceFacts<'a>, AllocError>
@@ -139,12 +143,32 @@ fn facts_of<'a>(alloc: Global, source: &Listed<'a>) -> Result<SourceFacts<'a>, A
     let class_names = class_names(alloc, nodes)?;
     let constructors = derived_constructors(alloc, nodes)?;
     let arrows = derived_arrows(alloc, constructors.as_slice(), nodes)?;
+    let statics = static_arrows(alloc, nodes)?;
     Ok(SourceFacts {
         program: source.program,
         variables,
         class_names,
         arrows,
+        statics,
     })
+}
+
+/// The functions of a program where `this` is there behind `super(..)` alone. Fails on allocation failure alone.
+fn derived_functions(
+    alloc: Global,
+    facts: &SourceFacts,
+    nodes: &[&Node],
+) -> Result<Vec<u32>, AllocError>
+    ensures { IfOk result (λ r. r.items ≡ spec.derived_functions (preorder facts.now.program.now) (seen nodes.now)) }
+{
+    let constructors = derived_constructors(alloc, nodes)?;
+    let here = derived_arrows(alloc, constructors.as_slice(), nodes)?;
+    let mut arrows = Vec::new(alloc);
+    add_numbers(facts.arrows.as_slice(), &mut arrows)?;
+    add_common(facts.statics.as_slice(), here.as_slice(), &mut arrows)?;
+    let mut derived = constructors;
+    add_numbers(arrows.as_slice(), &mut derived)?;
+    Ok(derived)
 }
 
 /// The bodies of a program with these closures. Fails on allocation failure alone.
@@ -159,8 +183,7 @@ fn bodies_of<'a>(
     ensures { IfOk result (λ r. kept_bodies r.items ≡ spec.bodies_of first ledger.now (closures_of called.now) (preorder facts.now.program.now) program.now.program.now) }
 {
     let nodes = program.nodes.as_slice();
-    let mut derived = derived_constructors(alloc, nodes)?;
-    add_numbers(facts.arrows.as_slice(), &mut derived)?;
+    let derived = derived_functions(alloc, facts, nodes)?;
     let references = references(alloc, program.program)?;
     let given = super_functions(alloc, ledger, nodes)?;
     let terms = Terms {

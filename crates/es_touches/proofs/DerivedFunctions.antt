@@ -3,8 +3,8 @@ use Rattle.std.proofs.Common.{◌≡◌, refl, ap, ℕ, List, [], ◌∷◌, ◌
 use Rattle.std.proofs.Math.Bool.{or-false}
 use Rattle.std.specs.Prelude.{nat_eq}
 use Rattle.es_base.specs.Tree.{Tree, Part, Parts, Node, end, more, child, nullable}
-use Rattle.es_lowered.specs.DeadZones.{arrows, arrows_at, arrows_in, arrows_of_body, arrows_of_keys, constructs, derived_arrows, derived_constructor, derived_constructors}
-use Rattle.es_lowered.specs.HelperCalls.{is_class_body, part_number}
+use Rattle.es_lowered.specs.DeadZones.{arrows, arrows_at, arrows_in, arrows_of_body, arrows_of_keys, constructs, derived_arrows, derived_constructor, derived_constructors, static_arrows, value_arrows}
+use Rattle.es_lowered.specs.HelperCalls.{is_class_body, part_number, runs_with_class}
 use Rattle.es_node.specs.View.{kind_of, number_in, parts_in}
 use Rattle.es_steps.specs.Context.{is_function}
 use Rattle.es_steps.specs.LoweredClasses.{constructor_in}
@@ -26,6 +26,9 @@ constructs_more k (Node kind n span semantic_id ps) ts = refl
 
 pub arrows_more : (constructors : List ℕ) (t : Tree) (ts : List Tree) → derived_arrows constructors (t ∷ ts) ≡ cond (is_any_function (kind_of t) && has_number (number_in t) constructors) (arrows_in (parts_in t)) [] ++ derived_arrows constructors ts
 arrows_more constructors (Node kind m span semantic_id ps) ts = refl
+
+pub statics_more : (t : Tree) (ts : List Tree) → static_arrows (t ∷ ts) ≡ cond (runs_with_class (child t)) (value_arrows (kind_of t) (parts_in t)) [] ++ static_arrows ts
+statics_more (Node kind m span semantic_id ps) ts = refl
 
 pub arrows_node : (t : Tree) → arrows t ≡ cond (is_arrow (kind_of t)) (number_in t ∷ []) [] ++ arrows_inside t
 arrows_node (Node kind m span semantic_id ps) = refl

@@ -1,5 +1,5 @@
 -- What is held against the source, as code has it.
-use Rattle.std.specs.Prelude.{List, [], ◌∷◌, ◌++◌, Bool, true, false, not, ◌&&◌, ◌||◌}
+use Rattle.std.specs.Prelude.{List, [], ◌∷◌, Bool, true, false}
 use Rattle.es_lowered.specs.DeadZones as spec
 use Rattle.es_lowered.specs.DeadZones.{Body, ClassParts, Touch, TouchForm, runs_closure}
 use Rattle.std.specs.Prelude.{ℕ}
@@ -53,7 +53,13 @@ module _ (s : Source) where
   abbrev pub run_with : Touch → List Touch → List Touch
   run_with = spec.run_with s.first s.supers.now (classes_of s.classes.now) (closures_of s.called.now) (bodies_of s.bodies.now)
 
-  abbrev pub runs_fit : Body → List Touch → Touch → List Touch → List Touch → Bool
+  abbrev pub run_without : Touch → List Touch → List Touch
+  run_without = spec.run_without s.first s.supers.now (classes_of s.classes.now) (closures_of s.called.now) (bodies_of s.bodies.now)
+
+  abbrev pub front_of_run : List Touch → Touch → List Touch → List Touch
+  front_of_run = spec.front_of_run s.first s.supers.now (classes_of s.classes.now) (closures_of s.called.now) (bodies_of s.bodies.now)
+
+  abbrev pub runs_fit : Body → List Touch → Touch → List Touch → List Touch → List Touch → Bool
   runs_fit = spec.runs_fit s.first s.supers.now (classes_of s.classes.now) (closures_of s.called.now) (bodies_of s.bodies.now)
 
   abbrev pub touches_fit : Body → List Touch → List Touch → Bool
@@ -61,8 +67,3 @@ module _ (s : Source) where
 
   abbrev pub bodies_fit : List Body → Bool
   bodies_fit = spec.bodies_fit s.first s.supers.now (classes_of s.classes.now) (closures_of s.called.now) (bodies_of s.bodies.now)
-
-  -- whether each of these that t runs fits, where t is the first of what is in front
-  abbrev pub runs_fit_behind : Body → List Touch → Touch → List Touch → List Touch → Bool
-  runs_fit_behind b front t ts [] = true
-  runs_fit_behind b front t ts (u ∷ us) = (not (spec.is_run_by (closures_of s.called.now) u t.form) || touch_fits b front (spec.where_run t u) (run_with t us ++ ts)) && runs_fit_behind b front t ts us

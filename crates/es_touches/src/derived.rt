@@ -4,6 +4,7 @@ ghost use Rattle.std.specs.Prelude.{◌≡◌, ◌++◌, ◌&&◌, [], cond, IfO
 ghost use Rattle.std.specs.Option.{option_to_list};
 ghost use Rattle.es_base.specs.Tree.{child, nullable, nullable_trees, trees};
 ghost use Rattle.es_binding_faults.specs.Seen.{seen};
+ghost use Rattle.es_lowered.specs.ClassNames as lists;
 ghost use Rattle.es_lowered.specs.DeadZones as spec;
 ghost use Rattle.es_lowered.specs.HelperCalls as calls;
 ghost use Rattle.es_node.specs.View.{kind_of, number_in, part_of, parts_in, parts_of};
@@ -20,6 +21,7 @@ use es_binding_faults::hoisted::part_at;
 use es_generated::numbers::has_number;
 use es_node::node::{Node, Part};
 use es_owed_initialized::kinds::{is_arrow, is_class, is_element, is_function};
+use es_owed_initialized::runs::runs_with_class;
 use es_seen_names::parts::is_present_at;
 use es_shapes::class::elements_of;
 use es_shapes::late_class::constructor_among;
@@ -138,6 +140,51 @@ fn add_arrows_if(
 {
     if is_any_function(node.kind()) && has_number(node.node_id().0, constructors) {
         add_arrows_in(node.parts(), numbers)?;
+    }
+    Ok(())
+}
+
+/// The arrows of what runs with a class, whose `this` is the class, among these nodes. Fails on allocation failure alone.
+#[tactic(auto, using(crate::proofs::DerivedFunctions::statics_more))]
+pub fn static_arrows(alloc: Global, nodes: &[&Node]) -> Result<Vec<u32>, AllocError>
+    ensures { IfOk result (λ r. r.items ≡ spec.static_arrows (seen nodes.now)) }
+{
+    let mut numbers = Vec::new(alloc);
+    for node in nodes {
+        add_static_arrows(node, &mut numbers)?;
+    }
+    Ok(numbers)
+}
+
+fn add_static_arrows(node: &Node, numbers: &mut Vec<u32>) -> Result<(), AllocError>
+    ensures { OnOk result (numbers.new.items ≡ numbers.old.items ++ cond (calls.runs_with_class (child node.now)) (spec.value_arrows (kind_of node.now) (parts_in node.now)) []) }
+{
+    // static a = () => b; static { () => b; }
+    if runs_with_class(node) {
+        add_value_arrows(node, numbers)?;
+    }
+    Ok(())
+}
+
+fn add_value_arrows(element: &Node, numbers: &mut Vec<u32>) -> Result<(), AllocError>
+    ensures { OnOk result (numbers.new.items ≡ numbers.old.items ++ spec.value_arrows (kind_of element.now) (parts_in element.now)) }
+{
+    let parts = element.parts();
+    if !is_element(element.kind()) {
+        return add_arrows_in(parts, numbers);
+    }
+    match part_at(parts, 1) {
+        Some(value) => add_arrows_at(value, numbers),
+        None => Ok(()),
+    }
+}
+
+/// Adds those of these numbers that are among the others. Fails on allocation failure alone.
+pub fn add_common(others: &[u32], numbers: &[u32], common: &mut Vec<u32>) -> Result<(), AllocError>
+    ensures { OnOk result (common.new.items ≡ common.old.items ++ lists.common others.now numbers.now) }
+{
+    for number in numbers {
+        push_if(has_number(*number, others), *number, common)?;
     }
     Ok(())
 }

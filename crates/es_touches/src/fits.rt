@@ -10,7 +10,7 @@ ghost use Rattle.es_touches.specs.Touches.{bodies_of, body_of, class_of, classes
 
 use crate::behind::stands_like;
 use crate::closures::{
-    add_if, add_put_off, held_where_run, is_in_same, is_run_by, stands_in_closure,
+    add_if, held_in_both, held_where_run, is_in_same, is_run_by, put_off, stands_in_closure,
 };
 use crate::source::{Body, ClassParts, Source};
 use crate::touch::{
@@ -60,7 +60,7 @@ fn fits_here<'a>(
     touch: Touch<'a>,
     behind: &[Touch<'a>],
 ) -> Result<bool, AllocError>
-    ensures { IfOk result (λ holds. holds ≡ (compared.touch_fits source.now (body_of body.now) (turned (touches_of front.now) []) (touch_of touch.entry) (compared.in_same source.now (touch_of touch.entry) (touches_of behind.now)) && compared.runs_fit_behind source.now (body_of body.now) (turned (touches_of front_with.now) []) (touch_of touch.entry) (touches_of behind.now) (touches_of body.now.touches.items))) }
+    ensures { IfOk result (λ holds. holds ≡ (compared.touch_fits source.now (body_of body.now) (turned (touches_of front.now) []) (touch_of touch.entry) (spec.put_off_behind (closures_of source.now.called.now) (touch_of touch.entry) (turned (touches_of front.now) []) ++ compared.in_same source.now (touch_of touch.entry) (touches_of behind.now)) && compared.runs_fit source.now (body_of body.now) (turned (touches_of front_with.now) []) (touch_of touch.entry) (touches_of behind.now) [] (touches_of body.now.touches.items))) }
 {
     Ok(
         fits_alone(alloc, source, body, front, touch, behind)?
@@ -68,8 +68,8 @@ fn fits_here<'a>(
     )
 }
 
-/// Whether a touch does, with these in front of it and these behind, of which those count that stand in its closures. Fails on
-/// allocation failure alone.
+/// Whether a touch does, with these in front of it, of which those are behind it that stand in closures which are run there, and
+/// these behind, of which those count that stand in its closures. Fails on allocation failure alone.
 fn fits_alone<'a>(
     alloc: Global,
     source: &Source,
@@ -78,13 +78,16 @@ fn fits_alone<'a>(
     touch: Touch<'a>,
     behind: &[Touch<'a>],
 ) -> Result<bool, AllocError>
-    ensures { IfOk result (λ holds. holds ≡ compared.touch_fits source.now (body_of body.now) (turned (touches_of front.now) []) (touch_of touch.entry) (compared.in_same source.now (touch_of touch.entry) (touches_of behind.now))) }
+    ensures { IfOk result (λ holds. holds ≡ compared.touch_fits source.now (body_of body.now) (turned (touches_of front.now) []) (touch_of touch.entry) (spec.put_off_behind (closures_of source.now.called.now) (touch_of touch.entry) (turned (touches_of front.now) []) ++ compared.in_same source.now (touch_of touch.entry) (touches_of behind.now))) }
 {
     if !is_asked(body.derives, touch.form) {
         return Ok(true);
     }
     let in_same = in_same(alloc, source, touch, behind)?;
-    touch_fits(alloc, source, body, front, touch, in_same.as_slice())
+    let mut all_behind = put_off(alloc, source.called, touch, front)?;
+    add_all(in_same.as_slice(), &mut all_behind)?;
+    let all_behind = all_behind.as_slice();
+    Ok(touch_fits(source, body, front, touch, all_behind))
 }
 
 // ---- closures that are run
@@ -100,7 +103,7 @@ fn runs_fit<'a>(
     touch: Touch<'a>,
     behind: &[Touch<'a>],
 ) -> Result<bool, AllocError>
-    ensures { IfOk result (λ holds. holds ≡ compared.runs_fit_behind source.now (body_of body.now) (turned (touches_of front.now) []) (touch_of touch.entry) (touches_of behind.now) (touches_of body.now.touches.items)) }
+    ensures { IfOk result (λ holds. holds ≡ compared.runs_fit source.now (body_of body.now) (turned (touches_of front.now) []) (touch_of touch.entry) (touches_of behind.now) [] (touches_of body.now.touches.items)) }
 {
     if !is_any_run(touch.form) {
         return Ok(true);
@@ -117,20 +120,23 @@ fn all_runs_fit<'a>(
     touch: Touch<'a>,
     behind: &[Touch<'a>],
 ) -> Result<bool, AllocError>
-    ensures { IfOk result (λ holds. holds ≡ compared.runs_fit_behind source.now (body_of body.now) (turned (touches_of front.now) []) (touch_of touch.entry) (touches_of behind.now) (touches_of body.now.touches.items)) }
+    ensures { IfOk result (λ holds. holds ≡ compared.runs_fit source.now (body_of body.now) (turned (touches_of front.now) []) (touch_of touch.entry) (touches_of behind.now) [] (touches_of body.now.touches.items)) }
 {
     let touches = body.touches.as_slice();
     for (i, other) in touches.iter().enumerate() {
+        let before = &touches[..i];
         let others = &touches[i + 1..];
-        if !run_fits(alloc, source, body, front, touch, behind, *other, others)? {
+        if !run_fits(
+            alloc, source, body, front, touch, behind, before, *other, others,
+        )? {
             return Ok(false);
         }
     }
     Ok(true)
 }
 
-/// Whether the other touch, which is followed by these others, fits where the touch runs it, if it does. Fails on allocation
-/// failure alone.
+/// Whether the other touch, with these before it in its body and these others behind, fits where the touch runs it, if it does.
+/// Fails on allocation failure alone.
 fn run_fits<'a>(
     alloc: Global,
     source: &Source,
@@ -138,23 +144,89 @@ fn run_fits<'a>(
     front: &[Touch<'a>],
     touch: Touch<'a>,
     behind: &[Touch<'a>],
+    before: &[Touch<'a>],
     other: Touch<'a>,
     others: &[Touch<'a>],
 ) -> Result<bool, AllocError>
-    ensures { IfOk result (λ holds. holds ≡ (not (spec.is_run_by (closures_of source.now.called.now) (touch_of other.entry) (touch_of touch.entry).form) || compared.touch_fits source.now (body_of body.now) (turned (touches_of front.now) []) (spec.where_run (touch_of touch.entry) (touch_of other.entry)) (compared.run_with source.now (touch_of touch.entry) (touches_of others.now) ++ touches_of behind.now))) }
+    ensures { IfOk result (λ holds. holds ≡ (not (spec.is_run_by (closures_of source.now.called.now) (touch_of other.entry) (touch_of touch.entry).form) || compared.touch_fits source.now (body_of body.now) (turned (touches_of front.now) []) (spec.where_run (touch_of touch.entry) (touch_of other.entry)) (spec.put_off_behind (closures_of source.now.called.now) (spec.in_both (touch_of touch.entry) (touch_of other.entry)) (compared.front_of_run source.now (turned (touches_of front.now) []) (touch_of touch.entry) (turned (touches_of before.now) [])) ++ (compared.run_with source.now (touch_of touch.entry) (touches_of others.now) ++ touches_of behind.now)))) }
 {
     if !is_run_by(source.called, other, touch.form) {
         return Ok(true);
     }
-    let mut all_behind = run_with(alloc, source, touch, others)?;
-    add_all(behind, &mut all_behind)?;
+    fits_where_run(
+        alloc, source, body, front, touch, behind, before, other, others,
+    )
+}
+
+/// Whether it fits where the touch runs it. Fails on allocation failure alone.
+fn fits_where_run<'a>(
+    alloc: Global,
+    source: &Source,
+    body: &Body<'a>,
+    front: &[Touch<'a>],
+    touch: Touch<'a>,
+    behind: &[Touch<'a>],
+    before: &[Touch<'a>],
+    other: Touch<'a>,
+    others: &[Touch<'a>],
+) -> Result<bool, AllocError>
+    ensures { IfOk result (λ holds. holds ≡ compared.touch_fits source.now (body_of body.now) (turned (touches_of front.now) []) (spec.where_run (touch_of touch.entry) (touch_of other.entry)) (spec.put_off_behind (closures_of source.now.called.now) (spec.in_both (touch_of touch.entry) (touch_of other.entry)) (compared.front_of_run source.now (turned (touches_of front.now) []) (touch_of touch.entry) (turned (touches_of before.now) [])) ++ (compared.run_with source.now (touch_of touch.entry) (touches_of others.now) ++ touches_of behind.now))) }
+{
+    if !is_asked(body.derives, other.form) {
+        return Ok(true);
+    }
+    let mut all_behind = put_off_where_run(alloc, source, front, touch, before, other)?;
+    let mut rest = run_with(alloc, source, touch, others)?;
+    add_all(behind, &mut rest)?;
+    add_all(rest.as_slice(), &mut all_behind)?;
     let held = held_where_run(alloc, touch, other)?;
     let run = Touch {
         number: other.number,
         form: other.form,
         held: held.as_slice(),
     };
-    touch_fits(alloc, source, body, front, run, all_behind.as_slice())
+    let all_behind = all_behind.as_slice();
+    Ok(touch_fits(source, body, front, run, all_behind))
+}
+
+/// What stands in front of the other touch where the touch runs it, and is behind it by the run of a closure. Fails on
+/// allocation failure alone.
+fn put_off_where_run<'a>(
+    alloc: Global,
+    source: &Source,
+    front: &[Touch<'a>],
+    touch: Touch<'a>,
+    before: &[Touch<'a>],
+    other: Touch<'a>,
+) -> Result<Vec<Touch<'a>>, AllocError>
+    ensures { IfOk result (λ r. touches_of r.items ≡ spec.put_off_behind (closures_of source.now.called.now) (spec.in_both (touch_of touch.entry) (touch_of other.entry)) (compared.front_of_run source.now (turned (touches_of front.now) []) (touch_of touch.entry) (turned (touches_of before.now) []))) }
+{
+    let made = front_of_run(alloc, source, front, touch, before)?;
+    let held = held_in_both(alloc, touch, other)?;
+    let run = Touch {
+        number: other.number,
+        form: other.form,
+        held: held.as_slice(),
+    };
+    put_off(alloc, source.called, run, made.as_slice())
+}
+
+/// What stands in front of what the touch runs: what stands in front of the touch but in the closure, and behind that these, as far
+/// as the touch runs them. Fails on allocation failure alone.
+#[tactic(auto, using(crate::proofs::Comparing::front_turned))]
+fn front_of_run<'a>(
+    alloc: Global,
+    source: &Source,
+    front: &[Touch<'a>],
+    touch: Touch,
+    before: &[Touch<'a>],
+) -> Result<Vec<Touch<'a>>, AllocError>
+    ensures { IfOk result (λ r. turned (touches_of r.items) [] ≡ compared.front_of_run source.now (turned (touches_of front.now) []) (touch_of touch.entry) (turned (touches_of before.now) [])) }
+{
+    let run = run_with(alloc, source, touch, before)?;
+    let mut touches = run_without(alloc, source, touch, front)?;
+    add_all(run.as_slice(), &mut touches)?;
+    Ok(touches)
 }
 
 /// Those of these touches that stand in the closures of this one. Fails on allocation failure alone.
@@ -197,6 +269,26 @@ fn run_with<'a>(
     Ok(touches)
 }
 
+/// Those of these touches that this one does not run. Fails on allocation failure alone.
+fn run_without<'a>(
+    alloc: Global,
+    source: &Source,
+    touch: Touch,
+    others: &[Touch<'a>],
+) -> Result<Vec<Touch<'a>>, AllocError>
+    ensures { IfOk result (λ r. touches_of r.items ≡ compared.run_without source.now (touch_of touch.entry) (touches_of others.now)) }
+{
+    let mut touches = Vec::new(alloc);
+    for other in others {
+        add_if(
+            !is_run_by(source.called, *other, touch.form),
+            *other,
+            &mut touches,
+        )?;
+    }
+    Ok(touches)
+}
+
 /// Adds these touches. Fails on allocation failure alone.
 fn add_all<'a>(more: &[Touch<'a>], touches: &mut Vec<Touch<'a>>) -> Result<(), AllocError>
     ensures { OnOk result (touches_of touches.new.items ≡ touches_of touches.old.items ++ touches_of more.now) }
@@ -209,29 +301,15 @@ fn add_all<'a>(more: &[Touch<'a>], touches: &mut Vec<Touch<'a>>) -> Result<(), A
 
 // ---- one touch
 
-/// Whether a touch of a body, with these in front of it and these behind, stands as one of the source does, or needs not. Fails
-/// on allocation failure alone.
-fn touch_fits<'a>(
-    alloc: Global,
-    source: &Source,
-    body: &Body<'a>,
-    front: &[Touch<'a>],
-    touch: Touch,
-    behind: &[Touch<'a>],
-) -> Result<bool, AllocError>
-    ensures { IfOk result (λ holds. holds ≡ compared.touch_fits source.now (body_of body.now) (turned (touches_of front.now) []) (touch_of touch.entry) (touches_of behind.now)) }
+/// Whether a touch of a body, with these in front of it and these behind, stands as one of the source does, or needs not.
+fn touch_fits(source: &Source, body: &Body, front: &[Touch], touch: Touch, behind: &[Touch]) -> bool
+    ensures { result ≡ compared.touch_fits source.now (body_of body.now) (turned (touches_of front.now) []) (touch_of touch.entry) (touches_of behind.now) }
 {
-    if !is_asked(body.derives, touch.form) {
-        return Ok(true);
+    if !is_asked(body.derives, touch.form) || is_there(source, body, front, touch) {
+        return true;
     }
-    if is_there(source, body, front, touch) {
-        return Ok(true);
-    }
-    let mut all_behind = Vec::new(alloc);
-    add_put_off(source.called, front, touch, &mut all_behind)?;
-    add_all(behind, &mut all_behind)?;
     let is_ready = !body.derives || is_behind_super(source, touch, front);
-    Ok(stands_in_any(source, is_ready, body, touch, all_behind.as_slice()))
+    stands_in_any(source, is_ready, body, touch, behind)
 }
 
 /// Whether a touch is one of `this` behind `super(..)`, or one that reads the key of a field again.

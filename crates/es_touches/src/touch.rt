@@ -130,16 +130,6 @@ fn makes_class(form: TouchForm) -> bool
     matches!(form, TouchForm::MakesClass)
 }
 
-/// Whether the form is the call of the closure that this arrow is.
-pub fn is_run(arrow: u32, form: TouchForm) -> bool
-    ensures { result ≡ spec.is_run arrow (form_of form) }
-{
-    match form {
-        TouchForm::RunsClosure(other) => arrow == other,
-        _ => false,
-    }
-}
-
 /// Whether the form is the call of a closure.
 pub fn is_any_run(form: TouchForm) -> bool
     ensures { result ≡ compared.is_any_run (form_of form) }

@@ -8,7 +8,7 @@ use Rattle.es_base.specs.Tree.{Tree, Part, Parts, Node, child}
 use Rattle.es_base.specs.declared.kind.Kind.{Kind}
 use Rattle.es_left.proofs.Booleans.{both}
 use Rattle.es_lowered.specs.Definitions.{spelling}
-use Rattle.es_lowered.specs.DeadZones.{closure, closures_by, closures, super_calls, class_parts, is_touched, times, definitions_touched, is_this, is_same_form, is_asked, is_excepted, is_run_by, put_off, all_behind, stands_like, stands_in_any, reads_key, is_behind_super, touch_fits, in_same, runs_fit, touches_fit, bodies_fit, bodies_of, private_updates, all_throws, dead_zones_stay, TouchForm, Touch, Body, ClassParts, reads, names_class, reads_this, makes_class, runs_closure}
+use Rattle.es_lowered.specs.DeadZones.{closure, closures_by, closures, super_calls, class_parts, is_touched, times, definitions_touched, is_this, is_same_form, is_asked, is_excepted, is_run_by, were_run, put_off, all_behind, stands_like, stands_in_any, reads_key, is_behind_super, touch_fits, in_same, runs_fit, touches_fit, bodies_fit, bodies_of, private_updates, all_throws, dead_zones_stay, TouchForm, Touch, Body, ClassParts, reads, names_class, reads_this, makes_class, runs_closure}
 use Rattle.es_steps.proofs.Reflexive.{number-same}
 use Rattle.es_steps.specs.KeptNodes.{pair_stands, all_pairs_stand, is_within}
 use Rattle.es_steps.specs.Parts.{at}
@@ -59,9 +59,9 @@ pub closures-none : (ts : List Tree) → closures [] ts ≡ []
 closures-none [] = refl
 closures-none (Node kind m span semantic_id ps ∷ ts) = rw (by-none kind ps, closures-none ts) refl
 
-put-off-none : (front : List Touch) (t : Touch) (us : List Touch) → put_off [] front t us ≡ []
-put-off-none front t [] = refl
-put-off-none front t (u ∷ us) = put-off-none front t us
+put-off-none : (ran : List ℕ) (t : Touch) (us : List Touch) → put_off [] ran t us ≡ []
+put-off-none ran t [] = refl
+put-off-none ran t (u ∷ us) = put-off-none ran t us
 
 runs-none : (u : Touch) (form : TouchForm) → is_run_by [] u form ≡ false
 runs-none u (runs_closure k) = refl
@@ -100,7 +100,7 @@ module _ (first : ℕ) (supers : List ℕ) (classes : List ClassParts) (sources 
   in-any ready b t ts (c ∷ before) after d e = or_right _ (stands_in_any first supers classes [] sources ready b t ts (before ++ (b ∷ after))) (in-any ready b t ts before after d e)
 
   touch-fits : (b : Body) (front before : List Touch) (t : Touch) (ts : List Touch) → b.touches ≡ before ++ (t ∷ ts) → (earlier later : List Body) → sources ≡ earlier ++ (b ∷ later) → touch_fits first supers classes [] sources b front t ts ≡ true
-  touch-fits b front before t ts e earlier later s = rw (put-off-none front t front) (asked (is_asked b.derives t.form) refl)
+  touch-fits b front before t ts e earlier later s = asked (is_asked b.derives t.form) refl
     where
       like : is_asked b.derives t.form ≡ true → stands_like first supers classes [] sources t ts b.touches b.touches ≡ true
       like a = rw e (like-further (before ++ (t ∷ ts)) t ts (t ∷ ts) before (like-itself b.derives t ts before a))
@@ -116,14 +116,14 @@ module _ (first : ℕ) (supers : List ℕ) (classes : List ClassParts) (sources 
   in-same t [] = refl
   in-same t (u ∷ us) = ap (λ vs. u ∷ vs) (in-same t us)
 
-  runs-fit : (b : Body) (front : List Touch) (t : Touch) (ts us : List Touch) → runs_fit first supers classes [] sources b front t ts us ≡ true
-  runs-fit b front t ts [] = refl
-  runs-fit b front t ts (u ∷ us) = rw (runs-none u t.form) (runs-fit b front t ts us)
+  runs-fit : (b : Body) (front : List Touch) (t : Touch) (ts before us : List Touch) → runs_fit first supers classes [] sources b front t ts before us ≡ true
+  runs-fit b front t ts before [] = refl
+  runs-fit b front t ts before (u ∷ us) = rw (runs-none u t.form) (runs-fit b front t ts (u ∷ before) us)
 
   pub touches-fit : (b : Body) (front before ts : List Touch) → b.touches ≡ before ++ ts → (earlier later : List Body) → sources ≡ earlier ++ (b ∷ later) → touches_fit first supers classes [] sources b front ts ≡ true
   touches-fit b front before [] e earlier later s = refl
   touches-fit b front before (t ∷ ts) e earlier later s =
-      both (both (rw (in-same t ts) (touch-fits b front before t ts e earlier later s)) (runs-fit b front t ts b.touches))
+      both (both (rw (put-off-none (were_run [] t [] front) t front, in-same t ts) (touch-fits b front before t ts e earlier later s)) (runs-fit b (t ∷ front) t ts [] b.touches))
       (touches-fit b (t ∷ front) (before ++ (t ∷ [])) ts (e ∙ sym (append_assoc before (t ∷ []) ts)) earlier later s)
 
   bodies-fit : (earlier bs : List Body) → sources ≡ earlier ++ bs → bodies_fit first supers classes [] sources bs ≡ true
