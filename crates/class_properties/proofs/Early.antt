@@ -11,7 +11,7 @@ use Rattle.es_base.specs.declared.kind.Kind.{Kind}
 use Rattle.es_left.proofs.Booleans.{both}
 use Rattle.es_lowered.specs.ClassNames.{any_among, numbers_of}
 use Rattle.es_lowered.specs.Definitions.{spelling, is_assignment}
-use Rattle.es_lowered.specs.DeadZones.{touches, variables, class_names, touch, is_still, call_form, is_function_declaration, is_turned, nothing_around, in_no_chain, held_behind, spot_in, is_apart, read_form, reference_touches, own_touches, is_keyed, keyed, is_member, is_pattern, converted, touch_around, defines, sets_member, ends_in_throw, inner_touches, joined, touches_in, touches_at, touches_of, turned, class_touches, keys_touched, value_touches, values_touched, derived_constructor, derived_constructors, constructs, derived_arrows, classes_given, field_touches, bodies_by, bodies, super_calls, class_parts, is_asked, is_run_by, runs_fit, touches_fit, bodies_fit, bodies_of, private_updates, right_operands, throws_at, new_throws, all_throws, dead_zones_stay, TouchForm, Touch, Body, Spot, ClassParts, makes_class, runs_closure, defines_field, between_parts, another}
+use Rattle.es_lowered.specs.DeadZones.{touches, variables, class_names, touch, is_still, call_form, is_function_declaration, is_turned, nothing_around, in_no_chain, held_behind, spot_in, is_apart, read_form, reference_touches, own_touches, is_keyed, keyed, is_member, is_pattern, converted, touch_around, defines, sets_member, is_writer, is_setter_slot, ends_in_throw, inner_touches, joined, touches_in, touches_at, touches_of, turned, class_touches, keys_touched, value_touches, values_touched, derived_constructor, derived_constructors, constructs, derived_arrows, classes_given, field_touches, bodies_by, bodies, super_calls, class_parts, is_asked, is_run_by, runs_fit, touches_fit, bodies_fit, bodies_of, private_updates, right_operands, throws_at, new_throws, all_throws, dead_zones_stay, TouchForm, Touch, Body, Spot, ClassParts, makes_class, runs_closure, defines_field, between_parts, another}
 use Rattle.es_steps.specs.Context.{is_super_call}
 use Rattle.es_steps.specs.FirstForm.{is_first_form}
 use Rattle.es_steps.specs.NameScopes.{is_any_function}
@@ -93,8 +93,10 @@ module _ (first : ℕ) (asked named : List ℕ) (rs : List Reference) (free : Ar
   own-quiet x held Kind.IdentifierReference m ps = reference-quiet held m rs free
   own-quiet x held Kind.ThisExpression m ps = refl
   own-quiet x held Kind.BindingIdentifier m ps = refl
-  own-quiet x held Kind.CallExpression m ps = call-quiet held m (defines (at 0 ps) (items (at 1 ps))) (is_super_call Kind.CallExpression ps) (spelling (at 0 ps))
-  own-quiet x held Kind.AssignmentExpression m ps = assignment-quiet held m (is_new first m && (is_assignment ps && sets_member (at 1 ps)))
+  own-quiet x held Kind.CallExpression m ps = call-quiet held m (defines (at 0 ps) (items (at 1 ps)) || (is_new first m && is_writer (at 0 ps))) (is_super_call Kind.CallExpression ps) (spelling (at 0 ps))
+  own-quiet x held Kind.AssignmentExpression m ps =
+      assignment-quiet held m (cond (is_new first m) (is_assignment ps && (sets_member (at 1 ps) || is_setter_slot (at 1 ps))) (not (is_assignment ps) && is_member (at 1 ps)))
+  own-quiet x held Kind.UpdateExpression m ps = assignment-quiet held m (not (is_new first m) && is_member (at 1 ps))
   own-quiet x held Kind.SpreadElement m ps = around-quiet x
   own-quiet x held Kind.SequenceExpression m ps = cond-quiet (ends_in_throw (items (at 0 ps))) (touch held m another) [] refl refl
   own-quiet x held kind m ps = cond-quiet (is_still kind) [] (touch held m another) refl refl

@@ -9,7 +9,7 @@ use Rattle.es_base.specs.declared.kind.Kind.{Kind}
 use Rattle.es_base.specs.declared.ledger.GeneratedKind.{GeneratedKind}
 use Rattle.es_base.specs.declared.ledger.LedgerEntry.{LedgerEntry}
 use Rattle.es_lowered.specs.ClassNames.{numbers_of, any_among, common}
-use Rattle.es_lowered.specs.DeadZones.{touches, bound_numbers, variables_by, variables, class_names, touch, is_still, is_closure, Closures, closure, closures_by, closures, call_form, is_chain, is_function_declaration, is_link, is_turned, is_keyed, is_member, is_pattern, converted, touch_around, throws_always, ends_in_throw, defines_by, defines, is_named_or_this, is_value_slot, sets_member, is_property_definition, is_private, updates_private, private_updates, right_of, right_operands, throws_at, new_throws, all_throws, nothing_around, in_no_chain, held_behind, held_in, chain_in, spot_in, is_apart, read_form, reference_touches, assignment_form, own_touches, keyed, inner_touches, joined, touches_in, touches_at, touches_of, turned, class_touches, key_touches, keys_touched, value_touches, values_touched, without_this, derived_constructor, derived_constructors, constructs, arrows, arrows_at, arrows_in, arrows_of_body, arrows_of_keys, derived_arrows, value_arrows, static_arrows, derived_functions, is_call_of_super, classes_given, parameters_at, field_touches, held_with, with_fields, function_touches, body_touches, bodies_by, bodies, super_calls, reference_number, key_references, passed_numbers, moving_keys, moving_blocks, moving_numbers, class_elements, class_parts, is_touched, times, is_definition, definitions_touched, is_between, is_this, is_same_form, is_asked, is_excepted, held_within, held_inside, in_both, where_run, stands_in_node, is_run_before, closure_run, were_run, stands_in_closure, is_in_same, is_arrow_of, is_run_by, put_off, put_off_behind, all_behind, is_like, stands_like, is_of_body, stands_in_any, is_touched_as, is_touched_in, reads_key, is_behind_super, touch_fits, in_same, run_with, run_without, front_of_run, runs_fit, touches_fit, bodies_fit, bodies_of, dead_zones_stay, TouchForm, Touch, Body, Spot, ClassParts, reads, names_class, makes_class, runs_closure, defines_field, between_parts, another}
+use Rattle.es_lowered.specs.DeadZones.{touches, bound_numbers, variables_by, variables, class_names, touch, is_still, is_closure, Closures, closure, closures_by, closures, call_form, is_chain, is_function_declaration, is_link, is_turned, is_keyed, is_member, is_pattern, converted, touch_around, throws_always, ends_in_throw, defines_by, defines, is_named_or_this, is_value_slot, sets_member, is_writer, is_setter_slot, is_property_definition, is_private, updates_private, private_updates, right_of, right_operands, throws_at, new_throws, all_throws, nothing_around, in_no_chain, held_behind, held_in, chain_in, spot_in, is_apart, read_form, reference_touches, assignment_form, update_form, called_form, own_touches, keyed, inner_touches, joined, touches_in, touches_at, touches_of, turned, class_touches, key_touches, keys_touched, value_touches, values_touched, without_this, derived_constructor, derived_constructors, constructs, arrows, arrows_at, arrows_in, arrows_of_body, arrows_of_keys, derived_arrows, value_arrows, static_arrows, derived_functions, is_call_of_super, classes_given, parameters_at, field_touches, held_with, with_fields, function_touches, body_touches, bodies_by, bodies, super_calls, reference_number, key_references, passed_numbers, moving_keys, moving_blocks, moving_numbers, class_elements, class_parts, is_touched, times, is_definition, definitions_touched, is_between, is_this, is_same_form, is_asked, is_excepted, held_within, held_inside, in_both, where_run, stands_in_node, is_run_before, closure_run, were_run, stands_in_closure, is_in_same, is_arrow_of, is_run_by, put_off, put_off_behind, all_behind, is_like, stands_like, is_of_body, stands_in_any, is_touched_as, is_touched_in, reads_key, is_behind_super, touch_fits, in_same, run_with, run_without, front_of_run, runs_fit, touches_fit, bodies_fit, bodies_of, dead_zones_stay, TouchForm, Touch, Body, Spot, ClassParts, reads, names_class, makes_class, runs_closure, defines_field, between_parts, another}
 use Rattle.es_lowered.specs.Definitions.{spelling, is_assignment, writable_part}
 use Rattle.es_lowered.specs.HelperCalls.{part_number, is_class_body, runs_with_class}
 use Rattle.es_lowered.specs.Timely.{is_same, is_held, super_functions}
@@ -313,6 +313,19 @@ module _ (f : ℕ → ℕ) where
   sets_member-mapped (child (Node Kind.MemberExpression m span semantic_id (more o (more k rest)))) = ap₂ (λ x y. x && not y) (is_named_or_this-mapped o) (is_value_slot-mapped k)
   sets_member-mapped p = refl
 
+  is_writer-mapped : (p : Part) → is_writer (mapped_part f p) ≡ is_writer p
+  is_writer-mapped (child (Node Kind.MemberExpression m span semantic_id (more o (more (child (Node Kind.IdentifierName n nspan n_semantic_id ns)) rest)))) =
+      ap₂ (λ x y. bytes_eq x (codes "babelHelpers") && (bytes_eq y (codes "superPropSet") || bytes_eq y (codes "classPrivateFieldSet2"))) (spelling-mapped f o) (string_at-mapped f 0 ns)
+  is_writer-mapped p = refl
+
+  is_setter_slot-mapped : (p : Part) → is_setter_slot (mapped_part f p) ≡ is_setter_slot p
+  is_setter_slot-mapped (child (Node Kind.MemberExpression m span semantic_id (more (child (Node Kind.CallExpression n nspan n_semantic_id ns)) (more k rest)))) = is_value_slot-mapped k
+  is_setter_slot-mapped p = refl
+
+  definition_if-mapped : (b : Bool) → cond b defines_field another ≡ mapped_form (cond b defines_field another)
+  definition_if-mapped true = refl
+  definition_if-mapped false = refl
+
   is_private-mapped : (p : Part) → is_private (mapped_part f p) ≡ is_private p
   is_private-mapped (child (Node Kind.PrivateField m span semantic_id ps)) = refl
   is_private-mapped p = refl
@@ -441,8 +454,9 @@ module _ {first : ℕ} {f : ℕ → ℕ} (r : Renames first f) where
     read_form-mapped : (m : ℕ) (to : Referent) → read_form first called_there asked_there named_there (there f rs) (f m) (mapped_referent f to) ≡ mapped_form f (read_form first called asked named rs m to)
     read_form-mapped m (Bound b) =
         rw (has_number-mapped r b asked, has_number-mapped r b named, r.new m)
-        (cond-mapped (mapped_form f) (has_number b asked) (reads b) (cond (has_number b named && not (is_new first m)) names_class another) refl
-        (cond-mapped (mapped_form f) (has_number b named && not (is_new first m)) names_class another refl refl))
+        (cond-mapped (mapped_form f) (has_number b named) (cond (is_new first m) another names_class) (cond (has_number b asked) (reads b) another)
+        (cond-mapped (mapped_form f) (is_new first m) another names_class refl refl)
+        (cond-mapped (mapped_form f) (has_number b asked) (reads b) another refl refl))
     read_form-mapped m (Free s) = refl
 
     reference_touches-mapped : (held : List (ℕ × ℕ)) (m : ℕ) (xs : List Reference) → reference_touches first called_there asked_there named_there (there f rs) (held_there f held) (f m) (there f xs) ≡ moved f (reference_touches first called asked named rs held m xs)
@@ -452,23 +466,25 @@ module _ {first : ℕ} {f : ℕ → ℕ} (r : Renames first f) where
         (rw (r.apart m x.number) (cond-mapped (moved f) (nat_eq m x.number) (touch held m (read_form first called asked named rs m x.to)) [] (ap (touch (held_there f held) (f m)) (read_form-mapped m x.to)) refl))
         (reference_touches-mapped held m xs)
 
-    assignment_form-mapped : (m : ℕ) (ps : Parts) → assignment_form first called_there asked_there named_there (there f rs) (f m) (mapped_parts f ps) ≡ assignment_form first called asked named rs m ps
-    assignment_form-mapped m ps = rw (r.new m, string_at-mapped f 0 ps, at-mapped f 1 ps, sets_member-mapped f (at 1 ps)) refl
+    assignment_form-mapped : (m : ℕ) (ps : Parts) → assignment_form first called_there asked_there named_there (there f rs) (f m) (mapped_parts f ps) ≡ mapped_form f (assignment_form first called asked named rs m ps)
+    assignment_form-mapped m ps =
+        rw (r.new m, string_at-mapped f 0 ps, at-mapped f 1 ps, sets_member-mapped f (at 1 ps), is_setter_slot-mapped f (at 1 ps), is_member-mapped f (at 1 ps))
+        (definition_if-mapped f (cond (is_new first m) (is_assignment ps && (sets_member (at 1 ps) || is_setter_slot (at 1 ps))) (not (is_assignment ps) && is_member (at 1 ps))))
 
-    assignment_form-same : (m : ℕ) (ps : Parts) → mapped_form f (assignment_form first called asked named rs m ps) ≡ assignment_form first called asked named rs m ps
-    assignment_form-same m ps = same (is_new first m && (is_assignment ps && sets_member (at 1 ps)))
-      where
-        same : (b : Bool) → mapped_form f (cond b defines_field another) ≡ cond b defines_field another
-        same true = refl
-        same false = refl
+    update_form-mapped : (m : ℕ) (ps : Parts) → update_form first called_there asked_there named_there (there f rs) (f m) (mapped_parts f ps) ≡ mapped_form f (update_form first called asked named rs m ps)
+    update_form-mapped m ps = rw (r.new m, at-mapped f 1 ps, is_member-mapped f (at 1 ps)) (definition_if-mapped f (not (is_new first m) && is_member (at 1 ps)))
+
+    called_form-mapped : (m : ℕ) (ps : Parts) → called_form first called_there asked_there named_there (there f rs) (f m) (mapped_parts f ps) ≡ mapped_form f (called_form first called asked named rs m ps)
+    called_form-mapped m ps =
+        let form : TouchForm = call_form (is_super_call Kind.CallExpression ps) (spelling (at 0 ps)) called in
+        rw (is_super_call-mapped f Kind.CallExpression ps, at-mapped f 0 ps, spelling-mapped f (at 0 ps), items_at-mapped f 1 ps, defines-mapped f (at 0 ps) (items (at 1 ps)), r.new m, is_writer-mapped f (at 0 ps))
+        (cond-mapped (mapped_form f) (defines (at 0 ps) (items (at 1 ps)) || (is_new first m && is_writer (at 0 ps))) defines_field form refl (call_form-mapped f (is_super_call Kind.CallExpression ps) (spelling (at 0 ps)) called))
 
     own_touches-mapped : (x : Spot) (held : List (ℕ × ℕ)) (kind : Kind) (m : ℕ) (ps : Parts) → own_touches first called_there asked_there named_there (there f rs) (mapped_spot f x) (held_there f held) kind (f m) (mapped_parts f ps) ≡ moved f (own_touches first called asked named rs x held kind m ps)
     own_touches-mapped x held Kind.IdentifierReference m ps = reference_touches-mapped held m rs
-    own_touches-mapped x held Kind.CallExpression m ps =
-        let form : TouchForm = call_form (is_super_call Kind.CallExpression ps) (spelling (at 0 ps)) called in
-        rw (is_super_call-mapped f Kind.CallExpression ps, at-mapped f 0 ps, spelling-mapped f (at 0 ps), items_at-mapped f 1 ps, defines-mapped f (at 0 ps) (items (at 1 ps)))
-        (ap (touch (held_there f held) (f m)) (cond-mapped (mapped_form f) (defines (at 0 ps) (items (at 1 ps))) defines_field form refl (call_form-mapped f (is_super_call Kind.CallExpression ps) (spelling (at 0 ps)) called)))
-    own_touches-mapped x held Kind.AssignmentExpression m ps = ap (touch (held_there f held) (f m)) (assignment_form-mapped m ps ∙ sym (assignment_form-same m ps))
+    own_touches-mapped x held Kind.CallExpression m ps = ap (touch (held_there f held) (f m)) (called_form-mapped m ps)
+    own_touches-mapped x held Kind.AssignmentExpression m ps = ap (touch (held_there f held) (f m)) (assignment_form-mapped m ps)
+    own_touches-mapped x held Kind.UpdateExpression m ps = ap (touch (held_there f held) (f m)) (update_form-mapped m ps)
     own_touches-mapped x held Kind.SpreadElement m ps = touch_around-mapped f x
     own_touches-mapped x held Kind.ThisExpression m ps = refl
     own_touches-mapped x held Kind.BindingIdentifier m ps = refl

@@ -37,7 +37,7 @@ pub data TouchForm : Type 0 where
   calls_super : TouchForm
   -- a call of the closure that arrow k is
   runs_closure : (k : ℕ) → TouchForm
-  -- a field, or what stands for one
+  -- a field, or a write behind an operation that has its number, or what stands for one of these
   defines_field : TouchForm
   -- an event of a node between its parts
   between_parts : TouchForm
@@ -254,6 +254,17 @@ abbrev pub sets_member : Part → Bool
 sets_member (child (Node Kind.MemberExpression m span semantic_id (more o (more k rest)))) = is_named_or_this o && not (is_value_slot k)
 sets_member p = false
 
+-- `super.a += b` writes behind the sum (13.15.2), which has the number of both in `B.superPropSet(A, "a", B.superPropGet(A, "a", A) + b, A, 1)`,
+-- as in `B.classPrivateFieldSet2(W, o, B.classPrivateFieldGet2(W, o) + b)` and in `B.toSetter(s.bind(o))._ = g.call(o) + b`
+abbrev pub is_writer : Part → Bool
+is_writer (child (Node Kind.MemberExpression m span semantic_id (more o (more (child (Node Kind.IdentifierName n nspan n_semantic_id ns)) rest)))) =
+    bytes_eq (spelling o) (codes "babelHelpers") && (bytes_eq (string_of (at 0 ns)) (codes "superPropSet") || bytes_eq (string_of (at 0 ns)) (codes "classPrivateFieldSet2"))
+is_writer p = false
+
+abbrev pub is_setter_slot : Part → Bool
+is_setter_slot (child (Node Kind.MemberExpression m span semantic_id (more (child (Node Kind.CallExpression n nspan n_semantic_id ns)) (more k rest)))) = is_value_slot k
+is_setter_slot p = false
+
 -- `this` in what runs with a class is the class (15.7.10, 15.7.11), which is there
 abbrev pub is_this : TouchForm → Bool
 is_this reads_this = true
@@ -275,8 +286,9 @@ module _ (first : ℕ) (called : Closures) (asked named : List ℕ) (references 
   is_apart Kind.ExportSpecifier m = true
   is_apart kind m = is_any_function kind && not (is_arrow kind && is_new first m)
 
+  -- of `function f(a = class { m() { class B { } } }) { }` B is no variable, though it stands in the parameters
   abbrev pub read_form : ℕ → Referent → TouchForm
-  read_form m (Bound b) = cond (has_number b asked) (reads b) (cond (has_number b named && not (is_new first m)) names_class another)
+  read_form m (Bound b) = cond (has_number b named) (cond (is_new first m) another names_class) (cond (has_number b asked) (reads b) another)
   read_form m (Free s) = another
 
   abbrev pub reference_touches : List (ℕ × ℕ) → ℕ → List Reference → List Touch
@@ -284,15 +296,22 @@ module _ (first : ℕ) (called : Closures) (asked named : List ℕ) (references 
   reference_touches held m (r ∷ rs) = cond (nat_eq m r.number) (touch held m (read_form m r.to)) [] ++ reference_touches held m rs
 
   abbrev pub assignment_form : ℕ → Parts → TouchForm
-  assignment_form m ps = cond (is_new first m && (is_assignment ps && sets_member (at 1 ps))) defines_field another
+  assignment_form m ps = cond (cond (is_new first m) (is_assignment ps && (sets_member (at 1 ps) || is_setter_slot (at 1 ps))) (not (is_assignment ps) && is_member (at 1 ps))) defines_field another
+
+  abbrev pub update_form : ℕ → Parts → TouchForm
+  update_form m ps = cond (not (is_new first m) && is_member (at 1 ps)) defines_field another
+
+  abbrev pub called_form : ℕ → Parts → TouchForm
+  called_form m ps = cond (defines (at 0 ps) (items (at 1 ps)) || (is_new first m && is_writer (at 0 ps))) defines_field (call_form (is_super_call Kind.CallExpression ps) (spelling (at 0 ps)) called)
 
   -- x is around the node, held what it stands in with its own `?.`
   abbrev pub own_touches : Spot → List (ℕ × ℕ) → Kind → ℕ → Parts → List Touch
   own_touches x held Kind.IdentifierReference m ps = reference_touches held m references
   own_touches x held Kind.ThisExpression m ps = touch held m reads_this
   own_touches x held Kind.BindingIdentifier m ps = touch held m another
-  own_touches x held Kind.CallExpression m ps = touch held m (cond (defines (at 0 ps) (items (at 1 ps))) defines_field (call_form (is_super_call Kind.CallExpression ps) (spelling (at 0 ps)) called))
+  own_touches x held Kind.CallExpression m ps = touch held m (called_form m ps)
   own_touches x held Kind.AssignmentExpression m ps = touch held m (assignment_form m ps)
+  own_touches x held Kind.UpdateExpression m ps = touch held m (update_form m ps)
   own_touches x held Kind.SpreadElement m ps = touch_around x
   own_touches x held Kind.SequenceExpression m ps = cond (ends_in_throw (items (at 0 ps))) (touch held m another) []
   own_touches x held kind m ps = cond (is_still kind) [] (touch held m another)

@@ -32,6 +32,7 @@ module _ (t : Terms) (x : Spot) (held : List (ℕ × ℕ)) (m : ℕ) (ps : Parts
   own_by_form Kind.BindingIdentifier a b = refl
   own_by_form Kind.CallExpression a b = refl
   own_by_form Kind.AssignmentExpression a b = refl
+  own_by_form Kind.UpdateExpression a b = refl
   own_by_form Kind.SequenceExpression a b = by_choice (ends_in_throw (items (at 0 ps)))
   own_by_form kind a b = by_stillness (is_still kind)
 
@@ -39,9 +40,10 @@ still_turned : (b : Bool) → cond (not b) (Some another) None ≡ cond b None (
 still_turned true = refl
 still_turned false = refl
 
-pub form_other : (t : Terms) (kind : Kind) (m : ℕ) (ps : Parts) → (kind ≡ Kind.ThisExpression → ⊥) → (kind ≡ Kind.CallExpression → ⊥) → (kind ≡ Kind.AssignmentExpression → ⊥) → (kind ≡ Kind.SequenceExpression → ⊥) → cond (not (is_still kind)) (Some another) None ≡ own_form t kind m ps
-form_other t Kind.ThisExpression m ps a b c d = absurd (a refl)
-form_other t Kind.CallExpression m ps a b c d = absurd (b refl)
-form_other t Kind.AssignmentExpression m ps a b c d = absurd (c refl)
-form_other t Kind.SequenceExpression m ps a b c d = absurd (d refl)
-form_other t kind m ps a b c d = still_turned (is_still kind)
+pub form_other : (t : Terms) (kind : Kind) (m : ℕ) (ps : Parts) → (kind ≡ Kind.ThisExpression → ⊥) → (kind ≡ Kind.CallExpression → ⊥) → (kind ≡ Kind.AssignmentExpression → ⊥) → (kind ≡ Kind.UpdateExpression → ⊥) → (kind ≡ Kind.SequenceExpression → ⊥) → cond (not (is_still kind)) (Some another) None ≡ own_form t kind m ps
+form_other t Kind.ThisExpression m ps a b c d e = absurd (a refl)
+form_other t Kind.CallExpression m ps a b c d e = absurd (b refl)
+form_other t Kind.AssignmentExpression m ps a b c d e = absurd (c refl)
+form_other t Kind.UpdateExpression m ps a b c d e = absurd (d refl)
+form_other t Kind.SequenceExpression m ps a b c d e = absurd (e refl)
+form_other t kind m ps a b c d e = still_turned (is_still kind)

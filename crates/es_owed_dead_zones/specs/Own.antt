@@ -3,22 +3,17 @@ use Rattle.std.specs.Prelude.{ℕ, List, [], cond, Option, Some, None}
 use Rattle.es_base.specs.Tree.{Parts}
 use Rattle.es_base.specs.declared.kind.Kind.{Kind}
 use Rattle.es_lowered.specs.DeadZones as spec
-use Rattle.es_lowered.specs.DeadZones.{Touch, TouchForm, call_form, defines, ends_in_throw, is_still, touch}
-use Rattle.es_lowered.specs.Definitions.{spelling}
-use Rattle.es_steps.specs.Context.{is_super_call}
+use Rattle.es_lowered.specs.DeadZones.{Touch, TouchForm, ends_in_throw, is_still, touch}
 use Rattle.es_steps.specs.Parts.{at, items}
-use Rattle.es_touches.specs.Touches.{closures_of}
-use Rattle.es_owed_dead_zones.specs.Walk.{assignment_form}
+use Rattle.es_owed_dead_zones.specs.Walk.{assignment_form, called_form, update_form}
 use Rattle.es_owed_dead_zones.specs.declared.terms.Terms.{Terms}
-
-abbrev pub called_form : Terms → Parts → TouchForm
-called_form t ps = cond (defines (at 0 ps) (items (at 1 ps))) spec.defines_field (call_form (is_super_call Kind.CallExpression ps) (spelling (at 0 ps)) (closures_of t.called.now))
 
 -- of what is no reference and no spread
 abbrev pub own_form : Terms → Kind → ℕ → Parts → Option TouchForm
 own_form t Kind.ThisExpression m ps = Some spec.reads_this
-own_form t Kind.CallExpression m ps = Some (called_form t ps)
+own_form t Kind.CallExpression m ps = Some (called_form t m ps)
 own_form t Kind.AssignmentExpression m ps = Some (assignment_form t m ps)
+own_form t Kind.UpdateExpression m ps = Some (update_form t m ps)
 own_form t Kind.SequenceExpression m ps = cond (ends_in_throw (items (at 0 ps))) (Some spec.another) None
 own_form t kind m ps = cond (is_still kind) None (Some spec.another)
 

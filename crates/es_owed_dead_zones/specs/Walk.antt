@@ -85,6 +85,12 @@ module _ (t : Terms) where
   abbrev pub assignment_form : ℕ → Parts → TouchForm
   assignment_form = spec.assignment_form t.first (closures_of t.called.now) t.asked.now t.named.now (references_of t.references.now)
 
+  abbrev pub update_form : ℕ → Parts → TouchForm
+  update_form = spec.update_form t.first (closures_of t.called.now) t.asked.now t.named.now (references_of t.references.now)
+
+  abbrev pub called_form : ℕ → Parts → TouchForm
+  called_form = spec.called_form t.first (closures_of t.called.now) t.asked.now t.named.now (references_of t.references.now)
+
   -- of the parts from the i-th on
   abbrev pub touches_from : (ℕ → spec.Spot) → ℕ → Parts → List Touch
   touches_from x i end = []

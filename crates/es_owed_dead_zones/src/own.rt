@@ -1,6 +1,6 @@
 // The touches that a node has by itself.
 
-ghost use Rattle.std.specs.Prelude.{◌≡◌, ◌++◌, ◌&&◌, [], None, Some, cond, false, nat_eq, not, option_map, OnOk};
+ghost use Rattle.std.specs.Prelude.{◌≡◌, ◌++◌, [], None, Some, cond, false, nat_eq, option_map, OnOk};
 ghost use Rattle.std.specs.Str.{chars};
 ghost use Rattle.es_base.specs.Numbered as numbered;
 ghost use Rattle.es_base.specs.declared.kind.Kind.{Kind};
@@ -11,7 +11,7 @@ ghost use Rattle.es_references.specs.References.{reference_of, references_of};
 ghost use Rattle.es_steps.specs.Parts.{at};
 ghost use Rattle.es_steps.specs.Printable.{has_optional};
 ghost use Rattle.es_steps.specs.References as references;
-ghost use Rattle.es_owed_dead_zones.specs.Own.{called_form, own_form, touches_by};
+ghost use Rattle.es_owed_dead_zones.specs.Own.{own_form, touches_by};
 ghost use Rattle.es_touches.specs.Touches.{closures_of, form_of, kept_touches};
 ghost use Rattle.es_owed_dead_zones.specs.Walk as walked;
 ghost use Rattle.es_owed_dead_zones.specs.Walk.{spot_of};
@@ -28,7 +28,9 @@ use es_owed_initialized::spelling::spelling_at;
 use es_references::references::Reference;
 use es_seen_names::parts::string_at;
 use es_touches::closures::Closure;
-use es_touches::forms::{defines, ends_in_throw, is_still, sets_member};
+use es_touches::forms::{
+    defines, ends_in_throw, is_member, is_setter_slot, is_still, is_writer, sets_member,
+};
 use es_touches::touch::{KeptTouch, TouchForm};
 use es_validity::class::is_super_call;
 use es_validity::parts::has_optional;
@@ -84,6 +86,8 @@ fn own_form(terms: &Terms, node: &Node) -> Option<TouchForm>
         Kind::CallExpression => Some(called_form(terms, node)),
         // this.a = b
         Kind::AssignmentExpression => Some(assignment_form(terms, node)),
+        // this.a++
+        Kind::UpdateExpression => Some(update_form(terms, node)),
         // (a, babelHelpers.readOnlyError("#b"))
         Kind::SequenceExpression => another_if(ends_in_throw(node)),
         kind => another_if(!is_still(kind)),
@@ -151,14 +155,26 @@ fn read_form(terms: &Terms, number: u32, reference: &Reference) -> TouchForm
 }
 
 fn bound_form(terms: &Terms, number: u32, binding: u32) -> TouchForm
-    ensures { form_of result ≡ cond (references.has_number binding terms.now.asked.now) (spec.reads binding) (cond (references.has_number binding terms.now.named.now && not (numbered.is_new terms.now.first number)) spec.names_class spec.another) }
+    ensures { form_of result ≡ cond (references.has_number binding terms.now.named.now) (cond (numbered.is_new terms.now.first number) spec.another spec.names_class) (cond (references.has_number binding terms.now.asked.now) (spec.reads binding) spec.another) }
 {
-    if has_number(binding, terms.asked) {
+    if has_number(binding, terms.named) {
+        // function f(a = class { m() { class B {} } }) {}
+        class_form(terms, number)
+    } else if has_number(binding, terms.asked) {
         TouchForm::Reads(binding)
-    } else if has_number(binding, terms.named) && !is_new(terms.first, number) {
-        TouchForm::NamesClass
     } else {
         TouchForm::Another
+    }
+}
+
+/// The form of a reference of this number to the name of a class.
+fn class_form(terms: &Terms, number: u32) -> TouchForm
+    ensures { form_of result ≡ cond (numbered.is_new terms.now.first number) spec.another spec.names_class }
+{
+    if is_new(terms.first, number) {
+        TouchForm::Another
+    } else {
+        TouchForm::NamesClass
     }
 }
 
@@ -166,9 +182,9 @@ fn bound_form(terms: &Terms, number: u32, binding: u32) -> TouchForm
 
 fn called_form(terms: &Terms, call: &Node) -> TouchForm
     requires { kind_of call.now ≡ Kind.CallExpression }
-    ensures { form_of result ≡ called_form terms.now (parts_in call.now) }
+    ensures { form_of result ≡ walked.called_form terms.now (number_in call.now) (parts_in call.now) }
 {
-    if defines(call) {
+    if defines(call) || (is_new(terms.first, call.node_id().0) && is_writer(call)) {
         TouchForm::DefinesField
     } else if is_super_call(call) {
         TouchForm::CallsSuper
@@ -198,13 +214,52 @@ fn sets_at(parts: &[Part], i: usize) -> bool
     }
 }
 
-fn assignment_form(terms: &Terms, node: &Node) -> TouchForm
-    ensures { form_of result ≡ walked.assignment_form terms.now (number_in node.now) (parts_in node.now) }
+fn sets_slot_at(parts: &[Part], i: usize) -> bool
+    ensures { result ≡ spec.is_setter_slot (at i (parts_of parts.now)) }
 {
-    let is_plain = spells(string_at(node.parts(), 0), "=");
-    if is_new(terms.first, node.node_id().0) && is_plain && sets_at(node.parts(), 1) {
+    match part_at(parts, i) {
+        Some(Part::Child(node)) => is_setter_slot(node),
+        _ => false,
+    }
+}
+
+fn is_member_at(parts: &[Part], i: usize) -> bool
+    ensures { result ≡ spec.is_member (at i (parts_of parts.now)) }
+{
+    match part_at(parts, i) {
+        Some(part) => is_member(part),
+        None => false,
+    }
+}
+
+/// The form of what defines a field or writes behind an operation, if so.
+fn definition_if(defines: bool) -> TouchForm
+    ensures { form_of result ≡ cond defines spec.defines_field spec.another }
+{
+    if defines {
         TouchForm::DefinesField
     } else {
         TouchForm::Another
     }
+}
+
+fn assignment_form(terms: &Terms, node: &Node) -> TouchForm
+    ensures { form_of result ≡ walked.assignment_form terms.now (number_in node.now) (parts_in node.now) }
+{
+    let parts = node.parts();
+    let is_plain = spells(string_at(parts, 0), "=");
+    if is_new(terms.first, node.node_id().0) {
+        // this.a = b, babelHelpers.toSetter(f)._ = a
+        definition_if(is_plain && (sets_at(parts, 1) || sets_slot_at(parts, 1)))
+    } else {
+        // this.#a += b
+        definition_if(!is_plain && is_member_at(parts, 1))
+    }
+}
+
+fn update_form(terms: &Terms, node: &Node) -> TouchForm
+    ensures { form_of result ≡ walked.update_form terms.now (number_in node.now) (parts_in node.now) }
+{
+    // this.#a++
+    definition_if(!is_new(terms.first, node.node_id().0) && is_member_at(node.parts(), 1))
 }

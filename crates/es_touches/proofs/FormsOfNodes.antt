@@ -2,13 +2,13 @@
 use Rattle.std.proofs.Common.{◌≡◌, refl, ap, ℕ, zero, suc, ◌+◌, List, [], ◌∷◌, Bool, true, false, ◌&&◌, ◌||◌, length, get_or, cond, bytes_eq, codes, Option, None, arith}
 use Rattle.es_base.specs.Tree.{Tree, Part, Parts, Node, end, more, child, absent, list, string, trees}
 use Rattle.es_base.specs.declared.kind.Kind.{Kind}
-use Rattle.es_lowered.specs.DeadZones.{defines, defines_by, ends_in_throw, is_member, is_named_or_this, is_pattern, is_still, is_value_slot, sets_member, throws_always}
+use Rattle.es_lowered.specs.DeadZones.{defines, defines_by, ends_in_throw, is_member, is_named_or_this, is_pattern, is_setter_slot, is_still, is_value_slot, is_writer, sets_member, throws_always}
 use Rattle.es_lowered.specs.Definitions.{property_value, spelling, writable_part}
 use Rattle.es_node.specs.View.{kind_of, parts_in}
 use Rattle.es_steps.specs.NameScopes.{is_any_function}
 use Rattle.es_steps.specs.Parts.{at, is_present, string_of}
 use Rattle.es_steps.specs.Values.{String}
-use Rattle.es_touches.specs.Forms.{are_writable, has_value, is_plain, is_throw_name, is_throwing_callee, names_key}
+use Rattle.es_touches.specs.Forms.{are_writable, has_value, is_plain, is_throw_name, is_throwing_callee, is_writer_name, names_key}
 
 pub still_kind : (kind : Kind) → is_still kind ≡ (is_plain kind || is_any_function kind)
 still_kind Kind.Program = refl
@@ -60,6 +60,32 @@ no_slot (Node kind m span semantic_id ps) other = refl
 pub sets_none : (t : Tree) → (kind_of t ≡ Kind.MemberExpression → ⊥) → sets_member (child t) ≡ false
 sets_none (Node Kind.MemberExpression m span semantic_id ps) other = absurd (other refl)
 sets_none (Node kind m span semantic_id ps) other = refl
+
+pub slot_of_call : (m : ℕ) (span : Option (ℕ × ℕ)) (semantic_id : Option ℕ) (o k : Tree) (rest : Parts) → kind_of o ≡ Kind.CallExpression → is_setter_slot (child (Node Kind.MemberExpression m span semantic_id (more (child o) (more (child k) rest)))) ≡ is_value_slot (child k)
+slot_of_call m span semantic_id (Node Kind.CallExpression n nspan n_semantic_id ns) k rest is = refl
+slot_of_call m span semantic_id (Node kind n nspan n_semantic_id ns) k rest is = absurd (cc)
+
+pub slot_of_none : (m : ℕ) (span : Option (ℕ × ℕ)) (semantic_id : Option ℕ) (o k : Tree) (rest : Parts) → (kind_of o ≡ Kind.CallExpression → ⊥) → is_setter_slot (child (Node Kind.MemberExpression m span semantic_id (more (child o) (more (child k) rest)))) ≡ false
+slot_of_none m span semantic_id (Node Kind.CallExpression n nspan n_semantic_id ns) k rest other = absurd (other refl)
+slot_of_none m span semantic_id (Node kind n nspan n_semantic_id ns) k rest other = refl
+
+pub setter_none : (t : Tree) → (kind_of t ≡ Kind.MemberExpression → ⊥) → is_setter_slot (child t) ≡ false
+setter_none (Node Kind.MemberExpression m span semantic_id ps) other = absurd (other refl)
+setter_none (Node kind m span semantic_id ps) other = refl
+
+-- ---- what writes behind an operation
+
+pub writer_named : (m : ℕ) (span : Option (ℕ × ℕ)) (semantic_id : Option ℕ) (o k : Tree) (rest : Parts) → kind_of k ≡ Kind.IdentifierName → is_writer (child (Node Kind.MemberExpression m span semantic_id (more (child o) (more (child k) rest)))) ≡ (bytes_eq (spelling (child o)) (codes "babelHelpers") && is_writer_name (string_of (at 0 (parts_in k))))
+writer_named m span semantic_id o (Node Kind.IdentifierName n nspan n_semantic_id ns) rest is = refl
+writer_named m span semantic_id o (Node kind n nspan n_semantic_id ns) rest is = absurd (cc)
+
+pub writer_unnamed : (m : ℕ) (span : Option (ℕ × ℕ)) (semantic_id : Option ℕ) (o k : Tree) (rest : Parts) → (kind_of k ≡ Kind.IdentifierName → ⊥) → is_writer (child (Node Kind.MemberExpression m span semantic_id (more (child o) (more (child k) rest)))) ≡ false
+writer_unnamed m span semantic_id o (Node Kind.IdentifierName n nspan n_semantic_id ns) rest other = absurd (other refl)
+writer_unnamed m span semantic_id o (Node kind n nspan n_semantic_id ns) rest other = refl
+
+pub writer_none : (t : Tree) → (kind_of t ≡ Kind.MemberExpression → ⊥) → is_writer (child t) ≡ false
+writer_none (Node Kind.MemberExpression m span semantic_id ps) other = absurd (other refl)
+writer_none (Node kind m span semantic_id ps) other = refl
 
 -- ---- what always throws
 

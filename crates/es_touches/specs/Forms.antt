@@ -33,6 +33,9 @@ is_plain kind = false
 abbrev pub is_throw_name : String → Bool
 is_throw_name s = bytes_eq s (codes "readOnlyError") || bytes_eq s (codes "writeOnlyError")
 
+abbrev pub is_writer_name : String → Bool
+is_writer_name s = bytes_eq s (codes "superPropSet") || bytes_eq s (codes "classPrivateFieldSet2")
+
 -- the callee of what always throws
 abbrev pub is_throwing_callee : Part → Bool
 is_throwing_callee (child (Node Kind.MemberExpression k span semantic_id (more o (more (child (Node Kind.IdentifierName n nspan n_semantic_id ns)) rest)))) = is_throw_name (string_of (at 0 ns))

@@ -9,7 +9,7 @@ ghost use Rattle.es_node.specs.View.{kind_of, part_of, parts_in};
 ghost use Rattle.es_steps.specs.Parts.{at, is_present, items};
 ghost use Rattle.es_lowered.specs.DeadZones as spec;
 ghost use Rattle.es_lowered.specs.Definitions as definitions;
-ghost use Rattle.es_touches.specs.Forms.{are_writable, has_value, is_plain, is_throw_name, is_throwing_callee, names_key};
+ghost use Rattle.es_touches.specs.Forms.{are_writable, has_value, is_plain, is_throw_name, is_throwing_callee, is_writer_name, names_key};
 
 use es_base::kind::Kind;
 use es_base::strings::spells;
@@ -170,6 +170,78 @@ pub fn sets_member(node: &Node) -> bool
         }
         _ => false,
     }
+}
+
+/// Whether the node is the `_` of a setter that a helper has made, which is assigned to.
+#[tactic(auto, using(crate::proofs::FormsOfNodes::setter_none))]
+pub fn is_setter_slot(node: &Node) -> bool
+    ensures { result ≡ spec.is_setter_slot (child node.now) }
+{
+    match node.kind() {
+        // babelHelpers.toSetter(f)._
+        Kind::MemberExpression => is_slot_of_call(node),
+        _ => false,
+    }
+}
+
+#[tactic(auto, using(crate::proofs::FormsOfNodes::slot_of_call, crate::proofs::FormsOfNodes::slot_of_none))]
+fn is_slot_of_call(node: &Node) -> bool
+    requires { kind_of node.now ≡ Kind.MemberExpression }
+    ensures { result ≡ spec.is_setter_slot (child node.now) }
+{
+    let member = MemberExpressionRef::from_node(node);
+    match member.object.kind() {
+        Kind::CallExpression => is_value_slot(member.property),
+        _ => false,
+    }
+}
+
+// ---- what writes behind an operation
+
+fn is_writer_name(name: &str) -> bool
+    ensures { result ≡ is_writer_name (chars name.now) }
+{
+    spells(name, "superPropSet") || spells(name, "classPrivateFieldSet2")
+}
+
+fn writes_by(object: &str, name: &str) -> bool
+    ensures { result ≡ (bytes_eq (chars object.now) (codes "babelHelpers") && is_writer_name (chars name.now)) }
+{
+    spells(object, "babelHelpers") && is_writer_name(name)
+}
+
+#[tactic(auto, using(crate::proofs::FormsOfNodes::writer_named, crate::proofs::FormsOfNodes::writer_unnamed))]
+fn writes_as(callee: &Node) -> bool
+    requires { kind_of callee.now ≡ Kind.MemberExpression }
+    ensures { result ≡ spec.is_writer (child callee.now) }
+{
+    let member = MemberExpressionRef::from_node(callee);
+    match member.property.kind() {
+        Kind::IdentifierName => {
+            let name = string_at(member.property.parts(), 0);
+            writes_by(spelling(member.object), name)
+        }
+        _ => false,
+    }
+}
+
+#[tactic(auto, using(crate::proofs::FormsOfNodes::writer_none))]
+fn is_writer_callee(callee: &Node) -> bool
+    ensures { result ≡ spec.is_writer (child callee.now) }
+{
+    match callee.kind() {
+        Kind::MemberExpression => writes_as(callee),
+        _ => false,
+    }
+}
+
+/// Whether a call writes a private member or one of `super` behind the operation that has the number of both.
+pub fn is_writer(call: &Node) -> bool
+    requires { kind_of call.now ≡ Kind.CallExpression }
+    ensures { result ≡ spec.is_writer (at 0 (parts_in call.now)) }
+{
+    // babelHelpers.superPropSet(A, "a", babelHelpers.superPropGet(A, "a", A) + b, A, 1)
+    is_writer_callee(CallExpressionRef::from_node(call).callee)
 }
 
 // ---- what always throws
