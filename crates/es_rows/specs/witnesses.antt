@@ -88,6 +88,7 @@ pub mod ClassInFrontOfAnAwait
 pub mod ClassInFrontOfItsUse
 pub mod ClassInFrontOfWhatItsHeritageReads
 pub mod ClassInFrontOfWhatItsKeyReads
+pub mod ClassInTheConstructorOfAClassInAParameter
 pub mod ClassInTheHeadOfALoop
 pub mod ClassNameInFrontOfAnAwait
 pub mod ClassNamedArguments
@@ -121,6 +122,7 @@ pub mod ClassWithTheNameOfAPrototype
 pub mod ClassesThatSuspend
 pub mod ClosureBeforeItsClass
 pub mod ClosureCalledInAKey
+pub mod ClosureCalledInOneThatWasNotRun
 pub mod ClosureCalledTwice
 pub mod ClosureGivenBehindItsCall
 pub mod ClosureGivenInEachRound
@@ -318,6 +320,7 @@ pub mod NameInFrontOfAConversionInATemplate
 pub mod NameInFrontOfADefaultExport
 pub mod NameInFrontOfADefinition
 pub mod NameInFrontOfAFunctionInABlock
+pub mod NameInFrontOfAWriteBehindASum
 pub mod NameInFrontOfAWriteThatThrows
 pub mod NameInFrontOfTheFields
 pub mod NameOfAClassThatGoesNowhere
@@ -494,6 +497,7 @@ pub mod ThisInAnArrow
 pub mod ThisInFrontOfAnArrowWithSuper
 pub mod ThisInFrontOfSuper
 pub mod ThisInFrontOfTheConversionOfAKey
+pub mod ThisOfAStaticArrow
 pub mod ThisOutOfAnArrow
 pub mod TwoBrands
 pub mod TwoConstructors

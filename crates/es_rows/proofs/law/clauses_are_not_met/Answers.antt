@@ -181,6 +181,9 @@ returns-clause-closure_before_its_class c = refl
 pub returns-clause-closure_called_in_a_key : goal.returns-clause-closure_called_in_a_key
 returns-clause-closure_called_in_a_key c = refl
 
+pub returns-clause-closure_called_in_one_that_was_not_run : goal.returns-clause-closure_called_in_one_that_was_not_run
+returns-clause-closure_called_in_one_that_was_not_run c = refl
+
 pub returns-clause-closure_called_twice : goal.returns-clause-closure_called_twice
 returns-clause-closure_called_twice c = refl
 
@@ -502,6 +505,9 @@ returns-clause-name_in_front_of_a_definition c = refl
 pub returns-clause-name_in_front_of_a_function_in_a_block : goal.returns-clause-name_in_front_of_a_function_in_a_block
 returns-clause-name_in_front_of_a_function_in_a_block c = refl
 
+pub returns-clause-name_in_front_of_a_write_behind_a_sum : goal.returns-clause-name_in_front_of_a_write_behind_a_sum
+returns-clause-name_in_front_of_a_write_behind_a_sum c = refl
+
 pub returns-clause-name_in_front_of_a_write_that_throws : goal.returns-clause-name_in_front_of_a_write_that_throws
 returns-clause-name_in_front_of_a_write_that_throws c = refl
 
@@ -744,6 +750,9 @@ returns-clause-this_in_front_of_super c = refl
 
 pub returns-clause-this_in_front_of_the_conversion_of_a_key : goal.returns-clause-this_in_front_of_the_conversion_of_a_key
 returns-clause-this_in_front_of_the_conversion_of_a_key c = refl
+
+pub returns-clause-this_of_a_static_arrow : goal.returns-clause-this_of_a_static_arrow
+returns-clause-this_of_a_static_arrow c = refl
 
 pub returns-clause-this_out_of_an_arrow : goal.returns-clause-this_out_of_an_arrow
 returns-clause-this_out_of_an_arrow c = refl

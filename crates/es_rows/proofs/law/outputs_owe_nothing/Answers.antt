@@ -23,6 +23,9 @@ returns-clause-class_in_a_closure c = (refl, refl, lowered refl, refl)
 pub returns-clause-class_in_a_super_function : goal.returns-clause-class_in_a_super_function
 returns-clause-class_in_a_super_function c = (refl, refl, lowered refl, refl)
 
+pub returns-clause-class_in_the_constructor_of_a_class_in_a_parameter : goal.returns-clause-class_in_the_constructor_of_a_class_in_a_parameter
+returns-clause-class_in_the_constructor_of_a_class_in_a_parameter c = (refl, refl, lowered refl, refl)
+
 pub returns-clause-class_in_the_head_of_a_loop : goal.returns-clause-class_in_the_head_of_a_loop
 returns-clause-class_in_the_head_of_a_loop c = (refl, refl, lowered refl, refl)
 
