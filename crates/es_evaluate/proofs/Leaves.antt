@@ -1,5 +1,6 @@
 -- Forms that have no codes to evaluate, or one alone, and those without a meaning of their own.
-use Rattle.std.proofs.Common.{◌≡◌, refl, ℕ, List, Bool, Option, Some, None}
+use Rattle.std.proofs.Common.{◌≡◌, refl, sym, subst, ℕ, List, Bool, Option, Some, None}
+use Rattle.std.specs.declared.result.Result.{Result}
 use Rattle.es_base.specs.declared.ledger.GeneratedKind.{GeneratedKind}
 use Rattle.es_steps.specs.Code as of
 use Rattle.es_steps.specs.Code.{Code, Codes, Target, TemplateString, FunctionForm, FieldForm}
@@ -10,7 +11,10 @@ use Rattle.es_steps.specs.Helpers.{Helper}
 use Rattle.es_steps.specs.PrivateNames.{PrivateReference}
 use Rattle.es_steps.specs.Values.{String, Value, Undefined, FunctionOf, ResultOf}
 use Rattle.es_evaluation.specs.Direct.{State, read_name, read_given, settled, throws}
+use Rattle.es_evaluator.specs.Running.{Returns}
 use Rattle.es_evaluator.specs.Steps.{Opens}
+use Rattle.es_evaluator.specs.declared.fault.Fault.{Fault}
+use Rattle.es_evaluator.specs.declared.state.State.{State as Kept}
 use Rattle.es_code_rules.specs.Steps.{form_at, value_at}
 
 -- a value is that of its form, settled
@@ -145,3 +149,7 @@ private_value_form opens x s = refl
 pub give_function_form : (opens : Opens) (m : ℕ) (x : String) (g : GeneratedKind) (f : Code) (s : State) → form_at opens (of.give_function m x g f) s ≡ Some (ResultOf m, s)
 unfolding form_at
 give_function_form opens m x g f s = refl
+
+-- what a code gives is what its form gives
+pub as_its_form : (r : Result Value Fault) (t : Kept) (opens : Opens) (s : State) {c e : Code} → Returns (λ v. v) r t (form_at opens e s) → c ≡ e → Returns (λ v. v) r t (form_at opens c s)
+as_its_form r t opens s {c} {e} given is = subst (λ (z : Code). Returns (λ v. v) r t (form_at opens z s)) (sym is) given
