@@ -32,7 +32,7 @@ use Rattle.lower_edge.specs.declared.status.EdgeStatus.{EdgeStatus}
 use Rattle.lower_io.specs.Causes.{Rose}
 use Rattle.lower_run.specs.Lines.{json_line, fault_line}
 use Rattle.lower_run.specs.Lowering.{Declining, Making}
-use Rattle.lower_run.specs.declared.answer.Untold.{Untold}
+use Rattle.lower_run.specs.declared.program.NotLowered.{NotLowered}
 use Rattle.lower_run.specs.declared.status.Status.{Status}
 
 -- ---- what is written of a program
@@ -73,10 +73,10 @@ IsRefusal Declines o p foreign text = ending.IsRefusal (IsRefused Declines o p f
 abbrev pub IsTooDeep : Declining → Options → Tree → List ℕ → Type 0
 IsTooDeep Declines o p foreign = (is_valid o foreign p ≡ true) × Declines o p foreign Unlowered.TooDeep
 
--- why nothing is told of it
-abbrev pub IsUntold : Declining → Options → Tree → List ℕ → Untold → Type 0
-IsUntold Declines o p foreign (Untold.Refused error) = IsRefused Declines o p foreign error
-IsUntold Declines o p foreign Untold.TooDeep = IsTooDeep Declines o p foreign
+-- why it is not lowered
+abbrev pub IsNotLowered : Declining → Options → Tree → List ℕ → NotLowered → Type 0
+IsNotLowered Declines o p foreign (NotLowered.Refused error) = IsRefused Declines o p foreign error
+IsNotLowered Declines o p foreign NotLowered.TooDeep = IsTooDeep Declines o p foreign
 
 -- of a program, and its nodes that have members outside the table: what is lowered is valid
 abbrev pub IsOutputOfTree : Making → Declining → Options → Tree → List ℕ → Status → List ℕ → Type 0

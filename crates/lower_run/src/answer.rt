@@ -1,6 +1,6 @@
 // The output for the bytes of a source: the lowered tree, or why there is none.
 
-ghost use Rattle.std.specs.Prelude.{◌≡◌, ◌≤◌, ◌<◌, ◌+◌, ◌^◌, IfOk, OnOk, IfErr, Ok, length, true};
+ghost use Rattle.std.specs.Prelude.{◌≡◌, ◌≤◌, ◌<◌, ◌+◌, ◌^◌, IfOk, IfErr, Ok, length, true};
 ghost use Rattle.es_base.specs.Conforms.{conforms};
 ghost use Rattle.es_base.specs.Preorder.{nodes, numbered_from};
 ghost use Rattle.es_base.specs.declared.kind.Kind.{Kind};
@@ -11,30 +11,22 @@ ghost use Rattle.es_reading.specs.Reading.{read, root};
 ghost use Rattle.borrowed_json.specs.View.{view};
 ghost use Rattle.es_reading.specs.Told.{Tells, ids, values};
 ghost use Rattle.es_reading.specs.declared.numbers.Numbers.{Numbers};
-ghost use Rattle.es_validity.specs.Validity.{is_valid};
-ghost use Rattle.es_shapes.specs.Warnings.{numbers};
-ghost use Rattle.es_steps.specs.Shapes.{shapes};
-ghost use Rattle.es_steps.specs.Told.{warnings_of};
 ghost use Rattle.lower_edge.specs.Ending.{most_bytes};
-ghost use Rattle.lower_run.specs.Outcome.{IsOutputOfBytes, IsOutputOfValue, IsOutputOfTree, IsLineOf, IsTextOf, IsUntold};
+ghost use Rattle.lower_run.specs.Outcome.{IsOutputOfBytes, IsOutputOfValue, IsOutputOfTree, IsLineOf, IsTextOf};
 
 use crate::lines::{float_line, not_a_tree_line};
-use crate::lowering::{Lowered, Lowers};
+use crate::lowering::Lowers;
+use crate::program::{NotLowered, Warned, lower_program};
 use crate::status::Status;
 use borrowed_json::parse::{ParseError, parse};
 use borrowed_json::value::Value;
-use es_base::diagnostic::Diagnostic;
 use es_base::ids::NodeId;
 use es_base::list::List;
-use es_binding_faults::check::check_valid;
-use es_lowering::lowering::Unlowered;
 use es_node::node::Node;
 use es_reading::fault::ReadError;
 use es_reading::numbers::Numbers;
 use es_reading::tree::read_tree;
-use es_shapes::warnings::warnings;
 use es_steps::options::Options;
-use es_validity::error::LowerError;
 use es_writing::program::lowered_text;
 use json::Scratch;
 use lower_edge::lines::refusal_line;
@@ -118,86 +110,21 @@ fn of_tree<L: Lowers>(
     requires few { nodes tree < 2 ^ 32 }
     ensures { IfOk result (λ s. IsOutputOfTree L.makes L.declines options.now tree (ids foreign.now) s.status s.text.items) }
 {
-    match lower_tree(alloc, lowering, options, tree, foreign) {
+    match lower_program(alloc, lowering, options, tree, foreign) {
         Ok(told) => Ok(Output {
             status: Status::Done,
             text: text_of(alloc, told)?,
         }),
-        Err(Untold::Refused(error)) => Ok(Output {
+        Err(NotLowered::Refused(error)) => Ok(Output {
             status: Status::Refused,
             text: refusal_line(alloc, error)?.into_bytes(),
         }),
-        Err(Untold::TooDeep) => output_with(alloc, Status::TooDeep, "too deep\n"),
-    }
-}
-
-/// What a program is lowered to, and the warnings for it.
-#[derive(Drop)]
-struct Told {
-    lowered: Lowered,
-    warnings: Vec<Diagnostic>,
-}
-
-/// Why a program is not lowered.
-#[derive(Clone, Copy)]
-enum Untold {
-    /// It has a fault, or is not lowered yet.
-    Refused(LowerError),
-    /// Codes stand in it too deep.
-    TooDeep,
-}
-
-impl From<LowerError> for Untold {
-    ghost use Rattle.lower_run.specs.declared.answer.Untold.{Untold};
-
-    ghost from_gives = { λ error untold. untold ≡ Untold.Refused error };
-
-    fn from(error: LowerError) -> Untold {
-        Untold::Refused(error)
-    }
-}
-
-impl From<AllocError> for Untold {
-    ghost use Rattle.es_validity.specs.declared.error.LowerError.{LowerError};
-    ghost use Rattle.lower_run.specs.declared.answer.Untold.{Untold};
-
-    ghost from_gives = { λ _ untold. untold ≡ Untold.Refused LowerError.NoMemory };
-
-    fn from(_: AllocError) -> Untold {
-        Untold::Refused(LowerError::NoMemory)
-    }
-}
-
-/// What a program is lowered to, if it is valid and the lowering does not decline it.
-fn lower_tree<L: Lowers>(
-    alloc: Global,
-    lowering: &L,
-    options: &Options,
-    tree: Node,
-    foreign: &[NodeId],
-) -> Result<Told, Untold>
-    requires conforms { conforms Place.Program tree ≡ true }
-    requires preorder { tree ≡ numbered_from 0 tree }
-    requires few { nodes tree < 2 ^ 32 }
-    ensures valid { OnOk result (is_valid options.now (ids foreign.now) tree ≡ true) }
-    ensures program { IfOk result (λ r. conforms Place.Program r.lowered.program ≡ true) }
-    ensures made { IfOk result (λ r. L.makes options.now tree (ids foreign.now) r.lowered.names.entries r.lowered.program) }
-    ensures warned { IfOk result (λ r. numbers r.warnings.items ≡ warnings_of options.now tree) }
-    ensures shaped { IfOk result (λ r. r.lowered.shapes.items ≡ shapes options.now tree) }
-    ensures refused { IfErr result (IsUntold L.declines options.now tree (ids foreign.now)) }
-{
-    check_valid(alloc, &tree, foreign, options)?;
-    let warnings = warnings(alloc, &tree, options)?;
-    match lowering.lower(alloc, options, tree, foreign) {
-        Ok(lowered) => Ok(Told { lowered, warnings }),
-        Err(Unlowered::NotYet { node }) => Err(Untold::Refused(LowerError::NotYet { node })),
-        Err(Unlowered::TooDeep) => Err(Untold::TooDeep),
-        Err(Unlowered::NoMemory) => Err(Untold::Refused(LowerError::NoMemory)),
+        Err(NotLowered::TooDeep) => output_with(alloc, Status::TooDeep, "too deep\n"),
     }
 }
 
 /// The text of a lowered program, and a line feed. The tree is not let go: the program ends soon.
-fn text_of(alloc: Global, told: Told) -> Result<Vec<u8>, AllocError>
+fn text_of(alloc: Global, told: Warned) -> Result<Vec<u8>, AllocError>
     requires { kind_of told.lowered.program ≡ Kind.Program }
     ensures text { IfOk result (λ s. IsTextOf s.items told.lowered.program told.lowered.names.entries told.warnings.items told.lowered.shapes.items) }
     ensures kept { IfOk result (λ _. IsKept told.lowered.program) }

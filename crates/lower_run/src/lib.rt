@@ -6,5 +6,6 @@ mod answer;
 pub mod first_form;
 mod lines;
 pub mod lowering;
+pub mod program;
 pub mod run;
 pub mod status;

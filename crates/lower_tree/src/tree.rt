@@ -1,0 +1,108 @@
+// A lowered program with its scope table.
+
+ghost use Rattle.std.specs.Prelude.{◌≡◌, ◌<◌, ◌^◌, IfOk, OnOk, IfErr, [], true};
+ghost use Rattle.es_base.specs.Conforms.{conforms};
+ghost use Rattle.es_base.specs.Preorder.{nodes, numbered_from};
+ghost use Rattle.es_base.specs.declared.table.Place.{Place};
+ghost use Rattle.es_reading.specs.Told.{ids};
+ghost use Rattle.es_scopes.specs.Agreement.{Agrees};
+ghost use Rattle.es_validity.specs.Validity.{is_valid};
+ghost use Rattle.es_shapes.specs.Warnings.{numbers};
+ghost use Rattle.es_steps.specs.Shapes.{shapes};
+ghost use Rattle.es_steps.specs.Told.{warnings_of};
+ghost use Rattle.lower_tree.specs.Scoped.{IsReason, IsScoped};
+
+use es_base::diagnostic::Diagnostic;
+use es_base::ids::NodeId;
+use es_base::ledger::Ledger;
+use es_base::shape::Shape;
+use es_node::node::Node;
+use es_scopes::scoping::Scoping;
+use es_scopes_build::build::build;
+use es_steps::options::Options;
+use lower_es2022::own::ClassLowering;
+use lower_run::program::{NotLowered, Warned, lower_program};
+use std::alloc::{AllocError, Global};
+
+/// A lowered program, for what transforms it next.
+#[derive(Drop)]
+pub struct LoweredTree {
+    /// The program: its nodes have the numbers of their scopes, symbols and references.
+    pub program: Node,
+    pub scoping: Scoping,
+    /// The generated names.
+    pub names: Ledger,
+    /// The warnings for the source.
+    pub warnings: Vec<Diagnostic>,
+    /// The shapes of the source: where it has none, the program means what the source means.
+    pub shapes: Vec<Shape>,
+}
+
+/// Why there is no lowered program.
+#[derive(Debug, Clone, Copy, PartialEq, Eq)]
+pub enum NoTree {
+    /// The source is not lowered.
+    NotLowered(NotLowered),
+    /// It is lowered to 4,294,967,296 nodes or more, which cannot have a scope table.
+    TooLarge,
+}
+
+impl From<NotLowered> for NoTree {
+    ghost use Rattle.lower_tree.specs.declared.tree.NoTree.{NoTree};
+
+    ghost from_gives = { λ reason error. error ≡ NoTree.NotLowered reason };
+
+    fn from(reason: NotLowered) -> NoTree {
+        NoTree::NotLowered(reason)
+    }
+}
+
+impl From<AllocError> for NoTree {
+    ghost use Rattle.es_validity.specs.declared.error.LowerError.{LowerError};
+    ghost use Rattle.lower_run.specs.declared.program.NotLowered.{NotLowered};
+    ghost use Rattle.lower_tree.specs.declared.tree.NoTree.{NoTree};
+
+    ghost from_gives = { λ _ error. error ≡ NoTree.NotLowered (NotLowered.Refused LowerError.NoMemory) };
+
+    fn from(error: AllocError) -> NoTree {
+        NoTree::NotLowered(NotLowered::from(error))
+    }
+}
+
+/// What a program is lowered to under the options, as the run lowers it (`lower_es2022::run::run`), with the scope table of the lowered
+/// program, built anew (ECMA-262 sections 8.2 and 9.1): the scopes of functions that were moved out of a class are below the
+/// scopes that they stand in now. `foreign` has the numbers of the nodes that have members outside the table.
+///
+/// Fails on allocation failure, where the source has a fault, is not lowered yet or too deep to be judged, and where the lowered
+/// program has too many nodes.
+pub fn lower_tree(
+    alloc: Global,
+    options: &Options,
+    source: Node,
+    foreign: &[NodeId],
+) -> Result<LoweredTree, NoTree>
+    requires conforms { conforms Place.Program source ≡ true }
+    requires preorder { source ≡ numbered_from 0 source }
+    requires few { nodes source < 2 ^ 32 }
+    ensures valid { OnOk result (is_valid options.now (ids foreign.now) source ≡ true) }
+    ensures made { IfOk result (λ r. IsScoped options.now source (ids foreign.now) r.names.entries r.program) }
+    ensures agrees { IfOk result (λ r. Agrees [] r.scoping r.program) }
+    ensures warned { IfOk result (λ r. numbers r.warnings.items ≡ warnings_of options.now source) }
+    ensures shaped { IfOk result (λ r. r.shapes.items ≡ shapes options.now source) }
+    ensures refused { IfErr result (IsReason options.now source (ids foreign.now)) }
+{
+    let Warned { lowered, warnings } =
+        lower_program(alloc, &ClassLowering, options, source, foreign)?;
+    if !lowered.program.has_at_most(u32::MAX) {
+        return Err(NoTree::TooLarge);
+    }
+    let mut program = lowered.program;
+    let scoping = build(alloc, &mut program)?;
+    Ok(LoweredTree {
+        program,
+        scoping,
+        names: lowered.names,
+        warnings,
+        shapes: lowered.shapes,
+    })
+}
