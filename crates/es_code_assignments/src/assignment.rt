@@ -21,7 +21,7 @@ use es_base::strings::spells;
 use es_code_declarations::given::{given, given_function};
 use es_code_members::member::{Member, take_code, word_of};
 use es_code_reading::context::Context;
-use es_code_targets::target::written_target;
+use es_code_targets::target::{boxed_target, written_target};
 use es_codes::boxed::Boxed;
 use es_codes::code::{Code, Target};
 use es_codes::name::NameKind;
@@ -42,7 +42,7 @@ fn plain_assignment(
     ensures { IfOk result (λ e. code_of e ≡ of.assign (target_of to) (generated.assigned_value (new_here (context_of c.now) node) node (code_of right.old))) }
 {
     match take_assigned(alloc, is_new(c.terms.first_new, node), node, right) {
-        Ok(right) => Ok(Code::assign(to, right)),
+        Ok(right) => Ok(Code::assign(Boxed::new(alloc, to)?, right)),
         Err(error) => {
             drop(to);
             Err(error)
@@ -142,7 +142,7 @@ fn operator_assignment(
 {
     let sign = without_sign(alloc, operator)?;
     let right = Boxed::new(alloc, mem::replace(right, Code::nothing()))?;
-    let to = written_target(take_code(left));
+    let to = boxed_target(alloc, take_code(left))?;
     if is_logical(operator) {
         Ok(Code::logical_assign(node, sign, to, right))
     } else {

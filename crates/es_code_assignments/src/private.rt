@@ -137,7 +137,8 @@ fn written(
     ensures { IfOk result (λ e. code_of e ≡ of.assign (of.to_private member (reference_of means) (code_of object)) (spec.value_of_private (reference_of means).writes is_new node (code_of value.old))) }
 {
     let right = take_value(alloc, means.writes, is_new, node, value)?;
-    Ok(Code::assign(Target::to_private(member, means, object), right))
+    let to = Boxed::new(alloc, Target::to_private(member, means, object))?;
+    Ok(Code::assign(to, right))
 }
 
 /// `o.#x = v`, where both are taken out. Fails on allocation failure alone.

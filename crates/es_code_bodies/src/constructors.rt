@@ -75,7 +75,7 @@ fn is_rest_args(parameter: &Code) -> bool
 {
     match parameter {
         // ..._args
-        Code::Rest { to } => is_to_args(to),
+        Code::Rest { to } => is_to_args(to.get()),
         _ => false,
     }
 }

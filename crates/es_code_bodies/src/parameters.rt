@@ -98,9 +98,9 @@ fn evaluate_parameter<'a, F: Fn(Global, &Opening, &mut State, &Code) -> Result<V
         // x
         Code::Binding { .. } => Ok(Value::undefined()),
         // ...xs
-        Code::Rest { to } => evaluate_rest(within, state, i, to),
+        Code::Rest { to } => evaluate_rest(within, state, i, to.get()),
         // [x]
-        Code::Pattern { node, to } => evaluate_pattern(within, state, i, *node, to),
+        Code::Pattern { node, to } => evaluate_pattern(within, state, i, *node, to.get()),
         _ => Err(Fault::NoMeaning),
     }
 }

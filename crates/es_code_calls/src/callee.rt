@@ -76,3 +76,10 @@ pub fn called(alloc: Global, code: Code) -> Result<Callee, AllocError>
         other => called_member(alloc, other),
     }
 }
+
+/// What is called where a code stands as callee, in a box. Fails on allocation failure alone.
+pub fn boxed_callee(alloc: Global, code: Code) -> Result<Boxed<Callee>, AllocError>
+    ensures { IfOk result (λ f. callee_of f ≡ spec.callee_of (code_of code)) }
+{
+    Boxed::new(alloc, called(alloc, code)?)
+}

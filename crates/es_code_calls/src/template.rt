@@ -7,7 +7,7 @@ ghost use Rattle.es_steps.specs.Expressions as spec;
 ghost use Rattle.es_steps.specs.Members as members;
 ghost use Rattle.es_code_members.specs.MembersView.{member_of};
 
-use crate::callee::called;
+use crate::callee::boxed_callee;
 use es_base::list::List;
 use es_base::name::Name;
 use es_code_members::codes::take_codes;
@@ -106,7 +106,7 @@ fn tag_of(
             expressions,
             ..
         } => {
-            let callee = called(alloc, take_code(tag))?;
+            let callee = boxed_callee(alloc, take_code(tag))?;
             let strings = mem::replace(strings, List::new(alloc));
             let expressions = mem::replace(expressions, List::new(alloc));
             Ok(Code::tag(node, callee, strings, expressions))

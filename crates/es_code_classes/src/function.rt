@@ -169,7 +169,7 @@ fn function_assignment(
     let spelling = name.try_clone(alloc)?;
     let referent = meant_by(alloc, names, name.as_str())?;
     let to = Target::to_name(function, spelling, NameKind::Changing(referent));
-    Ok(Code::assign(to, right))
+    Ok(Code::assign(Boxed::new(alloc, to)?, right))
 }
 
 /// `{ function f() {} }`: what the name means around the block is given the function too (B.3.2). Fails on allocation failure alone.

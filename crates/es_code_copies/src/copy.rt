@@ -37,7 +37,7 @@ pub fn copy_code(alloc: Global, code: &Code) -> Result<Code, AllocError>
             spelling,
             kind,
         } => copy_binding(alloc, *node, spelling, kind),
-        Code::Rest { to } => Ok(Code::rest(copy_target(alloc, to)?)),
+        Code::Rest { to } => Ok(Code::rest(copy_boxed_target(alloc, to)?)),
         Code::Name {
             node,
             spelling,
@@ -130,7 +130,7 @@ pub fn copy_code(alloc: Global, code: &Code) -> Result<Code, AllocError>
             again,
             rest,
         } => copy_tested(alloc, object, again, rest),
-        Code::Pattern { node, to } => Ok(Code::pattern(*node, copy_target(alloc, to)?)),
+        Code::Pattern { node, to } => Ok(Code::pattern(*node, copy_boxed_target(alloc, to)?)),
         Code::Takes {
             node,
             details,
@@ -138,7 +138,7 @@ pub fn copy_code(alloc: Global, code: &Code) -> Result<Code, AllocError>
             to,
         } => copy_takes(alloc, *node, details, key, to),
         Code::Steps { all } => Ok(Code::steps(copy_codes(alloc, all.as_slice())?)),
-        Code::GivesTo { node, to } => Ok(Code::gives_to(*node, copy_target(alloc, to)?)),
+        Code::GivesTo { node, to } => Ok(Code::gives_to(*node, copy_boxed_target(alloc, to)?)),
         Code::ExportDefault { expression } => Ok(Code::export_default(copy_boxed(
             alloc, expression,
         )?)),
@@ -307,11 +307,11 @@ fn copy_super_member(
 
 /// `t = e`
 #[cycle(copy)]
-fn copy_assign(alloc: Global, to: &Target, right: &Boxed<Code>) -> Result<Code, AllocError>
+fn copy_assign(alloc: Global, to: &Boxed<Target>, right: &Boxed<Code>) -> Result<Code, AllocError>
     ensures { IfOk result (λ c. code_of c ≡ of.assign (target_of to.now) (code_of right.now)) }
 {
     let right = copy_boxed(alloc, right)?;
-    let to = copy_target(alloc, to)?;
+    let to = copy_boxed_target(alloc, to)?;
     Ok(Code::assign(to, right))
 }
 
@@ -321,14 +321,14 @@ fn copy_compound(
     alloc: Global,
     node: u32,
     operator: &Name,
-    to: &Target,
+    to: &Boxed<Target>,
     right: &Boxed<Code>,
 ) -> Result<Code, AllocError>
     ensures { IfOk result (λ c. code_of c ≡ of.compound node operator.now (target_of to.now) (code_of right.now)) }
 {
     let operator = operator.try_clone(alloc)?;
     let right = copy_boxed(alloc, right)?;
-    let to = copy_target(alloc, to)?;
+    let to = copy_boxed_target(alloc, to)?;
     Ok(Code::compound(node, operator, to, right))
 }
 
@@ -355,14 +355,14 @@ fn copy_logical_assign(
     alloc: Global,
     node: u32,
     operator: &Name,
-    to: &Target,
+    to: &Boxed<Target>,
     right: &Boxed<Code>,
 ) -> Result<Code, AllocError>
     ensures { IfOk result (λ c. code_of c ≡ of.logical_assign node operator.now (target_of to.now) (code_of right.now)) }
 {
     let operator = operator.try_clone(alloc)?;
     let right = copy_boxed(alloc, right)?;
-    let to = copy_target(alloc, to)?;
+    let to = copy_boxed_target(alloc, to)?;
     Ok(Code::logical_assign(node, operator, to, right))
 }
 
@@ -373,12 +373,12 @@ fn copy_update(
     node: u32,
     operator: &Name,
     is_prefix: bool,
-    to: &Target,
+    to: &Boxed<Target>,
 ) -> Result<Code, AllocError>
     ensures { IfOk result (λ c. code_of c ≡ of.update node operator.now is_prefix (target_of to.now)) }
 {
     let operator = operator.try_clone(alloc)?;
-    let to = copy_target(alloc, to)?;
+    let to = copy_boxed_target(alloc, to)?;
     Ok(Code::update(node, operator, is_prefix, to))
 }
 
@@ -387,13 +387,13 @@ fn copy_update(
 fn copy_call(
     alloc: Global,
     node: u32,
-    callee: &Callee,
+    callee: &Boxed<Callee>,
     arguments: &List<Code>,
 ) -> Result<Code, AllocError>
     ensures { IfOk result (λ c. code_of c ≡ of.call node (callee_of callee.now) (codes_of arguments.now)) }
 {
     let arguments = copy_codes(alloc, arguments.as_slice())?;
-    let callee = copy_callee(alloc, callee)?;
+    let callee = copy_boxed_callee(alloc, callee)?;
     Ok(Code::call(node, callee, arguments))
 }
 
@@ -402,7 +402,7 @@ fn copy_call(
 fn copy_tag(
     alloc: Global,
     node: u32,
-    callee: &Callee,
+    callee: &Boxed<Callee>,
     strings: &List<TemplateString>,
     arguments: &List<Code>,
 ) -> Result<Code, AllocError>
@@ -410,7 +410,7 @@ fn copy_tag(
 {
     let strings = copy_strings(alloc, strings.as_slice())?;
     let arguments = copy_codes(alloc, arguments.as_slice())?;
-    let callee = copy_callee(alloc, callee)?;
+    let callee = copy_boxed_callee(alloc, callee)?;
     Ok(Code::tag(node, callee, strings, arguments))
 }
 
@@ -514,13 +514,13 @@ fn copy_takes(
     node: u32,
     details: &List<Detail>,
     key: &List<Code>,
-    to: &Target,
+    to: &Boxed<Target>,
 ) -> Result<Code, AllocError>
     ensures { IfOk result (λ c. code_of c ≡ of.takes node (details_of details.now) (codes_of key.now) (target_of to.now)) }
 {
     let details = clone_details(alloc, details.as_slice())?;
     let key = copy_codes(alloc, key.as_slice())?;
-    let to = copy_target(alloc, to)?;
+    let to = copy_boxed_target(alloc, to)?;
     Ok(Code::takes(node, details, key, to))
 }
 
@@ -831,7 +831,7 @@ fn copy_boxed(alloc: Global, code: &Boxed<Code>) -> Result<Boxed<Code>, AllocErr
 }
 
 #[cycle(copy)]
-fn copy_boxed_target(alloc: Global, to: &Boxed<Target>) -> Result<Boxed<Target>, AllocError>
+pub fn copy_boxed_target(alloc: Global, to: &Boxed<Target>) -> Result<Boxed<Target>, AllocError>
     ensures { IfOk result (λ t. target_of t ≡ target_of to.now) }
 {
     Boxed::new(alloc, copy_target(alloc, to.get())?)

@@ -53,7 +53,8 @@ fn undefined_name(
     let declared_kind = copy_kind(alloc, &kind)?;
     let mut all = List::new(alloc);
     all.push(Code::binding(node, declared, declared_kind))?;
-    all.push(Code::assign(Target::to_name(node, spelling, kind), undefined))?;
+    let to = Boxed::new(alloc, Target::to_name(node, spelling, kind))?;
+    all.push(Code::assign(to, undefined))?;
     Ok(Code::steps(all))
 }
 

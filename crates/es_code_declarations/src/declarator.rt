@@ -18,7 +18,7 @@ use es_base::ledger::GeneratedKind;
 use es_base::name::Name;
 use es_code_members::member::{Member, take_code};
 use es_code_reading::context::Context;
-use es_code_targets::target::written_target;
+use es_code_targets::target::boxed_target;
 use es_codes::boxed::Boxed;
 use es_codes::code::{Code, Target};
 use es_codes::name::NameKind;
@@ -118,7 +118,8 @@ fn assigned(alloc: Global, id: &mut Member, right: &mut Code) -> Result<Code, Al
     ensures { IfOk result (λ e. code_of e ≡ of.assign (expressions.target_of (the_code (member_of id.old))) (code_of right.old)) }
 {
     let right = Boxed::new(alloc, mem::replace(right, Code::nothing()))?;
-    Ok(Code::assign(written_target(take_code(id)), right))
+    let to = boxed_target(alloc, take_code(id))?;
+    Ok(Code::assign(to, right))
 }
 
 /// `a = b`, where `a` was not generated. Fails on allocation failure alone.
@@ -180,7 +181,7 @@ fn uninitialized_name(c: &Context, node: u32, binding: u32, spelling: Name, kind
     }
 }
 
-fn uninitialized_pattern(c: &Context, node: u32, pattern: u32, to: Target) -> Code
+fn uninitialized_pattern(c: &Context, node: u32, pattern: u32, to: Boxed<Target>) -> Code
     ensures { code_of result ≡ cond (new_here (context_of c.now) node) of.no_rule (of.pattern pattern (target_of to)) }
 {
     if is_new(c.terms.first_new, node) {

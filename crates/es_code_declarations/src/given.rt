@@ -42,7 +42,8 @@ fn given_value(
 {
     let right = Boxed::new(alloc, mem::replace(right, Code::nothing()))?;
     let kind = NameKind::Generated(GeneratedKind::Temp);
-    Ok(Code::assign(Target::to_name(binding, spelling, kind), right))
+    let to = Boxed::new(alloc, Target::to_name(binding, spelling, kind))?;
+    Ok(Code::assign(to, right))
 }
 
 /// What names a class is given it. Fails on allocation failure alone.
@@ -201,56 +202,40 @@ fn only_if(is_made: bool, node: u32) -> Code
 
 // ---- `S = { _: v }`
 
-fn field_with(
-    alloc: Global,
-    node: u32,
-    member: &PrivateMember,
-    is_underscored: bool,
-    value: Code,
-) -> Result<Code, AllocError>
-    ensures { IfOk result (λ e. code_of e ≡ field_with node member.now.node member.now.class is_underscored (code_of value)) }
+fn field_with(node: u32, member: &PrivateMember, is_underscored: bool, value: Boxed<Code>) -> Code
+    ensures { code_of result ≡ field_with node member.now.node member.now.class is_underscored (code_of value) }
 {
     if is_underscored {
         let class = Value::class_of(member.class);
-        Ok(Code::private_initialize(node, member.node, class, Boxed::new(alloc, value)?))
+        Code::private_initialize(node, member.node, class, value)
     } else {
         drop(value);
-        Ok(Code::no_rule())
+        Code::no_rule()
     }
 }
 
-fn field_in(
-    alloc: Global,
-    node: u32,
-    member: &PrivateMember,
-    property: Property,
-) -> Result<Code, AllocError>
-    ensures { IfOk result (λ e. code_of e ≡ field_with node member.now.node member.now.class (spec.is_string (codes "_") (code_of property.key)) (code_of property.value)) }
+fn field_in(node: u32, member: &PrivateMember, property: Property) -> Code
+    ensures { code_of result ≡ field_with node member.now.node member.now.class (spec.is_string (codes "_") (code_of property.key)) (code_of property.value) }
 {
     let Property { key, value } = property;
-    let is_underscored = is_string("_", &key);
+    let is_underscored = is_string("_", key.get());
     drop(key);
-    field_with(alloc, node, member, is_underscored, value)
+    field_with(node, member, is_underscored, value)
 }
 
-/// The object of a static field, which holds its value. Fails on allocation failure alone.
-fn field_object(
-    alloc: Global,
-    node: u32,
-    member: Option<PrivateMember>,
-    property: Option<Property>,
-) -> Result<Code, AllocError>
-    ensures { IfOk result (λ e. code_of e ≡ spec.field_object node (option_map private_member_of member.entry) (option_map property_of property)) }
+/// The object of a static field, which holds its value.
+fn field_object(node: u32, member: Option<PrivateMember>, property: Option<Property>) -> Code
+    ensures { code_of result ≡ spec.field_object node (option_map private_member_of member.entry) (option_map property_of property) }
 {
     match property {
         Some(property) => match member {
-            Some(member) => field_in(alloc, node, &member, property),
+            Some(member) => field_in(node, &member, property),
             None => {
                 drop(property);
-                Ok(Code::no_rule())
+                Code::no_rule()
             }
         },
-        None => Ok(Code::no_rule()),
+        None => Code::no_rule(),
     }
 }
 
@@ -266,8 +251,8 @@ fn given_object(
 {
     let member = static_field(c, &name);
     drop(name);
-    let property = single_property(c, mem::replace(right, Code::nothing()));
-    field_object(alloc, node, member, property)
+    let property = single_property(alloc, c, mem::replace(right, Code::nothing()))?;
+    Ok(field_object(node, member, property))
 }
 
 // ---- by the kind of the name

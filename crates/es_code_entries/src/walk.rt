@@ -54,21 +54,21 @@ impl<'a> Walk<'a> {
             Code::KeyOf { expression } => self.add_entries(here, found, expression.get()),
             Code::PrivateInitialize { right, .. } => self.add_entries(here, found, right.get()),
             Code::GiveClass { expression, .. } => self.add_entries(here, found, expression.get()),
-            Code::Assign { to, right } => self.add_assigned(here, found, to, right.get()),
+            Code::Assign { to, right } => self.add_assigned(here, found, to.get(), right.get()),
             Code::Compound { to, right, .. } => self.add_then(
                 here,
                 found,
-                Part::Target(to),
+                Part::Target(to.get()),
                 Part::Code(CodeRole::Value, right.get()),
             ),
             Code::LogicalAssign { to, right, .. } => self.add_then(
                 here,
                 found,
-                Part::Target(to),
+                Part::Target(to.get()),
                 Part::Code(CodeRole::Value, right.get()),
             ),
-            Code::Update { to, .. } => self.add_target(here, found, to),
-            Code::GivesTo { to, .. } => self.add_given(here, found, to),
+            Code::Update { to, .. } => self.add_target(here, found, to.get()),
+            Code::GivesTo { to, .. } => self.add_given(here, found, to.get()),
             Code::Call {
                 callee,
                 arguments,
@@ -76,7 +76,7 @@ impl<'a> Walk<'a> {
             } => self.add_then(
                 here,
                 found,
-                Part::Callee(callee),
+                Part::Callee(callee.get()),
                 Part::Codes(CodesRole::All, arguments.as_slice()),
             ),
             Code::Tag {
@@ -86,7 +86,7 @@ impl<'a> Walk<'a> {
             } => self.add_then(
                 here,
                 found,
-                Part::Callee(callee),
+                Part::Callee(callee.get()),
                 Part::Codes(CodesRole::All, arguments.as_slice()),
             ),
             Code::Construct {

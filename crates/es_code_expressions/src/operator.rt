@@ -8,7 +8,7 @@ ghost use Rattle.es_code_members.specs.MembersView.{member_of};
 
 use es_code_members::codes::take_codes;
 use es_code_members::member::{Member, copy_word, flag_of, take_code};
-use es_code_targets::target::written_target;
+use es_code_targets::target::boxed_target;
 use es_codes::boxed::Boxed;
 use es_codes::code::Code;
 use std::alloc::{AllocError, Global};
@@ -24,7 +24,7 @@ pub fn update_code(
     ensures { IfOk result (λ c. code_of c ≡ spec.update_code node (members.more (member_of operator.now) (members.more (member_of argument.old) (members.more (member_of is_prefix.now) members.end)))) }
 {
     let operator = copy_word(alloc, operator)?;
-    let to = written_target(take_code(argument));
+    let to = boxed_target(alloc, take_code(argument))?;
     Ok(Code::update(node, operator, flag_of(is_prefix), to))
 }
 

@@ -230,10 +230,11 @@ fn picked_of(alloc: Global, key: &mut Code, property: Property) -> Result<Code, 
 {
     let Property {
         key: property_key,
-        mut value,
+        value,
     } = property;
-    if is_same_key(key, &property_key) {
+    if is_same_key(key, property_key.get()) {
         drop(property_key);
+        let mut value = value.into_inner();
         let code = with_key(alloc, key, &mut value);
         drop(value);
         code
@@ -249,7 +250,7 @@ fn picked_of(alloc: Global, key: &mut Code, property: Property) -> Result<Code, 
 fn picked(alloc: Global, c: &Context, key: &mut Code, object: &mut Code) -> Result<Code, AllocError>
     ensures { IfOk result (λ e. code_of e ≡ spec.picked (code_of key.old) (spec.single_property (context_of c.now) (code_of object.old))) }
 {
-    match single_property(c, mem::replace(object, Code::nothing())) {
+    match single_property(alloc, c, mem::replace(object, Code::nothing()))? {
         Some(property) => picked_of(alloc, key, property),
         None => Ok(Code::no_rule()),
     }

@@ -17,7 +17,7 @@ use crate::supers::{helper_call_call, super_call_in};
 use es_base::ledger::GeneratedKind;
 use es_base::list::List;
 use es_base::name::Name;
-use es_code_calls::callee::called;
+use es_code_calls::callee::{boxed_callee, called};
 use es_code_helpers::call::helper_code;
 use es_code_members::codes::take_codes;
 use es_code_members::member::{Member, flag_of, take_code};
@@ -38,7 +38,7 @@ fn written_call(
 ) -> Result<Code, AllocError>
     ensures { IfOk result (λ e. code_of e ≡ of.call node (spec.callee_of (code_of callee)) (codes_of arguments)) }
 {
-    let callee = called(alloc, callee)?;
+    let callee = boxed_callee(alloc, callee)?;
     Ok(Code::call(node, callee, arguments))
 }
 
@@ -67,7 +67,7 @@ fn optional_call(
     ensures { IfOk result (λ e. code_of e ≡ of.call node (spec.checked_callee true (spec.callee_of (code_of callee))) (codes_of arguments)) }
 {
     let callee = called(alloc, callee)?;
-    let callee = checked_callee(alloc, callee)?;
+    let callee = Boxed::new(alloc, checked_callee(alloc, callee)?)?;
     Ok(Code::call(node, callee, arguments))
 }
 
@@ -117,7 +117,8 @@ fn name_called(
         }
         NameCall::Other => {
             let callee = Boxed::new(alloc, Code::name(identifier, name, kind))?;
-            Ok(Code::call(node, Callee::plain(callee), arguments))
+            let callee = Boxed::new(alloc, Callee::plain(callee))?;
+            Ok(Code::call(node, callee, arguments))
         }
     }
 }

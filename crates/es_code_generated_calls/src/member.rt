@@ -246,17 +246,19 @@ fn initialized_loosely(
     initialized_by(alloc, c, node, key, arguments.as_mut_slice())
 }
 
-/// A call of a member as it stands.
+/// A call of a member as it stands. Fails on allocation failure alone.
 fn member_called(
+    alloc: Global,
     node: u32,
     member: u32,
     object: Boxed<Code>,
     key: Boxed<Code>,
     arguments: List<Code>,
-) -> Code
-    ensures { code_of result ≡ of.call node (of.on_member member (code_of object) (code_of key)) (codes_of arguments) }
+) -> Result<Code, AllocError>
+    ensures { IfOk result (λ e. code_of e ≡ of.call node (of.on_member member (code_of object) (code_of key)) (codes_of arguments)) }
 {
-    Code::call(node, Callee::on_member(member, object, key), arguments)
+    let callee = Boxed::new(alloc, Callee::on_member(member, object, key))?;
+    Ok(Code::call(node, callee, arguments))
 }
 
 #[tactic(auto, using(crate::proofs::MemberForms::loosely, crate::proofs::MemberForms::not_loosely))]
@@ -277,7 +279,7 @@ fn object_call(
             drop(key);
             initialized_loosely(alloc, c, node, number, arguments)
         }
-        None => Ok(member_called(node, member, object, key, arguments)),
+        None => member_called(alloc, node, member, object, key, arguments),
     }
 }
 
@@ -420,7 +422,7 @@ fn member_call(
             drop(arguments);
             Ok(Code::no_rule())
         }
-        MemberCall::Other => Ok(member_called(node, member, object, key, arguments)),
+        MemberCall::Other => member_called(alloc, node, member, object, key, arguments),
     }
 }
 

@@ -169,7 +169,8 @@ fn received_call(
     } else {
         let function = Boxed::new(alloc, function)?;
         let object = Boxed::new(alloc, arguments.remove(0))?;
-        Ok(Code::call(node, Callee::with_receiver(function, object), arguments))
+        let callee = Boxed::new(alloc, Callee::with_receiver(function, object))?;
+        Ok(Code::call(node, callee, arguments))
     }
 }
 

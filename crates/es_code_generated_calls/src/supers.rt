@@ -129,51 +129,53 @@ pub fn super_call_in(c: &Context, node: u32, arguments: List<Code>) -> Code
 // ---- `babelHelpers.superPropGet(h, k, r, 2)([a])`
 
 fn called_on_super(
+    alloc: Global,
     node: u32,
     member: u32,
     home: Home,
     key: Boxed<Code>,
     this: This,
     arguments: Option<List<Code>>,
-) -> Code
-    ensures { code_of result ≡ spec.super_method_call node member (Some (home_of home)) (code_of key) (Some (this_of this)) (option_map codes_of arguments) }
+) -> Result<Code, AllocError>
+    ensures { IfOk result (λ e. code_of e ≡ spec.super_method_call node member (Some (home_of home)) (code_of key) (Some (this_of this)) (option_map codes_of arguments)) }
 {
     match arguments {
         Some(arguments) => {
             let callee = Callee::on_super(member, home, key, known_value(this));
-            Code::call(node, callee, arguments)
+            Ok(Code::call(node, Boxed::new(alloc, callee)?, arguments))
         }
         None => {
             drop(key);
-            Code::no_rule()
+            Ok(Code::no_rule())
         }
     }
 }
 
-/// A call of a member of `super`, where all is known of it.
+/// A call of a member of `super`, where all is known of it. Fails on allocation failure alone.
 fn super_method_call(
+    alloc: Global,
     node: u32,
     member: u32,
     home: Option<Home>,
     key: Boxed<Code>,
     this: Option<This>,
     arguments: Option<List<Code>>,
-) -> Code
-    ensures { code_of result ≡ spec.super_method_call node member (nullable_home home) (code_of key) (option_map this_of this) (option_map codes_of arguments) }
+) -> Result<Code, AllocError>
+    ensures { IfOk result (λ e. code_of e ≡ spec.super_method_call node member (nullable_home home) (code_of key) (option_map this_of this) (option_map codes_of arguments)) }
 {
     match home {
         Some(home) => match this {
-            Some(this) => called_on_super(node, member, home, key, this, arguments),
+            Some(this) => called_on_super(alloc, node, member, home, key, this, arguments),
             None => {
                 drop(key);
                 drop(arguments);
-                Code::no_rule()
+                Ok(Code::no_rule())
             }
         },
         None => {
             drop(key);
             drop(arguments);
-            Code::no_rule()
+            Ok(Code::no_rule())
         }
     }
 }
@@ -195,7 +197,7 @@ fn super_call_of_four(
                 let key = take_boxed(alloc, key)?;
                 let arguments = array_elements(c, mem::replace(arguments, Code::nothing()));
                 let (home, this) = (home_of(home), known_object(receiver));
-                Ok(super_method_call(node, member, home, key, this, arguments))
+                super_method_call(alloc, node, member, home, key, this, arguments)
             } else {
                 Ok(Code::no_rule())
             }

@@ -1,13 +1,13 @@
 // `({ k: e })[k]`, where `e` gets the name `k`.
 
-ghost use Rattle.std.specs.Prelude.{◌≡◌, IfOk};
+ghost use Rattle.std.specs.Prelude.{◌≡◌, IfOk, option_map};
 ghost use Rattle.es_codes.specs.CodeView.{code_of};
 ghost use Rattle.es_steps.specs.Code as of;
 ghost use Rattle.es_steps.specs.GeneratedForms as generated;
 ghost use Rattle.es_code_new_literals.specs.Views.{property_of};
 ghost use Rattle.es_code_reading.specs.Contexts.{context_of};
 ghost use Rattle.es_code_generated_members.specs.Accesses.{accessed};
-ghost use Rattle.es_code_generated_members.specs.Kept.{named_value};
+ghost use Rattle.es_code_generated_members.specs.Kept.{kept_value, named_value};
 
 use crate::access::{Access, from_member};
 use es_base::list::List;
@@ -16,20 +16,29 @@ use es_code_new_literals::property::{Property, is_keyed_by, single_property};
 use es_code_reading::context::Context;
 use es_codes::code::Code;
 use std::alloc::{AllocError, Global};
-use std::mem;
 
-/// The key and the value in order, of which the value is used. Takes both out. Fails on allocation failure alone.
-fn named_value(alloc: Global, property: &mut Property) -> Result<Code, AllocError>
-    ensures { IfOk result (λ e. code_of e ≡ named_value (property_of property.old)) }
+/// The key and the value in order, of which the value is used. Fails on allocation failure alone.
+fn named_value(alloc: Global, property: Property) -> Result<Code, AllocError>
+    ensures { IfOk result (λ e. code_of e ≡ named_value (property_of property)) }
 {
+    let Property { key, value } = property;
     let mut all = List::new(alloc);
-    all.push(mem::replace(&mut property.key, Code::nothing()))?;
-    all.push(mem::replace(&mut property.value, Code::nothing()))?;
+    all.push(key.into_inner())?;
+    all.push(value.into_inner())?;
     from_member(alloc, from_call(alloc, Code::sequence(all))?)
 }
 
+/// The value of the property that is kept; no rule without one. Fails on allocation failure alone.
+fn kept_value(alloc: Global, property: Option<Property>) -> Result<Code, AllocError>
+    ensures { IfOk result (λ e. code_of e ≡ kept_value (option_map property_of property)) }
+{
+    match property {
+        Some(property) => named_value(alloc, property),
+        None => Ok(Code::no_rule()),
+    }
+}
+
 /// `({ k: e })[k]`, or another member. Fails on allocation failure alone.
-#[tactic(auto, using(crate::proofs::KeptForms::kept, crate::proofs::KeptForms::no_property, crate::proofs::KeptForms::not_kept))]
 pub fn kept_name(
     alloc: Global,
     c: &Context,
@@ -39,10 +48,7 @@ pub fn kept_name(
     ensures { IfOk result (λ e. code_of e ≡ generated.kept_name (code_of access.key) (generated.single_property (context_of c.now) (code_of object)) (accessed access (code_of object))) }
 {
     if is_keyed_by(c, &object, access.key.get()) {
-        match single_property(c, object) {
-            Some(mut property) => named_value(alloc, &mut property),
-            None => Ok(Code::no_rule()),
-        }
+        kept_value(alloc, single_property(alloc, c, object)?)
     } else {
         access.on(alloc, object)
     }

@@ -1,17 +1,20 @@
 // The rule of members. (ECMA-262, 13.3.2 and 13.3.7.)
 
 ghost use Rattle.std.specs.Prelude.{◌≡◌, IfOk};
-ghost use Rattle.es_codes.specs.CodeView.{code_of};
+ghost use Rattle.es_codes.specs.CodeView.{code_of, codes_of};
+ghost use Rattle.es_steps.specs.Code as of;
 ghost use Rattle.es_steps.specs.Expressions as spec;
 ghost use Rattle.es_steps.specs.GeneratedForms as generated;
 ghost use Rattle.es_steps.specs.Members as members;
 ghost use Rattle.es_code_members.specs.MembersView.{member_of};
 ghost use Rattle.es_code_reading.specs.Contexts.{context_of};
 ghost use Rattle.es_code_generated_members.specs.Accesses.{accessed};
+ghost use Rattle.es_code_generated_members.specs.Members.{member_of_two};
 
 use crate::access::Access;
 use crate::loose::loose_member;
 use crate::underscore::underscore_of;
+use es_base::list::List;
 use es_code_expressions::key::key_code;
 use es_code_helpers::helper::helper_member;
 use es_code_helpers::known::known_value;
@@ -94,6 +97,59 @@ fn member_of_codes(
     }
 }
 
+/// A member by the codes of its object and its key, if there are two. Fails on allocation failure alone.
+#[tactic(auto, using(crate::proofs::MemberForms::not_two))]
+fn member_of_two(
+    alloc: Global,
+    c: &Context,
+    node: u32,
+    codes: &mut [Code],
+    is_computed: bool,
+    is_optional: bool,
+) -> Result<Code, AllocError>
+    ensures { IfOk result (λ e. code_of e ≡ member_of_two (context_of c.now) node is_computed is_optional (codes_of codes.old)) }
+{
+    match codes {
+        [object, key] => member_of_codes(alloc, c, node, object, key, is_computed, is_optional),
+        _ => Ok(Code::no_rule()),
+    }
+}
+
+/// The same, of codes that stand in a list.
+fn member_of_list(
+    alloc: Global,
+    c: &Context,
+    node: u32,
+    mut codes: List<Code>,
+    is_computed: bool,
+    is_optional: bool,
+) -> Result<Code, AllocError>
+    ensures { IfOk result (λ e. code_of e ≡ member_of_two (context_of c.now) node is_computed is_optional (codes_of codes)) }
+{
+    member_of_two(
+        alloc,
+        c,
+        node,
+        codes.as_mut_slice(),
+        is_computed,
+        is_optional,
+    )
+}
+
+/// The codes of an object and a key, which are taken out. Fails on allocation failure alone.
+fn object_and_key(
+    alloc: Global,
+    object: &mut Member,
+    key: &mut Member,
+) -> Result<List<Code>, AllocError>
+    ensures { IfOk result (λ es. codes_of es ≡ of.and (spec.the_code (member_of object.old)) (of.and (spec.the_code (member_of key.old)) of.done)) }
+{
+    let mut codes = List::new(alloc);
+    codes.push(take_code(object))?;
+    codes.push(take_code(key))?;
+    Ok(codes)
+}
+
 /// `o.k` and `o[k]`, also of `super`, and what generated forms of these stand for. Fails on allocation failure alone.
 pub fn member_code(
     alloc: Global,
@@ -106,17 +162,8 @@ pub fn member_code(
 ) -> Result<Code, AllocError>
     ensures { IfOk result (λ e. code_of e ≡ spec.member_code (context_of c.now) node (members.more (member_of object.old) (members.more (member_of key.old) (members.more (member_of is_computed.now) (members.more (member_of is_optional.now) members.end))))) }
 {
-    let mut object = take_code(object);
-    let mut key = take_code(key);
+    let codes = object_and_key(alloc, object, key)?;
     let is_computed = flag_of(is_computed);
     let is_optional = flag_of(is_optional);
-    member_of_codes(
-        alloc,
-        c,
-        node,
-        &mut object,
-        &mut key,
-        is_computed,
-        is_optional,
-    )
+    member_of_list(alloc, c, node, codes, is_computed, is_optional)
 }

@@ -78,7 +78,7 @@ pub fn set_private(
         Some(member) => {
             let right = Boxed::new(alloc, assigned_value(alloc, is_new, node, value)?)?;
             let to = Target::to_private(node, reference_to(&member), object);
-            Ok(Code::assign(to, right))
+            Ok(Code::assign(Boxed::new(alloc, to)?, right))
         }
         None => {
             drop(object);

@@ -62,7 +62,7 @@ pub fn super_set(
             Some(this) => {
                 let right = Boxed::new(alloc, assigned_value(alloc, is_new, node, value)?)?;
                 let to = Target::to_super(node, home, key, known_value(this));
-                Ok(Code::assign(to, right))
+                Ok(Code::assign(Boxed::new(alloc, to)?, right))
             }
             None => {
                 drop(key);

@@ -56,7 +56,7 @@ pub fn rest_element(alloc: Global, members: &mut [Member]) -> Result<Code, Alloc
     ensures { IfOk result (λ e. code_of e ≡ spec.rest_code (members_of members.old)) }
 {
     match members {
-        [target] => Ok(rest_code(target)),
+        [target] => rest_code(alloc, target),
         _ => unreachable!(),
     }
 }

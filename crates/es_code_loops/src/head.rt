@@ -9,9 +9,10 @@ ghost use Rattle.es_code_members.specs.MembersView.{member_of};
 ghost use Rattle.es_code_loops.specs.Heads.{first_target, initialized_target, target_of_binding, uninitialized_target};
 
 use es_base::list::List;
-use es_code_copies::copy::copy_target;
+use es_code_copies::copy::copy_boxed_target;
 use es_code_members::member::Member;
-use es_code_targets::target::written_target;
+use es_code_targets::target::boxed_target;
+use es_codes::boxed::Boxed;
 use es_codes::code::{Code, Target};
 use std::alloc::{AllocError, Global};
 use std::mem;
@@ -21,48 +22,48 @@ use std::mem;
 /// A copy of the target of a declarator with an initializer, which is written by that, and then each time; none of another. Fails
 /// on allocation failure alone.
 #[tactic(auto, using(crate::proofs::HeadForms::an_assignment, crate::proofs::HeadForms::no_assignment))]
-fn initialized_target(alloc: Global, declarator: &Code) -> Result<Option<Target>, AllocError>
+fn initialized_target(alloc: Global, declarator: &Code) -> Result<Option<Boxed<Target>>, AllocError>
     ensures { IfOk result (λ to. option_map target_of to ≡ initialized_target (code_of declarator.now)) }
 {
     match declarator {
         // var a = b
-        Code::Assign { to, .. } => Ok(Some(copy_target(alloc, to)?)),
+        Code::Assign { to, .. } => Ok(Some(copy_boxed_target(alloc, to)?)),
         _ => Ok(None),
     }
 }
 
-/// What is written where a name is declared; the name is taken out.
+/// What is written where a name is declared; the name is taken out. Fails on allocation failure alone.
 #[tactic(auto, using(crate::proofs::HeadForms::a_binding, crate::proofs::HeadForms::no_binding))]
-fn target_of_binding(code: &mut Code) -> Target
-    ensures { target_of result ≡ target_of_binding (code_of code.old) }
+fn target_of_binding(alloc: Global, code: &mut Code) -> Result<Boxed<Target>, AllocError>
+    ensures { IfOk result (λ to. target_of to ≡ target_of_binding (code_of code.old)) }
 {
     match code {
-        Code::Binding { .. } => written_target(mem::replace(code, Code::nothing())),
-        _ => Target::no_target(),
+        Code::Binding { .. } => boxed_target(alloc, mem::replace(code, Code::nothing())),
+        _ => Boxed::new(alloc, Target::no_target()),
     }
 }
 
-/// What is written where a name of a `let` is initialized with undefined.
+/// What is written where a name of a `let` is initialized with undefined. Fails on allocation failure alone.
 #[tactic(auto, using(crate::proofs::HeadForms::no_step))]
-fn first_target(steps: &mut [Code]) -> Target
-    ensures { target_of result ≡ first_target (codes_of steps.old) }
+fn first_target(alloc: Global, steps: &mut [Code]) -> Result<Boxed<Target>, AllocError>
+    ensures { IfOk result (λ to. target_of to ≡ first_target (codes_of steps.old)) }
 {
     match steps {
-        [first, ..] => target_of_binding(first),
-        [] => Target::no_target(),
+        [first, ..] => target_of_binding(alloc, first),
+        [] => Boxed::new(alloc, Target::no_target()),
     }
 }
 
-/// What is written where a declarator has no initializer; it is taken out.
+/// What is written where a declarator has no initializer; it is taken out. Fails on allocation failure alone.
 #[tactic(auto, using(crate::proofs::HeadForms::an_undefined_let, crate::proofs::HeadForms::no_undefined_let))]
-fn uninitialized_target(declarator: &mut Code) -> Target
-    ensures { target_of result ≡ uninitialized_target (code_of declarator.old) }
+fn uninitialized_target(alloc: Global, declarator: &mut Code) -> Result<Boxed<Target>, AllocError>
+    ensures { IfOk result (λ to. target_of to ≡ uninitialized_target (code_of declarator.old)) }
 {
     match declarator {
         // let a
-        Code::Steps { all } => first_target(all.as_mut_slice()),
+        Code::Steps { all } => first_target(alloc, all.as_mut_slice()),
         // var a, const [b]
-        _ => written_target(mem::replace(declarator, Code::nothing())),
+        _ => boxed_target(alloc, mem::replace(declarator, Code::nothing())),
     }
 }
 
@@ -84,7 +85,10 @@ fn add_declarator(
             targets.push(Code::gives_to(node, target))?;
             initializers.push(mem::replace(declarator, Code::nothing()))
         }
-        None => targets.push(Code::gives_to(node, uninitialized_target(declarator))),
+        None => {
+            let target = uninitialized_target(alloc, declarator)?;
+            targets.push(Code::gives_to(node, target))
+        }
     }
 }
 
@@ -124,7 +128,7 @@ fn add_declared(
         }
         // for (a.b of c) {}
         _ => {
-            let target = written_target(mem::replace(head, Code::nothing()));
+            let target = boxed_target(alloc, mem::replace(head, Code::nothing()))?;
             targets.push(Code::gives_to(node, target))
         }
     }
@@ -144,6 +148,9 @@ pub fn add_head(
 {
     match head {
         Member::Code(head) => add_declared(alloc, node, head, initializers, targets),
-        _ => targets.push(Code::gives_to(node, Target::no_target())),
+        _ => {
+            let none = Boxed::new(alloc, Target::no_target())?;
+            targets.push(Code::gives_to(node, none))
+        }
     }
 }

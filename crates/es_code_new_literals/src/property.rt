@@ -1,6 +1,6 @@
 // New object literals of one property.
 
-ghost use Rattle.std.specs.Prelude.{◌≡◌, option_map};
+ghost use Rattle.std.specs.Prelude.{◌≡◌, IfOk, Some, option_map};
 ghost use Rattle.es_codes.specs.CodeView.{code_of, codes_of};
 ghost use Rattle.es_codes.specs.Constants.{constant_of};
 ghost use Rattle.es_codes.specs.View.{detail_of, details_of, operation_of};
@@ -13,21 +13,23 @@ ghost use Rattle.es_code_new_literals.specs.Literals as spec;
 ghost use Rattle.es_code_new_literals.specs.Views.{property_of};
 
 use crate::detail::{is_closing, is_opening, is_operand, is_plain};
-use crate::operation::{NewOperation, new_operation, new_operation_ref};
+use crate::operation::{new_operation, new_operation_ref};
 use crate::same_key::{is_same_constant_key, is_same_key};
 use es_base::kind::Kind;
 use es_base::list::List;
 use es_code_reading::context::Context;
+use es_codes::boxed::Boxed;
 use es_codes::code::Code;
 use es_codes::event::{Detail, Operation};
 use es_codes::value::{Constant, Origin, Value};
+use std::alloc::{AllocError, Global};
 use std::mem;
 
 /// A property: what its key is, and its value.
 #[derive(Drop)]
 pub struct Property {
-    pub key: Code,
-    pub value: Code,
+    pub key: Boxed<Code>,
+    pub value: Boxed<Code>,
 }
 
 /// Whether these details stand behind the key of `k: v` that is the only property.
@@ -61,25 +63,29 @@ fn take_constant(constant: &mut Constant) -> Code
 
 /// `{ k: v }`
 #[tactic(auto, using(crate::proofs::PropertyForms::no_constant_property))]
-fn constant_property(key: &mut Constant, operands: &mut [Code]) -> Option<Property>
-    ensures { option_map property_of result ≡ spec.constant_property (constant_of key.old) (codes_of operands.old) }
+fn constant_property(
+    alloc: Global,
+    key: &mut Constant,
+    operands: &mut [Code],
+) -> Result<Option<Property>, AllocError>
+    ensures { IfOk result (λ p. option_map property_of p ≡ spec.constant_property (constant_of key.old) (codes_of operands.old)) }
 {
     match operands {
-        [value] => Some(Property {
-            key: take_constant(key),
-            value: mem::replace(value, Code::nothing()),
-        }),
-        _ => None,
+        [value] => Ok(Some(Property {
+            key: Boxed::new(alloc, take_constant(key))?,
+            value: Boxed::new(alloc, mem::replace(value, Code::nothing()))?,
+        })),
+        _ => Ok(None),
     }
 }
 
 /// A computed key, without its conversion.
 #[tactic(auto, using(crate::proofs::PropertyForms::an_inner_key, crate::proofs::PropertyForms::no_inner_key))]
-fn inner_key(code: Code) -> Option<Code>
+fn inner_key(code: Code) -> Option<Boxed<Code>>
     ensures { option_map code_of result ≡ spec.inner_key (code_of code) }
 {
     match code {
-        Code::KeyOf { expression } => Some(expression.into_inner()),
+        Code::KeyOf { expression } => Some(expression),
         other => {
             drop(other);
             None
@@ -87,75 +93,101 @@ fn inner_key(code: Code) -> Option<Code>
     }
 }
 
+/// The property of this key. Fails on allocation failure alone.
+fn property_with(
+    alloc: Global,
+    key: Boxed<Code>,
+    value: &mut Code,
+) -> Result<Option<Property>, AllocError>
+    ensures { IfOk result (λ p. option_map property_of p ≡ Some (code_of key, code_of value.old)) }
+{
+    let value = Boxed::new(alloc, mem::replace(value, Code::nothing()))?;
+    Ok(Some(Property { key, value }))
+}
+
 /// `{ [k]: v }`
 #[tactic(auto, using(crate::proofs::PropertyForms::two_computed, crate::proofs::PropertyForms::not_computed, crate::proofs::PropertyForms::no_computed_property))]
-fn computed_property(operands: &mut [Code]) -> Option<Property>
-    ensures { option_map property_of result ≡ spec.computed_property (codes_of operands.old) }
+fn computed_property(alloc: Global, operands: &mut [Code]) -> Result<Option<Property>, AllocError>
+    ensures { IfOk result (λ p. option_map property_of p ≡ spec.computed_property (codes_of operands.old)) }
 {
     match operands {
-        [key, value] => {
-            let key = inner_key(mem::replace(key, Code::nothing()))?;
-            let value = mem::replace(value, Code::nothing());
-            Some(Property { key, value })
-        }
-        _ => None,
+        [key, value] => match inner_key(mem::replace(key, Code::nothing())) {
+            Some(key) => property_with(alloc, key, value),
+            None => Ok(None),
+        },
+        _ => Ok(None),
     }
 }
 
-fn keyed_property(key: &mut Detail, operands: &mut [Code]) -> Option<Property>
-    ensures { option_map property_of result ≡ spec.keyed_property (detail_of key.old) (codes_of operands.old) }
+fn keyed_property(
+    alloc: Global,
+    key: &mut Detail,
+    operands: &mut [Code],
+) -> Result<Option<Property>, AllocError>
+    ensures { IfOk result (λ p. option_map property_of p ≡ spec.keyed_property (detail_of key.old) (codes_of operands.old)) }
 {
     match key {
-        Detail::Key(constant) => constant_property(constant, operands),
-        Detail::Operand => computed_property(operands),
-        _ => None,
+        Detail::Key(constant) => constant_property(alloc, constant, operands),
+        Detail::Operand => computed_property(alloc, operands),
+        _ => Ok(None),
     }
 }
 
 #[tactic(auto, using(crate::proofs::PropertyForms::no_property))]
-fn property_among(details: &mut [Detail], operands: &mut [Code]) -> Option<Property>
-    ensures { option_map property_of result ≡ spec.property_among (details_of details.old) (codes_of operands.old) }
+fn property_among(
+    alloc: Global,
+    details: &mut [Detail],
+    operands: &mut [Code],
+) -> Result<Option<Property>, AllocError>
+    ensures { IfOk result (λ p. option_map property_of p ≡ spec.property_among (details_of details.old) (codes_of operands.old)) }
 {
     match details {
         [opens, key, rest @ ..] => {
             if is_opening(opens) && is_plain_end(rest) {
-                keyed_property(key, operands)
+                keyed_property(alloc, key, operands)
             } else {
-                None
+                Ok(None)
             }
         }
-        _ => None,
+        _ => Ok(None),
     }
 }
 
-fn property_in(operation: Operation, operands: List<Code>) -> Option<Property>
-    ensures { option_map property_of result ≡ spec.property_in (operation_of operation, codes_of operands) }
+fn property_in(
+    alloc: Global,
+    operation: Operation,
+    operands: List<Code>,
+) -> Result<Option<Property>, AllocError>
+    ensures { IfOk result (λ p. option_map property_of p ≡ spec.property_in (operation_of operation, codes_of operands)) }
 {
     match operation {
         Operation::OfKind { kind, details } => {
             if is_object(kind) {
                 let mut details = details;
                 let mut operands = operands;
-                property_among(details.as_mut_slice(), operands.as_mut_slice())
+                property_among(alloc, details.as_mut_slice(), operands.as_mut_slice())
             } else {
-                None
+                Ok(None)
             }
         }
-        _ => None,
+        _ => Ok(None),
     }
 }
 
 /// The property of a new object literal, if it has one alone and that is `k: v` or `[k]: v`, no method, getter or setter: its
-/// key and its value.
+/// key and its value. Fails on allocation failure alone.
 #[tactic(auto, using(crate::proofs::Literals::single_property, crate::proofs::Literals::no_single_property))]
-pub fn single_property(c: &Context, code: Code) -> Option<Property>
-    ensures { option_map property_of result ≡ generated.single_property (context_of c.now) (code_of code) }
+pub fn single_property(
+    alloc: Global,
+    c: &Context,
+    code: Code,
+) -> Result<Option<Property>, AllocError>
+    ensures { IfOk result (λ p. option_map property_of p ≡ generated.single_property (context_of c.now) (code_of code)) }
 {
-    let NewOperation {
-        operation,
-        operands,
-    } = new_operation(c, code)?;
-    property_in(operation, operands)
+    match new_operation(c, code) {
+        Some(new) => property_in(alloc, new.operation, new.operands),
+        None => Ok(None),
+    }
 }
 
 // ---- asking for its key

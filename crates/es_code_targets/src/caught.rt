@@ -7,7 +7,7 @@ ghost use Rattle.es_steps.specs.Members as members;
 ghost use Rattle.es_steps.specs.Statements as spec;
 ghost use Rattle.es_code_members.specs.MembersView.{member_of};
 
-use crate::target::written_target;
+use crate::target::boxed_target;
 use es_base::list::List;
 use es_code_members::codes::{add_codes_of, take_codes};
 use es_code_members::member::Member;
@@ -17,18 +17,28 @@ use std::mem;
 
 /// Adds that a parameter of a catch is given what was caught. Fails on allocation failure alone.
 #[tactic(auto, using(es_code_members::proofs::Chaining::joined_one))]
-fn add_given(node: u32, parameter: &mut Code, to: &mut List<Code>) -> Result<(), AllocError>
+fn add_given(
+    alloc: Global,
+    node: u32,
+    parameter: &mut Code,
+    to: &mut List<Code>,
+) -> Result<(), AllocError>
     ensures { OnOk result (codes_of to.new ≡ joined (codes_of to.old) (spec.given_codes node (and (code_of parameter.old) done))) }
 {
-    let target = written_target(mem::replace(parameter, Code::nothing()));
+    let target = boxed_target(alloc, mem::replace(parameter, Code::nothing()))?;
     to.push(Code::gives_to(node, target))
 }
 
-fn add_all_given(node: u32, parameters: &mut [Code], to: &mut List<Code>) -> Result<(), AllocError>
+fn add_all_given(
+    alloc: Global,
+    node: u32,
+    parameters: &mut [Code],
+    to: &mut List<Code>,
+) -> Result<(), AllocError>
     ensures { OnOk result (codes_of to.new ≡ joined (codes_of to.old) (spec.given_codes node (codes_of parameters.old))) }
 {
     for parameter in parameters.iter_mut() {
-        add_given(node, parameter, to)?;
+        add_given(alloc, node, parameter, to)?;
     }
     Ok(())
 }
@@ -45,7 +55,7 @@ pub fn catch_code(
 {
     let mut all = List::new(alloc);
     let mut parameters = take_codes(alloc, parameter)?;
-    add_all_given(node, parameters.as_mut_slice(), &mut all)?;
+    add_all_given(alloc, node, parameters.as_mut_slice(), &mut all)?;
     add_codes_of(body, &mut all)?;
     Ok(Code::steps(all))
 }

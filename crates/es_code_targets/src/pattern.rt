@@ -13,7 +13,7 @@ ghost use Rattle.es_code_targets.specs.Patterns.{hole, taken_item};
 ghost use Rattle.es_code_targets.specs.PropertyView.{members_of_property};
 
 use crate::key::add_key;
-use crate::target::written_target;
+use crate::target::boxed_target;
 use es_base::kind::Kind;
 use es_base::list::List;
 use es_code_members::codes::take_codes;
@@ -34,15 +34,16 @@ pub fn default_code(
     ensures { IfOk result (λ c. code_of c ≡ spec.default_code node (members.more (member_of target.old) (members.more (member_of default.old) members.end))) }
 {
     let default = Boxed::new(alloc, take_code(default))?;
-    let to = Boxed::new(alloc, written_target(take_code(target)))?;
-    Ok(Code::pattern(node, Target::to_default(node, to, default)))
+    let to = boxed_target(alloc, take_code(target))?;
+    let to = Boxed::new(alloc, Target::to_default(node, to, default))?;
+    Ok(Code::pattern(node, to))
 }
 
-/// `...t`
-pub fn rest_code(target: &mut Member) -> Code
-    ensures { code_of result ≡ spec.rest_code (members.more (member_of target.old) members.end) }
+/// `...t`. Fails on allocation failure alone.
+pub fn rest_code(alloc: Global, target: &mut Member) -> Result<Code, AllocError>
+    ensures { IfOk result (λ c. code_of c ≡ spec.rest_code (members.more (member_of target.old) members.end)) }
 {
-    Code::rest(written_target(take_code(target)))
+    Ok(Code::rest(boxed_target(alloc, take_code(target))?))
 }
 
 /// The number of a target, or this number where it has none.
@@ -63,10 +64,10 @@ fn target_number(to: &Target, otherwise: u32) -> u32
 }
 
 /// What a target takes that no key is evaluated for.
-fn taken(alloc: Global, node: u32, details: List<Detail>, to: Target) -> Code
+fn taken(alloc: Global, node: u32, details: List<Detail>, to: Boxed<Target>) -> Code
     ensures { code_of result ≡ spec.taken node (details_of details) (target_of to) }
 {
-    let number = target_number(&to, node);
+    let number = target_number(to.get(), node);
     Code::takes(number, details, List::new(alloc), to)
 }
 
@@ -82,10 +83,11 @@ fn taken_element(alloc: Global, node: u32, i: usize, element: &mut Code) -> Resu
     match element {
         Code::Rest { to } => {
             details.push(Detail::Rest)?;
-            Ok(taken(alloc, node, details, mem::replace(to, Target::no_target())))
+            let none = Boxed::new(alloc, Target::no_target())?;
+            Ok(taken(alloc, node, details, mem::replace(to, none)))
         }
         _ => {
-            let to = written_target(mem::replace(element, Code::nothing()));
+            let to = boxed_target(alloc, mem::replace(element, Code::nothing()))?;
             Ok(taken(alloc, node, details, to))
         }
     }
@@ -169,7 +171,8 @@ pub fn array_pattern_code(
     ensures { IfOk result (λ c. code_of c ≡ spec.array_pattern_code node (members.more (member_of elements.old) members.end)) }
 {
     let elements = taken_members(alloc, node, elements)?;
-    Ok(Code::pattern(node, Target::to_pattern(node, Kind::ArrayPattern, elements)))
+    let to = Target::to_pattern(node, Kind::ArrayPattern, elements);
+    Ok(Code::pattern(node, Boxed::new(alloc, to)?))
 }
 
 // ---- objects
@@ -183,7 +186,8 @@ fn taken_property(alloc: Global, node: u32, property: &mut Code) -> Result<Code,
         Code::Rest { to } => {
             let mut details = List::new(alloc);
             details.push(Detail::Rest)?;
-            Ok(taken(alloc, node, details, mem::replace(to, Target::no_target())))
+            let none = Boxed::new(alloc, Target::no_target())?;
+            Ok(taken(alloc, node, details, mem::replace(to, none)))
         }
         _ => Ok(mem::replace(property, Code::nothing())),
     }
@@ -228,10 +232,8 @@ pub fn object_pattern_code(
 {
     let mut properties = take_codes(alloc, properties)?;
     let properties = taken_properties(alloc, node, properties.as_mut_slice())?;
-    Ok(Code::pattern(
-        node,
-        Target::to_pattern(node, Kind::ObjectPattern, properties),
-    ))
+    let to = Target::to_pattern(node, Kind::ObjectPattern, properties);
+    Ok(Code::pattern(node, Boxed::new(alloc, to)?))
 }
 
 /// The members of a property, of an object or a pattern: `[k]: v`, `get k() {}`.
@@ -265,6 +267,6 @@ pub fn pattern_property_code(
         &mut details,
         &mut keys,
     )?;
-    let to = written_target(take_code(&mut property.value));
+    let to = boxed_target(alloc, take_code(&mut property.value))?;
     Ok(Code::takes(node, details, keys, to))
 }

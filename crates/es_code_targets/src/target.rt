@@ -1,11 +1,13 @@
 // What is written where a code stands as target. (ECMA-262, 13.15.1.)
 
-ghost use Rattle.std.specs.Prelude.{◌≡◌};
+ghost use Rattle.std.specs.Prelude.{◌≡◌, IfOk};
 ghost use Rattle.es_codes.specs.CodeView.{code_of, target_of};
 ghost use Rattle.es_steps.specs.Expressions as spec;
 ghost use Rattle.es_code_targets.specs.Written.{written_member, written_pattern};
 
+use es_codes::boxed::Boxed;
 use es_codes::code::{Code, Target};
+use std::alloc::{AllocError, Global};
 
 /// What is written where a setter or a pattern stands.
 #[tactic(auto, using(crate::proofs::Written::of_setter, crate::proofs::Written::of_pattern, crate::proofs::Written::no_pattern))]
@@ -14,7 +16,7 @@ fn written_pattern(code: Code) -> Target
 {
     match code {
         Code::Setter { node, key, object } => Target::to_setter(node, key, object),
-        Code::Pattern { to, .. } => to,
+        Code::Pattern { to, .. } => to.into_inner(),
         other => {
             drop(other);
             Target::no_target()
@@ -63,4 +65,11 @@ pub fn written_target(code: Code) -> Target
         Code::FromMember { expression } => written_target(expression.into_inner()),
         other => written_member(other),
     }
+}
+
+/// What is written where a code stands as target, in a box. Fails on allocation failure alone.
+pub fn boxed_target(alloc: Global, code: Code) -> Result<Boxed<Target>, AllocError>
+    ensures { IfOk result (λ to. target_of to ≡ spec.target_of (code_of code)) }
+{
+    Boxed::new(alloc, written_target(code))
 }

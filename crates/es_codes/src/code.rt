@@ -100,7 +100,7 @@ pub enum Code {
     },
     /// `...t`
     Rest {
-        to: Target,
+        to: Boxed<Target>,
     },
     /// `x`
     Name {
@@ -137,14 +137,14 @@ pub enum Code {
     },
     /// `t = e`
     Assign {
-        to: Target,
+        to: Boxed<Target>,
         right: Boxed<Code>,
     },
     /// `t += e`
     Compound {
         node: u32,
         operator: Name,
-        to: Target,
+        to: Boxed<Target>,
         right: Boxed<Code>,
     },
     /// `a || b`
@@ -158,7 +158,7 @@ pub enum Code {
     LogicalAssign {
         node: u32,
         operator: Name,
-        to: Target,
+        to: Boxed<Target>,
         right: Boxed<Code>,
     },
     /// `t++`
@@ -166,18 +166,18 @@ pub enum Code {
         node: u32,
         operator: Name,
         is_prefix: bool,
-        to: Target,
+        to: Boxed<Target>,
     },
     /// `f(a)`
     Call {
         node: u32,
-        callee: Callee,
+        callee: Boxed<Callee>,
         arguments: List<Code>,
     },
     /// `` f`a${b}` ``
     Tag {
         node: u32,
-        callee: Callee,
+        callee: Boxed<Callee>,
         strings: List<TemplateString>,
         arguments: List<Code>,
     },
@@ -242,14 +242,14 @@ pub enum Code {
     /// `[a, b]`, which is given nothing.
     Pattern {
         node: u32,
-        to: Target,
+        to: Boxed<Target>,
     },
     /// In a pattern, `k: t`
     Takes {
         node: u32,
         details: List<Detail>,
         key: List<Code>,
-        to: Target,
+        to: Boxed<Target>,
     },
     /// Statements in order.
     Steps {
@@ -258,7 +258,7 @@ pub enum Code {
     /// The head of a for-in or for-of, or a caught name, is given a value of a node.
     GivesTo {
         node: u32,
-        to: Target,
+        to: Boxed<Target>,
     },
     /// `export default e`
     ExportDefault {

@@ -42,7 +42,7 @@ fn parameter_of(code: &Code) -> Parameter
         // x
         Code::Binding { node, .. } => Parameter::Identifier(*node),
         // ...xs
-        Code::Rest { to } => rest_parameter(to),
+        Code::Rest { to } => rest_parameter(to.get()),
         _ => Parameter::Pattern,
     }
 }

@@ -62,13 +62,13 @@ pub fn evaluate_form<'a, F: Fn(Global, &Opening, &mut State, &Code) -> Result<Va
         Code::PrivateIn { node, test, object } => within.evaluate_private_in(
             state, *node, *test, object,
         ),
-        Code::Assign { to, right } => evaluate_assign(within, state, to, right),
+        Code::Assign { to, right } => evaluate_assign(within, state, to.get(), right),
         Code::Compound {
             node,
             operator,
             to,
             right,
-        } => evaluate_compound(within, state, *node, operator, to, right),
+        } => evaluate_compound(within, state, *node, operator, to.get(), right),
         Code::Logical {
             node,
             operator,
@@ -80,24 +80,24 @@ pub fn evaluate_form<'a, F: Fn(Global, &Opening, &mut State, &Code) -> Result<Va
             operator,
             to,
             right,
-        } => evaluate_logical_assign(within, state, *node, operator, to, right),
+        } => evaluate_logical_assign(within, state, *node, operator, to.get(), right),
         Code::Update {
             node,
             operator,
             is_prefix,
             to,
-        } => evaluate_update(within, state, *node, operator, *is_prefix, to),
+        } => evaluate_update(within, state, *node, operator, *is_prefix, to.get()),
         Code::Call {
             node,
             callee,
             arguments,
-        } => within.evaluate_call(state, *node, callee, arguments),
+        } => within.evaluate_call(state, *node, callee.get(), arguments),
         Code::Tag {
             node,
             callee,
             strings,
             arguments,
-        } => within.evaluate_tag(state, *node, callee, strings, arguments),
+        } => within.evaluate_tag(state, *node, callee.get(), strings, arguments),
         Code::Construct {
             node,
             callee,
@@ -134,7 +134,7 @@ pub fn evaluate_form<'a, F: Fn(Global, &Opening, &mut State, &Code) -> Result<Va
         Code::Pattern { .. } => Err(Fault::NoMeaning),
         Code::Takes { .. } => Err(Fault::NoMeaning),
         Code::Steps { all } => within.evaluate_steps(state, all),
-        Code::GivesTo { node, to } => evaluate_gives_to(within, state, *node, to),
+        Code::GivesTo { node, to } => evaluate_gives_to(within, state, *node, to.get()),
         Code::ExportDefault { expression } => within.evaluate_export_default(state, expression),
         Code::Function { node, .. } => Ok(Value::of(Origin::FunctionOf(*node))),
         Code::NewFunction { .. } => Err(Fault::NoMeaning),

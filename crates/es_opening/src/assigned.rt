@@ -49,10 +49,10 @@ fn add_assigned<'a>(code: &'a Code, names: &mut Vec<Assigned<'a>>) -> Result<(),
     ensures { OnOk result (names_of names.new.items ≡ names_of names.old.items ++ spec.assigned_by (code_of code.now)) }
 {
     match code {
-        Code::Assign { to, .. } => add_target(to, names),
-        Code::Compound { to, .. } => add_target(to, names),
-        Code::LogicalAssign { to, .. } => add_target(to, names),
-        Code::Update { to, .. } => add_target(to, names),
+        Code::Assign { to, .. } => add_target(to.get(), names),
+        Code::Compound { to, .. } => add_target(to.get(), names),
+        Code::LogicalAssign { to, .. } => add_target(to.get(), names),
+        Code::Update { to, .. } => add_target(to.get(), names),
         Code::CallArrow { parameters, .. } => add_parameters(parameters.as_slice(), names),
         Code::GeneratedElement { spelling, .. } => add_element(spelling, names),
         _ => Ok(()),

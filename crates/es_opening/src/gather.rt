@@ -16,10 +16,10 @@ pub fn gather<'a>(code: &'a Code, codes: &mut Vec<&'a Code>) -> Result<(), Alloc
     ensures { OnOk result (codes_seen codes.new.items ≡ codes_seen codes.old.items ++ gathered (code_of code.now)) }
 {
     match code {
-        Code::Assign { to, right } => gather_assigned(code, to, right, codes),
-        Code::Compound { to, right, .. } => gather_assigned(code, to, right, codes),
-        Code::LogicalAssign { to, right, .. } => gather_assigned(code, to, right, codes),
-        Code::Update { to, .. } => gather_updated(code, to, codes),
+        Code::Assign { to, right } => gather_assigned(code, to.get(), right, codes),
+        Code::Compound { to, right, .. } => gather_assigned(code, to.get(), right, codes),
+        Code::LogicalAssign { to, right, .. } => gather_assigned(code, to.get(), right, codes),
+        Code::Update { to, .. } => gather_updated(code, to.get(), codes),
         Code::Class {
             heritage,
             elements,
@@ -33,9 +33,9 @@ pub fn gather<'a>(code: &'a Code, codes: &mut Vec<&'a Code>) -> Result<(), Alloc
             arguments,
             ..
         } => gather_arrow(code, body, arguments, codes),
-        Code::Rest { to } => gather_target(to, codes),
-        Code::Pattern { to, .. } => gather_target(to, codes),
-        Code::GivesTo { to, .. } => gather_target(to, codes),
+        Code::Rest { to } => gather_target(to.get(), codes),
+        Code::Pattern { to, .. } => gather_target(to.get(), codes),
+        Code::GivesTo { to, .. } => gather_target(to.get(), codes),
         Code::Member { object, key, .. } => gather_two(object, key, codes),
         Code::Logical { left, right, .. } => gather_two(left, right, codes),
         Code::Field { key, right, .. } => gather_two(key, right, codes),
@@ -60,12 +60,12 @@ pub fn gather<'a>(code: &'a Code, codes: &mut Vec<&'a Code>) -> Result<(), Alloc
             callee,
             arguments,
             ..
-        } => gather_call(callee, arguments, codes),
+        } => gather_call(callee.get(), arguments, codes),
         Code::Tag {
             callee,
             arguments,
             ..
-        } => gather_call(callee, arguments, codes),
+        } => gather_call(callee.get(), arguments, codes),
         Code::Construct {
             callee,
             arguments,
@@ -85,7 +85,7 @@ pub fn gather<'a>(code: &'a Code, codes: &mut Vec<&'a Code>) -> Result<(), Alloc
             again,
             rest,
         } => gather_tested(object, again, rest, codes),
-        Code::Takes { key, to, .. } => gather_takes(key, to, codes),
+        Code::Takes { key, to, .. } => gather_takes(key, to.get(), codes),
         Code::Function {
             parameters,
             body,

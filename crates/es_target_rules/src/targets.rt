@@ -184,7 +184,7 @@ pub fn evaluate_take<'a, F: Fn(Global, &Opening, &mut State, &Code) -> Result<Va
             details,
             key,
             to,
-        } => evaluate_takes(within, state, value, *node, details, key, to),
+        } => evaluate_takes(within, state, value, *node, details, key, to.get()),
         Code::Operation {
             node,
             operation,

@@ -91,8 +91,13 @@ pub fn lower_tree(
     ensures shaped { IfOk result (λ r. r.shapes.items ≡ shapes options.now source) }
     ensures refused { IfErr result (IsReason options.now source (ids foreign.now)) }
 {
-    let Warned { lowered, warnings } =
-        lower_program(alloc, &ClassLowering, options, source, foreign)?;
+    let Warned { lowered, warnings } = lower_program(
+        alloc,
+        &ClassLowering,
+        options,
+        source,
+        foreign,
+    )?;
     if !lowered.program.has_at_most(u32::MAX) {
         return Err(NoTree::TooLarge);
     }

@@ -14,7 +14,8 @@ use std::alloc::{AllocError, Global};
 use std::test::Fail;
 
 /// `class C { static a = () => 1; }`.
-const STATIC_ARROW: &str = r#"{"type":"Program","sourceType":"script","body":[{"type":"ClassDeclaration","id":{"type":"Identifier","name":"C"},"superClass":null,"body":{"type":"ClassBody","body":[{"type":"PropertyDefinition","static":true,"computed":false,"key":{"type":"Identifier","name":"a"},"value":{"type":"ArrowFunctionExpression","params":[],"expression":true,"async":false,"body":{"type":"Literal","value":1,"raw":"1"}}}]}}]}"#;
+const STATIC_ARROW: &str =
+    r#"{"type":"Program","sourceType":"script","body":[{"type":"ClassDeclaration","id":{"type":"Identifier","name":"C"},"superClass":null,"body":{"type":"ClassBody","body":[{"type":"PropertyDefinition","static":true,"computed":false,"key":{"type":"Identifier","name":"a"},"value":{"type":"ArrowFunctionExpression","params":[],"expression":true,"async":false,"body":{"type":"Literal","value":1,"raw":"1"}}}]}}]}"#;
 
 /// What a program is lowered to with these arguments.
 fn lowered(alloc: Global, arguments: &str, text: &'static str) -> Result<LoweredTree, Fail> {

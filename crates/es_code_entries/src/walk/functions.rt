@@ -95,9 +95,9 @@ impl<'a> Walk<'a> {
     {
         match parameter {
             // [a, b]
-            Code::Pattern { to, .. } => self.add_given(here, found, to),
+            Code::Pattern { to, .. } => self.add_given(here, found, to.get()),
             // ...t
-            Code::Rest { to } => self.add_given(here, found, to),
+            Code::Rest { to } => self.add_given(here, found, to.get()),
             _ => Ok(()),
         }
     }

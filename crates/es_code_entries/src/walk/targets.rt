@@ -119,7 +119,7 @@ impl<'a> Walk<'a> {
     {
         match member {
             // [k]: t
-            Code::Takes { key, to, .. } => self.add_takes(here, found, key.as_slice(), to),
+            Code::Takes { key, to, .. } => self.add_takes(here, found, key.as_slice(), to.get()),
             _ => Ok(()),
         }
     }

@@ -73,7 +73,7 @@ impl Code {
 
     /// `...t`
     #[tactic(auto, using(crate::proofs::Forms::rest_is))]
-    pub fn rest(to: Target) -> Code
+    pub fn rest(to: Boxed<Target>) -> Code
         ensures { code_of result ≡ of.rest (target_of to) }
     {
         Code::Rest { to }
@@ -142,7 +142,7 @@ impl Code {
 
     /// `t = e`
     #[tactic(auto, using(crate::proofs::Forms::assign_is))]
-    pub fn assign(to: Target, right: Boxed<Code>) -> Code
+    pub fn assign(to: Boxed<Target>, right: Boxed<Code>) -> Code
         ensures { code_of result ≡ of.assign (target_of to) (code_of right) }
     {
         Code::Assign { to, right }
@@ -150,7 +150,7 @@ impl Code {
 
     /// `t += e`
     #[tactic(auto, using(crate::proofs::Forms::compound_is))]
-    pub fn compound(node: u32, operator: Name, to: Target, right: Boxed<Code>) -> Code
+    pub fn compound(node: u32, operator: Name, to: Boxed<Target>, right: Boxed<Code>) -> Code
         ensures { code_of result ≡ of.compound node operator (target_of to) (code_of right) }
     {
         Code::Compound {
@@ -176,7 +176,7 @@ impl Code {
 
     /// `t ||= e`
     #[tactic(auto, using(crate::proofs::Forms::logical_assign_is))]
-    pub fn logical_assign(node: u32, operator: Name, to: Target, right: Boxed<Code>) -> Code
+    pub fn logical_assign(node: u32, operator: Name, to: Boxed<Target>, right: Boxed<Code>) -> Code
         ensures { code_of result ≡ of.logical_assign node operator (target_of to) (code_of right) }
     {
         Code::LogicalAssign {
@@ -189,7 +189,7 @@ impl Code {
 
     /// `t++`
     #[tactic(auto, using(crate::proofs::Forms::update_is))]
-    pub fn update(node: u32, operator: Name, is_prefix: bool, to: Target) -> Code
+    pub fn update(node: u32, operator: Name, is_prefix: bool, to: Boxed<Target>) -> Code
         ensures { code_of result ≡ of.update node operator is_prefix (target_of to) }
     {
         Code::Update {
@@ -202,7 +202,7 @@ impl Code {
 
     /// `f(a)`
     #[tactic(auto, using(crate::proofs::Forms::call_is))]
-    pub fn call(node: u32, callee: Callee, arguments: List<Code>) -> Code
+    pub fn call(node: u32, callee: Boxed<Callee>, arguments: List<Code>) -> Code
         ensures { code_of result ≡ of.call node (callee_of callee) (codes_of arguments) }
     {
         Code::Call {
@@ -216,7 +216,7 @@ impl Code {
     #[tactic(auto, using(crate::proofs::Forms::tag_is))]
     pub fn tag(
         node: u32,
-        callee: Callee,
+        callee: Boxed<Callee>,
         strings: List<TemplateString>,
         arguments: List<Code>,
     ) -> Code
@@ -347,7 +347,7 @@ impl Code {
 
     /// `[a, b]`, which is given nothing.
     #[tactic(auto, using(crate::proofs::Forms::pattern_is))]
-    pub fn pattern(node: u32, to: Target) -> Code
+    pub fn pattern(node: u32, to: Boxed<Target>) -> Code
         ensures { code_of result ≡ of.pattern node (target_of to) }
     {
         Code::Pattern { node, to }
@@ -355,7 +355,7 @@ impl Code {
 
     /// In a pattern, `k: t`
     #[tactic(auto, using(crate::proofs::Forms::takes_is))]
-    pub fn takes(node: u32, details: List<Detail>, key: List<Code>, to: Target) -> Code
+    pub fn takes(node: u32, details: List<Detail>, key: List<Code>, to: Boxed<Target>) -> Code
         ensures { code_of result ≡ of.takes node (details_of details) (codes_of key) (target_of to) }
     {
         Code::Takes {
@@ -376,7 +376,7 @@ impl Code {
 
     /// The head of a for-in or for-of, or a caught name, is given a value of a node.
     #[tactic(auto, using(crate::proofs::Forms::gives_to_is))]
-    pub fn gives_to(node: u32, to: Target) -> Code
+    pub fn gives_to(node: u32, to: Boxed<Target>) -> Code
         ensures { code_of result ≡ of.gives_to node (target_of to) }
     {
         Code::GivesTo { node, to }

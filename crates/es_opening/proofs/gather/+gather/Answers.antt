@@ -1,11 +1,11 @@
-use Rattle.std.proofs.Common.{◌≡◌, ◌∙◌, ◌++◌, arith, ap, get_or, refl, sym}
+use Rattle.std.proofs.Common.{◌≡◌, ◌∙◌, ◌∷◌, ◌++◌, arith, ap, get_or, refl, sym}
 use Rattle.std.proofs.lemmas.Result.{on_ok_weaker}
-use Rattle.es_codes.specs.CodeView.{code_of, codes_of}
+use Rattle.es_codes.specs.CodeView.{callee_of, code_of, codes_of, target_of}
 use Rattle.es_codes.proofs.Forms.{add_brand_is, assign_is, binding_is, bound_is, call_arrow_is, call_closure_is, call_is, chain_is, class_code_is, compound_is, construct_is, constructor_is, define_is, export_default_is, field_is, from_call_is, from_member_is, function_is, generated_element_is, give_class_is, give_function_is, gives_to_is, helper_call_is, helper_is, initializers_is, key_of_is, logical_assign_is, logical_is, member_is, method_is, name_is, new_function_is, new_return_is, no_rule_is, nothing_is, operation_is, pattern_is, piece_is, private_field_is, private_in_is, private_initialize_is, private_member_is, private_method_is, private_name_is, private_value_is, rest_is, sequence_is, setter_is, short_is, spelled_is, static_block_is, steps_is, super_call_is, super_call_with_all_is, super_is, super_member_is, tag_is, takes_is, template_is, template_string_is, tested_is, throw_is, update_is, value_is}
 use Rattle.es_opening.proofs.Appended.{itself, nothing_in}
 use Rattle.es_opening.proofs.Sizes.{item_below}
 use Rattle.es_opening.proofs.gather.+gather.Goals as goal
-use Rattle.es_opening.specs.Gathered.{all_gathered, codes_seen, gathered}
+use Rattle.es_opening.specs.Gathered.{all_gathered, callee_gathered, codes_seen, gathered, target_gathered}
 use Rattle.es_opening.specs.Size.{size}
 
 pub gather_all-gather-requires : goal.gather_all-gather-requires
@@ -18,16 +18,16 @@ gather_all-gather-requires t c =
 -- the codes in each form
 
 pub gather-returns-in-Assign : goal.gather-returns-in-Assign
-gather-returns-in-Assign t c = on_ok_weaker c.gather_assigned.result (λ e. e ∙ ap (λ zs. codes_seen c.args.codes.now.items ++ zs) (itself (ap code_of c.in-Assign.is ∙ assign_is _ _) refl)) c.gather_assigned.ensures
+gather-returns-in-Assign t c = on_ok_weaker c.gather_assigned.result (λ e. e ∙ ap (λ x. codes_seen c.args.codes.now.items ++ (code_of c.args.code.now ∷ (target_gathered (target_of x) ++ gathered (code_of c.in-Assign.right)))) c.get.ensures ∙ ap (λ zs. codes_seen c.args.codes.now.items ++ zs) (itself (ap code_of c.in-Assign.is ∙ assign_is _ _) refl)) c.gather_assigned.ensures
 
 pub gather-returns-in-Compound : goal.gather-returns-in-Compound
-gather-returns-in-Compound t c = on_ok_weaker c.gather_assigned-in-Compound.result (λ e. e ∙ ap (λ zs. codes_seen c.args.codes.now.items ++ zs) (itself (ap code_of c.in-Compound.is ∙ compound_is _ _ _ _) refl)) c.gather_assigned-in-Compound.ensures
+gather-returns-in-Compound t c = on_ok_weaker c.gather_assigned-in-Compound.result (λ e. e ∙ ap (λ x. codes_seen c.args.codes.now.items ++ (code_of c.args.code.now ∷ (target_gathered (target_of x) ++ gathered (code_of c.in-Compound.right)))) c.get-in-Compound.ensures ∙ ap (λ zs. codes_seen c.args.codes.now.items ++ zs) (itself (ap code_of c.in-Compound.is ∙ compound_is _ _ _ _) refl)) c.gather_assigned-in-Compound.ensures
 
 pub gather-returns-in-LogicalAssign : goal.gather-returns-in-LogicalAssign
-gather-returns-in-LogicalAssign t c = on_ok_weaker c.gather_assigned-in-LogicalAssign.result (λ e. e ∙ ap (λ zs. codes_seen c.args.codes.now.items ++ zs) (itself (ap code_of c.in-LogicalAssign.is ∙ logical_assign_is _ _ _ _) refl)) c.gather_assigned-in-LogicalAssign.ensures
+gather-returns-in-LogicalAssign t c = on_ok_weaker c.gather_assigned-in-LogicalAssign.result (λ e. e ∙ ap (λ x. codes_seen c.args.codes.now.items ++ (code_of c.args.code.now ∷ (target_gathered (target_of x) ++ gathered (code_of c.in-LogicalAssign.right)))) c.get-in-LogicalAssign.ensures ∙ ap (λ zs. codes_seen c.args.codes.now.items ++ zs) (itself (ap code_of c.in-LogicalAssign.is ∙ logical_assign_is _ _ _ _) refl)) c.gather_assigned-in-LogicalAssign.ensures
 
 pub gather-returns-in-Update : goal.gather-returns-in-Update
-gather-returns-in-Update t c = on_ok_weaker c.gather_updated.result (λ e. e ∙ ap (λ zs. codes_seen c.args.codes.now.items ++ zs) (itself (ap code_of c.in-Update.is ∙ update_is _ _ _ _) refl)) c.gather_updated.ensures
+gather-returns-in-Update t c = on_ok_weaker c.gather_updated.result (λ e. e ∙ ap (λ x. codes_seen c.args.codes.now.items ++ (code_of c.args.code.now ∷ target_gathered (target_of x))) c.get-in-Update.ensures ∙ ap (λ zs. codes_seen c.args.codes.now.items ++ zs) (itself (ap code_of c.in-Update.is ∙ update_is _ _ _ _) refl)) c.gather_updated.ensures
 
 pub gather-returns-in-Class : goal.gather-returns-in-Class
 gather-returns-in-Class t c = on_ok_weaker c.gather_class.result (λ e. e ∙ ap (λ zs. codes_seen c.args.codes.now.items ++ zs) (itself (ap code_of c.in-Class.is ∙ class_code_is _ _ _ _) refl)) c.gather_class.ensures
@@ -45,13 +45,13 @@ pub gather-returns-in-CallArrow : goal.gather-returns-in-CallArrow
 gather-returns-in-CallArrow t c = on_ok_weaker c.gather_arrow.result (λ e. e ∙ ap (λ zs. codes_seen c.args.codes.now.items ++ zs) (itself (ap code_of c.in-CallArrow.is ∙ call_arrow_is _ _ _) refl)) c.gather_arrow.ensures
 
 pub gather-returns-in-Rest : goal.gather-returns-in-Rest
-gather-returns-in-Rest t c = on_ok_weaker c.gather_target.result (λ e. e ∙ ap (λ z. codes_seen c.args.codes.now.items ++ gathered z) (sym (ap code_of c.in-Rest.is ∙ rest_is _))) c.gather_target.ensures
+gather-returns-in-Rest t c = on_ok_weaker c.gather_target.result (λ e. e ∙ ap (λ x. codes_seen c.args.codes.now.items ++ target_gathered (target_of x)) c.get-in-Rest.ensures ∙ ap (λ z. codes_seen c.args.codes.now.items ++ gathered z) (sym (ap code_of c.in-Rest.is ∙ rest_is _))) c.gather_target.ensures
 
 pub gather-returns-in-Pattern : goal.gather-returns-in-Pattern
-gather-returns-in-Pattern t c = on_ok_weaker c.gather_target-in-Pattern.result (λ e. e ∙ ap (λ z. codes_seen c.args.codes.now.items ++ gathered z) (sym (ap code_of c.in-Pattern.is ∙ pattern_is _ _))) c.gather_target-in-Pattern.ensures
+gather-returns-in-Pattern t c = on_ok_weaker c.gather_target-in-Pattern.result (λ e. e ∙ ap (λ x. codes_seen c.args.codes.now.items ++ target_gathered (target_of x)) c.get-in-Pattern.ensures ∙ ap (λ z. codes_seen c.args.codes.now.items ++ gathered z) (sym (ap code_of c.in-Pattern.is ∙ pattern_is _ _))) c.gather_target-in-Pattern.ensures
 
 pub gather-returns-in-GivesTo : goal.gather-returns-in-GivesTo
-gather-returns-in-GivesTo t c = on_ok_weaker c.gather_target-in-GivesTo.result (λ e. e ∙ ap (λ z. codes_seen c.args.codes.now.items ++ gathered z) (sym (ap code_of c.in-GivesTo.is ∙ gives_to_is _ _))) c.gather_target-in-GivesTo.ensures
+gather-returns-in-GivesTo t c = on_ok_weaker c.gather_target-in-GivesTo.result (λ e. e ∙ ap (λ x. codes_seen c.args.codes.now.items ++ target_gathered (target_of x)) c.get-in-GivesTo.ensures ∙ ap (λ z. codes_seen c.args.codes.now.items ++ gathered z) (sym (ap code_of c.in-GivesTo.is ∙ gives_to_is _ _))) c.gather_target-in-GivesTo.ensures
 
 pub gather-returns-in-Member : goal.gather-returns-in-Member
 gather-returns-in-Member t c = on_ok_weaker c.gather_two.result (λ e. e ∙ ap (λ z. codes_seen c.args.codes.now.items ++ gathered z) (sym (ap code_of c.in-Member.is ∙ member_is _ _ _))) c.gather_two.ensures
@@ -72,7 +72,7 @@ pub gather-returns-in-Bound : goal.gather-returns-in-Bound
 gather-returns-in-Bound t c = on_ok_weaker c.gather_two-in-Bound.result (λ e. e ∙ ap (λ z. codes_seen c.args.codes.now.items ++ gathered z) (sym (ap code_of c.in-Bound.is ∙ bound_is _ _))) c.gather_two-in-Bound.ensures
 
 pub gather-returns-in-PrivateMember : goal.gather-returns-in-PrivateMember
-gather-returns-in-PrivateMember t c = on_ok_weaker c.gather.result (λ e. e ∙ ap (λ o. codes_seen c.args.codes.now.items ++ gathered (code_of o)) c.get.ensures ∙ ap (λ z. codes_seen c.args.codes.now.items ++ gathered z) (sym (ap code_of c.in-PrivateMember.is ∙ private_member_is _ _ _))) c.gather.ensures
+gather-returns-in-PrivateMember t c = on_ok_weaker c.gather.result (λ e. e ∙ ap (λ o. codes_seen c.args.codes.now.items ++ gathered (code_of o)) c.get-in-PrivateMember.ensures ∙ ap (λ z. codes_seen c.args.codes.now.items ++ gathered z) (sym (ap code_of c.in-PrivateMember.is ∙ private_member_is _ _ _))) c.gather.ensures
 
 pub gather-returns-in-SuperMember : goal.gather-returns-in-SuperMember
 gather-returns-in-SuperMember t c = on_ok_weaker c.gather-in-SuperMember.result (λ e. e ∙ ap (λ o. codes_seen c.args.codes.now.items ++ gathered (code_of o)) c.get-in-SuperMember.ensures ∙ ap (λ z. codes_seen c.args.codes.now.items ++ gathered z) (sym (ap code_of c.in-SuperMember.is ∙ super_member_is _ _ _ _))) c.gather-in-SuperMember.ensures
@@ -114,10 +114,10 @@ pub gather-returns-in-GiveClass : goal.gather-returns-in-GiveClass
 gather-returns-in-GiveClass t c = on_ok_weaker c.gather-in-GiveClass.result (λ e. e ∙ ap (λ o. codes_seen c.args.codes.now.items ++ gathered (code_of o)) c.get-in-GiveClass.ensures ∙ ap (λ z. codes_seen c.args.codes.now.items ++ gathered z) (sym (ap code_of c.in-GiveClass.is ∙ give_class_is _ _))) c.gather-in-GiveClass.ensures
 
 pub gather-returns-in-Call : goal.gather-returns-in-Call
-gather-returns-in-Call t c = on_ok_weaker c.gather_call.result (λ e. e ∙ ap (λ z. codes_seen c.args.codes.now.items ++ gathered z) (sym (ap code_of c.in-Call.is ∙ call_is _ _ _))) c.gather_call.ensures
+gather-returns-in-Call t c = on_ok_weaker c.gather_call.result (λ e. e ∙ ap (λ x. codes_seen c.args.codes.now.items ++ (callee_gathered (callee_of x) ++ all_gathered (codes_of c.in-Call.arguments))) c.get-in-Call.ensures ∙ ap (λ z. codes_seen c.args.codes.now.items ++ gathered z) (sym (ap code_of c.in-Call.is ∙ call_is _ _ _))) c.gather_call.ensures
 
 pub gather-returns-in-Tag : goal.gather-returns-in-Tag
-gather-returns-in-Tag t c = on_ok_weaker c.gather_call-in-Tag.result (λ e. e ∙ ap (λ z. codes_seen c.args.codes.now.items ++ gathered z) (sym (ap code_of c.in-Tag.is ∙ tag_is _ _ _ _))) c.gather_call-in-Tag.ensures
+gather-returns-in-Tag t c = on_ok_weaker c.gather_call-in-Tag.result (λ e. e ∙ ap (λ x. codes_seen c.args.codes.now.items ++ (callee_gathered (callee_of x) ++ all_gathered (codes_of c.in-Tag.arguments))) c.get-in-Tag.ensures ∙ ap (λ z. codes_seen c.args.codes.now.items ++ gathered z) (sym (ap code_of c.in-Tag.is ∙ tag_is _ _ _ _))) c.gather_call-in-Tag.ensures
 
 pub gather-returns-in-Construct : goal.gather-returns-in-Construct
 gather-returns-in-Construct t c = on_ok_weaker c.gather_construct.result (λ e. e ∙ ap (λ z. codes_seen c.args.codes.now.items ++ gathered z) (sym (ap code_of c.in-Construct.is ∙ construct_is _ _ _))) c.gather_construct.ensures
@@ -153,7 +153,7 @@ pub gather-returns-in-Tested : goal.gather-returns-in-Tested
 gather-returns-in-Tested t c = on_ok_weaker c.gather_tested.result (λ e. e ∙ ap (λ z. codes_seen c.args.codes.now.items ++ gathered z) (sym (ap code_of c.in-Tested.is ∙ tested_is _ _ _))) c.gather_tested.ensures
 
 pub gather-returns-in-Takes : goal.gather-returns-in-Takes
-gather-returns-in-Takes t c = on_ok_weaker c.gather_takes.result (λ e. e ∙ ap (λ z. codes_seen c.args.codes.now.items ++ gathered z) (sym (ap code_of c.in-Takes.is ∙ takes_is _ _ _ _))) c.gather_takes.ensures
+gather-returns-in-Takes t c = on_ok_weaker c.gather_takes.result (λ e. e ∙ ap (λ x. codes_seen c.args.codes.now.items ++ (all_gathered (codes_of c.in-Takes.key) ++ target_gathered (target_of x))) c.get-in-Takes.ensures ∙ ap (λ z. codes_seen c.args.codes.now.items ++ gathered z) (sym (ap code_of c.in-Takes.is ∙ takes_is _ _ _ _))) c.gather_takes.ensures
 
 pub gather-returns-in-Function : goal.gather-returns-in-Function
 gather-returns-in-Function t c = on_ok_weaker c.gather_function.result (λ e. e ∙ ap (λ z. codes_seen c.args.codes.now.items ++ gathered z) (sym (ap code_of c.in-Function.is ∙ function_is _ _ _ _ _))) c.gather_function.ensures
