@@ -1,5 +1,5 @@
 // Tests of the runs, and of the sources and sinks that they go over: bytes in, bytes and status out; of the program, of pairs, and over
-// lowerings of which nothing is known, right ones and wrong ones; of lowered trees with their scopes. Expected values were written out by hand, or come from outside.
+// lowerings of which nothing is known, right ones and wrong ones. Expected values were written out by hand, or come from outside.
 #![tactic(auto)]
 
 pub mod arguments;
@@ -14,7 +14,5 @@ pub mod recorded_programs;
 mod recorded_runs;
 #[cfg(test)]
 mod runs;
-#[cfg(test)]
-mod scopes;
 #[cfg(test)]
 mod validity;
