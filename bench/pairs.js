@@ -2,13 +2,15 @@
 //
 //   node bench/pairs.js CHECKER LOWERER [RUNS [CLASSES..]]
 //
-// CHECKER and LOWERER are the built programs (README.md). The sources are classes of ten fields, each lowered by the second; reading
-// is that of the same pair behind a statement that is not valid, so that nothing is compared. The run in the middle of RUNS (3).
+// CHECKER and LOWERER are the built programs (README.md). Two kinds of pairs, each of so many CLASSES: a chain of classes with private
+// members and what it is lowered to (chain.js), and classes of ten fields, lowered by the second program. Reading is that of the same
+// pair behind a statement that is not valid, so that nothing is compared. The run in the middle of RUNS (3).
 'use strict';
 const { spawnSync } = require('child_process');
 const fs = require('fs');
 const os = require('os');
 const path = require('path');
+const { chain } = require('./chain.js');
 
 const [, , checker, lowerer, runs = '3', ...sizes] = process.argv;
 if (!lowerer) {
@@ -42,16 +44,30 @@ function run(program, text) {
   return Array.from({ length: Number(runs) }, one).sort((a, b) => a.seconds - b.seconds)[Number(runs) >> 1];
 }
 
+// of a tree the nodes without their numbers, as of one that was not read before
+const bare = source => JSON.stringify(source, (key, value) => (key === 'node' ? undefined : value));
+const fields = classes => {
+  const source = sourceOf(classes);
+  return [source, run(lowerer, JSON.stringify(source)).output];
+};
+const linked = classes => {
+  const [source, lowered] = chain(classes);
+  return [source, JSON.stringify(lowered)];
+};
+
 const nodes = text => (text.match(/"type":/g) || []).length;
-console.log('classes    nodes       MB  reading s  checking s  ratio     MiB  answer');
-for (const classes of CLASSES) {
-  const source = sourceOf(classes), text = JSON.stringify(source);
-  const lowered = run(lowerer, text).output;
-  const pair = `[${text},${lowered}]`;
-  const reading = run(checker, `[${JSON.stringify({ ...source, body: [...source.body, INVALID] })},${lowered}]`);
+function line(classes, [source, lowered]) {
+  const pair = `[${bare(source)},${lowered}]`;
+  const reading = run(checker, `[${bare({ ...source, body: [...source.body, INVALID] })},${lowered}]`);
   const checking = run(checker, pair);
   console.log([
     String(classes).padStart(7), String(nodes(pair)).padStart(8), (pair.length / 1e6).toFixed(2).padStart(8), reading.seconds.toFixed(2).padStart(10),
     checking.seconds.toFixed(2).padStart(11), (checking.seconds / reading.seconds).toFixed(1).padStart(6), Math.round(checking.memory).toString().padStart(7), ` ${checking.output.trim()}`,
   ].join(' '));
+}
+
+for (const [kind, pairOf] of [['a chain of classes', linked], ['classes of ten fields', fields]]) {
+  console.log(kind);
+  console.log('classes    nodes       MB  reading s  checking s  ratio     MiB  answer');
+  for (const classes of CLASSES) line(classes, pairOf(classes));
 }
