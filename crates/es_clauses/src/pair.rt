@@ -6,7 +6,7 @@ ghost use Rattle.es_clauses.specs.declared.clause.Clause.{Clause};
 
 use crate::clause::Clause;
 use crate::references::references_stay;
-use es_base::ledger::LedgerEntry;
+use es_generated::ledger::Ledger;
 use es_left::left::nothing_left;
 use es_owed::elements::elements_kept;
 use es_owed::free::statements_kept;
@@ -38,7 +38,7 @@ pub struct Pair<'a> {
     pub first: u32,
     pub options: &'a Options,
     /// The generated names.
-    pub ledger: &'a [LedgerEntry],
+    pub ledger: &'a Ledger<'a>,
     pub source: Listed<'a>,
     pub lowered: Listed<'a>,
 }

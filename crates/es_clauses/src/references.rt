@@ -14,7 +14,6 @@ use es_owed_places::inner_names::inner_names_stay;
 use es_owed_places::private_names::private_names_stay;
 use es_owed_places::supers::supers_stay;
 use es_owed_places::writes::writes_fit;
-use es_references::references::references;
 use std::alloc::{AllocError, Global};
 
 /// Whether names of classes are read behind their classes, and `super` and private names stand where they may. Fails on allocation
@@ -34,11 +33,10 @@ fn places_stay(alloc: Global, pair: &Pair) -> Result<bool, AllocError>
 fn heads_stay(alloc: Global, pair: &Pair) -> Result<bool, AllocError>
     ensures { IfOk result (λ stays. stays ≡ heads_stay pair.now.ledger.now pair.now.lowered.program.now) }
 {
-    let references = references(alloc, pair.lowered.program)?;
     head_values_stay(
         alloc,
         pair.ledger,
-        references.as_slice(),
+        pair.lowered.references.list.as_slice(),
         pair.lowered.nodes.as_slice(),
     )
 }

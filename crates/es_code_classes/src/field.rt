@@ -16,7 +16,6 @@ use es_code_reading::keys::field_form;
 use es_codes::boxed::Boxed;
 use es_codes::code::{Code, FieldForm};
 use es_codes::value::Value;
-use es_generated::ledger::is_generated_private;
 use es_generated::numbers::is_new;
 use std::alloc::{AllocError, Global};
 use std::mem;
@@ -53,7 +52,10 @@ fn is_absent(value: &Member) -> bool
 fn is_made_element(c: &Context, is_static: bool, name: &Name) -> bool
     ensures { result ≡ (is_static && is_generated_private name.now (context_of c.now).class (context_of c.now).ledger) }
 {
-    is_static && is_generated_private(name.as_str(), c.around.class, c.terms.ledger)
+    is_static
+        && c.terms
+            .ledger
+            .is_generated_private(name.as_str(), c.around.class)
 }
 
 /// `#x = e;`. Fails on allocation failure alone.

@@ -40,9 +40,9 @@ seen_inside c d kind m ps i names privates uncaught block known =
     known ∙ seen_alike (spec.inside (context_of c) kind m ps i) (seen_in d) (same_seen (seen_in d) (seen_there (spec.inside (context_of c) kind m ps i)) names privates uncaught block)
 
 pub context_inside : (s : Inside) (c d : Context) (t : Tree)
-    → names_in d.names ≡ declarations s.names.items ++ names_in c.names
+    → names_in d.names ≡ declarations s.names.list.items ++ names_in c.names
     → privates_in d.privates ≡ private_members_of s.members.items ++ privates_in c.privates
-    → (uncaught : List Declaration) → names_in d.uncaught ≡ declarations s.names_around.items ++ uncaught
+    → (uncaught : List Declaration) → names_in d.uncaught ≡ declarations s.names_around.list.items ++ uncaught
     → option_map names_in d.block ≡ spec.around_inside (context_of c) (kind_of t)
     → c.terms ≡ d.terms → d.around ≡ s.around
     → (i : ℕ) → IsInside s c t i → uncaught ≡ cond (takes_vars (kind_of t)) (names_in c.names) (names_in c.uncaught)

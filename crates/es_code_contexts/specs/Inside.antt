@@ -13,7 +13,7 @@ use Rattle.es_steps.specs.Scopes.{names_at}
 use Rattle.es_code_contexts.specs.declared.inside.Inside.{Inside}
 
 pub record IsInside (s : Inside) (c : Context) (t : Tree) (i : ℕ) : Type 0 where
-  pub names : declarations s.names.items ≡ spec.inner_name (kind_of t) (number_in t) (parts_in t) i ++ names_at c.around.is_body (kind_of t) (number_in t) (parts_in t) i
+  pub names : declarations s.names.list.items ≡ spec.inner_name (kind_of t) (number_in t) (parts_in t) i ++ names_at c.around.is_body (kind_of t) (number_in t) (parts_in t) i
   pub members : private_members_of s.members.items ≡ seen_members (kind_of t) (number_in t) (parts_in t) i
-  pub names_around : declarations s.names_around.items ≡ names_around c.around.is_body (kind_of t) (number_in t) (parts_in t) i
+  pub names_around : declarations s.names_around.list.items ≡ names_around c.around.is_body (kind_of t) (number_in t) (parts_in t) i
   pub around : (seen : Seen) → context_with c.terms.now seen s.around ≡ where_seen seen (spec.inside (context_of c) (kind_of t) (number_in t) (parts_in t) i)

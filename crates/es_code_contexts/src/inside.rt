@@ -12,7 +12,7 @@ use crate::seen::{names_within, privates_within};
 use es_code_reading::context::{Around, Context};
 use es_code_reading::inside::{around_inside, block_inside, names_around};
 use es_node::node::Node;
-use es_seen_names::declaration::Declaration;
+use es_seen_names::frame::Frame;
 use es_seen_names::names::Names;
 use es_seen_names::private_member::{PrivateMember, members_seen};
 use es_seen_names::scope::names_seen;
@@ -21,10 +21,10 @@ use std::alloc::{AllocError, Global};
 /// What a part of a node declares, and what is known there.
 #[derive(Drop)]
 pub struct Inside<'a> {
-    names: Vec<Declaration<'a>>,
+    names: Frame<'a>,
     members: Vec<PrivateMember<'a>>,
     /// Those of the names that no catch declares as a name.
-    names_around: Vec<Declaration<'a>>,
+    names_around: Frame<'a>,
     around: Around<'a>,
 }
 
@@ -38,9 +38,9 @@ impl<'a> Inside<'a> {
     ) -> Result<Inside<'a>, AllocError>
         ensures { IfOk result (λ s. IsInside s c.now node.now i) }
     {
-        let names = names_seen(alloc, c.around.is_body, node, i)?;
+        let names = Frame::of(alloc, names_seen(alloc, c.around.is_body, node, i)?)?;
         let members = members_seen(alloc, node, i)?;
-        let names_around = names_around(alloc, c.around.is_body, node, i)?;
+        let names_around = Frame::of(alloc, names_around(alloc, c.around.is_body, node, i)?)?;
         let around = around_inside(alloc, c, node, i)?;
         Ok(Inside {
             names,
@@ -64,9 +64,9 @@ impl<'a> Inside<'a> {
     {
         Context {
             terms: c.terms,
-            names: names_within(self.names.as_slice(), &c.names),
+            names: names_within(&self.names, &c.names),
             privates: privates_within(self.members.as_slice(), &c.privates),
-            uncaught: names_within(self.names_around.as_slice(), uncaught),
+            uncaught: names_within(&self.names_around, uncaught),
             block: block_inside(c, node.kind()),
             around: self.around,
         }

@@ -5,19 +5,19 @@ ghost use Rattle.es_seen_names.specs.Declarations.{declarations};
 ghost use Rattle.es_seen_names.specs.Frames.{names_in, privates_in};
 ghost use Rattle.es_seen_names.specs.PrivateMembers.{private_members_of};
 
-use es_seen_names::declaration::Declaration;
+use es_seen_names::frame::Frame;
 use es_seen_names::names::Names;
 use es_seen_names::private_member::PrivateMember;
 use es_seen_names::privates::Privates;
 
 /// These names, and those around them.
-pub fn names_within<'r, 'a>(names: &'r [Declaration<'a>], outer: &'r Names<'r, 'a>) -> Names<'r, 'a>
-    ensures { names_in result ≡ declarations names.now ++ names_in outer.now }
+pub fn names_within<'r, 'a>(frame: &'r Frame<'a>, outer: &'r Names<'r, 'a>) -> Names<'r, 'a>
+    ensures { names_in result ≡ declarations frame.now.list.items ++ names_in outer.now }
 {
-    if names.is_empty() {
+    if frame.list.is_empty() {
         *outer
     } else {
-        Names::Inside { names, outer }
+        Names::Inside { frame, outer }
     }
 }
 

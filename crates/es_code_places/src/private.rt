@@ -20,7 +20,6 @@ use es_codes::boxed::Boxed;
 use es_codes::code::Code;
 use es_codes::event::PrivateTest;
 use es_codes::name::PrivateReference;
-use es_generated::ledger::is_generated_private;
 use es_shapes::asked::lowers_fields;
 use std::alloc::{AllocError, Global};
 
@@ -28,7 +27,9 @@ use std::alloc::{AllocError, Global};
 fn is_made_private(c: &Context, name: &Name, means: PrivateReference) -> bool
     ensures { result ≡ spec.is_made_private (context_of c.now) name.now (reference_of means) }
 {
-    is_generated_private(name.as_str(), means.class, c.terms.ledger)
+    c.terms
+        .ledger
+        .is_generated_private(name.as_str(), means.class)
 }
 
 // ---- members

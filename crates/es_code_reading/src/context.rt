@@ -1,8 +1,8 @@
 // What is known at a place of a tree: which names are seen there, what `this` is, which class stands around. (ECMA-262,
 // 9.1, 9.2 and 9.4: environments, private environments, execution contexts.)
 
-use es_base::ledger::LedgerEntry;
 use es_codes::event::Home;
+use es_generated::ledger::Ledger;
 use es_outside::names::ProgramNames;
 use es_seen_names::names::Names;
 use es_seen_names::private_member::PrivateMember;
@@ -34,7 +34,7 @@ pub struct Terms<'a> {
     pub first_new: u32,
     pub options: Options,
     /// The generated names.
-    pub ledger: &'a [LedgerEntry],
+    pub ledger: &'a Ledger<'a>,
     /// The private members of the source.
     pub members: &'a [PrivateMember<'a>],
     /// The class expressions of the source whose heritage or keys read their name, with their identifiers.

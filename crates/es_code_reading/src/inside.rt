@@ -14,13 +14,13 @@ ghost use Rattle.es_code_reading.specs.Contexts.{Seen, context_of, context_with,
 
 use crate::context::{Around, Context, FunctionRole, Terms, This};
 use es_base::kind::Kind;
-use es_base::ledger::{GeneratedKind, LedgerEntry};
+use es_base::ledger::GeneratedKind;
 use es_base::strings::spells;
 use es_binding_faults::hoisted::part_at;
 use es_binding_faults::scopes::is_body_part;
 use es_binding_faults::vars::{catches_a_name, takes_vars};
 use es_codes::event::Home;
-use es_generated::ledger::generated_as;
+use es_generated::ledger::Ledger;
 use es_generated::numbers::is_new;
 use es_node::node::{Node, Part};
 use es_seen_names::class_in::class_in;
@@ -181,10 +181,10 @@ fn property_role(kind: &str, is_method: bool, object: u32) -> FunctionRole
 }
 
 /// The function that this name is assigned.
-fn role_of_generated(name: &str, ledger: &[LedgerEntry]) -> FunctionRole
+fn role_of_generated(name: &str, ledger: &Ledger) -> FunctionRole
     ensures { role_of result ≡ spec.role_of_generated (spec.generated_as (chars name.now) ledger.now) }
 {
-    match generated_as(name, ledger) {
+    match ledger.generated_as(name) {
         Some(GeneratedKind::SuperFn(class)) => FunctionRole::SuperFunctionOf(class.0),
         _ => FunctionRole::Function,
     }
@@ -257,7 +257,7 @@ fn identifier(node: &Node) -> Option<u32>
 fn let_class(alloc: Global, terms: &Terms, parts: &[Part]) -> Result<Option<(u32, u32)>, AllocError>
     ensures { IfOk result (λ r. r ≡ spec.let_class_of (spec.generated_as (spec.name_in (at 0 (parts_of parts.now))) terms.now.ledger.now) (scopes.class_in (at 1 (parts_of parts.now))) (at 0 (parts_of parts.now))) }
 {
-    if generated_as(name_at(parts, 0), terms.ledger).is_some() {
+    if terms.ledger.generated_as(name_at(parts, 0)).is_some() {
         return Ok(None);
     }
     let class = match part_at(parts, 1) {

@@ -13,7 +13,6 @@ use crate::context::{Context, Terms};
 use es_base::ids::NodeId;
 use es_base::name::Name;
 use es_codes::name::{NameKind, Referent};
-use es_generated::ledger::generated_as;
 use es_generated::numbers::is_new;
 use es_seen_names::declaration::ClassName;
 use es_seen_names::names::declared;
@@ -62,7 +61,7 @@ fn is_own(class_name: ClassName) -> bool
 pub fn name_kind(alloc: Global, c: &Context, name: &str) -> Result<NameKind, AllocError>
     ensures { IfOk result (λ k. kind_of k ≡ spec.name_kind (context_of c.now) (chars name.now)) }
 {
-    if let Some(kind) = generated_as(name, c.terms.ledger) {
+    if let Some(kind) = c.terms.ledger.generated_as(name) {
         return Ok(NameKind::Generated(kind));
     }
     match declared(&c.names, name) {

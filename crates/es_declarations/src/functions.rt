@@ -10,10 +10,9 @@ ghost use Rattle.es_steps.specs.Meaning.{by_number};
 ghost use Rattle.es_declarations.specs.Functions.{default_function, named_function};
 
 use es_base::kind::Kind;
-use es_base::ledger::LedgerEntry;
 use es_binding_faults::preorder::preorder;
 use es_by_number::numbered::{Numbered, sort_by_number};
-use es_generated::ledger::generated_as;
+use es_generated::ledger::Ledger;
 use es_node::node::Node;
 use es_tree::function::FunctionDeclarationRef;
 use es_tree::identifier::BindingIdentifierRef;
@@ -24,7 +23,7 @@ use std::alloc::{AllocError, Global};
 /// function; a default export stands for a function without name. Fails on allocation failure alone.
 pub fn declared_functions(
     alloc: Global,
-    ledger: &[LedgerEntry],
+    ledger: &Ledger,
     program: &Node,
 ) -> Result<Vec<Numbered<u32>>, AllocError>
     ensures { IfOk result (λ fs. pairs fs.items ≡ by_number (spec.declared_functions ledger.now (preorder program.now))) }
@@ -37,7 +36,7 @@ pub fn declared_functions(
 
 fn functions_among(
     alloc: Global,
-    ledger: &[LedgerEntry],
+    ledger: &Ledger,
     nodes: &[&Node],
 ) -> Result<Vec<Numbered<u32>>, AllocError>
     ensures { IfOk result (λ fs. pairs fs.items ≡ spec.declared_functions ledger.now (seen nodes.now)) }
@@ -63,7 +62,7 @@ fn add_if_some(
 
 /// The function that a node declares, under the number of the identifier or the default export.
 #[tactic(auto, using(crate::proofs::FunctionNodes::named, crate::proofs::FunctionNodes::unnamed, crate::proofs::FunctionNodes::by_default, crate::proofs::FunctionNodes::none))]
-fn declared_function(ledger: &[LedgerEntry], node: &Node) -> Option<Numbered<u32>>
+fn declared_function(ledger: &Ledger, node: &Node) -> Option<Numbered<u32>>
     ensures { pairs (option_to_list result) ≡ spec.declared_function ledger.now node.now }
 {
     match node.kind() {
@@ -83,13 +82,13 @@ fn declared_function(ledger: &[LedgerEntry], node: &Node) -> Option<Numbered<u32
 
 /// The function under the number of its identifier, unless that was generated.
 #[tactic(auto, using(crate::proofs::FunctionNodes::no_identifier))]
-fn named_function(ledger: &[LedgerEntry], id: &Node, function: u32) -> Option<Numbered<u32>>
+fn named_function(ledger: &Ledger, id: &Node, function: u32) -> Option<Numbered<u32>>
     ensures { pairs (option_to_list result) ≡ named_function ledger.now id.now function }
 {
     match id.kind() {
         Kind::BindingIdentifier => {
             let identifier = BindingIdentifierRef::from_node(id);
-            match generated_as(identifier.name.as_str(), ledger) {
+            match ledger.generated_as(identifier.name.as_str()) {
                 Some(_) => None,
                 None => Some(Numbered {
                     number: identifier.node_id.0,

@@ -3,3 +3,4 @@
 
 pub mod ledger;
 pub mod numbers;
+pub mod spellings;

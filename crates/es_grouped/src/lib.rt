@@ -50,18 +50,23 @@ impl<T: Drop> Grouped<T> {
     pub fn add(&mut self, alloc: Global, number: u32, value: T) -> Result<(), AllocError>
         ensures { OnOk result ((m : ℕ) → group m self.new ≡ group m self.old ++ cond (nat_eq m number) (value ∷ []) []) }
     {
-        let mut values = or_none(alloc, self.groups.swap_remove(&number));
+        match self.groups.get_mut(&number) {
+            Some(values) => {
+                values.push(value)?;
+                Ok(())
+            }
+            None => self.add_first(alloc, number, value),
+        }
+    }
+
+    /// Adds the first value of a number. Fails on allocation failure alone.
+    fn add_first(&mut self, alloc: Global, number: u32, value: T) -> Result<(), AllocError>
+        requires { group number self.now ≡ [] }
+        ensures { OnOk result ((m : ℕ) → group m self.new ≡ group m self.old ++ cond (nat_eq m number) (value ∷ []) []) }
+    {
+        let mut values = Vec::new(alloc);
         values.push(value)?;
         self.groups.insert(number, values)?;
         Ok(())
-    }
-}
-
-fn or_none<T>(alloc: Global, values: Option<Vec<T>>) -> Vec<T>
-    ensures { result.items ≡ if_any values }
-{
-    match values {
-        Some(values) => values,
-        None => Vec::new(alloc),
     }
 }

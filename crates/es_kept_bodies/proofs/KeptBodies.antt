@@ -7,11 +7,11 @@ use Rattle.es_lowered.specs.DeadZones as spec
 use Rattle.es_lowered.specs.DeadZones.{Body, ClassParts, Closures, Touch, TouchForm, reads, names_class, reads_this, makes_class, runs_closure, is_asked, is_arrow_of, is_in_same, is_run_before, is_run_by, is_same_form, is_this, put_off, put_off_behind, stands_in_closure, stands_in_node, were_run}
 use Rattle.es_steps.specs.KeptNodes.{all_pairs_stand, pair_stands}
 use Rattle.es_steps.specs.References.{has_number}
-use Rattle.es_kept_bodies.specs.Kept.{any_same, is_kept_body, is_same_body, none_in_closure, same_touch}
+use Rattle.es_kept_bodies.specs.Kept.{any_same, is_kept_body, is_same_body, same_touch}
 use Rattle.es_steps.specs.SameMeanings.{same_list}
 use Rattle.es_kept_bodies.proofs.SameTouches.{one_list}
 use Rattle.es_touches.specs.Comparison as compared
-use Rattle.es_touches.specs.Comparison.{turned}
+use Rattle.es_touches.specs.Comparison.{none_in_closure, turned}
 use Rattle.es_touches.specs.Touches.{bodies_of, classes_of, closures_of}
 use Rattle.es_touches.specs.declared.source.Source.{Source}
 

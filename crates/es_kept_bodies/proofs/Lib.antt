@@ -1,2 +1,3 @@
+pub mod IndexedBodies
 pub mod KeptBodies
 pub mod SameTouches

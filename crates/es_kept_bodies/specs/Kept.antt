@@ -1,7 +1,8 @@
 -- Bodies that touch what they touched in the source.
-use Rattle.std.specs.Prelude.{ℕ, List, [], ◌∷◌, Bool, true, false, not, ◌&&◌, ◌||◌, nat_eq}
+use Rattle.std.specs.Prelude.{ℕ, List, [], ◌∷◌, Bool, false, not, ◌&&◌, ◌||◌, nat_eq}
 use Rattle.es_steps.specs.SameMeanings.{same_list}
-use Rattle.es_lowered.specs.DeadZones.{Body, Closures, Touch, TouchForm, reads, names_class, reads_this, makes_class, calls_super, runs_closure, defines_field, between_parts, another, stands_in_closure}
+use Rattle.es_lowered.specs.DeadZones.{Body, Closures, Touch, TouchForm, reads, names_class, reads_this, makes_class, calls_super, runs_closure, defines_field, between_parts, another}
+use Rattle.es_touches.specs.Comparison.{none_in_closure}
 
 -- a form by two numbers
 abbrev pub tag_of : TouchForm → ℕ
@@ -36,10 +37,6 @@ is_same_body b c = nat_eq b.number c.number && ((c.derives || not b.derives) && 
 abbrev pub any_same : Body → List Body → Bool
 any_same b [] = false
 any_same b (c ∷ cs) = is_same_body b c || any_same b cs
-
-abbrev pub none_in_closure : Closures → List Touch → Bool
-none_in_closure called [] = true
-none_in_closure called (t ∷ ts) = not (stands_in_closure called t) && none_in_closure called ts
 
 abbrev pub is_kept_body : Closures → List Body → Body → Bool
 is_kept_body called sources b = none_in_closure called b.touches && any_same b sources

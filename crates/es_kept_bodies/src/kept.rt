@@ -1,40 +1,62 @@
 // Bodies that touch what they touched in the source.
 
 ghost use Rattle.std.specs.Prelude.{◌≡◌};
+ghost use Rattle.es_kept_bodies.specs.Indexed.{any_of_closure, bodies_seen};
 ghost use Rattle.es_kept_bodies.specs.Kept as spec;
+ghost use Rattle.es_lowered.specs.DeadZones.{stands_in_closure};
 ghost use Rattle.es_marks.specs.Around.{held_parts};
 ghost use Rattle.es_steps.specs.SameMeanings.{same_list};
+ghost use Rattle.es_touches.specs.Comparison.{none_in_closure};
 ghost use Rattle.es_touches.specs.Touches.{bodies_of, body_of, closures_of, form_of, touch_of, touches_of};
 
+use crate::indexed::{IndexedSource, SourceBody};
 use es_marks::around::HeldPart;
-use es_touches::closures::{Closure, stands_in_closure};
-use es_touches::source::{Body, Source};
+use es_touches::source::Body;
 use es_touches::touch::{Touch, TouchForm};
 
 /// Whether a body touches what one of the source of its number does, in that order, and nothing in a closure that is run
 /// elsewhere.
-pub fn is_kept_body(source: &Source, body: &Body) -> bool
-    ensures { result ≡ spec.is_kept_body (closures_of source.now.called.now) (bodies_of source.now.bodies.now) (body_of body.now) }
+pub fn is_kept_body(indexed: &IndexedSource, body: &Body) -> bool
+    ensures { result ≡ spec.is_kept_body (closures_of indexed.now.source.now.called.now) (bodies_of indexed.now.source.now.bodies.now) (body_of body.now) }
 {
-    none_in_closure(source.called, body.touches.as_slice()) && any_same(body, source.bodies)
+    none_in_closure(indexed, body.touches.as_slice())
+        && any_same(body, indexed.numbered(body.number))
 }
 
-fn none_in_closure(called: &[Closure], touches: &[Touch]) -> bool
-    ensures { result ≡ spec.none_in_closure (closures_of called.now) (touches_of touches.now) }
+fn none_in_closure(indexed: &IndexedSource, touches: &[Touch]) -> bool
+    ensures { result ≡ none_in_closure (closures_of indexed.now.source.now.called.now) (touches_of touches.now) }
 {
     for touch in touches {
-        if stands_in_closure(called, *touch) {
+        if stands_in_closure(indexed, *touch) {
             return false;
         }
     }
     true
 }
 
-fn any_same(body: &Body, others: &[Body]) -> bool
-    ensures { result ≡ spec.any_same (body_of body.now) (bodies_of others.now) }
+fn stands_in_closure(indexed: &IndexedSource, touch: Touch) -> bool
+    ensures { result ≡ stands_in_closure (closures_of indexed.now.source.now.called.now) (touch_of touch.entry) }
+{
+    any_of_closure(indexed, touch.held)
+}
+
+/// Whether one of these parts is of the arrow of a closure.
+fn any_of_closure(indexed: &IndexedSource, parts: &[HeldPart]) -> bool
+    ensures { result ≡ any_of_closure (closures_of indexed.now.source.now.called.now) (held_parts parts.now) }
+{
+    for part in parts {
+        if indexed.is_arrow(part.node) {
+            return true;
+        }
+    }
+    false
+}
+
+fn any_same(body: &Body, others: &[SourceBody]) -> bool
+    ensures { result ≡ spec.any_same (body_of body.now) (bodies_seen others.now) }
 {
     for other in others {
-        if is_same_body(body, other) {
+        if is_same_body(body, other.body) {
             return true;
         }
     }

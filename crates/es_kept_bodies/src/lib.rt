@@ -2,4 +2,5 @@
 #![tactic(auto)]
 
 pub mod bodies;
+mod indexed;
 mod kept;

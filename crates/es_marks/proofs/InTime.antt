@@ -79,6 +79,15 @@ next_in_time ledger xs i x below is stands =
     ∙ ap (λ (y : code.Mark). stands_here ledger front (mark_of y) behind && rest_in_time ledger xs (i + 1)) (sym is)
     ∙ ap (λ b. b && rest_in_time ledger xs (i + 1)) stands)
 
+pub not_in_time : (ledger : List LedgerEntry) (xs : List code.Mark) (i : ℕ) (x : code.Mark) → i < length xs → x ≡ get_or xs i x
+    → stands_here ledger (turned (marks_of (take i xs)) []) (mark_of x) (marks_of (drop (i + 1) xs)) ≡ false → rest_in_time ledger xs i ≡ false
+not_in_time ledger xs i x below is fails =
+    let front = turned (marks_of (take i xs)) [] in
+    let behind = marks_of (drop (i + 1) xs) in
+    next_mark ledger xs i x below
+    ∙ ap (λ (y : code.Mark). stands_here ledger front (mark_of y) behind && rest_in_time ledger xs (i + 1)) (sym is)
+    ∙ ap (λ b. b && rest_in_time ledger xs (i + 1)) fails
+
 -- ---- functions around
 
 early_at : (f : LaterFunction) (fs : List LaterFunction) (there : List (ℕ × Bool)) → is_later (later_functions fs) there ≡ true → is_called_early (later_functions (f ∷ fs)) there ≡ is_called_early (later_functions fs) there

@@ -1,1 +1,4 @@
+pub mod HeldFunctions
 pub mod InTime
+pub mod Named
+pub mod NeedingNames

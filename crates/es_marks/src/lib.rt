@@ -3,5 +3,7 @@
 
 pub mod around;
 pub mod in_time;
+pub mod located;
 pub mod marks;
 pub mod method_functions;
+pub mod needing;

@@ -16,10 +16,9 @@ ghost use Rattle.es_marks.specs.Around.{around_here, held_in, later_in, running_
 ghost use Rattle.es_marks_around.specs.Inside.{around_within, is_always_held, is_held_form};
 
 use es_base::kind::Kind;
-use es_base::ledger::LedgerEntry;
 use es_base::strings::spells;
 use es_binding_faults::hoisted::part_at;
-use es_generated::ledger::is_generated;
+use es_generated::ledger::Ledger;
 use es_generated::numbers::is_new;
 use es_marks::around::{
     Around, HeldPart, HeldParts, LaterFunction, LaterFunctions, RunningClass, RunningClasses,
@@ -35,7 +34,7 @@ use es_validity::jumps::is_loop;
 #[tactic(auto, using(crate::proofs::AroundParts::around_node))]
 pub fn around_in<'r, 'a>(
     first: u32,
-    ledger: &[LedgerEntry],
+    ledger: &Ledger,
     around: &'r Around<'r, 'a>,
     node: &'a Node,
     i: usize,
@@ -181,12 +180,12 @@ fn runs_later(first: u32, node: &Node, i: usize) -> bool
 /// Whether the node is a function declaration that anything may call: not that of a generated name, which its class alone
 /// calls.
 #[tactic(auto, using(crate::proofs::AroundParts::not_hoisted))]
-fn is_hoisted(ledger: &[LedgerEntry], node: &Node) -> bool
+fn is_hoisted(ledger: &Ledger, node: &Node) -> bool
     ensures { result ≡ spec.is_hoisted ledger.now (kind_of node.now) (parts_in node.now) }
 {
     match node.kind() {
         // function f() {}
-        Kind::FunctionDeclaration => !is_generated(spelling_at(node.parts(), 0), ledger),
+        Kind::FunctionDeclaration => !ledger.is_generated(spelling_at(node.parts(), 0)),
         _ => false,
     }
 }

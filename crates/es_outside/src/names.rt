@@ -96,16 +96,30 @@ impl<'a> Unwritten<'a> {
 
 impl<'a> ProgramNames<'a> {
     /// The names of this program. Fails on allocation failure alone.
-    #[tactic(auto, using(crate::proofs::BoundNames::bound_first))]
     pub fn of(alloc: Global, program: &'a Node) -> Result<ProgramNames<'a>, AllocError>
         ensures { IfOk result (λ n. n.program.now ≡ program.now) }
     {
         let references = references(alloc, program)?;
         let nodes = preorder(alloc, program)?;
-        let assigned = changing::assigned(alloc, references.as_slice())?;
-        let redeclared = changing::redeclared(alloc, nodes.as_slice())?;
-        let unwritten = Unwritten::of(alloc, program, references.as_slice(), nodes.as_slice())?;
-        let bindings = Bindings::of(alloc, references.as_slice())?;
+        ProgramNames::from_references(alloc, program, references.as_slice(), nodes.as_slice())
+    }
+
+    /// The names of this program, which has these references and nodes. Fails on allocation failure alone.
+    #[tactic(auto, using(crate::proofs::BoundNames::bound_first))]
+    pub fn from_references(
+        alloc: Global,
+        program: &'a Node,
+        references: &[Reference],
+        nodes: &[&Node],
+    ) -> Result<ProgramNames<'a>, AllocError>
+        requires references { references_of references.now ≡ resolve program.now }
+        requires nodes { seen nodes.now ≡ preorder program.now }
+        ensures { IfOk result (λ n. n.program.now ≡ program.now) }
+    {
+        let assigned = changing::assigned(alloc, references)?;
+        let redeclared = changing::redeclared(alloc, nodes)?;
+        let unwritten = Unwritten::of(alloc, program, references, nodes)?;
+        let bindings = Bindings::of(alloc, references)?;
         let assigned = Numbers::of(alloc, assigned.as_slice())?;
         let redeclared = Numbers::of(alloc, redeclared.as_slice())?;
         Ok(ProgramNames {

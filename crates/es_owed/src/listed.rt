@@ -1,4 +1,4 @@
-// A program with its nodes.
+// A program with its nodes and references.
 
 ghost use Rattle.std.specs.Prelude.{◌≡◌, ℕ, map, IfOk};
 ghost use Rattle.es_base.specs.Preorder.{number_of, preorder};
@@ -6,36 +6,43 @@ ghost use Rattle.es_binding_faults.specs.Seen.{seen};
 ghost use Rattle.es_by_number.specs.Numbered.{pairs};
 ghost use Rattle.es_grouped.specs.Groups.{group};
 ghost use Rattle.es_owed.specs.Listed.{numbered};
+ghost use Rattle.es_references.specs.References.{references_of};
+ghost use Rattle.es_steps.specs.References.{resolve};
 
 use es_binding_faults::preorder::preorder;
 use es_by_number::numbered::Numbered;
 use es_grouped::Grouped;
 use es_node::node::Node;
+use es_referents::Referents;
 use std::alloc::{AllocError, Global};
 
-/// A program, and its nodes in preorder.
+/// A program, its nodes in preorder, and its references.
 #[derive(Drop)]
 pub struct Listed<'a> {
     pub program: &'a Node,
     pub nodes: Vec<&'a Node>,
     /// The same nodes by their numbers.
     pub by_number: Grouped<&'a Node>,
+    pub references: Referents<'a>,
 
     ghost in_preorder: { seen nodes.items ≡ preorder program.now },
     ghost are_numbered: { (m : ℕ) → seen (group m by_number) ≡ numbered m (seen nodes.items) },
+    ghost are_resolved: { references_of references.list.items ≡ resolve program.now },
 }
 
 impl<'a> Listed<'a> {
-    /// This program with its nodes. Fails on allocation failure alone.
+    /// This program with its nodes and references. Fails on allocation failure alone.
     pub fn of(alloc: Global, program: &'a Node) -> Result<Listed<'a>, AllocError>
         ensures { IfOk result (λ l. l.program.now ≡ program.now) }
     {
         let nodes = preorder(alloc, program)?;
         let by_number = by_number(alloc, nodes.as_slice())?;
+        let references = Referents::of(alloc, program)?;
         Ok(Listed {
             program,
             nodes,
             by_number,
+            references,
         })
     }
 

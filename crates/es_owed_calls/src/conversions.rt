@@ -12,13 +12,13 @@ ghost use Rattle.es_owed_calls.specs.Strings.{if_string, strings};
 
 use crate::helper::is_key_conversion;
 use crate::naming::naming_calls;
-use crate::number_set::NumberSet;
 use crate::spelled::{add_name, generated_spelling};
 use crate::terms::CallTerms;
 use es_base::kind::Kind;
 use es_binding_faults::preorder::preorder;
 use es_generated::numbers::is_new;
 use es_node::node::Node;
+use es_number_set::NumberSet;
 use es_tree::class::PropertyDefinitionRef;
 use es_tree::expression::{AssignmentExpressionRef, PrivateFieldRef, PropertyRef};
 use es_validity::names::name_of;

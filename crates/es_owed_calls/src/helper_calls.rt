@@ -7,9 +7,9 @@ ghost use Rattle.es_lowered.specs.KeptKeys as kept;
 use crate::calls::{CallFacts, calls_fit};
 use crate::conversions::conversions_in;
 use crate::kept_keys::keys_that_stay;
-use crate::number_set::NumberSet;
 use crate::terms::CallTerms;
-use es_base::ledger::LedgerEntry;
+use es_generated::ledger::Ledger;
+use es_number_set::NumberSet;
 use es_owed::listed::Listed;
 use std::alloc::{AllocError, Global};
 
@@ -19,7 +19,7 @@ use std::alloc::{AllocError, Global};
 pub fn helper_calls_fit(
     alloc: Global,
     first: u32,
-    ledger: &[LedgerEntry],
+    ledger: &Ledger,
     source: &Listed,
     lowered: &Listed,
 ) -> Result<bool, AllocError>

@@ -7,22 +7,22 @@ ghost use Rattle.es_lowered.specs.ClassNames as names;
 ghost use Rattle.es_lowered.specs.Definitions as definitions;
 ghost use Rattle.es_lowered.specs.KeptKeys as spec;
 ghost use Rattle.es_references.specs.References.{reference_of, references_of};
+ghost use Rattle.es_referents.specs.Meanings.{referent_in};
 ghost use Rattle.es_steps.specs.LoweredClasses.{referent_of};
 ghost use Rattle.es_steps.specs.References.{has_number, resolve};
 ghost use Rattle.es_owed_calls.specs.KeptKeys.{any_class, any_named, declared_by, is_name, naming_in, names_both};
-ghost use Rattle.es_owed_initialized.specs.Meanings.{referent_in};
 
 use crate::computed_keys::computed_keys;
 use crate::lowering::Lowering;
-use es_base::ledger::LedgerEntry;
 use es_base::strings::{is_word, spells};
+use es_generated::ledger::Ledger;
 use es_grouped::Grouped;
 use es_node::node::Node;
 use es_owed::listed::Listed;
 use es_owed_initialized::class_names::names_class;
 use es_owed_initialized::kinds::is_class;
-use es_owed_initialized::meaning::Referents;
 use es_references::references::Reference;
+use es_referents::Referents;
 use std::alloc::{AllocError, Global};
 
 /// The numbers of the computed keys of the source that are what they were in what it was lowered to: what was a name means what
@@ -30,7 +30,7 @@ use std::alloc::{AllocError, Global};
 pub fn keys_that_stay(
     alloc: Global,
     first: u32,
-    ledger: &[LedgerEntry],
+    ledger: &Ledger,
     source: &Listed,
     lowered: &Listed,
 ) -> Result<Vec<u32>, AllocError>
@@ -68,8 +68,8 @@ fn still_means(lowering: &Lowering, key: u32) -> bool
     ensures { result ≡ spec.means_the_same (referent_of key (resolve lowering.now.source.now.program.now)) (referent_of key (resolve lowering.now.lowered.now.program.now)) }
 {
     means_the_same(
-        lowering.source_references.at(key),
-        lowering.lowered_references.at(key),
+        lowering.source.references.at(key),
+        lowering.lowered.references.at(key),
     )
 }
 
@@ -117,7 +117,7 @@ fn classes_meant<'l>(lowering: &'l Lowering, number: u32) -> &'l [u32]
 {
     declared_by(
         &lowering.source_classes,
-        lowering.source_references.at(number),
+        lowering.source.references.at(number),
     )
 }
 
@@ -184,8 +184,8 @@ fn names_in_source(lowering: &Lowering, class: u32, number: u32) -> bool
     ensures { result ≡ has_number number (names.naming_in_source lowering.now.first class lowering.now.source.now.program.now) }
 {
     let source = Resolved {
-        ledger: &[],
-        references: &lowering.source_references,
+        ledger: &lowering.source_ledger,
+        references: &lowering.source.references,
         identifiers: lowering.source_identifiers.get(class),
     };
     is_naming(source, class, number, lowering.source.numbered(number))
@@ -197,7 +197,7 @@ fn names_in_lowered(lowering: &Lowering, class: u32, number: u32) -> bool
 {
     let lowered = Resolved {
         ledger: lowering.ledger,
-        references: &lowering.lowered_references,
+        references: &lowering.lowered.references,
         identifiers: lowering.lowered_identifiers.get(class),
     };
     is_naming(lowered, class, number, lowering.lowered.numbered(number))
@@ -206,7 +206,7 @@ fn names_in_lowered(lowering: &Lowering, class: u32, number: u32) -> bool
 /// The references of a program, and the names by which it has a class.
 #[derive(Clone, Copy)]
 struct Resolved<'r, 'a> {
-    ledger: &'r [LedgerEntry],
+    ledger: &'r Ledger<'r>,
     references: &'r Referents<'a>,
     identifiers: &'r [u32],
 }

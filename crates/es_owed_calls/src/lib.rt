@@ -11,7 +11,6 @@ pub mod key_forms;
 pub mod lowering;
 pub mod name_tests;
 pub mod naming;
-pub mod number_set;
 pub mod spelled;
 pub mod static_key;
 pub mod tells;

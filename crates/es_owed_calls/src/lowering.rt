@@ -1,17 +1,15 @@
-// A source and what it was lowered to, with what the names in them mean.
+// A source and what it was lowered to, with the identifiers that declare their classes.
 
-ghost use Rattle.std.specs.Prelude.{◌≡◌, ℕ, IfOk};
+ghost use Rattle.std.specs.Prelude.{◌≡◌, [], ℕ, IfOk};
 ghost use Rattle.es_base.specs.Preorder.{preorder};
 ghost use Rattle.es_grouped.specs.Groups.{group};
 ghost use Rattle.es_lowered.specs.Definitions as definitions;
-ghost use Rattle.es_references.specs.References.{references_of};
-ghost use Rattle.es_steps.specs.References.{has_number, resolve};
+ghost use Rattle.es_steps.specs.References.{has_number};
 
-use es_base::ledger::LedgerEntry;
+use es_generated::ledger::Ledger;
 use es_grouped::Grouped;
 use es_owed::listed::Listed;
 use es_owed_initialized::identifiers::{class_identifiers, declared_classes};
-use es_owed_initialized::meaning::Referents;
 use std::alloc::{AllocError, Global};
 
 /// A source and what it was lowered to.
@@ -20,13 +18,11 @@ pub struct Lowering<'r, 'a> {
     /// The number of the first node that is new.
     pub first: u32,
     /// The generated names.
-    pub ledger: &'r [LedgerEntry],
+    pub ledger: &'r Ledger<'r>,
+    /// Those of the source: none.
+    pub source_ledger: Ledger<'r>,
     pub source: &'r Listed<'a>,
     pub lowered: &'r Listed<'a>,
-    /// The references of the source.
-    pub source_references: Referents<'a>,
-    /// Those of what it was lowered to.
-    pub lowered_references: Referents<'a>,
     /// Of each class the identifiers that declare it in the source.
     pub source_identifiers: Grouped<u32>,
     /// Those that declare it in what that was lowered to.
@@ -34,8 +30,7 @@ pub struct Lowering<'r, 'a> {
     /// Of each identifier the classes that it declares in the source.
     pub source_classes: Grouped<u32>,
 
-    ghost source_references_are: { references_of source_references.list.items ≡ resolve source.now.program.now },
-    ghost lowered_references_are: { references_of lowered_references.list.items ≡ resolve lowered.now.program.now },
+    ghost source_ledger_is: { source_ledger ≡ [] },
     ghost source_identifiers_are: { (n : ℕ) → group n source_identifiers ≡ definitions.class_identifiers first n (preorder source.now.program.now) },
     ghost lowered_identifiers_are: { (n : ℕ) → group n lowered_identifiers ≡ definitions.class_identifiers first n (preorder lowered.now.program.now) },
     ghost source_classes_are: { (b : ℕ) (n : ℕ) → has_number n (group b source_classes) ≡ has_number b (definitions.class_identifiers first n (preorder source.now.program.now)) },
@@ -46,7 +41,7 @@ impl<'r, 'a> Lowering<'r, 'a> {
     pub fn of(
         alloc: Global,
         first: u32,
-        ledger: &'r [LedgerEntry],
+        ledger: &'r Ledger<'r>,
         source: &'r Listed<'a>,
         lowered: &'r Listed<'a>,
     ) -> Result<Lowering<'r, 'a>, AllocError>
@@ -55,18 +50,15 @@ impl<'r, 'a> Lowering<'r, 'a> {
         ensures source { IfOk result (λ l. l.source.now.program.now ≡ source.now.program.now) }
         ensures lowered { IfOk result (λ l. l.lowered.now.program.now ≡ lowered.now.program.now) }
     {
-        let source_references = Referents::of(alloc, source.program)?;
-        let lowered_references = Referents::of(alloc, lowered.program)?;
         let source_identifiers = identifiers_in(alloc, first, source)?;
         let lowered_identifiers = identifiers_in(alloc, first, lowered)?;
         let source_classes = classes_in(alloc, first, source)?;
         Ok(Lowering {
             first,
             ledger,
+            source_ledger: Ledger::new(alloc),
             source,
             lowered,
-            source_references,
-            lowered_references,
             source_identifiers,
             lowered_identifiers,
             source_classes,

@@ -9,21 +9,20 @@ ghost use Rattle.es_owed_calls.specs.Strings.{if_string, strings};
 
 use crate::terms::CallTerms;
 use es_base::kind::Kind;
-use es_base::ledger::LedgerEntry;
 use es_base::strings::is_among;
-use es_generated::ledger::is_generated;
+use es_generated::ledger::Ledger;
 use es_node::node::Node;
 use es_seen_names::parts::string_at;
 use std::alloc::AllocError;
 
 /// Whether the node is a generated name.
 #[tactic(auto, using(crate::proofs::SpelledNodes::generated_node, crate::proofs::SpelledNodes::not_generated))]
-pub fn is_generated_name(ledger: &[LedgerEntry], node: &Node) -> bool
+pub fn is_generated_name(ledger: &Ledger, node: &Node) -> bool
     ensures { result ≡ spec.is_generated_name ledger.now (child node.now) }
 {
     match node.kind() {
         // _key
-        Kind::IdentifierReference => is_generated(string_at(node.parts(), 0), ledger),
+        Kind::IdentifierReference => ledger.is_generated(string_at(node.parts(), 0)),
         _ => false,
     }
 }
@@ -40,10 +39,10 @@ pub fn generated_spelling<'a>(terms: &CallTerms, node: &'a Node) -> Option<&'a s
     }
 }
 
-fn if_generated<'a>(ledger: &[LedgerEntry], name: &'a str) -> Option<&'a str>
+fn if_generated<'a>(ledger: &Ledger, name: &'a str) -> Option<&'a str>
     ensures { if_string result ≡ cond (context.is_generated (chars name.now) ledger.now) (chars name.now ∷ []) [] }
 {
-    if is_generated(name, ledger) {
+    if ledger.is_generated(name) {
         Some(name)
     } else {
         None

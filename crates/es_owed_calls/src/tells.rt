@@ -12,8 +12,9 @@ use crate::terms::CallTerms;
 use es_base::kind::Kind;
 use es_base::ledger::{GeneratedKind, LedgerEntry};
 use es_base::strings::is_word;
-use es_generated::ledger::{generated_as, is_generated, is_private_entry};
+use es_generated::ledger::Ledger;
 use es_generated::numbers::is_new;
+use es_generated::spellings::is_private_entry;
 use es_node::node::Node;
 use es_owed_initialized::spelling::spelling;
 use es_seen_names::parts::string_at;
@@ -39,7 +40,7 @@ pub fn tells(terms: &CallTerms, node: &Node) -> bool
         // o.#x
         Kind::PrivateField => {
             !is_private_name(
-                terms.ledger,
+                terms.ledger.entries(),
                 name_of(PrivateFieldRef::from_node(node).property),
             )
         }
@@ -54,7 +55,7 @@ pub fn tells(terms: &CallTerms, node: &Node) -> bool
         }
         // a
         Kind::IdentifierReference => {
-            !is_renamed(generated_as(string_at(node.parts(), 0), terms.ledger))
+            !is_renamed(terms.ledger.generated_as(string_at(node.parts(), 0)))
         }
         _ => true,
     }
@@ -126,7 +127,7 @@ fn is_silent_callee(terms: &CallTerms, callee: &Node) -> bool
         // super()
         Kind::Super => true,
         // _f()
-        Kind::IdentifierReference => is_generated(string_at(callee.parts(), 0), terms.ledger),
+        Kind::IdentifierReference => terms.ledger.is_generated(string_at(callee.parts(), 0)),
         // (() => e)()
         kind => is_new(terms.first, callee.node_id().0) && is_any_function(kind),
     }
@@ -138,7 +139,7 @@ fn is_loose_definition(terms: &CallTerms, arguments: &[Node]) -> bool
 {
     match arguments {
         // Object.defineProperty(o, L, { writable: true, value: v })
-        [_, key, ..] => is_loose_key(generated_as(spelling(key), terms.ledger)),
+        [_, key, ..] => is_loose_key(terms.ledger.generated_as(spelling(key))),
         _ => false,
     }
 }

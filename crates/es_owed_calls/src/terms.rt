@@ -1,7 +1,7 @@
 // What calls of helpers are read by.
 
-use crate::number_set::NumberSet;
-use es_base::ledger::LedgerEntry;
+use es_generated::ledger::Ledger;
+use es_number_set::NumberSet;
 
 /// What calls of helpers are read by.
 #[derive(Clone, Copy)]
@@ -9,7 +9,7 @@ pub struct CallTerms<'a> {
     /// The number of the first node that is new.
     pub first: u32,
     /// The generated names.
-    pub ledger: &'a [LedgerEntry],
+    pub ledger: &'a Ledger<'a>,
     /// The computed keys of the source that are what they were.
     pub keys: &'a NumberSet,
 }

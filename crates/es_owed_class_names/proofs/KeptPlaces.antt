@@ -7,6 +7,7 @@ use Rattle.es_binding_faults.proofs.HasNumbers.{has_number-append}
 use Rattle.es_lowered.specs.ClassNames as spec
 use Rattle.es_lowered.specs.ClassNames.{any_among, behind_class, is_asked, numbered}
 use Rattle.es_lowered.specs.Timely.{Mark, marks, nowhere}
+use Rattle.es_marks.specs.Located.{located}
 use Rattle.es_owed_timely.specs.Search.{has_node}
 use Rattle.es_steps.proofs.Reflexive.{number-same}
 use Rattle.es_steps.specs.References.{has_number}
@@ -15,7 +16,7 @@ use Rattle.es_owed_class_names.proofs.ChosenMarks as chosen
 use Rattle.es_owed_class_names.proofs.NodeMarks.{lateness}
 use Rattle.es_owed_class_names.proofs.PlacedNumbers.{kept_by_number}
 use Rattle.es_owed_class_names.specs.KeptPlaces.{is_kept, kept, kept_if}
-use Rattle.es_owed_class_names.specs.LocatedMarks.{class_marks, is_behind_any, located, of_nodes}
+use Rattle.es_owed_class_names.specs.LocatedMarks.{class_marks, is_behind_any, of_nodes}
 use Rattle.es_owed_class_names.specs.NodeMarks.{node_marks, stand_among}
 use Rattle.es_owed_class_names.specs.PlacedNumbers.{all_placed}
 

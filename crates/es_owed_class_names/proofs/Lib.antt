@@ -3,6 +3,7 @@ pub mod ChosenMarks
 pub mod ChosenPlaces
 pub mod ClassNodes
 pub mod HeldNames
+pub mod HoldingNodes
 pub mod KeptPlaces
 pub mod LocatedMarks
 pub mod NamedClasses

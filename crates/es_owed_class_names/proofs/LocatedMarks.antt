@@ -8,9 +8,10 @@ use Rattle.std.specs.Prelude.{nat_lt}
 use Rattle.es_binding_faults.proofs.HasNumbers.{has_number-append}
 use Rattle.es_lowered.specs.ClassNames.{behind_class, is_behind, is_class_mark, stand_behind}
 use Rattle.es_lowered.specs.Timely.{Mark}
+use Rattle.es_marks.specs.Located.{located}
 use Rattle.es_steps.specs.KeptNodes.{all_pairs_stand}
 use Rattle.es_steps.specs.References.{has_number}
-use Rattle.es_owed_class_names.specs.LocatedMarks.{is_early, is_front, is_late, located}
+use Rattle.es_owed_class_names.specs.LocatedMarks.{is_early, is_front, is_late}
 
 -- of the class, and around it no more than around the first
 abbrev pub holds : ℕ × Mark → ℕ × Mark → Bool

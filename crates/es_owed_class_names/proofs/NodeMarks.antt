@@ -1,22 +1,21 @@
 -- Marks of nodes, by the numbers of these.
-use Rattle.std.proofs.Common.{◌≡◌, refl, sym, ap, ap₂, ◌∙◌, ℕ, ◌+◌, List, [], ◌∷◌, ◌++◌, map, filter, Bool, true, false, cond, not, ◌&&◌, ◌||◌, append_assoc, Option, Some, None, option_to_list}
+use Rattle.std.proofs.Common.{◌≡◌, refl, sym, ap, ap₂, ◌∙◌, ℕ, ◌+◌, List, [], ◌∷◌, ◌++◌, filter, Bool, true, false, cond, not, ◌&&◌, ◌||◌, append_assoc, Option, Some, None, option_to_list}
 use Rattle.std.proofs.Math.Bool.{and-false, and-true, or-true}
 use Rattle.std.proofs.lemmas.Bool.{eqb-true}
 use Rattle.std.proofs.lemmas.Bool.Decides.{Decides-eqb, same_from_decides}
 use Rattle.std.proofs.lemmas.List.Folds.{list_any-append}
 use Rattle.std.specs.List.{list_any}
 use Rattle.std.specs.Prelude.{nat_eq, nat_lt}
-use Rattle.es_by_number.specs.Numbered.{numbered, pairs}
-use Rattle.es_by_number.specs.declared.numbered.Numbered.{Numbered}
 use Rattle.es_grouped.specs.Groups.{having}
 use Rattle.es_lowered.specs.ClassNames.{any_among, behind_class, is_class_mark, stand_behind}
 use Rattle.es_lowered.specs.Timely.{Mark}
+use Rattle.es_marks.specs.Located.{located}
 use Rattle.es_marks.specs.Marks.{mark_of, marks_of}
 use Rattle.es_marks.specs.declared.marks.Mark as code
 use Rattle.es_steps.specs.KeptNodes.{all_pairs_stand}
 use Rattle.es_steps.specs.References.{has_number}
 use Rattle.es_owed_class_names.proofs.LocatedMarks.{late, stands}
-use Rattle.es_owed_class_names.specs.LocatedMarks.{class_front, class_marks, is_early, is_front, located, of_node, of_nodes, with_nodes, with_number}
+use Rattle.es_owed_class_names.specs.LocatedMarks.{class_front, class_marks, is_early, is_front, of_node, of_nodes, with_nodes, with_number}
 
 same_number : (a b : ℕ) → nat_eq a b ≡ nat_eq b a
 same_number a b = same_from_decides _ _ (Decides-eqb a b) (λ t. sym ((Decides-eqb b a).0 t), λ e. (Decides-eqb b a).1 (sym e))
@@ -73,14 +72,6 @@ module _ (test : ℕ × Mark → Bool) where
   any_more k ks xs = list_any-append test (of_node k xs) (of_nodes ks xs)
 
 -- ---- looked up by numbers
-
-pub having_view : {T A : Type 0} (view : T → A) (k : ℕ) (xs : List (Numbered T)) → map view (having k (pairs xs)) ≡ having k (numbered view xs)
-having_view view k [] = refl
-having_view {T} {A} view k (x ∷ xs) = here (nat_eq k x.number) (having_view view k xs)
-  where
-    here : (b : Bool) → map view (having k (pairs xs)) ≡ having k (numbered view xs) → map view (cond b (x.value ∷ []) [] ++ having k (pairs xs)) ≡ cond b (view x.value ∷ []) [] ++ having k (numbered view xs)
-    here true h = ap (λ (vs : List A). view x.value ∷ vs) h
-    here false h = h
 
 pub having_node : (k c : ℕ) (ms : List code.Mark) → having k (with_nodes (located c (marks_of ms))) ≡ of_node k (located c (marks_of ms))
 having_node k c [] = refl

@@ -1,5 +1,6 @@
 pub mod Asked
 pub mod HeldNumbers
+pub mod Holders
 pub mod Inside
 pub mod KeptPlaces
 pub mod LocatedMarks

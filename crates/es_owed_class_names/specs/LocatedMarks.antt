@@ -1,15 +1,10 @@
 -- Marks with their places among all of a program.
-use Rattle.std.specs.Prelude.{ℕ, ◌+◌, List, [], ◌∷◌, ◌++◌, filter, Bool, cond, not, ◌&&◌, nat_lt}
+use Rattle.std.specs.Prelude.{ℕ, List, [], ◌∷◌, ◌++◌, filter, Bool, cond, not, ◌&&◌, nat_lt}
 use Rattle.std.specs.List.{list_any}
 use Rattle.es_lowered.specs.ClassNames.{is_class_mark}
 use Rattle.es_lowered.specs.Timely.{Mark}
 use Rattle.es_steps.specs.KeptNodes.{all_pairs_stand}
 use Rattle.es_steps.specs.References.{has_number}
-
--- from place c on
-abbrev pub located : ℕ → List Mark → List (ℕ × Mark)
-located c [] = []
-located c (m ∷ ms) = (c, m) ∷ located (c + 1) ms
 
 -- whether the second is a mark of the class in front of the first, and all that may run or not around it is around that, too
 abbrev pub is_front : ℕ × Mark → ℕ × Mark → Bool

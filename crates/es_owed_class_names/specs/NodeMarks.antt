@@ -1,17 +1,9 @@
--- Marks with their places in code, as definitions see them.
-use Rattle.std.specs.Prelude.{ℕ, List, [], ◌∷◌, map, filter, Bool, ◌||◌, None}
+-- The marks of references and classes, and whether references stand behind a class.
+use Rattle.std.specs.Prelude.{ℕ, List, [], ◌∷◌, filter, Bool, ◌||◌, None}
 use Rattle.es_base.specs.Tree.{Tree}
 use Rattle.es_lowered.specs.ClassNames.{any_among, is_none, stand_behind}
 use Rattle.es_lowered.specs.Timely.{Mark, marks, nowhere}
-use Rattle.es_marks.specs.Marks.{mark_of}
 use Rattle.es_owed_timely.specs.Search.{has_node}
-use Rattle.es_owed_class_names.specs.declared.located.LocatedMark.{LocatedMark}
-
-abbrev pub located_mark : LocatedMark → ℕ × Mark
-located_mark x = (x.place, mark_of x.mark.now)
-
-abbrev pub located_of : List LocatedMark → List (ℕ × Mark)
-located_of xs = map located_mark xs
 
 -- the marks of the references and classes of a program
 abbrev pub node_marks : ℕ → Tree → List Mark

@@ -2,6 +2,7 @@
 #![tactic(auto)]
 
 pub mod asked;
+pub mod holders;
 pub mod inside;
 pub mod kept_places;
 pub mod lists;

@@ -17,7 +17,8 @@ pub fn common(alloc: Global, others: &[u32], numbers: &[u32]) -> Result<Vec<u32>
     common_with(alloc, &set, numbers)
 }
 
-fn common_with(alloc: Global, others: &Numbers, numbers: &[u32]) -> Result<Vec<u32>, AllocError>
+/// The same, of a set. Fails on allocation failure alone.
+pub fn common_with(alloc: Global, others: &Numbers, numbers: &[u32]) -> Result<Vec<u32>, AllocError>
     ensures { IfOk result (λ r. r.items ≡ spec.common others.now numbers.now) }
 {
     let mut both = Vec::new(alloc);

@@ -5,22 +5,16 @@ ghost use Rattle.std.specs.List.{list_any};
 ghost use Rattle.es_by_number.specs.Numbered.{numbered};
 ghost use Rattle.es_grouped.specs.Groups.{group};
 ghost use Rattle.es_lowered.specs.ClassNames as spec;
-ghost use Rattle.es_marks.specs.Marks.{form_in, mark_of, marks_of};
-ghost use Rattle.es_owed_class_names.specs.LocatedMarks.{class_front, class_marks, is_early, is_front, located, of_node, of_nodes, with_node, with_nodes};
-ghost use Rattle.es_owed_class_names.specs.NodeMarks.{located_mark, located_of};
+ghost use Rattle.es_marks.specs.Located.{located, located_mark, located_of};
+ghost use Rattle.es_marks.specs.Marks.{form_in, marks_of};
+ghost use Rattle.es_owed_class_names.specs.LocatedMarks.{class_front, class_marks, is_early, is_front, of_node, of_nodes, with_node, with_nodes};
 
 use es_by_number::numbered::Numbered;
 use es_grouped::Grouped;
 use es_marks::in_time::all_held;
+use es_marks::located::LocatedMark;
 use es_marks::marks::{Mark, MarkForm};
 use std::alloc::{AllocError, Global};
-
-/// A mark with its place among all of a program.
-#[derive(Clone, Copy)]
-pub struct LocatedMark<'m, 'a> {
-    pub place: usize,
-    pub mark: &'m Mark<'a>,
-}
 
 /// The marks of a program at references and classes, looked up by the numbers of these.
 #[derive(Drop)]

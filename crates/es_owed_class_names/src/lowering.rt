@@ -15,17 +15,17 @@ ghost use Rattle.es_owed_references.specs.Moved.{functions_of};
 ghost use Rattle.es_references.specs.References.{references_of};
 ghost use Rattle.es_steps.specs.References.{has_number, resolve};
 
+use crate::holders::Holders;
 use crate::located::NodeMarks;
 use crate::marked::ProgramMarks;
 use crate::naming::names_by_class;
 use crate::placed::placed_by_number;
-use es_base::ledger::LedgerEntry;
 use es_binding_faults::numbers::Numbers;
+use es_generated::ledger::Ledger;
 use es_grouped::Grouped;
 use es_node::node::Node;
 use es_owed::listed::Listed;
 use es_owed_initialized::inner::class_numbers;
-use es_owed_initialized::meaning::Referents;
 use es_owed_initialized::numbers::add_numbers;
 use es_owed_places::placed::PlacedReference;
 use es_owed_references::lowered_reads::Reads;
@@ -54,6 +54,8 @@ pub struct Lowering<'r, 'm, 'a> {
     pub source_names: Grouped<u32>,
     /// The same in the lowered program.
     pub names: Grouped<u32>,
+    /// The functions of the lowered program that hold these classes.
+    pub holders: Holders<'r, 'a>,
     /// What is read in the lowered program.
     pub reads: Reads<'r, 'a>,
     /// What stands in its functions of generated names by which they are called.
@@ -66,6 +68,7 @@ pub struct Lowering<'r, 'm, 'a> {
     ghost marks_are: { marks_of marks.marks.now ≡ node_marks first lowered.now.program.now },
     ghost source_placed_are: { (k : ℕ) → places.references_of (group k source_placed) ≡ spec.numbered k (all_placed first source.now.program.now) },
     ghost placed_are: { (k : ℕ) → places.references_of (group k placed) ≡ spec.numbered k (all_placed first lowered.now.program.now) },
+    ghost holders_are: { holders.lowered.now ≡ lowered.now },
     ghost nodes_are: { seen nodes.now ≡ preorder lowered.now.program.now },
     ghost held_are: { (k : ℕ) → has_number k held ≡ has_number k (held_numbers (spec.moved_functions reads.ledger.now (preorder lowered.now.program.now))) },
     ghost read_nodes_are: { seen reads.nodes.now ≡ preorder lowered.now.program.now },
@@ -73,18 +76,16 @@ pub struct Lowering<'r, 'm, 'a> {
 }
 
 impl<'r, 'm, 'a> Lowering<'r, 'm, 'a> {
-    /// That of this source to this program, of which these are the references, and these the marks of references and classes of
-    /// both. Fails on allocation failure alone.
+    /// That of this source to this program, where these are the marks of references and classes of both. Fails on allocation
+    /// failure alone.
     pub fn of(
         alloc: Global,
         first: u32,
-        ledger: &'r [LedgerEntry],
+        ledger: &'r Ledger<'r>,
         source: &'r Listed<'a>,
         lowered: &'r Listed<'a>,
-        references: &'r Referents<'a>,
         marks: &'m ProgramMarks<'a>,
     ) -> Result<Lowering<'r, 'm, 'a>, AllocError>
-        requires references { references_of references.now.list.items ≡ resolve lowered.now.program.now }
         requires source_marks { marks_of marks.now.source.items ≡ node_marks first source.now.program.now }
         requires marks { marks_of marks.now.lowered.items ≡ node_marks first lowered.now.program.now }
         ensures first { IfOk result (λ l. l.first ≡ first) }
@@ -94,20 +95,14 @@ impl<'r, 'm, 'a> Lowering<'r, 'm, 'a> {
     {
         let classes = class_numbers(alloc, source.nodes.as_slice())?;
         let source_names = names_in_source(alloc, first, classes.as_slice(), source)?;
-        let names = names_in_lowered(
-            alloc,
-            first,
-            ledger,
-            classes.as_slice(),
-            lowered,
-            references,
-        )?;
+        let names = names_in_lowered(alloc, first, ledger, classes.as_slice(), lowered)?;
         let nodes = lowered.nodes.as_slice();
         let source_marks = NodeMarks::of(alloc, marks.source.as_slice())?;
         let marks = NodeMarks::of(alloc, marks.lowered.as_slice())?;
         let source_placed = placed_by_number(alloc, first, source.program)?;
         let placed = placed_by_number(alloc, first, lowered.program)?;
-        let reads = Reads::of(alloc, ledger, references.list.as_slice(), nodes)?;
+        let holders = Holders::of(alloc, first, classes.as_slice(), lowered)?;
+        let reads = Reads::of(alloc, ledger, lowered.references.list.as_slice(), nodes)?;
         let held = held_by(alloc, &reads)?;
         Ok(Lowering {
             first,
@@ -121,6 +116,7 @@ impl<'r, 'm, 'a> Lowering<'r, 'm, 'a> {
             classes,
             source_names,
             names,
+            holders,
             reads,
             held,
         })
@@ -137,9 +133,9 @@ fn names_in_source(
 ) -> Result<Grouped<u32>, AllocError>
     ensures { IfOk result (λ g. (n : ℕ) → has_number n classes.now ≡ true → group n g ≡ spec.naming_in_source first n source.now.program.now) }
 {
-    let references = Referents::of(alloc, source.program)?;
     let nodes = source.nodes.as_slice();
-    names_by_class(alloc, first, &[], classes, &references, nodes)
+    let ledger = Ledger::new(alloc);
+    names_by_class(alloc, first, &ledger, classes, &source.references, nodes)
 }
 
 /// Of each of these classes the references to names of it in a lowered program, but those that write one. Fails on allocation
@@ -147,16 +143,14 @@ fn names_in_source(
 fn names_in_lowered(
     alloc: Global,
     first: u32,
-    ledger: &[LedgerEntry],
+    ledger: &Ledger,
     classes: &[u32],
     lowered: &Listed,
-    references: &Referents,
 ) -> Result<Grouped<u32>, AllocError>
-    requires { references_of references.now.list.items ≡ resolve lowered.now.program.now }
     ensures { IfOk result (λ g. (n : ℕ) → has_number n classes.now ≡ true → group n g ≡ naming_in_lowered first ledger.now lowered.now.program.now n) }
 {
     let nodes = lowered.nodes.as_slice();
-    names_by_class(alloc, first, ledger, classes, references, nodes)
+    names_by_class(alloc, first, ledger, classes, &lowered.references, nodes)
 }
 
 /// What stands in functions of generated names by which they are called. Fails on allocation failure alone.

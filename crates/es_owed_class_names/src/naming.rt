@@ -9,24 +9,24 @@ ghost use Rattle.es_grouped.specs.Groups.{group, having};
 ghost use Rattle.es_lowered.specs.ClassNames as spec;
 ghost use Rattle.es_lowered.specs.Definitions.{class_identifiers};
 ghost use Rattle.es_owed_class_names.specs.NamedClasses.{bound_classes, declared, declared_by, each, meant, named, named_at, temporary_class};
-ghost use Rattle.es_owed_initialized.specs.Meanings.{referent_in};
 ghost use Rattle.es_references.specs.References.{reference_of, references_of};
+ghost use Rattle.es_referents.specs.Meanings.{referent_in};
 ghost use Rattle.es_steps.specs.References.{has_number};
 
 use crate::inside::{head_numbers, numbers_of_class};
 use crate::lists::{common, without};
 use es_base::kind::Kind;
-use es_base::ledger::{GeneratedKind, LedgerEntry};
+use es_base::ledger::GeneratedKind;
 use es_by_number::numbered::Numbered;
-use es_generated::ledger::generated_as;
+use es_generated::ledger::Ledger;
 use es_generated::numbers::has_number;
 use es_grouped::Grouped;
 use es_node::node::Node;
 use es_owed::listed::Listed;
 use es_owed_initialized::identifiers::class_identifiers;
-use es_owed_initialized::meaning::Referents;
 use es_owed_initialized::numbers::add_numbers;
 use es_references::references::Reference;
+use es_referents::Referents;
 use es_seen_names::parts::string_at;
 use std::alloc::{AllocError, Global};
 
@@ -35,7 +35,7 @@ use std::alloc::{AllocError, Global};
 pub fn names_by_class(
     alloc: Global,
     first: u32,
-    ledger: &[LedgerEntry],
+    ledger: &Ledger,
     classes: &[u32],
     references: &Referents,
     nodes: &[&Node],
@@ -97,7 +97,7 @@ fn add_declared(
 /// The references among these nodes that write nothing, each with the classes that it names. Fails on allocation failure alone.
 fn named(
     alloc: Global,
-    ledger: &[LedgerEntry],
+    ledger: &Ledger,
     references: &Referents,
     classes: &Grouped<u32>,
     nodes: &[&Node],
@@ -114,7 +114,7 @@ fn named(
 #[tactic(auto, using(crate::proofs::NamedClasses::at_reference, crate::proofs::NamedClasses::at_other))]
 fn add_named(
     alloc: Global,
-    ledger: &[LedgerEntry],
+    ledger: &Ledger,
     references: &Referents,
     classes: &Grouped<u32>,
     node: &Node,
@@ -141,7 +141,7 @@ fn add_named(
 /// allocation failure alone.
 fn meant(
     alloc: Global,
-    ledger: &[LedgerEntry],
+    ledger: &Ledger,
     references: &Referents,
     classes: &Grouped<u32>,
     number: u32,
@@ -150,7 +150,7 @@ fn meant(
     ensures { IfOk result (λ r. r.items ≡ meant ledger.now (references_of references.now.list.items) (λ b. group b classes.now) number (chars name.now)) }
 {
     let mut meant = Vec::new(alloc);
-    add_temporary(generated_as(name, ledger), &mut meant)?;
+    add_temporary(ledger.generated_as(name), &mut meant)?;
     add_numbers(bound_classes(classes, references.at(number)), &mut meant)?;
     Ok(meant)
 }

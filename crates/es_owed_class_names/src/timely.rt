@@ -1,8 +1,7 @@
 // The names of each class are read behind it, or in its elements.
 //
-// Each class takes time in proportion to its own nodes and the references to it, but for two things: where a name of it stands in a
-// function of a generated name that is called, all such functions are gone over, and a function around a new reference is searched
-// for the class.
+// Each class takes time in proportion to its own nodes and the references to it, but that where a name of it stands in a function of a
+// generated name that is called, all such functions are gone over.
 
 ghost use Rattle.std.specs.Prelude.{◌≡◌, ◌&&◌, true, IfOk};
 ghost use Rattle.es_base.specs.Preorder.{preorder};
@@ -17,9 +16,8 @@ use crate::lists::{is_none, without};
 use crate::lowering::Lowering;
 use crate::marked::{ProgramMarks, stand_in_time};
 use crate::new_names::new_names_fit;
-use es_base::ledger::LedgerEntry;
+use es_generated::ledger::Ledger;
 use es_owed::listed::Listed;
-use es_owed_initialized::meaning::Referents;
 use es_owed_references::moved::{MovedFunction, names_holding};
 use es_owed_references::numbers::{any_among, set_of};
 use std::alloc::{AllocError, Global};
@@ -30,15 +28,14 @@ use std::alloc::{AllocError, Global};
 pub fn classes_timely<'r, 'a>(
     alloc: Global,
     first: u32,
-    ledger: &'r [LedgerEntry],
+    ledger: &'r Ledger<'r>,
     source: &'r Listed<'a>,
     lowered: &'r Listed<'a>,
 ) -> Result<bool, AllocError>
     ensures { IfOk result (λ holds. holds ≡ spec.classes_timely first ledger.now source.now.program.now lowered.now.program.now) }
 {
-    let references = Referents::of(alloc, lowered.program)?;
     let marks = ProgramMarks::of(alloc, first, source.program, lowered.program)?;
-    let lowering = Lowering::of(alloc, first, ledger, source, lowered, &references, &marks)?;
+    let lowering = Lowering::of(alloc, first, ledger, source, lowered, &marks)?;
     all_classes_timely(alloc, &lowering)
 }
 

@@ -1,15 +1,18 @@
 -- The bodies of a program, node by node.
 use Rattle.std.proofs.Common.{◌≡◌, refl, ap, ◌∙◌, sym, arith, append-nil, ℕ, suc, ◌+◌, List, [], ◌∷◌, ◌++◌, Bool, true, false, cond, ◌&&◌, Result, Ok, Err}
 use Rattle.std.specs.Prelude.{IfOk}
+use Rattle.es_base.specs.Preorder.{preorder}
 use Rattle.es_base.specs.Tree.{Tree, Parts, Node}
 use Rattle.es_base.specs.declared.kind.Kind.{Kind}
+use Rattle.es_base.specs.declared.ledger.LedgerEntry.{LedgerEntry}
 use Rattle.es_lowered.specs.DeadZones as spec
 use Rattle.es_lowered.specs.DeadZones.{Touch, nothing_around, parameters_at, touch}
 use Rattle.es_node.specs.View.{kind_of, number_in, parts_in}
 use Rattle.es_steps.specs.NameScopes.{is_any_function}
 use Rattle.es_steps.specs.Parts.{at}
 use Rattle.es_steps.specs.PrivateNames.{is_class}
-use Rattle.es_steps.specs.References.{Reference, has_number}
+use Rattle.es_steps.specs.References.{Reference, has_number, resolve, written}
+use Rattle.es_steps.specs.declared.options.Options.{Options}
 use Rattle.es_touches.proofs.Comparing.{fit_alike}
 use Rattle.es_owed_dead_zones.specs.Bodies.{bodies, bodies_by, body, field_touches, function_body, function_touches, with_held}
 use Rattle.es_owed_dead_zones.specs.Walk.{is_apart, touches_at, value_touches}
@@ -69,3 +72,9 @@ bodies_alike first called xs ys ns ms rs qs ds es gs hs ts us a b c d e f = rw (
 pub fitted : {E : Type 0} (r : Result Bool E) (first : ℕ) (ns ms : List ℕ) (ks ls : List spec.ClassParts) (cs ds : spec.Closures) (xs ys us vs : List spec.Body) → ns ≡ ms → ks ≡ ls → cs ≡ ds → xs ≡ ys → us ≡ vs → IfOk r (λ holds. holds ≡ spec.bodies_fit first ns ks cs xs us) → IfOk r (λ holds. holds ≡ spec.bodies_fit first ms ls ds ys vs)
 fitted (Ok holds) first ns ms ks ls cs ds xs ys us vs a b c d e fits = fits ∙ fit_alike first ns ms ks ls cs ds xs ys us vs a b c d e
 fitted (Err e) first ns ms ks ls cs ds xs ys us vs a b c d f fits = tt
+
+pub bodies_of_alike : (first : ℕ) (es fs : List LedgerEntry) (called calls : spec.Closures) (asked facts : Tree) (program : Tree) → es ≡ fs → called ≡ calls → asked ≡ facts → spec.bodies_of first es called (preorder asked) program ≡ spec.bodies_of first fs calls (preorder facts) program
+bodies_of_alike first es fs called calls asked facts program a b c = rw (a, b, c) refl
+
+pub parts_alike : (options : Options) (p q : Tree) (ts us : List Tree) → p ≡ q → ts ≡ us → spec.class_parts options (written p) (resolve p) ts ≡ spec.class_parts options (written q) (resolve q) us
+parts_alike options p q ts us a b = rw (a, b) refl

@@ -1,4 +1,5 @@
 pub mod BodiesOfNodes
+pub mod LookedUpByNumber
 pub mod OwnTouches
 pub mod Spots
 pub mod Walked

@@ -11,7 +11,7 @@ use Rattle.es_owed_dead_zones.specs.Walk.{own_touches, reference_touches}
 use Rattle.es_owed_dead_zones.specs.declared.terms.Terms.{Terms}
 
 module _ (t : Terms) (x : Spot) (held : List (ℕ × ℕ)) (m : ℕ) (ps : Parts) where
-  pub own_reference : (kind : Kind) → kind ≡ Kind.IdentifierReference → own_touches t x held kind m ps ≡ reference_touches t held m (references_of t.references.now)
+  pub own_reference : (kind : Kind) → kind ≡ Kind.IdentifierReference → own_touches t x held kind m ps ≡ reference_touches t held m (references_of t.references.now.list.items)
   own_reference kind is = ap (λ k. own_touches t x held k m ps) is
 
   pub own_spread : (kind : Kind) → kind ≡ Kind.SpreadElement → own_touches t x held kind m ps ≡ touch_around x

@@ -27,22 +27,22 @@ body m fields classes derives ts = record { number = m; is_of_fields = fields; o
 
 module _ (x : Program) where
   abbrev pub field_touches : List ℕ → List Tree → List Touch
-  field_touches = spec.field_touches x.terms.first (closures_of x.terms.called.now) x.terms.asked.now x.terms.named.now (references_of x.terms.references.now) x.derived.now (super_functions_of x.given.now) (seen x.nodes.now)
+  field_touches = spec.field_touches x.terms.first (closures_of x.terms.called.now) x.terms.asked.now x.terms.named.now (references_of x.terms.references.now.list.items) x.derived.now (super_functions_of x.given.now.functions.items) (seen x.classes.now.listed.now.nodes.items)
 
   abbrev pub with_fields : List Touch → List Touch → List Touch
-  with_fields = spec.with_fields x.terms.first (closures_of x.terms.called.now) x.terms.asked.now x.terms.named.now (references_of x.terms.references.now) x.derived.now (super_functions_of x.given.now) (seen x.nodes.now)
+  with_fields = spec.with_fields x.terms.first (closures_of x.terms.called.now) x.terms.asked.now x.terms.named.now (references_of x.terms.references.now.list.items) x.derived.now (super_functions_of x.given.now.functions.items) (seen x.classes.now.listed.now.nodes.items)
 
   abbrev pub function_touches : Bool → List Touch → Kind → ℕ → Parts → List Touch
-  function_touches = spec.function_touches x.terms.first (closures_of x.terms.called.now) x.terms.asked.now x.terms.named.now (references_of x.terms.references.now) x.derived.now (super_functions_of x.given.now) (seen x.nodes.now)
+  function_touches = spec.function_touches x.terms.first (closures_of x.terms.called.now) x.terms.asked.now x.terms.named.now (references_of x.terms.references.now.list.items) x.derived.now (super_functions_of x.given.now.functions.items) (seen x.classes.now.listed.now.nodes.items)
 
   abbrev pub body_touches : Bool → List Touch → Kind → ℕ → Parts → List Touch
-  body_touches = spec.body_touches x.terms.first (closures_of x.terms.called.now) x.terms.asked.now x.terms.named.now (references_of x.terms.references.now) x.derived.now (super_functions_of x.given.now) (seen x.nodes.now)
+  body_touches = spec.body_touches x.terms.first (closures_of x.terms.called.now) x.terms.asked.now x.terms.named.now (references_of x.terms.references.now.list.items) x.derived.now (super_functions_of x.given.now.functions.items) (seen x.classes.now.listed.now.nodes.items)
 
   abbrev pub bodies_by : Kind → ℕ → Parts → List spec.Body
-  bodies_by = spec.bodies_by x.terms.first (closures_of x.terms.called.now) x.terms.asked.now x.terms.named.now (references_of x.terms.references.now) x.derived.now (super_functions_of x.given.now) (seen x.nodes.now)
+  bodies_by = spec.bodies_by x.terms.first (closures_of x.terms.called.now) x.terms.asked.now x.terms.named.now (references_of x.terms.references.now.list.items) x.derived.now (super_functions_of x.given.now.functions.items) (seen x.classes.now.listed.now.nodes.items)
 
   abbrev pub bodies : List Tree → List spec.Body
-  bodies = spec.bodies x.terms.first (closures_of x.terms.called.now) x.terms.asked.now x.terms.named.now (references_of x.terms.references.now) x.derived.now (super_functions_of x.given.now) (seen x.nodes.now)
+  bodies = spec.bodies x.terms.first (closures_of x.terms.called.now) x.terms.asked.now x.terms.named.now (references_of x.terms.references.now.list.items) x.derived.now (super_functions_of x.given.now.functions.items) (seen x.classes.now.listed.now.nodes.items)
 
   abbrev pub function_body : Kind → ℕ → Parts → spec.Body
-  function_body kind m ps = body m false (spec.constructs m (seen x.nodes.now) ++ spec.classes_given m (super_functions_of x.given.now)) (has_number m x.derived.now) (body_touches (has_number m x.derived.now) (field_touches (spec.constructs m (seen x.nodes.now)) (seen x.nodes.now)) kind m ps)
+  function_body kind m ps = body m false (spec.constructs m (seen x.classes.now.listed.now.nodes.items) ++ spec.classes_given m (super_functions_of x.given.now.functions.items)) (has_number m x.derived.now) (body_touches (has_number m x.derived.now) (field_touches (spec.constructs m (seen x.classes.now.listed.now.nodes.items)) (seen x.classes.now.listed.now.nodes.items)) kind m ps)

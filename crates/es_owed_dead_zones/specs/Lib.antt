@@ -1,3 +1,4 @@
 pub mod Bodies
+pub mod LookedUp
 pub mod Own
 pub mod Walk

@@ -32,64 +32,64 @@ if_tree touched (Some u) = touched u
 
 module _ (t : Terms) where
   abbrev pub touches : spec.Spot → Tree → List Touch
-  touches = spec.touches t.first (closures_of t.called.now) t.asked.now t.named.now (references_of t.references.now)
+  touches = spec.touches t.first (closures_of t.called.now) t.asked.now t.named.now (references_of t.references.now.list.items)
 
   abbrev pub keyed : List Touch → (ℕ → spec.Spot) → Parts → List Touch
-  keyed = spec.keyed t.first (closures_of t.called.now) t.asked.now t.named.now (references_of t.references.now)
+  keyed = spec.keyed t.first (closures_of t.called.now) t.asked.now t.named.now (references_of t.references.now.list.items)
 
   abbrev pub inner_touches : Kind → spec.Spot → (ℕ → spec.Spot) → Parts → List Touch
-  inner_touches = spec.inner_touches t.first (closures_of t.called.now) t.asked.now t.named.now (references_of t.references.now)
+  inner_touches = spec.inner_touches t.first (closures_of t.called.now) t.asked.now t.named.now (references_of t.references.now.list.items)
 
   abbrev pub joined : spec.Spot → Parts → List Touch
-  joined = spec.joined t.first (closures_of t.called.now) t.asked.now t.named.now (references_of t.references.now)
+  joined = spec.joined t.first (closures_of t.called.now) t.asked.now t.named.now (references_of t.references.now.list.items)
 
   abbrev pub touches_in : (ℕ → spec.Spot) → Parts → List Touch
-  touches_in = spec.touches_in t.first (closures_of t.called.now) t.asked.now t.named.now (references_of t.references.now)
+  touches_in = spec.touches_in t.first (closures_of t.called.now) t.asked.now t.named.now (references_of t.references.now.list.items)
 
   abbrev pub touches_at : spec.Spot → Part → List Touch
-  touches_at = spec.touches_at t.first (closures_of t.called.now) t.asked.now t.named.now (references_of t.references.now)
+  touches_at = spec.touches_at t.first (closures_of t.called.now) t.asked.now t.named.now (references_of t.references.now.list.items)
 
   abbrev pub touches_of : spec.Spot → Parts → List Touch
-  touches_of = spec.touches_of t.first (closures_of t.called.now) t.asked.now t.named.now (references_of t.references.now)
+  touches_of = spec.touches_of t.first (closures_of t.called.now) t.asked.now t.named.now (references_of t.references.now.list.items)
 
   abbrev pub turned : (ℕ → spec.Spot) → Parts → List Touch
-  turned = spec.turned t.first (closures_of t.called.now) t.asked.now t.named.now (references_of t.references.now)
+  turned = spec.turned t.first (closures_of t.called.now) t.asked.now t.named.now (references_of t.references.now.list.items)
 
   abbrev pub class_touches : spec.Spot → ℕ → Parts → List Touch
-  class_touches = spec.class_touches t.first (closures_of t.called.now) t.asked.now t.named.now (references_of t.references.now)
+  class_touches = spec.class_touches t.first (closures_of t.called.now) t.asked.now t.named.now (references_of t.references.now.list.items)
 
   abbrev pub key_touches : spec.Spot → Part → List Touch
-  key_touches = spec.key_touches t.first (closures_of t.called.now) t.asked.now t.named.now (references_of t.references.now)
+  key_touches = spec.key_touches t.first (closures_of t.called.now) t.asked.now t.named.now (references_of t.references.now.list.items)
 
   abbrev pub keys_touched : spec.Spot → Parts → List Touch
-  keys_touched = spec.keys_touched t.first (closures_of t.called.now) t.asked.now t.named.now (references_of t.references.now)
+  keys_touched = spec.keys_touched t.first (closures_of t.called.now) t.asked.now t.named.now (references_of t.references.now.list.items)
 
   abbrev pub value_touches : Bool → spec.Spot → Part → List Touch
-  value_touches = spec.value_touches t.first (closures_of t.called.now) t.asked.now t.named.now (references_of t.references.now)
+  value_touches = spec.value_touches t.first (closures_of t.called.now) t.asked.now t.named.now (references_of t.references.now.list.items)
 
   abbrev pub values_touched : Bool → spec.Spot → Parts → List Touch
-  values_touched = spec.values_touched t.first (closures_of t.called.now) t.asked.now t.named.now (references_of t.references.now)
+  values_touched = spec.values_touched t.first (closures_of t.called.now) t.asked.now t.named.now (references_of t.references.now.list.items)
 
   abbrev pub own_touches : spec.Spot → List (ℕ × ℕ) → Kind → ℕ → Parts → List Touch
-  own_touches = spec.own_touches t.first (closures_of t.called.now) t.asked.now t.named.now (references_of t.references.now)
+  own_touches = spec.own_touches t.first (closures_of t.called.now) t.asked.now t.named.now (references_of t.references.now.list.items)
 
   abbrev pub is_apart : Kind → ℕ → Bool
-  is_apart = spec.is_apart t.first (closures_of t.called.now) t.asked.now t.named.now (references_of t.references.now)
+  is_apart = spec.is_apart t.first (closures_of t.called.now) t.asked.now t.named.now (references_of t.references.now.list.items)
 
   abbrev pub read_form : ℕ → Referent → TouchForm
-  read_form = spec.read_form t.first (closures_of t.called.now) t.asked.now t.named.now (references_of t.references.now)
+  read_form = spec.read_form t.first (closures_of t.called.now) t.asked.now t.named.now (references_of t.references.now.list.items)
 
   abbrev pub reference_touches : List (ℕ × ℕ) → ℕ → List Reference → List Touch
-  reference_touches = spec.reference_touches t.first (closures_of t.called.now) t.asked.now t.named.now (references_of t.references.now)
+  reference_touches = spec.reference_touches t.first (closures_of t.called.now) t.asked.now t.named.now (references_of t.references.now.list.items)
 
   abbrev pub assignment_form : ℕ → Parts → TouchForm
-  assignment_form = spec.assignment_form t.first (closures_of t.called.now) t.asked.now t.named.now (references_of t.references.now)
+  assignment_form = spec.assignment_form t.first (closures_of t.called.now) t.asked.now t.named.now (references_of t.references.now.list.items)
 
   abbrev pub update_form : ℕ → Parts → TouchForm
-  update_form = spec.update_form t.first (closures_of t.called.now) t.asked.now t.named.now (references_of t.references.now)
+  update_form = spec.update_form t.first (closures_of t.called.now) t.asked.now t.named.now (references_of t.references.now.list.items)
 
   abbrev pub called_form : ℕ → Parts → TouchForm
-  called_form = spec.called_form t.first (closures_of t.called.now) t.asked.now t.named.now (references_of t.references.now)
+  called_form = spec.called_form t.first (closures_of t.called.now) t.asked.now t.named.now (references_of t.references.now.list.items)
 
   -- of the parts from the i-th on
   abbrev pub touches_from : (ℕ → spec.Spot) → ℕ → Parts → List Touch

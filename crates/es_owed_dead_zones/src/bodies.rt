@@ -13,19 +13,20 @@ ghost use Rattle.es_touches.specs.Touches.{bodies_of, body_of, kept_touch, kept_
 ghost use Rattle.es_owed_dead_zones.specs.Walk as walked;
 ghost use Rattle.es_binding_faults.specs.Seen.{seen};
 
+use crate::classes::Classes;
 use crate::spot::{nothing_around, push_touch};
 use crate::terms::Terms;
 use crate::walk::{add_at, add_values_in, is_apart};
 use es_base::kind::Kind;
 use es_binding_faults::hoisted::part_at;
-use es_generated::numbers::has_number;
 use es_marks::around::{HeldPart, HeldParts};
 use es_node::node::{Node, Part};
+use es_number_set::NumberSet;
 use es_owed_initialized::kinds::is_class;
-use es_owed_timely::functions::SuperFunction;
+use es_owed_initialized::numbers::add_numbers;
+use es_owed_timely::functions::SuperFunctions;
 use es_shapes::walk::is_any_function;
-use es_touches::below::push_if;
-use es_touches::derived::{constructs, is_one};
+use es_touches::derived::is_one;
 use es_touches::source::Body;
 use es_touches::touch::{KeptTouch, TouchForm, is_call_of_super, lent};
 use std::alloc::{AllocError, Global};
@@ -35,11 +36,11 @@ use std::alloc::{AllocError, Global};
 pub struct Program<'t, 'a> {
     pub terms: Terms<'t, 'a>,
     /// The functions and arrows where `this` is there behind `super(..)` alone.
-    pub derived: &'t [u32],
+    pub derived: &'t NumberSet,
     /// The functions for `super(..)`.
-    pub given: &'t [SuperFunction],
-    /// The nodes.
-    pub nodes: &'t [&'t Node],
+    pub given: &'t SuperFunctions,
+    /// The program with its classes.
+    pub classes: &'t Classes<'t, 'a>,
 }
 
 /// What a body touches.
@@ -73,10 +74,11 @@ pub fn lent_bodies(alloc: Global, kept: &[KeptBody]) -> Result<Vec<Body<'_>>, Al
 /// The bodies of a program. Fails on allocation failure alone.
 #[tactic(auto, using(crate::proofs::BodiesOfNodes::bodies_more))]
 pub fn bodies(alloc: Global, program: &Program) -> Result<Vec<KeptBody>, AllocError>
-    ensures { IfOk result (λ r. kept_bodies r.items ≡ bodied.bodies program.now (seen program.now.nodes.now)) }
+    ensures { IfOk result (λ r. kept_bodies r.items ≡ bodied.bodies program.now (seen program.now.classes.now.listed.now.nodes.items)) }
 {
+    let nodes = program.classes.listed.nodes.as_slice();
     let mut bodies = Vec::new(alloc);
-    for node in program.nodes {
+    for node in nodes {
         add_bodies(alloc, program, node, &mut bodies)?;
     }
     Ok(bodies)
@@ -137,8 +139,8 @@ fn add_function(
     ensures { OnOk result (kept_bodies bodies.new.items ≡ kept_bodies bodies.old.items ++ bodied.function_body program.now (kind_of node.now) (number_in node.now) (parts_in node.now) ∷ []) }
 {
     let number = node.node_id().0;
-    let class = constructs(number, program.nodes);
-    let derives = has_number(number, program.derived);
+    let class = program.classes.constructed_by(number);
+    let derives = program.derived.has(number);
     let touches = body_touches(alloc, program, derives, class, node)?;
     let of_class = classes_of(alloc, program, class, number)?;
     bodies.push(KeptBody {
@@ -178,27 +180,22 @@ fn classes_of(
     class: Option<u32>,
     function: u32,
 ) -> Result<Vec<u32>, AllocError>
-    ensures { IfOk result (λ r. r.items ≡ option_to_list class ++ spec.classes_given function (super_functions_of program.now.given.now)) }
+    ensures { IfOk result (λ r. r.items ≡ option_to_list class ++ spec.classes_given function (super_functions_of program.now.given.now.functions.items)) }
 {
     let mut classes = Vec::new(alloc);
     if let Some(class) = class {
         classes.push(class)?;
     }
-    add_given(function, program.given, &mut classes)?;
+    add_numbers(classes_given(program.given, function), &mut classes)?;
     Ok(classes)
 }
 
-fn add_given(
-    function: u32,
-    given: &[SuperFunction],
-    classes: &mut Vec<u32>,
-) -> Result<(), AllocError>
-    ensures { OnOk result (classes.new.items ≡ classes.old.items ++ spec.classes_given function (super_functions_of given.now)) }
+/// The classes for whose `super(..)` a function stands.
+#[tactic(auto, using(crate::proofs::LookedUpByNumber::given_by_number))]
+fn classes_given(given: &SuperFunctions, function: u32) -> &[u32]
+    ensures { result.now ≡ spec.classes_given function (super_functions_of given.now.functions.items) }
 {
-    for other in given {
-        push_if(function == other.node, other.class, classes)?;
-    }
-    Ok(())
+    given.classes.get(function)
 }
 
 // ---- fields
@@ -216,15 +213,38 @@ fn fields_of(alloc: Global, program: &Program, class: &Node) -> Result<Vec<KeptT
 }
 
 /// What the fields of this class touch, if any. Fails on allocation failure alone.
-#[tactic(auto, using(crate::proofs::BodiesOfNodes::fields_more))]
+#[tactic(auto, using(crate::proofs::LookedUpByNumber::fields_by_number, crate::proofs::LookedUpByNumber::fields_of_none))]
 fn field_touches(
     alloc: Global,
     program: &Program,
     class: Option<u32>,
 ) -> Result<Vec<KeptTouch>, AllocError>
-    ensures { IfOk result (λ r. kept_touches r.items ≡ bodied.field_touches program.now (option_to_list class) (seen program.now.nodes.now)) }
+    ensures { IfOk result (λ r. kept_touches r.items ≡ bodied.field_touches program.now (option_to_list class) (seen program.now.classes.now.listed.now.nodes.items)) }
 {
-    for node in program.nodes {
+    match class {
+        Some(number) => {
+            fields_among(
+                alloc,
+                program,
+                class,
+                program.classes.listed.numbered(number),
+            )
+        }
+        None => Ok(Vec::new(alloc)),
+    }
+}
+
+/// What the fields of this class touch, if it is one of these nodes. Fails on allocation failure alone.
+#[tactic(auto, using(crate::proofs::BodiesOfNodes::fields_more))]
+fn fields_among(
+    alloc: Global,
+    program: &Program,
+    class: Option<u32>,
+    nodes: &[&Node],
+) -> Result<Vec<KeptTouch>, AllocError>
+    ensures { IfOk result (λ r. kept_touches r.items ≡ bodied.field_touches program.now (option_to_list class) (seen nodes.now)) }
+{
+    for node in nodes {
         if is_class(node.kind()) && is_one(node.node_id().0, class) {
             return fields_of(alloc, program, node);
         }
@@ -319,7 +339,7 @@ fn body_touches(
     class: Option<u32>,
     node: &Node,
 ) -> Result<Vec<KeptTouch>, AllocError>
-    ensures { IfOk result (λ r. kept_touches r.items ≡ bodied.body_touches program.now derives (bodied.field_touches program.now (option_to_list class) (seen program.now.nodes.now)) (kind_of node.now) (number_in node.now) (parts_in node.now)) }
+    ensures { IfOk result (λ r. kept_touches r.items ≡ bodied.body_touches program.now derives (bodied.field_touches program.now (option_to_list class) (seen program.now.classes.now.listed.now.nodes.items)) (kind_of node.now) (number_in node.now) (parts_in node.now)) }
 {
     let fields = field_touches(alloc, program, class)?;
     let fields = fields.as_slice();

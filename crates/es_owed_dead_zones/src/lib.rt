@@ -3,8 +3,10 @@
 #![tactic(auto)]
 
 pub mod bodies;
+pub mod classes;
 pub mod dead_zones;
 pub mod held;
+pub mod named_closures;
 pub mod own;
 pub mod spot;
 pub mod terms;

@@ -1,33 +1,33 @@
 // The touches that a node has by itself.
 
 ghost use Rattle.std.specs.Prelude.{◌≡◌, ◌++◌, [], None, Some, cond, false, nat_eq, option_map, OnOk};
-ghost use Rattle.std.specs.Str.{chars};
 ghost use Rattle.es_base.specs.Numbered as numbered;
 ghost use Rattle.es_base.specs.declared.kind.Kind.{Kind};
 ghost use Rattle.es_lowered.specs.DeadZones as spec;
 ghost use Rattle.es_marks.specs.Around.{held_in};
 ghost use Rattle.es_node.specs.View.{kind_of, number_in, parts_in, parts_of};
 ghost use Rattle.es_references.specs.References.{reference_of, references_of};
+ghost use Rattle.es_referents.specs.Meanings.{of_number};
 ghost use Rattle.es_steps.specs.Parts.{at};
 ghost use Rattle.es_steps.specs.Printable.{has_optional};
 ghost use Rattle.es_steps.specs.References as references;
 ghost use Rattle.es_owed_dead_zones.specs.Own.{own_form, touches_by};
-ghost use Rattle.es_touches.specs.Touches.{closures_of, form_of, kept_touches};
+ghost use Rattle.es_touches.specs.Touches.{form_of, kept_touches};
 ghost use Rattle.es_owed_dead_zones.specs.Walk as walked;
 ghost use Rattle.es_owed_dead_zones.specs.Walk.{spot_of};
 
 use crate::spot::{Spot, held_behind, push_around, push_touch};
 use crate::terms::Terms;
 use es_base::kind::Kind;
-use es_base::strings::{is_word, spells};
+use es_base::strings::spells;
 use es_binding_faults::hoisted::part_at;
-use es_generated::numbers::{has_number, is_new};
+use es_generated::numbers::is_new;
 use es_marks::around::HeldParts;
 use es_node::node::{Node, Part};
 use es_owed_initialized::spelling::spelling_at;
 use es_references::references::Reference;
+use es_referents::Referents;
 use es_seen_names::parts::string_at;
-use es_touches::closures::Closure;
 use es_touches::forms::{
     defines, ends_in_throw, is_member, is_setter_slot, is_still, is_writer, sets_member,
 };
@@ -107,6 +107,7 @@ fn another_if(is_touched: bool) -> Option<TouchForm>
 // ---- references
 
 /// Adds what a reference of this number touches. Fails on allocation failure alone.
+#[tactic(auto, using(crate::proofs::LookedUpByNumber::references_by_number))]
 fn add_references(
     alloc: Global,
     terms: &Terms,
@@ -114,9 +115,31 @@ fn add_references(
     number: u32,
     touches: &mut Vec<KeptTouch>,
 ) -> Result<(), AllocError>
-    ensures { OnOk result (kept_touches touches.new.items ≡ kept_touches touches.old.items ++ walked.reference_touches terms.now (held_in held.now) number (references_of terms.now.references.now)) }
+    ensures { OnOk result (kept_touches touches.new.items ≡ kept_touches touches.old.items ++ walked.reference_touches terms.now (held_in held.now) number (references_of terms.now.references.now.list.items)) }
 {
-    for reference in terms.references {
+    let references = references_at(terms.references, number);
+    add_those(alloc, terms, held, number, references, touches)
+}
+
+/// The references of this number.
+fn references_at<'r, 'a>(references: &'r Referents<'a>, number: u32) -> &'r [Reference<'a>]
+    ensures { result.now ≡ of_number number references.now.list.items }
+{
+    references.by_number.get(number)
+}
+
+/// Adds what those of these references touch that have this number. Fails on allocation failure alone.
+fn add_those(
+    alloc: Global,
+    terms: &Terms,
+    held: &HeldParts,
+    number: u32,
+    references: &[Reference],
+    touches: &mut Vec<KeptTouch>,
+) -> Result<(), AllocError>
+    ensures { OnOk result (kept_touches touches.new.items ≡ kept_touches touches.old.items ++ walked.reference_touches terms.now (held_in held.now) number (references_of references.now)) }
+{
+    for reference in references {
         add_reference(alloc, terms, held, number, reference, touches)?;
     }
     Ok(())
@@ -157,10 +180,10 @@ fn read_form(terms: &Terms, number: u32, reference: &Reference) -> TouchForm
 fn bound_form(terms: &Terms, number: u32, binding: u32) -> TouchForm
     ensures { form_of result ≡ cond (references.has_number binding terms.now.named.now) (cond (numbered.is_new terms.now.first number) spec.another spec.names_class) (cond (references.has_number binding terms.now.asked.now) (spec.reads binding) spec.another) }
 {
-    if has_number(binding, terms.named) {
+    if terms.named.has(binding) {
         // function f(a = class { m() { class B {} } }) {}
         class_form(terms, number)
-    } else if has_number(binding, terms.asked) {
+    } else if terms.asked.has(binding) {
         TouchForm::Reads(binding)
     } else {
         TouchForm::Another
@@ -189,20 +212,8 @@ fn called_form(terms: &Terms, call: &Node) -> TouchForm
     } else if is_super_call(call) {
         TouchForm::CallsSuper
     } else {
-        closure_form(spelling_at(call.parts(), 0), terms.called)
+        terms.called.called_form(spelling_at(call.parts(), 0))
     }
-}
-
-/// The form of the call of this name.
-fn closure_form(name: &str, called: &[Closure]) -> TouchForm
-    ensures { form_of result ≡ spec.call_form false (chars name.now) (closures_of called.now) }
-{
-    for closure in called {
-        if is_word(closure.name, name) {
-            return TouchForm::RunsClosure(closure.arrow);
-        }
-    }
-    TouchForm::Another
 }
 
 fn sets_at(parts: &[Part], i: usize) -> bool

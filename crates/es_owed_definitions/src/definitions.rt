@@ -13,6 +13,7 @@ use crate::lowered::LoweredProgram;
 use crate::supers::supers_stand;
 use crate::terms::Terms;
 use es_base::ledger::{GeneratedKind, LedgerEntry};
+use es_generated::ledger::Ledger;
 use es_outside::names::ProgramNames;
 use es_owed::listed::Listed;
 use es_seen_names::private_member::private_members;
@@ -28,14 +29,14 @@ pub fn definitions_stand(
     alloc: Global,
     first: u32,
     options: &Options,
-    ledger: &[LedgerEntry],
+    ledger: &Ledger,
     source: &Listed,
     lowered: &Listed,
 ) -> Result<bool, AllocError>
     ensures { IfOk result (λ holds. holds ≡ spec.definitions_stand first options.now ledger.now (privates.private_members source.now.program.now) source.now.program.now lowered.now.program.now) }
 {
     if !lowers_fields(options) {
-        return Ok(none_of_members(ledger));
+        return Ok(none_of_members(ledger.entries()));
     }
     let terms = Terms {
         first,
@@ -112,8 +113,10 @@ fn fields_stand(
     requires { HasStatics lowered.now.terms (private_members_of lowered.now.members.now) lowered.now.listed.now.program.now lowered.now.statics }
     ensures { IfOk result (λ holds. holds ≡ spec.classes_fit lowered.now.terms.first lowered.now.terms.options.now lowered.now.terms.ledger.now (private_members_of lowered.now.members.now) source.now.program.now lowered.now.listed.now.program.now (preorder source.now.program.now)) }
 {
-    let names = ProgramNames::of(alloc, source.program)?;
-    classes_fit(alloc, &names, lowered, source.nodes.as_slice())
+    let references = source.references.list.as_slice();
+    let nodes = source.nodes.as_slice();
+    let names = ProgramNames::from_references(alloc, source.program, references, nodes)?;
+    classes_fit(alloc, &names, lowered, nodes)
 }
 
 /// Whether what stands for `super(..)` and is not called has definitions alone. Fails on allocation failure alone.
@@ -123,7 +126,7 @@ fn calls_of_super_stand(alloc: Global, lowered: &LoweredProgram) -> Result<bool,
     supers_stand(
         alloc,
         &lowered.terms,
-        lowered.references.list.as_slice(),
+        lowered.listed.references.list.as_slice(),
         lowered.nodes(),
     )
 }

@@ -18,7 +18,6 @@ use crate::keys::{KeyNames, key_fits};
 use crate::lowered::LoweredProgram;
 use crate::values::value_fits;
 use es_base::ledger::GeneratedKind;
-use es_generated::ledger::generated_as;
 use es_node::node::Node;
 use es_outside::names::ProgramNames;
 use es_owed::classes::class_body;
@@ -131,7 +130,7 @@ fn is_brand_key(names: &KeyNames, key: DefinedKey) -> bool
     ensures { result ≡ spec.is_brand_key names.now.class names.now.ledger.now (key_view key.entry) }
 {
     match key {
-        DefinedKey::Brand(name) => is_brand_of(names.class, generated_as(name, names.ledger)),
+        DefinedKey::Brand(name) => is_brand_of(names.class, names.ledger.generated_as(name)),
         _ => false,
     }
 }
@@ -186,7 +185,7 @@ fn class_fits(
     let names = KeyNames {
         ledger: terms.ledger,
         source,
-        lowered: &lowered.references,
+        lowered: &lowered.listed.references,
         class,
         identifiers,
     };

@@ -17,10 +17,10 @@ use crate::callee::{Callee, callee_of};
 use crate::definition::{DefinedKey, FieldDefinition};
 use crate::terms::Terms;
 use es_base::kind::Kind;
-use es_base::ledger::{GeneratedKind, LedgerEntry};
+use es_base::ledger::GeneratedKind;
 use es_base::operator::AssignmentOperator;
 use es_base::strings::spells;
-use es_generated::ledger::generated_as;
+use es_generated::ledger::Ledger;
 use es_generated::numbers::is_new;
 use es_node::node::Node;
 use es_owed_initialized::spelling::spelling;
@@ -36,10 +36,10 @@ use es_validity::parts::is_string;
 use std::alloc::AllocError;
 
 /// What the name that the node is was generated as, if it was.
-pub fn generated_at(node: &Node, ledger: &[LedgerEntry]) -> Option<GeneratedKind>
+pub fn generated_at(node: &Node, ledger: &Ledger) -> Option<GeneratedKind>
     ensures { result ≡ generated_as (spec.spelling (child node.now)) ledger.now }
 {
-    generated_as(spelling(node), ledger)
+    ledger.generated_as(spelling(node))
 }
 
 // ---- objects that are given
@@ -214,10 +214,7 @@ fn branded_definition<'a>(
 
 /// The definition that a call of `Object.defineProperty` is.
 #[tactic(auto, using(crate::proofs::DefinitionForms::no_loose))]
-fn object_definition<'a>(
-    ledger: &[LedgerEntry],
-    arguments: &'a [Node],
-) -> Option<FieldDefinition<'a>>
+fn object_definition<'a>(ledger: &Ledger, arguments: &'a [Node]) -> Option<FieldDefinition<'a>>
     ensures { option_to_list (option_map definition_view result) ≡ spec.object_definition ledger.now (trees arguments.now) }
 {
     match arguments {
@@ -231,7 +228,7 @@ fn object_definition<'a>(
 }
 
 fn loose_definition<'a>(
-    ledger: &[LedgerEntry],
+    ledger: &Ledger,
     object: &'a Node,
     key: &'a Node,
     value: &'a Node,
@@ -253,7 +250,7 @@ fn loose_definition<'a>(
 /// The definition of a static field that is given its object: `S = { _: v }`.
 #[tactic(auto, using(crate::proofs::DefinitionForms::no_static))]
 fn static_definition<'a>(
-    ledger: &[LedgerEntry],
+    ledger: &Ledger,
     target: &'a Node,
     value: Option<&'a Node>,
 ) -> Option<FieldDefinition<'a>>
@@ -266,11 +263,7 @@ fn static_definition<'a>(
     }
 }
 
-fn static_by<'a>(
-    ledger: &[LedgerEntry],
-    target: &'a Node,
-    value: &'a Node,
-) -> Option<FieldDefinition<'a>>
+fn static_by<'a>(ledger: &Ledger, target: &'a Node, value: &'a Node) -> Option<FieldDefinition<'a>>
     ensures { option_to_list (option_map definition_view result) ≡ spec.static_by (generated_as (spec.spelling (child target.now)) ledger.now) (child target.now) (child value.now) }
 {
     match generated_at(target, ledger) {

@@ -16,7 +16,6 @@ use crate::forms::add_definitions_at;
 use crate::terms::Terms;
 use es_base::kind::Kind;
 use es_base::ledger::GeneratedKind;
-use es_generated::ledger::generated_as;
 use es_generated::numbers::is_new;
 use es_node::node::{Node, Part};
 use es_owed::classes::body_if;
@@ -69,7 +68,7 @@ pub fn given_name(node: &Node) -> &str
 fn is_given_super(terms: &Terms, class: u32, node: &Node) -> bool
     ensures { result ≡ spec.is_given_super terms.now.first terms.now.options.now terms.now.ledger.now class (kind_of node.now) (parts_in node.now) }
 {
-    is_super_of(class, generated_as(given_name(node), terms.ledger))
+    is_super_of(class, terms.ledger.generated_as(given_name(node)))
 }
 
 fn is_super_of(class: u32, generated: Option<GeneratedKind>) -> bool

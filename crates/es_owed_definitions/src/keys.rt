@@ -6,6 +6,7 @@ ghost use Rattle.es_base.specs.Tree as tree;
 ghost use Rattle.es_base.specs.Tree.{child, end, literal, more};
 ghost use Rattle.es_base.specs.declared.kind.Kind.{Kind};
 ghost use Rattle.es_lowered.specs.Definitions as spec;
+ghost use Rattle.es_referents.specs.Meanings.{referent_in};
 ghost use Rattle.es_shapes.specs.Classes.{element_view};
 ghost use Rattle.es_shapes.specs.Names.{bound_number};
 ghost use Rattle.es_steps.specs.Context.{generated_as};
@@ -14,22 +15,21 @@ ghost use Rattle.es_steps.specs.References.{resolve};
 ghost use Rattle.es_references.specs.References.{references_of};
 ghost use Rattle.es_owed_definitions.specs.Keys.{is_name_key, names_view, same_number};
 ghost use Rattle.es_owed_definitions.specs.Views.{key_view, node_part};
-ghost use Rattle.es_owed_initialized.specs.Meanings.{referent_in};
 
 use crate::definition::DefinedKey;
 use crate::forms::generated_at;
 use es_base::ids::NodeId;
 use es_base::kind::Kind;
-use es_base::ledger::{GeneratedKind, LedgerEntry};
+use es_base::ledger::GeneratedKind;
 use es_base::literal::LiteralValue;
 use es_base::strings::is_word;
-use es_generated::ledger::generated_as;
+use es_generated::ledger::Ledger;
 use es_node::node::Node;
 use es_outside::names::ProgramNames;
 use es_owed::same::same_node;
 use es_owed_initialized::class_names::names_class;
-use es_owed_initialized::meaning::Referents;
 use es_references::references::Reference;
+use es_referents::Referents;
 use es_seen_names::parts::string_at;
 use es_shapes::element::ElementRef;
 use es_shapes::facts::NameFacts;
@@ -40,7 +40,7 @@ use es_tree::literal::LiteralRef;
 #[derive(Clone, Copy)]
 pub struct KeyNames<'r, 'a> {
     /// The generated names.
-    pub ledger: &'r [LedgerEntry],
+    pub ledger: &'r Ledger<'r>,
     /// The names of the source.
     pub source: &'r ProgramNames<'a>,
     /// The references of what it was lowered to.
@@ -58,7 +58,7 @@ pub fn key_fits(names: &KeyNames, element: &ElementRef, key: DefinedKey) -> bool
     match key {
         DefinedKey::Brand(_) => false,
         DefinedKey::Private(name) => {
-            element.is_private && is_member_key(element.key, generated_as(name, names.ledger))
+            element.is_private && is_member_key(element.key, names.ledger.generated_as(name))
         }
         DefinedKey::Value(key) => !element.is_private && is_value_of(names, element, key),
         DefinedKey::Name(key) => !element.is_private && is_name_of(element.key, key),

@@ -5,9 +5,7 @@ ghost use Rattle.es_base.specs.Preorder.{preorder};
 ghost use Rattle.es_binding_faults.specs.Seen.{seen};
 ghost use Rattle.es_grouped.specs.Groups.{group};
 ghost use Rattle.es_lowered.specs.Definitions as spec;
-ghost use Rattle.es_references.specs.References.{references_of};
 ghost use Rattle.es_seen_names.specs.PrivateMembers.{private_members_of};
-ghost use Rattle.es_steps.specs.References.{resolve};
 ghost use Rattle.es_owed_definitions.specs.Fields.{HasStatics};
 ghost use Rattle.es_owed_definitions.specs.SuperNames.{supers_of};
 ghost use Rattle.es_owed_definitions.specs.Views.{definition_views};
@@ -18,12 +16,11 @@ use crate::found::definitions_on_this;
 use crate::statics::definitions_by_class;
 use crate::super_names::nodes_by_class;
 use crate::terms::Terms;
-use es_base::ledger::LedgerEntry;
+use es_generated::ledger::Ledger;
 use es_grouped::Grouped;
 use es_node::node::Node;
 use es_owed::listed::Listed;
 use es_owed_initialized::identifiers::class_identifiers;
-use es_owed_initialized::meaning::Referents;
 use es_seen_names::private_member::PrivateMember;
 use std::alloc::{AllocError, Global};
 
@@ -34,7 +31,6 @@ pub struct LoweredProgram<'a> {
     pub listed: &'a Listed<'a>,
     /// The private members of its source.
     pub members: &'a [PrivateMember<'a>],
-    pub references: Referents<'a>,
     /// Of each class the identifiers that declare it.
     pub identifiers: Grouped<u32>,
     /// Of each class the nodes that give a value to a name which stands for `super(..)` of it.
@@ -42,7 +38,6 @@ pub struct LoweredProgram<'a> {
     /// Of each class the definitions on a name of it, or of one of its static private fields.
     pub statics: Grouped<FieldDefinition<'a>>,
 
-    ghost references_are: { references_of references.list.items ≡ resolve listed.now.program.now },
     ghost identifiers_are: { (n : ℕ) → group n identifiers ≡ spec.class_identifiers terms.first n (preorder listed.now.program.now) },
     ghost supers_are: { (n : ℕ) → seen (group n supers) ≡ supers_of terms.ledger.now n (preorder listed.now.program.now) },
 }
@@ -60,15 +55,13 @@ impl<'a> LoweredProgram<'a> {
         ensures program { IfOk result (λ l. l.listed.now.program.now ≡ listed.now.program.now) }
         ensures statics { IfOk result (λ l. HasStatics l.terms (private_members_of l.members.now) l.listed.now.program.now l.statics) }
     {
-        let references = Referents::of(alloc, listed.program)?;
         let identifiers = identifiers_by_class(alloc, terms.first, listed)?;
         let supers = supers_by_class(alloc, terms.ledger, listed)?;
-        let statics = statics_by_class(alloc, &terms, members, &references, listed)?;
+        let statics = statics_by_class(alloc, &terms, members, listed)?;
         Ok(LoweredProgram {
             terms,
             listed,
             members,
-            references,
             identifiers,
             supers,
             statics,
@@ -136,7 +129,7 @@ fn identifiers_by_class(
 /// Of each class the nodes that give a value to a name which stands for `super(..)` of it. Fails on allocation failure alone.
 fn supers_by_class<'a>(
     alloc: Global,
-    ledger: &[LedgerEntry],
+    ledger: &Ledger,
     listed: &Listed<'a>,
 ) -> Result<Grouped<&'a Node>, AllocError>
     ensures { IfOk result (λ g. (n : ℕ) → seen (group n g) ≡ supers_of ledger.now n (preorder listed.now.program.now)) }
@@ -149,10 +142,8 @@ fn statics_by_class<'a>(
     alloc: Global,
     terms: &Terms,
     members: &[PrivateMember],
-    references: &Referents,
     listed: &Listed<'a>,
 ) -> Result<Grouped<FieldDefinition<'a>>, AllocError>
-    requires { references_of references.now.list.items ≡ resolve listed.now.program.now }
     ensures { IfOk result (λ g. HasStatics terms.now (private_members_of members.now) listed.now.program.now g) }
 {
     let definitions = all_definitions(alloc, terms, listed.nodes.as_slice())?;
@@ -160,7 +151,7 @@ fn statics_by_class<'a>(
         alloc,
         terms,
         members,
-        references,
+        &listed.references,
         listed.nodes.as_slice(),
         definitions.as_slice(),
     )

@@ -7,8 +7,8 @@ ghost use Rattle.es_binding_faults.specs.Seen.{seen};
 ghost use Rattle.es_by_number.specs.Numbered.{pairs};
 ghost use Rattle.es_grouped.specs.Groups.{group};
 ghost use Rattle.es_lowered.specs.Definitions as spec;
-ghost use Rattle.es_owed_initialized.specs.Meanings.{referent_in};
 ghost use Rattle.es_references.specs.References.{reference_of, references_of};
+ghost use Rattle.es_referents.specs.Meanings.{referent_in};
 ghost use Rattle.es_seen_names.specs.PrivateMembers.{private_member_of, private_members_of};
 ghost use Rattle.es_owed_definitions.specs.Statics.{bound_classes, classes_on, key_class, member_class, named_classes, static_class, static_pairs, temporary_class, with_classes};
 ghost use Rattle.es_owed_definitions.specs.Views.{definition_view, definition_views, key_view};
@@ -16,16 +16,16 @@ ghost use Rattle.es_owed_definitions.specs.Views.{definition_view, definition_vi
 use crate::definition::{DefinedKey, FieldDefinition};
 use crate::terms::Terms;
 use es_base::kind::Kind;
-use es_base::ledger::{GeneratedKind, LedgerEntry};
+use es_base::ledger::GeneratedKind;
 use es_by_number::numbered::Numbered;
-use es_generated::ledger::generated_as;
+use es_generated::ledger::Ledger;
 use es_generated::numbers::has_number;
 use es_grouped::Grouped;
 use es_node::node::Node;
 use es_owed_initialized::identifiers::declared_classes;
-use es_owed_initialized::meaning::Referents;
 use es_owed_initialized::numbers::add_numbers;
 use es_references::references::Reference;
+use es_referents::Referents;
 use es_seen_names::parts::string_at;
 use es_seen_names::private_member::{PrivateMember, member_at};
 use std::alloc::{AllocError, Global};
@@ -34,7 +34,7 @@ use std::alloc::{AllocError, Global};
 #[derive(Clone, Copy)]
 struct Owners<'r, 'a> {
     /// The generated names.
-    ledger: &'r [LedgerEntry],
+    ledger: &'r Ledger<'r>,
     /// The private members of the source.
     members: &'r [PrivateMember<'r>],
     /// The references of what it was lowered to.
@@ -140,7 +140,7 @@ fn add_named_classes(owners: &Owners, node: &Node, classes: &mut Vec<u32>) -> Re
     match node.kind() {
         // A
         Kind::IdentifierReference => {
-            let generated = generated_as(string_at(node.parts(), 0), owners.ledger);
+            let generated = owners.ledger.generated_as(string_at(node.parts(), 0));
             add_some(temporary_class(generated), classes)?;
             let reference = owners.references.at(node.node_id().0);
             add_numbers(bound_classes(owners.declared, reference), classes)
@@ -184,7 +184,7 @@ fn key_class(owners: &Owners, key: DefinedKey) -> Option<u32>
 {
     match key {
         DefinedKey::Private(name) => {
-            static_class(generated_as(name, owners.ledger), owners.members)
+            static_class(owners.ledger.generated_as(name), owners.members)
         }
         _ => None,
     }

@@ -7,9 +7,9 @@ ghost use Rattle.es_grouped.specs.Groups.{group};
 ghost use Rattle.es_owed_definitions.specs.SuperNames.{super_class, super_pair, super_pairs, supers_of};
 
 use crate::found::given_name;
-use es_base::ledger::{GeneratedKind, LedgerEntry};
+use es_base::ledger::GeneratedKind;
 use es_by_number::numbered::Numbered;
-use es_generated::ledger::generated_as;
+use es_generated::ledger::Ledger;
 use es_grouped::Grouped;
 use es_node::node::Node;
 use std::alloc::{AllocError, Global};
@@ -18,7 +18,7 @@ use std::alloc::{AllocError, Global};
 /// alone.
 pub fn nodes_by_class<'a>(
     alloc: Global,
-    ledger: &[LedgerEntry],
+    ledger: &Ledger,
     nodes: &[&'a Node],
 ) -> Result<Grouped<&'a Node>, AllocError>
     ensures { IfOk result (λ g. (n : ℕ) → seen (group n g) ≡ supers_of ledger.now n (seen nodes.now)) }
@@ -30,7 +30,7 @@ pub fn nodes_by_class<'a>(
 /// These nodes, each with its class. Fails on allocation failure alone.
 fn with_classes<'a>(
     alloc: Global,
-    ledger: &[LedgerEntry],
+    ledger: &Ledger,
     nodes: &[&'a Node],
 ) -> Result<Vec<Numbered<&'a Node>>, AllocError>
     ensures { IfOk result (λ r. pairs r.items ≡ super_pairs ledger.now nodes.now) }
@@ -43,13 +43,13 @@ fn with_classes<'a>(
 }
 
 fn add_with_class<'a>(
-    ledger: &[LedgerEntry],
+    ledger: &Ledger,
     node: &'a Node,
     items: &mut Vec<Numbered<&'a Node>>,
 ) -> Result<(), AllocError>
     ensures { OnOk result (pairs items.new.items ≡ pairs items.old.items ++ super_pair ledger.now node.entry) }
 {
-    if let Some(class) = super_class(generated_as(given_name(node), ledger)) {
+    if let Some(class) = super_class(ledger.generated_as(given_name(node))) {
         items.push(Numbered {
             number: class,
             value: node,

@@ -17,7 +17,6 @@ use crate::found::{given_name, given_part};
 use crate::terms::Terms;
 use es_base::kind::Kind;
 use es_base::ledger::GeneratedKind;
-use es_generated::ledger::generated_as;
 use es_name_set::Names;
 use es_node::node::Node;
 use es_references::references::Reference;
@@ -67,7 +66,7 @@ fn super_stands(
     ensures { IfOk result (λ holds. holds ≡ spec.super_stands terms.now.first terms.now.options.now terms.now.ledger.now (references_of read.now.references.now) (kind_of node.now) (parts_in node.now)) }
 {
     let name = given_name(node);
-    if !is_super_name(generated_as(name, terms.ledger)) || read.has(name) {
+    if !is_super_name(terms.ledger.generated_as(name)) || read.has(name) {
         return Ok(true);
     }
     is_plain_super(alloc, terms, given_part(node))

@@ -1,6 +1,6 @@
 // What a program was lowered under.
 
-use es_base::ledger::LedgerEntry;
+use es_generated::ledger::Ledger;
 use es_steps::options::Options;
 
 /// What a program was lowered under.
@@ -10,5 +10,5 @@ pub struct Terms<'a> {
     pub first: u32,
     pub options: &'a Options,
     /// The generated names.
-    pub ledger: &'a [LedgerEntry],
+    pub ledger: &'a Ledger<'a>,
 }

@@ -11,7 +11,7 @@ ghost use Rattle.es_steps.specs.PrivateNames as privates;
 use crate::fields::class_stands;
 use crate::lowered::LoweredProgram;
 use crate::terms::Terms;
-use es_base::ledger::LedgerEntry;
+use es_generated::ledger::Ledger;
 use es_node::node::Node;
 use es_outside::names::ProgramNames;
 use es_owed::listed::Listed;
@@ -25,7 +25,7 @@ pub fn first_unfit(
     alloc: Global,
     first: u32,
     options: &Options,
-    ledger: &[LedgerEntry],
+    ledger: &Ledger,
     source: &Listed,
     lowered: &Listed,
 ) -> Result<Option<u32>, AllocError>
@@ -60,8 +60,10 @@ fn unfit_in(
     requires { HasStatics lowered.now.terms (private_members_of lowered.now.members.now) lowered.now.listed.now.program.now lowered.now.statics }
     ensures { IfOk result (λ n. n ≡ first_unfit lowered.now.terms.first lowered.now.terms.options.now lowered.now.terms.ledger.now (private_members_of lowered.now.members.now) source.now.program.now lowered.now.listed.now.program.now (preorder source.now.program.now)) }
 {
-    let names = ProgramNames::of(alloc, source.program)?;
-    unfit_among(alloc, &names, lowered, source.nodes.as_slice())
+    let references = source.references.list.as_slice();
+    let nodes = source.nodes.as_slice();
+    let names = ProgramNames::from_references(alloc, source.program, references, nodes)?;
+    unfit_among(alloc, &names, lowered, nodes)
 }
 
 #[tactic(auto, using(crate::proofs::UnfitClasses::unfit_here, crate::proofs::UnfitClasses::unfit_behind))]

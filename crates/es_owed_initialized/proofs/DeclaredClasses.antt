@@ -4,7 +4,7 @@ use Rattle.es_grouped.specs.Groups.{having}
 use Rattle.es_owed_initialized.specs.Identifiers.{turned}
 use Rattle.es_steps.specs.References.{has_number}
 
-has_one : (n k : ℕ) (b : Bool) (ks : List ℕ) → has_number n (cond b (k ∷ []) [] ++ ks) ≡ ((b && nat_eq n k) || has_number n ks)
+pub has_one : (n k : ℕ) (b : Bool) (ks : List ℕ) → has_number n (cond b (k ∷ []) [] ++ ks) ≡ ((b && nat_eq n k) || has_number n ks)
 has_one n k true ks = refl
 has_one n k false ks = refl
 

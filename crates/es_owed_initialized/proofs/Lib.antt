@@ -1,12 +1,15 @@
 pub mod ClassIdentifiers
 pub mod ClassNames
 pub mod DeclaredClasses
+pub mod Fronts
 pub mod GivenForms
+pub mod GivenNames
 pub mod GivenValues
 pub mod InnerClasses
 pub mod KeyNames
+pub mod MemberNumbers
+pub mod PlaceOrder
 pub mod PairsBehind
 pub mod Placed
-pub mod ReferenceNumbers
 pub mod RunningElements
 pub mod Spellings

@@ -1,60 +1,47 @@
 -- Assignments behind declarations of classes, statement by statement.
-use Rattle.std.proofs.Common.{◌≡◌, refl, sym, ap, ◌∙◌, ℕ, List, [], ◌∷◌, ◌++◌, Bool, cond, ◌&&◌, ◌||◌, Option, Some, None}
-use Rattle.std.proofs.Math.Bool.{or_assoc, or-false, and-false}
-use Rattle.std.specs.Option.{option_to_list}
+use Rattle.std.proofs.Common.{◌≡◌, refl, sym, ap, ◌∙◌, ℕ, ◌+◌, ◌<◌, List, [], ◌∷◌, ◌++◌, append_assoc, length, drop, get_or, cond, ◌&&◌, ◌||◌, Option, Some, None}
+use Rattle.std.proofs.lemmas.List.{at_drop_more}
 use Rattle.std.specs.Prelude.{nat_eq}
 use Rattle.es_base.specs.Tree.{Tree, Parts, Node, end, more, child, trees}
 use Rattle.es_base.specs.declared.kind.Kind.{Kind}
+use Rattle.es_grouped.specs.Groups.{having}
 use Rattle.es_node.specs.View.{kind_of, number_in, parts_in}
-use Rattle.es_owed_initialized.specs.Behind.{any_list, in_list, is_assignment, is_the, pairs_from, pairs_with}
+use Rattle.es_owed_initialized.proofs.DeclaredClasses.{has_one}
+use Rattle.es_owed_initialized.specs.Behind.{is_assignment, pairs_from, pairs_with}
 use Rattle.es_steps.specs.KeptNodes.{declared_classes, statement_list}
-use Rattle.es_lowered.specs.Lowered.{all_behind, assignment_number, class_number_in, has_pair, paired, pairs_behind}
+use Rattle.es_steps.specs.References.{has_number}
+use Rattle.es_lowered.specs.Lowered.{all_behind, assignment_number, class_number_in, has_pair, pairs_behind}
 
-append : (m n : ℕ) (xs ys : List (ℕ × ℕ)) → has_pair m n (xs ++ ys) ≡ (has_pair m n xs || has_pair m n ys)
-append m n [] ys = refl
-append m n (x ∷ xs) ys = ap (λ b. (nat_eq m x.0 && nat_eq n x.1) || b) (append m n xs ys) ∙ sym (or_assoc (nat_eq m x.0 && nat_eq n x.1) (has_pair m n xs) (has_pair m n ys))
-
-more_lists : (m n : ℕ) (t : Tree) (ts : List Tree) → has_pair m n (all_behind (t ∷ ts)) ≡ (has_pair m n (pairs_behind (statement_list (kind_of t) (parts_in t))) || has_pair m n (all_behind ts))
-more_lists m n (Node kind k span semantic_id ps) ts = append m n (pairs_behind (statement_list kind ps)) (all_behind ts)
+pub more_lists : (t : Tree) (ts : List Tree) → all_behind (t ∷ ts) ≡ pairs_behind (statement_list (kind_of t) (parts_in t)) ++ all_behind ts
+more_lists (Node kind k span semantic_id ps) ts = refl
 
 -- ---- of a list
 
-next_pair : (m n : ℕ) (before : Option Tree) (t : Tree) (ps : Parts) → has_pair m n (pairs_from before (more (child t) ps)) ≡ (has_pair m n (pairs_with before t) || has_pair m n (pairs_from (Some t) ps))
-next_pair m n None t ps = refl
-next_pair m n (Some p) t ps = append m n (paired (assignment_number (child t)) (class_number_in (child p))) (pairs_behind (more (child t) ps))
+pub next_pair : (before : Option Tree) (t : Tree) (ps : Parts) → pairs_from before (more (child t) ps) ≡ pairs_with before t ++ pairs_from (Some t) ps
+next_pair None t ps = refl
+next_pair (Some p) t ps = refl
 
-last_pair : (before : Option Tree) → pairs_from before end ≡ []
+pub last_pair : (before : Option Tree) → pairs_from before end ≡ []
 last_pair None = refl
 last_pair (Some p) = refl
 
-from_before : (m n : ℕ) (before : Option Tree) (ts : List Tree) → in_list m n before ts ≡ has_pair m n (pairs_from before (trees ts))
-from_before m n before [] = sym (ap (λ (ps : List (ℕ × ℕ)). has_pair m n ps) (last_pair before))
-from_before m n before (t ∷ ts) = ap (λ (b : Bool). has_pair m n (pairs_with before t) || b) (from_before m n (Some t) ts) ∙ sym (next_pair m n before t (trees ts))
-
-pub whole_list : (m n : ℕ) (ts : List Tree) → in_list m n None ts ≡ has_pair m n (pairs_behind (trees ts))
-whole_list m n ts = from_before m n None ts
-
-pub all_lists : (m n : ℕ) (ts : List Tree) → any_list m n ts ≡ has_pair m n (all_behind ts)
-all_lists m n [] = refl
-all_lists m n (t ∷ ts) = ap (λ (b : Bool). has_pair m n (pairs_behind (statement_list (kind_of t) (parts_in t))) || b) (all_lists m n ts) ∙ sym (more_lists m n t ts)
-
-class_numbers : (t : Tree) → class_number_in (child t) ≡ declared_classes (child t)
+pub class_numbers : (t : Tree) → class_number_in (child t) ≡ declared_classes (child t)
 class_numbers (Node Kind.ClassDeclaration n span semantic_id ps) = refl
 class_numbers (Node Kind.ExportNamedDeclaration m span semantic_id (more (child (Node Kind.ClassDeclaration n nspan n_semantic_id ps)) rest)) = refl
 class_numbers (Node Kind.ExportDefaultDeclaration m span semantic_id (more (child (Node Kind.ClassDeclaration n nspan n_semantic_id ps)) rest)) = refl
 class_numbers t = refl
 
-pair : (m n : ℕ) (k j : Option ℕ) → has_pair m n (paired (option_to_list k) (option_to_list j)) ≡ (is_the m k && is_the n j)
-pair m n None None = refl
-pair m n None (Some j) = refl
-pair m n (Some k) None = sym (and-false (nat_eq m k))
-pair m n (Some k) (Some j) = or-false (nat_eq m k && nat_eq n j)
-
-pub pair_of : (m n : ℕ) (k j : Option ℕ) (p t : Tree) → option_to_list k ≡ assignment_number (child t) → option_to_list j ≡ declared_classes (child p) → has_pair m n (pairs_with (Some p) t) ≡ (is_the m k && is_the n j)
-pair_of m n k j p t assigned declared =
-    ap (λ (ns : List ℕ). has_pair m n (paired (assignment_number (child t)) ns)) (class_numbers p ∙ sym declared)
-    ∙ ap (λ (ns : List ℕ). has_pair m n (paired ns (option_to_list j))) (sym assigned)
-    ∙ pair m n k j
+-- those of one more statement
+pub pairs_more : (before : Option Tree) (ts : List Tree) (i : ℕ) (t : Tree) (old new all : List (ℕ × ℕ)) → i < length ts → t ≡ get_or ts i t → new ≡ old ++ pairs_with before t → old ++ pairs_from before (trees (drop i ts)) ≡ all → new ++ pairs_from (Some t) (trees (drop (i + 1) ts)) ≡ all
+pairs_more before ts i t old new all below is joined h =
+    let behind = drop (i + 1) ts in
+    let rest = pairs_from (Some t) (trees behind) in
+    ap (λ (xs : List (ℕ × ℕ)). xs ++ rest) joined
+    ∙ append_assoc old (pairs_with before t) rest
+    ∙ ap (λ (xs : List (ℕ × ℕ)). old ++ xs) (sym (next_pair before t (trees behind)))
+    ∙ ap (λ (u : Tree). old ++ pairs_from before (trees (u ∷ behind))) is
+    ∙ ap (λ (xs : List (ℕ × ℕ)). old ++ xs) (sym (at_drop_more (λ (us : List Tree). pairs_from before (trees us)) ts i t below))
+    ∙ h
 
 -- ---- a statement
 
@@ -65,3 +52,9 @@ assigned m span semantic_id (Node kind k kspan k_semantic_id ps) directive = ref
 pub unassigned : (t : Tree) → (kind_of t ≡ Kind.ExpressionStatement → ⊥) → assignment_number (child t) ≡ []
 unassigned (Node Kind.ExpressionStatement m span semantic_id ps) other = absurd (other refl)
 unassigned (Node kind m span semantic_id ps) other = refl
+
+-- ---- the classes of an assignment
+
+pub pair_by_number : (m n : ℕ) (ps : List (ℕ × ℕ)) → has_number n (having m ps) ≡ has_pair m n ps
+pair_by_number m n [] = refl
+pair_by_number m n (p ∷ ps) = has_one n p.1 (nat_eq m p.0) (having m ps) ∙ ap (λ b. (nat_eq m p.0 && nat_eq n p.1) || b) (pair_by_number m n ps)

@@ -1,7 +1,10 @@
 pub mod Behind
 pub mod Forms
+pub mod Fronts
+pub mod Givers
 pub mod Identifiers
 pub mod Initial
 pub mod Keys
-pub mod Meanings
+pub mod Members
+pub mod Order
 pub mod Placed

@@ -10,16 +10,16 @@ ghost use Rattle.es_lowered.specs.OwnNames as names;
 ghost use Rattle.es_steps.specs.LoweredClasses.{referent_of};
 ghost use Rattle.es_steps.specs.Parts.{at};
 
-use crate::meaning::Referents;
 use es_base::kind::Kind;
-use es_base::ledger::{GeneratedKind, LedgerEntry};
+use es_base::ledger::GeneratedKind;
 use es_binding_faults::bound::is_binding_identifier;
 use es_binding_faults::hoisted::part_at;
-use es_generated::ledger::generated_as;
+use es_generated::ledger::Ledger;
 use es_generated::numbers::{has_number, is_new};
 use es_node::node::{Node, Part};
 use es_owed::classes::class_at;
 use es_references::references::Reference;
+use es_referents::Referents;
 use es_seen_names::parts::string_at;
 use std::alloc::{AllocError, Global};
 
@@ -28,7 +28,7 @@ use std::alloc::{AllocError, Global};
 #[tactic(auto, using(crate::proofs::ClassNames::named_reference, crate::proofs::ClassNames::names_nothing))]
 pub fn names_class(
     class: u32,
-    ledger: &[LedgerEntry],
+    ledger: &Ledger,
     references: &Referents,
     identifiers: &[u32],
     node: &Node,
@@ -38,7 +38,7 @@ pub fn names_class(
     match node.kind() {
         // A
         Kind::IdentifierReference => {
-            is_class_temporary(class, generated_as(string_at(node.parts(), 0), ledger))
+            is_class_temporary(class, ledger.generated_as(string_at(node.parts(), 0)))
                 || means_one(identifiers, node.node_id().0, references)
         }
         _ => false,

@@ -1,73 +1,28 @@
 // What gives generated names their values.
 
-ghost use Rattle.std.specs.Prelude.{◌≡◌, ◌++◌, ◌∷◌, [], ℕ, cond, IfOk, OnOk, option_map};
+ghost use Rattle.std.specs.Prelude.{◌≡◌, ◌++◌, ◌∷◌, [], cond, IfOk, OnOk, option_map};
 ghost use Rattle.std.specs.Str.{chars};
 ghost use Rattle.es_base.specs.Tree.{child, nullable};
 ghost use Rattle.es_binding_faults.specs.Seen.{seen};
 ghost use Rattle.es_node.specs.View.{kind_of, number_in, parts_in};
 ghost use Rattle.es_owed_initialized.specs.Initial.{pairs_in, pairs_of};
-ghost use Rattle.es_references.specs.References.{references_of};
-ghost use Rattle.es_grouped.specs.Groups.{group};
-ghost use Rattle.es_lowered.specs.Definitions.{class_identifiers};
 ghost use Rattle.es_lowered.specs.Lowered as spec;
-ghost use Rattle.es_steps.specs.References.{resolve};
 
-use crate::behind::has_pair;
 use crate::class_names::names_class;
 use crate::forms::{
     has_field_value, is_function_value, is_key_call, is_new_weak_map, is_new_weak_set,
 };
-use crate::identifiers::class_identifiers;
-use crate::meaning::Referents;
+use crate::generated::Generated;
 use crate::spelling::spelling_of;
 use es_base::kind::Kind;
-use es_base::ledger::{GeneratedKind, LedgerEntry};
+use es_base::ledger::GeneratedKind;
 use es_base::strings::is_word;
-use es_grouped::Grouped;
 use es_node::node::Node;
-use es_owed::listed::Listed;
 use es_tree::class::{ClassDeclarationRef, ClassExpressionRef};
 use es_tree::expression::AssignmentExpressionRef;
 use es_tree::function::{FunctionDeclarationRef, FunctionExpressionRef};
 use es_tree::statement::VariableDeclaratorRef;
 use std::alloc::{AllocError, Global};
-
-/// A lowered program with its generated names.
-#[derive(Drop)]
-pub struct Generated<'r, 'a> {
-    /// The number of the first new node.
-    pub first: u32,
-    pub ledger: &'r [LedgerEntry],
-    pub lowered: &'r Listed<'a>,
-    pub references: Referents<'a>,
-    /// Of each class the identifiers that declare it.
-    pub identifiers: Grouped<u32>,
-
-    ghost are_resolved: { references_of references.list.items ≡ resolve lowered.now.program.now },
-    ghost are_identified: { (n : ℕ) → group n identifiers ≡ class_identifiers first n (seen lowered.now.nodes.items) },
-}
-
-impl<'r, 'a> Generated<'r, 'a> {
-    /// This program with these names, its new nodes being numbered from `first` on. Fails on allocation failure alone.
-    pub fn of(
-        alloc: Global,
-        first: u32,
-        ledger: &'r [LedgerEntry],
-        lowered: &'r Listed<'a>,
-    ) -> Result<Generated<'r, 'a>, AllocError>
-        ensures { IfOk result (λ g. (g.first ≡ first) × (g.ledger.now ≡ ledger.now) × (g.lowered.now ≡ lowered.now)) }
-    {
-        let references = Referents::of(alloc, lowered.program)?;
-        let identifiers = class_identifiers(alloc, first, lowered.nodes.as_slice())?;
-        Ok(Generated {
-            first,
-            ledger,
-            lowered,
-            references,
-            identifiers,
-        })
-    }
-}
 
 /// A node that gives a name a value, and whether that has the form of what the name stands for.
 #[derive(Debug, Clone, Copy)]
@@ -76,8 +31,7 @@ pub struct Initialization {
     pub is_right: bool,
 }
 
-/// What gives a name of this kind a value among these nodes. Fails on allocation failure alone.
-#[tactic(auto, using(crate::proofs::GivenValues::more_initializations))]
+/// What gives a name of this kind a value in the lowered program. Fails on allocation failure alone.
 pub fn initializations(
     alloc: Global,
     names: &Generated,
@@ -86,8 +40,22 @@ pub fn initializations(
 ) -> Result<Vec<Initialization>, AllocError>
     ensures { IfOk result (λ r. pairs_of r.items ≡ spec.initializations names.now.first names.now.ledger.now names.now.lowered.now.program.now (chars name.now) kind (seen names.now.lowered.now.nodes.items)) }
 {
+    initializations_among(alloc, names, name, kind, names.giving(name))
+}
+
+/// The same among these nodes. Fails on allocation failure alone.
+#[tactic(auto, using(crate::proofs::GivenValues::more_initializations))]
+fn initializations_among(
+    alloc: Global,
+    names: &Generated,
+    name: &str,
+    kind: GeneratedKind,
+    nodes: &[&Node],
+) -> Result<Vec<Initialization>, AllocError>
+    ensures { IfOk result (λ r. pairs_of r.items ≡ spec.initializations names.now.first names.now.ledger.now names.now.lowered.now.program.now (chars name.now) kind (seen nodes.now)) }
+{
     let mut found = Vec::new(alloc);
-    for node in names.lowered.nodes.as_slice() {
+    for node in nodes {
         add_some(initialization_at(names, name, kind, node), &mut found)?;
     }
     Ok(found)
@@ -240,7 +208,6 @@ fn is_initial(names: &Generated, number: u32, kind: GeneratedKind, value: &Node)
 }
 
 /// Whether the value is the class itself, or, in the statement behind its declaration, a name of it.
-#[tactic(auto, using(crate::proofs::PairsBehind::all_lists))]
 fn is_class_value(names: &Generated, number: u32, class: u32, value: &Node) -> bool
     ensures { result ≡ spec.is_class_value names.now.first names.now.ledger.now names.now.lowered.now.program.now number class (child value.now) }
 {
@@ -248,8 +215,13 @@ fn is_class_value(names: &Generated, number: u32, class: u32, value: &Node) -> b
         return true;
     }
     let identifiers = names.identifiers.get(class);
-    names_class(class, names.ledger, &names.references, identifiers, value)
-        && has_pair(number, class, names.lowered.nodes.as_slice())
+    names_class(
+        class,
+        names.ledger,
+        &names.lowered.references,
+        identifiers,
+        value,
+    ) && names.stands_behind(number, class)
 }
 
 /// Whether the value is this class expression.

@@ -1,7 +1,6 @@
 // Classes with those that stand in them.
 
 ghost use Rattle.std.specs.Prelude.{◌≡◌, ◌++◌, ◌∷◌, ◌&&◌, [], cond, nat_eq, IfOk, OnOk};
-ghost use Rattle.std.specs.Option.{option_to_list};
 ghost use Rattle.es_base.specs.Preorder.{preorder_of, preorder_of_part};
 ghost use Rattle.es_base.specs.Tree.{child};
 ghost use Rattle.es_binding_faults.specs.Seen.{seen};
@@ -16,26 +15,22 @@ use crate::numbers::{add_numbers, without};
 use es_base::kind::Kind;
 use es_binding_faults::preorder::preorder;
 use es_node::node::Node;
+use es_owed::listed::Listed;
 use es_owed::numbers::numbers_below;
 use es_shapes::element::is_private_key;
 use es_tree::class::MethodDefinitionRef;
 use std::alloc::{AllocError, Global};
 
-/// This class, if any, and those that stand in it among these nodes, but for those in functions of private methods. Fails on
-/// allocation failure alone.
-pub fn with_inner(
-    alloc: Global,
-    nodes: &[&Node],
-    class: Option<u32>,
-) -> Result<Vec<u32>, AllocError>
-    ensures { IfOk result (λ r. r.items ≡ spec.with_inner (seen nodes.now) (option_to_list class)) }
+/// This class of a source, and those that stand in it, but for those in functions of private methods. Fails on allocation failure
+/// alone.
+#[tactic(auto, using(crate::proofs::InnerClasses::nodes_numbered))]
+pub fn with_inner(alloc: Global, class: u32, source: &Listed) -> Result<Vec<u32>, AllocError>
+    ensures { IfOk result (λ r. r.items ≡ spec.with_inner (seen source.now.nodes.items) (class ∷ [])) }
 {
     let mut classes = Vec::new(alloc);
-    if let Some(class) = class {
-        classes.push(class)?;
-        let inner = nodes_of_class(alloc, class, nodes)?;
-        add_inner(alloc, inner.as_slice(), &mut classes)?;
-    }
+    classes.push(class)?;
+    let inner = nodes_of_class(alloc, class, source.numbered(class))?;
+    add_inner(alloc, inner.as_slice(), &mut classes)?;
     Ok(classes)
 }
 

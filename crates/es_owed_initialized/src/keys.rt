@@ -11,11 +11,11 @@ ghost use Rattle.es_lowered.specs.Lowered as spec;
 ghost use Rattle.es_owed_initialized.specs.Initial.{pairs_of};
 ghost use Rattle.es_owed_initialized.specs.Keys.{keys_of};
 
-use crate::initialized::comes_before;
-use crate::initializing::{Generated, Initialization, initializations};
-use es_base::ledger::{GeneratedKind, LedgerEntry};
-use es_base::strings::is_word;
-use es_node::node::Node;
+use crate::generated::Generated;
+use crate::initializing::{Initialization, initializations};
+use es_base::ledger::GeneratedKind;
+use es_generated::ledger::Ledger;
+use es_name_set::Names;
 use es_owed::listed::Listed;
 use es_shapes::asked::lowers_fields;
 use es_steps::options::Options;
@@ -34,7 +34,7 @@ pub fn keys_stand(
     alloc: Global,
     first: u32,
     options: &Options,
-    ledger: &[LedgerEntry],
+    ledger: &Ledger,
     lowered: &Listed,
     keys: &[KeyTemporary],
 ) -> Result<bool, AllocError>
@@ -43,36 +43,26 @@ pub fn keys_stand(
     if !lowers_fields(options) {
         return Ok(true);
     }
-    if !all_different(keys) {
+    if !all_different(alloc, keys)? {
         return Ok(false);
     }
     let names = Generated::of(alloc, first, ledger, lowered)?;
     keys_before(alloc, &names, keys)
 }
 
-/// Whether no two of these temporaries are one.
-#[tactic(auto, using(crate::proofs::KeyNames::more_different))]
-fn all_different(keys: &[KeyTemporary]) -> bool
-    ensures { result ≡ definitions.all_different (keys_of keys.now) }
+/// Whether no two of these temporaries are one. Fails on allocation failure alone.
+#[tactic(auto, using(crate::proofs::KeyNames::new_from_none))]
+fn all_different(alloc: Global, keys: &[KeyTemporary]) -> Result<bool, AllocError>
+    ensures { IfOk result (λ holds. holds ≡ definitions.all_different (keys_of keys.now)) }
 {
-    for (i, key) in keys.iter().enumerate() {
-        let others = &keys[i + 1..];
-        if is_among_first(key.name, others) {
-            return false;
-        }
-    }
-    true
-}
-
-fn is_among_first(name: &str, keys: &[KeyTemporary]) -> bool
-    ensures { result ≡ definitions.is_among_first (chars name.now) (keys_of keys.now) }
-{
+    let mut met = Names::new(alloc);
     for key in keys {
-        if is_word(key.name, name) {
-            return true;
+        if met.has(key.name) {
+            return Ok(false);
         }
+        met.insert(key.name)?;
     }
-    false
+    Ok(true)
 }
 
 /// Whether each of these temporaries is given before its class. Fails on allocation failure alone.
@@ -91,15 +81,15 @@ fn is_before(alloc: Global, names: &Generated, key: KeyTemporary) -> Result<bool
     ensures { IfOk result (λ holds. holds ≡ spec.any_before (spec.initializations names.now.first names.now.ledger.now names.now.lowered.now.program.now (chars key.entry.name.now) GeneratedKind.Temp (preorder names.now.lowered.now.program.now)) key.entry.class (preorder names.now.lowered.now.program.now)) }
 {
     let found = initializations(alloc, names, key.name, GeneratedKind::Temp)?;
-    Ok(any_before(found.as_slice(), key.class, names.lowered.nodes.as_slice()))
+    Ok(any_before(names, found.as_slice(), key.class))
 }
 
 /// Whether one of these comes before the class.
-fn any_before(found: &[Initialization], class: u32, nodes: &[&Node]) -> bool
-    ensures { result ≡ spec.any_before (pairs_of found.now) class (seen nodes.now) }
+fn any_before(names: &Generated, found: &[Initialization], class: u32) -> bool
+    ensures { result ≡ spec.any_before (pairs_of found.now) class (seen names.now.lowered.now.nodes.items) }
 {
     for one in found {
-        if comes_before(one.number, class, nodes) {
+        if names.comes_before(one.number, class) {
             return true;
         }
     }

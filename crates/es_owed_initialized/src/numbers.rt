@@ -3,16 +3,18 @@
 ghost use Rattle.std.specs.Prelude.{◌≡◌, ◌++◌, ◌∷◌, [], cond, IfOk, OnOk};
 ghost use Rattle.es_lowered.specs.ClassNames as spec;
 
-use es_generated::numbers::has_number;
+use es_base::ids::NodeId;
+use es_owed::numbers::set_of;
 use std::alloc::{AllocError, Global};
 
 /// Those of these numbers that are not among the others. Fails on allocation failure alone.
 pub fn without(alloc: Global, others: &[u32], numbers: &[u32]) -> Result<Vec<u32>, AllocError>
     ensures { IfOk result (λ r. r.items ≡ spec.without others.now numbers.now) }
 {
+    let set = set_of(alloc, others)?;
     let mut rest = Vec::new(alloc);
     for number in numbers {
-        add_unless(has_number(*number, others), *number, &mut rest)?;
+        add_unless(set.has(NodeId(*number)), *number, &mut rest)?;
     }
     Ok(rest)
 }

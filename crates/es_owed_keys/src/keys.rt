@@ -7,7 +7,7 @@ ghost use Rattle.es_lowered.specs.Lowered as spec;
 ghost use Rattle.es_steps.specs.PrivateNames as privates;
 
 use crate::temporaries::all_temporaries;
-use es_base::ledger::LedgerEntry;
+use es_generated::ledger::Ledger;
 use es_owed::listed::Listed;
 use es_owed_definitions::lowered::LoweredProgram;
 use es_owed_definitions::terms::Terms;
@@ -24,7 +24,7 @@ pub fn keys_stand(
     alloc: Global,
     first: u32,
     options: &Options,
-    ledger: &[LedgerEntry],
+    ledger: &Ledger,
     source: &Listed,
     lowered: &Listed,
 ) -> Result<bool, AllocError>

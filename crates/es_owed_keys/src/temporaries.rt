@@ -12,8 +12,8 @@ ghost use Rattle.es_owed_definitions.specs.Fields.{HasStatics};
 ghost use Rattle.es_owed_definitions.specs.Views.{definition_views, key_view};
 ghost use Rattle.es_owed_keys.specs.Temporaries.{temporaries_at, temporary_of};
 
-use es_base::ledger::{GeneratedKind, LedgerEntry};
-use es_generated::ledger::generated_as;
+use es_base::ledger::GeneratedKind;
+use es_generated::ledger::Ledger;
 use es_node::node::Node;
 use es_owed_definitions::definition::{DefinedKey, FieldDefinition};
 use es_owed_definitions::lowered::LoweredProgram;
@@ -24,7 +24,7 @@ use std::alloc::{AllocError, Global};
 
 /// Adds the temporary that this key is, if it is one. Fails on allocation failure alone.
 fn add_named<'a>(
-    ledger: &[LedgerEntry],
+    ledger: &Ledger,
     class: u32,
     key: &'a Node,
     found: &mut Vec<KeyTemporary<'a>>,
@@ -32,7 +32,7 @@ fn add_named<'a>(
     ensures { OnOk result (keys_of found.new.items ≡ keys_of found.old.items ++ temporary_of ledger.now class (spec.spelling (child key.now))) }
 {
     let name = spelling(key);
-    match generated_as(name, ledger) {
+    match ledger.generated_as(name) {
         Some(GeneratedKind::Temp) => {
             found.push(KeyTemporary { name, class })?;
             Ok(())
@@ -43,7 +43,7 @@ fn add_named<'a>(
 
 /// The same of what a definition says of its key. Fails on allocation failure alone.
 fn add_key<'a>(
-    ledger: &[LedgerEntry],
+    ledger: &Ledger,
     class: u32,
     key: DefinedKey<'a>,
     found: &mut Vec<KeyTemporary<'a>>,
@@ -59,7 +59,7 @@ fn add_key<'a>(
 /// The same of definitions. Fails on allocation failure alone.
 #[tactic(auto, using(crate::proofs::Classed::one_more))]
 fn add_keys<'a>(
-    ledger: &[LedgerEntry],
+    ledger: &Ledger,
     class: u32,
     definitions: &[FieldDefinition<'a>],
     found: &mut Vec<KeyTemporary<'a>>,

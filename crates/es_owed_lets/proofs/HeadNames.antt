@@ -1,7 +1,7 @@
 -- Generated names that are given values in heads of loops.
-use Rattle.std.proofs.Common.{◌≡◌, refl, sym, ap, ◌∙◌, ℕ, ◌+◌, ◌<◌, length, drop, get_or, Bor, List, [], ◌∷◌, ◌++◌, Bool, true, false, cond, ◌&&◌, ◌||◌, Some}
+use Rattle.std.proofs.Common.{◌≡◌, refl, sym, ap, ◌∙◌, ℕ, ◌+◌, ◌<◌, length, drop, get_or, Bor, List, [], ◌∷◌, ◌++◌, Bool, true, false, cond, ◌&&◌, ◌||◌}
 use Rattle.std.proofs.lemmas.List.{at_drop_more}
-use Rattle.std.specs.Prelude.{bytes_eq, is_some, not}
+use Rattle.std.specs.Prelude.{bytes_eq, not}
 use Rattle.std.specs.Str.{chars}
 use Rattle.es_base.specs.Conforms.{is_among}
 use Rattle.es_base.specs.Preorder.{preorder_of_part}
@@ -10,11 +10,11 @@ use Rattle.es_base.specs.declared.kind.Kind.{Kind}
 use Rattle.es_base.specs.declared.ledger.LedgerEntry.{LedgerEntry}
 use Rattle.es_lowered.specs.ClassNames.{numbers_of}
 use Rattle.es_lowered.specs.HeadValues.{first_value, given_inside, head_value, head_values_stay, stands_inside}
-use Rattle.es_name_set.proofs.NameSets.{bytes_eq-flipped, is_among-append}
+use Rattle.es_name_set.proofs.NameSets.{is_among-append}
 use Rattle.es_name_set.specs.Names.{HaveSame}
 use Rattle.es_node.specs.View.{kind_of, parts_in}
-use Rattle.es_owed_lets.specs.Heads.{declared_value, generated_names, head_stays, is_given, names_given, spelled, stay_inside, value_of}
-use Rattle.es_steps.specs.Context.{generated_as, is_generated, is_private_entry}
+use Rattle.es_owed_lets.specs.Heads.{declared_value, head_stays, is_given, names_given, spelled, stay_inside, value_of}
+use Rattle.es_steps.specs.Context.{is_generated}
 use Rattle.es_steps.specs.Parts.{at, items}
 use Rattle.es_steps.specs.References.{Reference, has_number}
 use Rattle.es_steps.specs.Values.{String}
@@ -144,17 +144,3 @@ next_string s names later ss i d before same =
     ∙ or_turned (bytes_eq x s) (is_among s names) (is_among s rest)
     ∙ sym (is_among-append s names (x ∷ rest))
     ∙ ap (λ ys. is_among s (names ++ ys)) (sym (at_drop_more spelled ss i d before))
-
--- ---- generated names
-
-pub generated_among : (s : String) (es : List LedgerEntry) → is_among s (generated_names es) ≡ is_generated s es
-generated_among s [] = refl
-generated_among s (e ∷ es) = here (is_private_entry e.kind) (generated_among s es)
-  where
-    named : (b : Bool) → is_among s (generated_names es) ≡ is_some (generated_as s es) → (b || is_among s (generated_names es)) ≡ is_some (cond b (Some e.kind) (generated_as s es))
-    named true rest = refl
-    named false rest = rest
-
-    here : (b : Bool) → is_among s (generated_names es) ≡ is_some (generated_as s es) → is_among s (cond b [] (e.name ∷ []) ++ generated_names es) ≡ is_some (cond b (generated_as s es) (cond (bytes_eq s e.name) (Some e.kind) (generated_as s es)))
-    here true rest = rest
-    here false rest = ap (λ b. b || is_among s (generated_names es)) (bytes_eq-flipped e.name s) ∙ named (bytes_eq s e.name) rest

@@ -9,7 +9,7 @@ use Rattle.es_base.specs.declared.kind.Kind.{Kind}
 use Rattle.es_base.specs.declared.ledger.LedgerEntry.{LedgerEntry}
 use Rattle.es_lowered.specs.ClassNames.{numbers_of}
 use Rattle.es_lowered.specs.HeadValues.{first_value, given_inside, head_value}
-use Rattle.es_steps.specs.Context.{is_generated, is_private_entry}
+use Rattle.es_steps.specs.Context.{is_generated}
 use Rattle.es_steps.specs.Parts.{at, items}
 use Rattle.es_steps.specs.References.{Reference, has_number}
 use Rattle.es_steps.specs.Values.{String}
@@ -30,14 +30,6 @@ declared_value t = absent
 
 abbrev pub head_stays : List LedgerEntry → List Reference → Tree → Bool
 head_stays ledger all (Node kind m span semantic_id ps) = given_inside ledger (numbers_of (preorder_of_part (head_value kind ps))) all all
-
--- the generated names that identifiers have
-abbrev pub generated_name : LedgerEntry → List String
-generated_name e = cond (is_private_entry e.kind) [] (e.name ∷ [])
-
-abbrev pub generated_names : List LedgerEntry → List String
-generated_names [] = []
-generated_names (e ∷ es) = generated_name e ++ generated_names es
 
 -- the generated names that are given a value by one of these references, among those inside
 abbrev pub is_given : List LedgerEntry → List ℕ → Reference → Bool

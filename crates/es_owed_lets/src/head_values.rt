@@ -1,7 +1,6 @@
 // What is given in the head of a loop.
 
 ghost use Rattle.std.specs.Prelude.{◌≡◌, ◌++◌, ◌∷◌, [], cond, option_map, IfOk, OnOk};
-ghost use Rattle.std.specs.Str.{chars};
 ghost use Rattle.es_base.specs.Preorder.{preorder};
 ghost use Rattle.es_base.specs.Tree.{nullable, trees};
 ghost use Rattle.es_binding_faults.specs.Seen.{seen};
@@ -11,14 +10,12 @@ ghost use Rattle.es_name_set.specs.Names.{HaveSame};
 ghost use Rattle.es_node.specs.View.{kind_of, parts_in};
 ghost use Rattle.es_owed_lets.specs.Heads as spec;
 ghost use Rattle.es_references.specs.References.{reference_of, references_of};
-ghost use Rattle.es_steps.specs.Context.{is_generated};
 
 use crate::numbers::set_of;
 use es_base::kind::Kind;
-use es_base::ledger::LedgerEntry;
 use es_binding_faults::numbers::Numbers;
 use es_binding_faults::preorder::preorder;
-use es_generated::ledger::is_private_entry;
+use es_generated::ledger::Ledger;
 use es_name_set::Names;
 use es_node::node::Node;
 use es_references::references::Reference;
@@ -27,29 +24,17 @@ use std::alloc::{AllocError, Global};
 
 /// Whether each generated name that is given a value in the head of a `for` over keys, where that is evaluated in front of the
 /// loop, is read there alone. The references of the program are these, and so are its nodes. Fails on allocation failure alone.
+#[tactic(auto, using(crate::proofs::HeadNames::heads_more))]
 pub fn head_values_stay(
     alloc: Global,
-    ledger: &[LedgerEntry],
+    ledger: &Ledger,
     references: &[Reference],
     nodes: &[&Node],
 ) -> Result<bool, AllocError>
     ensures { IfOk result (λ holds. holds ≡ heads.head_values_stay ledger.now (references_of references.now) (seen nodes.now)) }
 {
-    let generated = GeneratedNames::of(alloc, ledger)?;
-    all_heads_stay(alloc, &generated, references, nodes)
-}
-
-#[tactic(auto, using(crate::proofs::HeadNames::heads_more))]
-fn all_heads_stay(
-    alloc: Global,
-    generated: &GeneratedNames,
-    references: &[Reference],
-    nodes: &[&Node],
-) -> Result<bool, AllocError>
-    ensures { IfOk result (λ holds. holds ≡ heads.head_values_stay generated.now.ledger.now (references_of references.now) (seen nodes.now)) }
-{
     for node in nodes {
-        if !head_stays(alloc, generated, references, node)? {
+        if !head_stays(alloc, ledger, references, node)? {
             return Ok(false);
         }
     }
@@ -61,14 +46,14 @@ fn all_heads_stay(
 #[tactic(auto, using(crate::proofs::HeadNames::head_node, crate::proofs::HeadNames::no_value))]
 fn head_stays(
     alloc: Global,
-    generated: &GeneratedNames,
+    ledger: &Ledger,
     references: &[Reference],
     node: &Node,
 ) -> Result<bool, AllocError>
-    ensures { IfOk result (λ holds. holds ≡ spec.head_stays generated.now.ledger.now (references_of references.now) node.now) }
+    ensures { IfOk result (λ holds. holds ≡ spec.head_stays ledger.now (references_of references.now) node.now) }
 {
     match head_value(node) {
-        Some(value) => names_stay(alloc, generated, references, value),
+        Some(value) => names_stay(alloc, ledger, references, value),
         None => Ok(true),
     }
 }
@@ -77,15 +62,15 @@ fn head_stays(
 #[tactic(auto, using(crate::proofs::HeadNames::stay_by_name))]
 fn names_stay(
     alloc: Global,
-    generated: &GeneratedNames,
+    ledger: &Ledger,
     references: &[Reference],
     value: &Node,
 ) -> Result<bool, AllocError>
-    ensures { IfOk result (λ holds. holds ≡ heads.given_inside generated.now.ledger.now (numbers_of (preorder value.now)) (references_of references.now) (references_of references.now)) }
+    ensures { IfOk result (λ holds. holds ≡ heads.given_inside ledger.now (numbers_of (preorder value.now)) (references_of references.now) (references_of references.now)) }
 {
     let nodes = preorder(alloc, value)?;
     let inside = set_of(alloc, nodes.as_slice())?;
-    let given = names_given(alloc, generated, &inside, references)?;
+    let given = names_given(alloc, ledger, &inside, references)?;
     let names = set_of_names(alloc, given.as_slice())?;
     Ok(stay_inside(&names, &inside, references))
 }
@@ -142,89 +127,41 @@ fn value_of(node: &Node) -> Option<&Node>
 
 // ---- names
 
-/// The generated names that identifiers have.
-#[derive(Drop)]
-struct GeneratedNames<'r> {
-    ledger: &'r [LedgerEntry],
-    names: Names<'r>,
-
-    ghost names_are: { HaveSame names (spec.generated_names ledger.now) },
-}
-
-impl<'r> GeneratedNames<'r> {
-    /// Those of this ledger. Fails on allocation failure alone.
-    fn of(alloc: Global, ledger: &'r [LedgerEntry]) -> Result<GeneratedNames<'r>, AllocError>
-        ensures { IfOk result (λ g. g.ledger.now ≡ ledger.now) }
-    {
-        let strings = generated_names(alloc, ledger)?;
-        let names = set_of_names(alloc, strings.as_slice())?;
-        Ok(GeneratedNames { ledger, names })
-    }
-
-    /// Whether the name of an identifier was generated.
-    #[tactic(auto, using(crate::proofs::HeadNames::generated_among))]
-    fn has(&self, name: &str) -> bool
-        ensures { result ≡ is_generated (chars name.now) self.now.ledger.now }
-    {
-        self.names.has(name)
-    }
-}
-
-/// The generated names that are no private names. Fails on allocation failure alone.
-fn generated_names(alloc: Global, ledger: &[LedgerEntry]) -> Result<Vec<&str>, AllocError>
-    ensures { IfOk result (λ r. spec.spelled r.items ≡ spec.generated_names ledger.now) }
-{
-    let mut names = Vec::new(alloc);
-    for entry in ledger {
-        add_generated(entry, &mut names)?;
-    }
-    Ok(names)
-}
-
-fn add_generated<'a>(entry: &'a LedgerEntry, names: &mut Vec<&'a str>) -> Result<(), AllocError>
-    ensures { OnOk result (spec.spelled names.new.items ≡ spec.spelled names.old.items ++ spec.generated_name entry.now) }
-{
-    if !is_private_entry(entry.kind) {
-        names.push(entry.name.as_str())?;
-    }
-    Ok(())
-}
-
 /// The generated names that are given a value by references inside. Fails on allocation failure alone.
 fn names_given<'a>(
     alloc: Global,
-    generated: &GeneratedNames,
+    ledger: &Ledger,
     inside: &Numbers,
     references: &[Reference<'a>],
 ) -> Result<Vec<&'a str>, AllocError>
-    ensures { IfOk result (λ r. spec.spelled r.items ≡ spec.names_given generated.now.ledger.now inside.now (references_of references.now)) }
+    ensures { IfOk result (λ r. spec.spelled r.items ≡ spec.names_given ledger.now inside.now (references_of references.now)) }
 {
     let mut names = Vec::new(alloc);
     for reference in references {
-        add_if_given(generated, inside, *reference, &mut names)?;
+        add_if_given(ledger, inside, *reference, &mut names)?;
     }
     Ok(names)
 }
 
 fn add_if_given<'a>(
-    generated: &GeneratedNames,
+    ledger: &Ledger,
     inside: &Numbers,
     reference: Reference<'a>,
     names: &mut Vec<&'a str>,
 ) -> Result<(), AllocError>
-    ensures { OnOk result (spec.spelled names.new.items ≡ spec.spelled names.old.items ++ cond (spec.is_given generated.now.ledger.now inside.now (reference_of reference.entry)) ((reference_of reference.entry).spelling ∷ []) []) }
+    ensures { OnOk result (spec.spelled names.new.items ≡ spec.spelled names.old.items ++ cond (spec.is_given ledger.now inside.now (reference_of reference.entry)) ((reference_of reference.entry).spelling ∷ []) []) }
 {
-    if is_given(generated, inside, reference) {
+    if is_given(ledger, inside, reference) {
         names.push(reference.name)?;
     }
     Ok(())
 }
 
 /// Whether the reference gives a generated name a value inside.
-fn is_given(generated: &GeneratedNames, inside: &Numbers, reference: Reference) -> bool
-    ensures { result ≡ spec.is_given generated.now.ledger.now inside.now (reference_of reference.entry) }
+fn is_given(ledger: &Ledger, inside: &Numbers, reference: Reference) -> bool
+    ensures { result ≡ spec.is_given ledger.now inside.now (reference_of reference.entry) }
 {
-    reference.writes && (generated.has(reference.name) && inside.has(reference.node))
+    reference.writes && (ledger.is_generated(reference.name) && inside.has(reference.node))
 }
 
 /// Whether the references to these names stand inside.

@@ -13,8 +13,8 @@ use Rattle.es_grouped.specs.Groups.{having}
 use Rattle.es_lowered.specs.Lowered.{declared_by_kind, has_another_name, is_named_again, names_declared, same_space, same_subject}
 use Rattle.es_steps.specs.KeptNodes.{is_underscored}
 use Rattle.es_steps.specs.Values.{String}
-use Rattle.es_spelled.proofs.SpelledNames.{apart}
-use Rattle.es_spelled.specs.Spelled.{class_or, name_number, numbered_names, spelling_number}
+use Rattle.es_generated.proofs.NumberedNames.{apart}
+use Rattle.es_generated.specs.Spellings.{class_or, name_number, numbered_names, spelling_number}
 use Rattle.es_owed_names.specs.Single.{all_declared, another, are_single, same_name, stands_for, subject_number, subjects, with_number}
 
 reflexive : (n : ℕ) → nat_eq n n ≡ true

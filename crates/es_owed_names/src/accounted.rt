@@ -8,17 +8,14 @@ ghost use Rattle.es_lowered.specs.Lowered.{all_accounted, has_new_declarator, is
 
 use crate::own_names::own_name_numbers;
 use es_base::kind::Kind;
-use es_base::ledger::LedgerEntry;
 use es_binding_faults::bound::is_binding_identifier;
 use es_binding_faults::numbers::Numbers;
+use es_generated::ledger::Ledger;
 use es_generated::numbers::is_new;
 use es_node::node::Node;
 use es_owed::listed::Listed;
 use es_owed::numbers::set_of;
-use es_references::references::references;
 use es_seen_names::parts::string_at;
-use es_spelled::generated::GeneratedNames;
-use es_spelled::spellings::spellings;
 use es_tree::statement::VariableDeclarationRef;
 use std::alloc::{AllocError, Global};
 
@@ -28,26 +25,24 @@ use std::alloc::{AllocError, Global};
 pub fn declarations_accounted(
     alloc: Global,
     first: u32,
-    ledger: &[LedgerEntry],
+    ledger: &Ledger,
     source: &Listed,
     lowered: &Listed,
 ) -> Result<bool, AllocError>
     ensures { IfOk result (λ holds. holds ≡ spec.declarations_accounted first ledger.now source.now.program.now lowered.now.program.now) }
 {
-    let references = references(alloc, lowered.program)?;
+    let references = lowered.references.list.as_slice();
     let nodes = lowered.nodes.as_slice();
-    let own = own_name_numbers(alloc, source, references.as_slice(), nodes)?;
+    let own = own_name_numbers(alloc, source, references, nodes)?;
     let own_set = set_of(alloc, own.as_slice())?;
-    let spellings = spellings(alloc, nodes)?;
-    let names = GeneratedNames::of(alloc, &spellings, ledger)?;
-    Ok(all_accounted(first, &names, &own_set, nodes))
+    Ok(all_accounted(first, ledger, &own_set, nodes))
 }
 
-fn all_accounted(first: u32, names: &GeneratedNames, own: &Numbers, nodes: &[&Node]) -> bool
-    ensures { result ≡ all_accounted first names.now.ledger.now own.now (seen nodes.now) }
+fn all_accounted(first: u32, ledger: &Ledger, own: &Numbers, nodes: &[&Node]) -> bool
+    ensures { result ≡ all_accounted first ledger.now own.now (seen nodes.now) }
 {
     for node in nodes {
-        if is_new_const(first, node) || !is_accounted(first, names, own, node) {
+        if is_new_const(first, node) || !is_accounted(first, ledger, own, node) {
             return false;
         }
     }
@@ -56,11 +51,11 @@ fn all_accounted(first: u32, names: &GeneratedNames, own: &Numbers, nodes: &[&No
 
 /// Whether the node declares nothing new, or a generated name, or one of these own names.
 #[tactic(auto, using(crate::proofs::Accounts::accounted_node))]
-fn is_accounted(first: u32, names: &GeneratedNames, own: &Numbers, node: &Node) -> bool
-    ensures { result ≡ is_accounted first names.now.ledger.now own.now node.now }
+fn is_accounted(first: u32, ledger: &Ledger, own: &Numbers, node: &Node) -> bool
+    ensures { result ≡ is_accounted first ledger.now own.now node.now }
 {
     let is_new_name = is_binding_identifier(node) && is_new(first, node.node_id().0);
-    !is_new_name || (names.is_generated(string_at(node.parts(), 0)) || own.has(node.node_id()))
+    !is_new_name || (ledger.is_generated(string_at(node.parts(), 0)) || own.has(node.node_id()))
 }
 
 /// Whether the node is a `const` that is new, or has a new declarator.

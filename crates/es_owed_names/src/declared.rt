@@ -18,10 +18,11 @@ use es_base::strings::is_word;
 use es_binding_faults::bound::is_binding_identifier;
 use es_binding_faults::hoisted::part_at;
 use es_binding_faults::leasts::Leasts;
+use es_generated::ledger::Ledger;
 use es_generated::numbers::is_new;
 use es_node::node::{Node, Part};
 use es_owed::listed::Listed;
-use es_references::references::{Reference, references};
+use es_references::references::Reference;
 use es_seen_names::parts::string_at;
 use es_spelled::names::Names;
 use es_spelled::spellings::spellings;
@@ -34,14 +35,15 @@ use std::alloc::{AllocError, Global};
 pub fn names_declared(
     alloc: Global,
     first: u32,
-    ledger: &[LedgerEntry],
+    ledger: &Ledger,
     lowered: &Listed,
 ) -> Result<bool, AllocError>
     ensures { IfOk result (λ holds. holds ≡ spec.names_declared first ledger.now lowered.now.program.now) }
 {
+    let entries = ledger.entries();
     let spellings = spellings(alloc, lowered.nodes.as_slice())?;
-    if all_declared(alloc, first, ledger, &spellings, lowered)? {
-        are_single(alloc, ledger, &spellings)
+    if all_declared(alloc, first, entries, &spellings, lowered)? {
+        are_single(alloc, entries, &spellings)
     } else {
         Ok(false)
     }
@@ -57,9 +59,9 @@ fn all_declared(
 ) -> Result<bool, AllocError>
     ensures { IfOk result (λ holds. holds ≡ all_declared first lowered.now.program.now ledger.now) }
 {
-    let references = references(alloc, lowered.program)?;
+    let references = lowered.references.list.as_slice();
     let nodes = lowered.nodes.as_slice();
-    let names = Names::of(alloc, spellings, nodes, references.as_slice())?;
+    let names = Names::of(alloc, spellings, nodes, references)?;
     for entry in ledger {
         if !is_declared(alloc, first, entry, lowered, &names)? {
             return Ok(false);

@@ -4,7 +4,7 @@ ghost use Rattle.std.specs.Prelude.{◌≡◌, false, ℕ, IfOk};
 ghost use Rattle.es_by_number.specs.Numbered.{pairs};
 ghost use Rattle.es_grouped.specs.Groups.{group, having};
 ghost use Rattle.es_lowered.specs.Lowered.{same_space, same_subject};
-ghost use Rattle.es_spelled.specs.Spelled.{entries_of};
+ghost use Rattle.es_generated.specs.Spellings.{entries_of};
 ghost use Rattle.es_owed_names.specs.Single.{another, are_single, is_single, same_name, stands_for, subject_number, subjects};
 
 use es_base::ledger::{GeneratedKind, LedgerEntry};

@@ -11,14 +11,13 @@ ghost use Rattle.es_steps.specs.References.{has_number, resolve};
 
 use es_base::ids::NodeId;
 use es_base::kind::Kind;
-use es_base::ledger::LedgerEntry;
 use es_base::operator::AssignmentOperator;
 use es_binding_faults::numbers::Numbers;
-use es_generated::ledger::is_generated;
+use es_generated::ledger::Ledger;
 use es_generated::numbers::is_new;
 use es_node::node::Node;
 use es_owed::listed::Listed;
-use es_references::references::{Reference, references};
+use es_references::references::Reference;
 use es_tree::expression::{AssignmentExpressionRef, UpdateExpressionRef};
 use std::alloc::{AllocError, Global};
 
@@ -28,16 +27,16 @@ use std::alloc::{AllocError, Global};
 pub fn writes_fit(
     alloc: Global,
     first: u32,
-    ledger: &[LedgerEntry],
+    ledger: &Ledger,
     source: &Listed,
     lowered: &Listed,
 ) -> Result<bool, AllocError>
     ensures { IfOk result (λ holds. holds ≡ spec.writes_fit first ledger.now (spec.plain_targets (preorder lowered.now.program.now)) (spec.writing_numbers (resolve source.now.program.now)) (resolve lowered.now.program.now)) }
 {
     let targets = plain_targets(alloc, lowered.nodes.as_slice())?;
-    let writing = writing_in(alloc, source.program)?;
-    let references = references(alloc, lowered.program)?;
-    Ok(all_fit(first, ledger, &targets, &writing, references.as_slice()))
+    let writing = writing_in(alloc, source.references.list.as_slice())?;
+    let references = lowered.references.list.as_slice();
+    Ok(all_fit(first, ledger, &targets, &writing, references))
 }
 
 // ---- what `=` and updates write
@@ -99,12 +98,11 @@ fn add_if(holds: bool, node: &Node, numbers: &mut Vec<NodeId>) -> Result<(), All
 
 // ---- references that write
 
-/// The set of the references of a program that write. Fails on allocation failure alone.
-fn writing_in(alloc: Global, program: &Node) -> Result<Numbers, AllocError>
-    ensures { IfOk result (λ r. (n : ℕ) → has_number n r ≡ has_number n (spec.writing_numbers (resolve program.now))) }
+/// The set of those of these references that write. Fails on allocation failure alone.
+fn writing_in(alloc: Global, references: &[Reference]) -> Result<Numbers, AllocError>
+    ensures { IfOk result (λ r. (n : ℕ) → has_number n r ≡ has_number n (spec.writing_numbers (references_of references.now))) }
 {
-    let references = references(alloc, program)?;
-    let numbers = writing_numbers(alloc, references.as_slice())?;
+    let numbers = writing_numbers(alloc, references)?;
     let set = Numbers::of(alloc, numbers.as_slice())?;
     Ok(set)
 }
@@ -133,7 +131,7 @@ fn add_writing(reference: Reference, numbers: &mut Vec<NodeId>) -> Result<(), Al
 
 fn all_fit(
     first: u32,
-    ledger: &[LedgerEntry],
+    ledger: &Ledger,
     targets: &Numbers,
     writing: &Numbers,
     references: &[Reference],
@@ -150,7 +148,7 @@ fn all_fit(
 
 fn write_fits(
     first: u32,
-    ledger: &[LedgerEntry],
+    ledger: &Ledger,
     targets: &Numbers,
     writing: &Numbers,
     reference: Reference,
@@ -159,7 +157,7 @@ fn write_fits(
 {
     if !reference.writes {
         true
-    } else if is_generated(reference.name, ledger) {
+    } else if ledger.is_generated(reference.name) {
         is_new(first, reference.node.0) && targets.has(reference.node)
     } else {
         writing.has(reference.node)

@@ -10,7 +10,7 @@ ghost use Rattle.es_references.specs.References.{references_of};
 use crate::moved::{MovedFunction, moved_functions, outside_class};
 use crate::numbers::set_of;
 use crate::reaching::{NameRead, name_reads, reached};
-use es_base::ledger::LedgerEntry;
+use es_generated::ledger::Ledger;
 use es_node::node::Node;
 use es_references::references::Reference;
 use std::alloc::{AllocError, Global};
@@ -19,7 +19,7 @@ use std::alloc::{AllocError, Global};
 /// and the reads of names.
 #[derive(Drop)]
 pub struct Reads<'r, 'a> {
-    pub ledger: &'r [LedgerEntry],
+    pub ledger: &'r Ledger<'r>,
     pub references: &'r [Reference<'a>],
     pub nodes: &'r [&'a Node],
     pub functions: Vec<MovedFunction<'a>>,
@@ -33,7 +33,7 @@ impl<'r, 'a> Reads<'r, 'a> {
     /// Those of these. Fails on allocation failure alone.
     pub fn of(
         alloc: Global,
-        ledger: &'r [LedgerEntry],
+        ledger: &'r Ledger<'r>,
         references: &'r [Reference<'a>],
         nodes: &'r [&'a Node],
     ) -> Result<Reads<'r, 'a>, AllocError>

@@ -9,9 +9,9 @@ ghost use Rattle.es_owed_references.specs.Moved.{function_of, functions_of, name
 
 use crate::numbers::any_among;
 use es_base::kind::Kind;
-use es_base::ledger::{GeneratedKind, LedgerEntry};
+use es_base::ledger::GeneratedKind;
 use es_binding_faults::numbers::Numbers;
-use es_generated::ledger::generated_as;
+use es_generated::ledger::Ledger;
 use es_node::node::Node;
 use es_owed::numbers::numbers_below;
 use es_owed_initialized::numbers::add_numbers;
@@ -33,7 +33,7 @@ pub struct MovedFunction<'a> {
 /// The functions that are declared by such a name or given to one among these nodes. Fails on allocation failure alone.
 pub fn moved_functions<'a>(
     alloc: Global,
-    ledger: &[LedgerEntry],
+    ledger: &Ledger,
     nodes: &[&'a Node],
 ) -> Result<Vec<MovedFunction<'a>>, AllocError>
     ensures { IfOk result (λ r. functions_of r.items ≡ spec.moved_functions ledger.now (seen nodes.now)) }
@@ -48,7 +48,7 @@ pub fn moved_functions<'a>(
 #[tactic(auto, using(crate::proofs::MovedFunctions::moved_declaration, crate::proofs::MovedFunctions::moved_assignment, crate::proofs::MovedFunctions::moved_declarator, crate::proofs::MovedFunctions::none_moved))]
 fn add_moved<'a>(
     alloc: Global,
-    ledger: &[LedgerEntry],
+    ledger: &Ledger,
     node: &'a Node,
     functions: &mut Vec<MovedFunction<'a>>,
 ) -> Result<(), AllocError>
@@ -79,14 +79,14 @@ fn add_moved<'a>(
 /// Adds what is given to a name, if a function is called by that. Fails on allocation failure alone.
 fn add_function<'a>(
     alloc: Global,
-    ledger: &[LedgerEntry],
+    ledger: &Ledger,
     name: &'a str,
     value: Option<&Node>,
     functions: &mut Vec<MovedFunction<'a>>,
 ) -> Result<(), AllocError>
     ensures { OnOk result (functions_of functions.new.items ≡ functions_of functions.old.items ++ spec.moved_function ledger.now (chars name.now) (nullable (option_map (λ x. x.now) value.entry))) }
 {
-    if names_function(generated_as(name, ledger)) {
+    if names_function(ledger.generated_as(name)) {
         let numbers = function_numbers(alloc, value)?;
         functions.push(MovedFunction { name, numbers })?;
     }

@@ -19,12 +19,12 @@ use crate::numbers::{any_among, set_of};
 use crate::reads::{is_read_in, nodes_of, references_to};
 use es_base::ids::NodeId;
 use es_base::kind::Kind;
-use es_base::ledger::LedgerEntry;
 use es_binding_faults::numbers::Numbers;
+use es_generated::ledger::Ledger;
 use es_node::node::Node;
 use es_owed::listed::Listed;
 use es_owed::numbers::numbers_of;
-use es_references::references::{Reference, references};
+use es_references::references::Reference;
 use es_tree::class::{ClassDeclarationRef, ClassExpressionRef};
 use es_tree::statement::VariableDeclaratorRef;
 use std::alloc::{AllocError, Global};
@@ -34,18 +34,18 @@ use std::alloc::{AllocError, Global};
 /// Fails on allocation failure alone.
 pub fn own_names_stay(
     alloc: Global,
-    ledger: &[LedgerEntry],
+    ledger: &Ledger,
     source: &Listed,
     lowered: &Listed,
 ) -> Result<bool, AllocError>
     ensures { IfOk result (λ holds. holds ≡ spec.own_names_stay ledger.now source.now.program.now lowered.now.program.now) }
 {
-    let references = references(alloc, lowered.program)?;
+    let references = lowered.references.list.as_slice();
     let nodes = lowered.nodes.as_slice();
-    if !none_loses_name(alloc, source.nodes.as_slice(), references.as_slice(), nodes)? {
+    if !none_loses_name(alloc, source.nodes.as_slice(), references, nodes)? {
         return Ok(false);
     }
-    let reads = Reads::of(alloc, ledger, references.as_slice(), nodes)?;
+    let reads = Reads::of(alloc, ledger, references, nodes)?;
     let declared = DeclaredClasses::of(alloc, source.nodes.as_slice())?;
     none_reads_itself(alloc, &declared, &reads, nodes)
 }

@@ -13,9 +13,9 @@ ghost use Rattle.es_references.specs.References.{references_of};
 use crate::moved::{MovedFunction, names_holding};
 use crate::numbers::set_of;
 use es_base::kind::Kind;
-use es_base::ledger::LedgerEntry;
 use es_base::strings::is_among;
 use es_binding_faults::numbers::Numbers;
+use es_generated::ledger::Ledger;
 use es_node::node::Node;
 use es_owed_initialized::numbers::add_numbers;
 use es_references::references::Reference;
@@ -109,7 +109,7 @@ fn add_read<'a>(
 #[tactic(auto, using(crate::proofs::Steps::settled))]
 pub fn reached(
     alloc: Global,
-    ledger: &[LedgerEntry],
+    ledger: &Ledger,
     functions: &[MovedFunction],
     reads: &[NameRead],
     numbers: &[u32],
@@ -118,7 +118,7 @@ pub fn reached(
 {
     let mut reached = Vec::new(alloc);
     add_numbers(numbers, &mut reached)?;
-    for _entry in ledger {
+    for _entry in ledger.entries() {
         let next = next_reached(alloc, functions, reads, numbers, reached.as_slice())?;
         if are_same(next.as_slice(), reached.as_slice()) {
             return Ok(reached);

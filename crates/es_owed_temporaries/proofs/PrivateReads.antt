@@ -1,6 +1,6 @@
 -- Private names in classes, node by node.
-use Rattle.std.proofs.Common.{◌≡◌, refl, ap, ℕ, List, ◌∷◌, false, ◌&&◌, ◌||◌, bytes_eq}
-use Rattle.std.specs.Prelude.{nat_eq}
+use Rattle.std.proofs.Common.{◌≡◌, refl, ap, ℕ, List, ◌∷◌, Bool, true, false, ◌&&◌, ◌||◌, nat_eq, bytes_eq}
+use Rattle.std.specs.Prelude.{not}
 use Rattle.es_base.specs.Tree.{Tree, Part, Node, child, absent, list, string, no_string, boolean, literal}
 use Rattle.es_base.specs.declared.kind.Kind.{Kind}
 use Rattle.es_node.specs.View.{kind_of, number_in, parts_in}
@@ -25,6 +25,16 @@ read_by_field s (Node kind m span semantic_id ps) is = ap (λ k. private_read s 
 pub read_by_none : (s : String) (t : Tree) → (kind_of t ≡ Kind.PrivateField → ⊥) → private_read s t ≡ false
 read_by_none s (Node Kind.PrivateField m span semantic_id ps) other = absurd (other refl)
 read_by_none s (Node kind m span semantic_id ps) other = refl
+
+-- ---- names that are read, and names around
+
+pub apart_unread : (a b : Bool) → b ≡ false → not (a && b) ≡ true
+apart_unread true b is = ap not is
+apart_unread false b is = refl
+
+pub apart_read : (a b : Bool) → b ≡ true → not (a && b) ≡ not a
+apart_read true b is = ap not is
+apart_read false b is = refl
 
 pub name_of_part : (p : Part) → printable.name_of_part p ≡ name_in p
 name_of_part (child (Node kind m span semantic_id ps)) = refl

@@ -1,3 +1,4 @@
 pub mod Apart
+pub mod Named
 pub mod Steady
 pub mod Touches

@@ -3,6 +3,8 @@
 #![tactic(auto)]
 
 pub mod apart;
+pub mod class_places;
+pub mod named_touches;
 pub mod steady;
 pub mod temporaries;
 pub mod touches;

@@ -4,17 +4,18 @@ ghost use Rattle.std.specs.Prelude.{◌≡◌, ◌++◌, ◌&&◌, [], ◌∷◌
 ghost use Rattle.std.specs.Option.{option_to_list};
 ghost use Rattle.std.specs.Str.{chars};
 ghost use Rattle.es_by_number.specs.Numbered.{pairs};
-ghost use Rattle.es_steps.specs.KeptNodes.{pair_stands};
 ghost use Rattle.es_lowered.specs.Temporaries as spec;
 ghost use Rattle.es_seen_names.specs.PrivateMembers.{private_members_of};
 ghost use Rattle.es_owed_temporaries.specs.Steady.{all_construct, all_in, all_of, all_of_home, all_stand, steady_by_kind, test_of};
 ghost use Rattle.es_owed_temporaries.specs.Touches.{touch_here, touches_all};
 
+use crate::class_places::ClassPlaces;
+use crate::named_touches::{NamedTouches, spellings};
 use crate::touches::Touch;
 use es_base::ledger::{GeneratedKind, LedgerEntry};
 use es_base::strings::is_word;
 use es_by_number::numbered::Numbered;
-use es_owed_initialized::members::class_before;
+use es_numbered_members::NumberedMembers;
 use es_seen_names::private_member::PrivateMember;
 use std::alloc::{AllocError, Global};
 
@@ -37,6 +38,22 @@ pub fn all_steady(
 ) -> Result<bool, AllocError>
     ensures { IfOk result (λ holds. holds ≡ spec.all_steady (pairs places.now) (private_members_of members.now) ledger.now (touches_all touches.now)) }
 {
+    let spellings = spellings(alloc, touches)?;
+    let named = NamedTouches::of(alloc, &spellings, touches)?;
+    let class_places = ClassPlaces::of(alloc, places)?;
+    let numbered = NumberedMembers::of(alloc, members)?;
+    all_entries_steady(alloc, &class_places, &numbered, ledger, &named)
+}
+
+fn all_entries_steady(
+    alloc: Global,
+    places: &ClassPlaces,
+    members: &NumberedMembers,
+    ledger: &[LedgerEntry],
+    touches: &NamedTouches,
+) -> Result<bool, AllocError>
+    ensures { IfOk result (λ holds. holds ≡ spec.all_steady (pairs places.now.places.now) (private_members_of members.now.members.now) ledger.now (touches_all touches.now.touches.now)) }
+{
     for entry in ledger {
         if !is_steady_entry(alloc, places, members, entry, touches)? {
             return Ok(false);
@@ -48,12 +65,12 @@ pub fn all_steady(
 #[tactic(auto, using(crate::proofs::SteadyKinds::steady_name))]
 fn is_steady_entry(
     alloc: Global,
-    places: &[Numbered<u32>],
-    members: &[PrivateMember],
+    places: &ClassPlaces,
+    members: &NumberedMembers,
     entry: &LedgerEntry,
-    touches: &[Touch],
+    touches: &NamedTouches,
 ) -> Result<bool, AllocError>
-    ensures { IfOk result (λ holds. holds ≡ (spec.is_steady_name (pairs places.now) (private_members_of members.now) entry.now.kind entry.now.name (touches_all touches.now) && spec.is_near (spec.declarations_of entry.now.name (touches_all touches.now)) (spec.gifts_of entry.now.name (touches_all touches.now)))) }
+    ensures { IfOk result (λ holds. holds ≡ (spec.is_steady_name (pairs places.now.places.now) (private_members_of members.now.members.now) entry.now.kind entry.now.name (touches_all touches.now.touches.now) && spec.is_near (spec.declarations_of entry.now.name (touches_all touches.now.touches.now)) (spec.gifts_of entry.now.name (touches_all touches.now.touches.now)))) }
 {
     let name = entry.name.as_str();
     let declarations = chosen(alloc, Use::Declares, name, touches)?;
@@ -70,6 +87,17 @@ fn is_steady_entry(
 
 /// Those of this name that are used so. Fails on allocation failure alone.
 fn chosen<'a>(
+    alloc: Global,
+    used: Use,
+    name: &str,
+    touches: &NamedTouches<'_, 'a>,
+) -> Result<Vec<Touch<'a>>, AllocError>
+    ensures { IfOk result (λ r. touches_all r.items ≡ spec.chosen (test_of used) (chars name.now) (touches_all touches.now.touches.now)) }
+{
+    chosen_among(alloc, used, name, touches.of_name(name))
+}
+
+fn chosen_among<'a>(
     alloc: Global,
     used: Use,
     name: &str,
@@ -144,8 +172,8 @@ fn all_at_home(home: u32, touches: &[Touch]) -> bool
 }
 
 /// Whether all are evaluated again with the class, if there is one, or are there from the head of their list on.
-fn all_stand_with(places: &[Numbered<u32>], class: Option<u32>, touches: &[Touch]) -> bool
-    ensures { result ≡ all_stand (pairs places.now) (option_to_list class) (touches_all touches.now) }
+fn all_stand_with(places: &ClassPlaces, class: Option<u32>, touches: &[Touch]) -> bool
+    ensures { result ≡ all_stand (pairs places.now.places.now) (option_to_list class) (touches_all touches.now) }
 {
     for touch in touches {
         if !stands_with(places, class, *touch) {
@@ -155,50 +183,38 @@ fn all_stand_with(places: &[Numbered<u32>], class: Option<u32>, touches: &[Touch
     true
 }
 
-fn stands_with(places: &[Numbered<u32>], class: Option<u32>, touch: Touch) -> bool
-    ensures { result ≡ spec.stands_with (pairs places.now) (option_to_list class) (touch_here touch.entry) }
+fn stands_with(places: &ClassPlaces, class: Option<u32>, touch: Touch) -> bool
+    ensures { result ≡ spec.stands_with (pairs places.now.places.now) (option_to_list class) (touch_here touch.entry) }
 {
     match class {
-        Some(class) => touch.hoists || has_place(class, touch.place, places),
+        Some(class) => touch.hoists || places.has(class, touch.place),
         None => true,
     }
 }
 
 /// Whether all stand in the construction of the class, or are evaluated again with it.
-fn all_construct_with(places: &[Numbered<u32>], class: u32, touches: &[Touch]) -> bool
-    ensures { result ≡ all_construct (pairs places.now) class (touches_all touches.now) }
+fn all_construct_with(places: &ClassPlaces, class: u32, touches: &[Touch]) -> bool
+    ensures { result ≡ all_construct (pairs places.now.places.now) class (touches_all touches.now) }
 {
     for touch in touches {
-        if class != touch.place && !has_place(class, touch.place, places) {
+        if class != touch.place && !places.has(class, touch.place) {
             return false;
         }
     }
     true
 }
 
-/// Whether this is the place of the class.
-fn has_place(class: u32, place: u32, places: &[Numbered<u32>]) -> bool
-    ensures { result ≡ pair_stands (class, place) (pairs places.now) }
-{
-    for other in places {
-        if class == other.number && place == other.value {
-            return true;
-        }
-    }
-    false
-}
-
 // ---- steady names
 
 /// Whether a name of this kind, which is given values and read so, is steady.
 fn is_steady_name(
-    places: &[Numbered<u32>],
-    members: &[PrivateMember],
+    places: &ClassPlaces,
+    members: &NumberedMembers,
     kind: GeneratedKind,
     gifts: &[Touch],
     reads: &[Touch],
 ) -> bool
-    ensures { result ≡ steady_by_kind (pairs places.now) (private_members_of members.now) kind (touches_all gifts.now) (touches_all reads.now) }
+    ensures { result ≡ steady_by_kind (pairs places.now.places.now) (private_members_of members.now.members.now) kind (touches_all gifts.now) (touches_all reads.now) }
 {
     match kind {
         GeneratedKind::Temp => is_steady(gifts, reads),
@@ -207,7 +223,7 @@ fn is_steady_name(
             is_given_with(gifts, reads) && !is_none(reads) && is_at_most_one(reads)
         }
         GeneratedKind::SuperFn(class) => all_construct_with(places, class.0, gifts),
-        _ => all_stand_with(places, class_before(kind, members), gifts),
+        _ => all_stand_with(places, members.class_before(kind), gifts),
     }
 }
 

@@ -7,7 +7,7 @@ ghost use Rattle.es_lowered.specs.Temporaries as spec;
 use crate::apart::all_apart;
 use crate::steady::all_steady;
 use crate::touches::all_touches;
-use es_base::ledger::LedgerEntry;
+use es_generated::ledger::Ledger;
 use es_owed::listed::Listed;
 use es_places::places::{Terms, all_places};
 use es_seen_names::private_member::PrivateMember;
@@ -19,7 +19,7 @@ use std::alloc::{AllocError, Global};
 pub fn temporaries_steady(
     alloc: Global,
     first: u32,
-    ledger: &[LedgerEntry],
+    ledger: &Ledger,
     members: &[PrivateMember],
     lowered: &Listed,
 ) -> Result<bool, AllocError>
@@ -36,10 +36,10 @@ pub fn temporaries_steady(
         alloc,
         places.as_slice(),
         members,
-        ledger,
+        ledger.entries(),
         touches.as_slice(),
     )? {
         return Ok(false);
     }
-    all_apart(alloc, lowered.nodes.as_slice(), ledger, ledger)
+    all_apart(alloc, lowered, ledger.entries(), ledger.entries())
 }

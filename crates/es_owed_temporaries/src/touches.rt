@@ -14,11 +14,11 @@ ghost use Rattle.es_places.specs.Placing.{surroundings_of};
 ghost use Rattle.es_owed_temporaries.specs.Touches.{spot_here, spot_within, touch_here, touches_all, touches_from};
 
 use es_base::kind::Kind;
-use es_base::ledger::LedgerEntry;
 use es_base::table::{Member, Sort, members};
 use es_binding_faults::bound::binds;
 use es_binding_faults::hoisted::part_at;
 use es_binding_faults::scopes::is_body_part;
+use es_generated::ledger::Ledger;
 use es_generated::numbers::is_new;
 use es_node::node::{Node, Part};
 use es_places::surroundings::{Surroundings, around_program, surroundings_in};
@@ -58,7 +58,7 @@ pub struct Spot {
 pub fn all_touches<'a>(
     alloc: Global,
     first: u32,
-    ledger: &[LedgerEntry],
+    ledger: &Ledger,
     program: &'a Node,
 ) -> Result<Vec<Touch<'a>>, AllocError>
     ensures { IfOk result (λ r. touches_all r.items ≡ spec.all_touches first ledger.now program.now) }
@@ -82,7 +82,7 @@ pub fn all_touches<'a>(
 #[tactic(auto, using(es_node::proofs::Below::nodes_in))]
 fn add_touches<'a>(
     first: u32,
-    ledger: &[LedgerEntry],
+    ledger: &Ledger,
     spot: Spot,
     gives: bool,
     node: &'a Node,
@@ -109,7 +109,7 @@ fn add_touches<'a>(
 #[cycle(touches)]
 fn add_touches_in<'a>(
     first: u32,
-    ledger: &[LedgerEntry],
+    ledger: &Ledger,
     spot: Spot,
     node: &'a Node,
     bare: bool,
@@ -131,7 +131,7 @@ fn add_touches_in<'a>(
 #[cycle(touches)]
 fn add_touches_at<'a>(
     first: u32,
-    ledger: &[LedgerEntry],
+    ledger: &Ledger,
     spot: Spot,
     gives: bool,
     part: &'a Part,
@@ -154,7 +154,7 @@ fn add_touches_at<'a>(
 #[cycle(touches)]
 fn add_touches_of_list<'a>(
     first: u32,
-    ledger: &[LedgerEntry],
+    ledger: &Ledger,
     spot: Spot,
     gives: bool,
     nodes: &'a [Node],
@@ -171,7 +171,7 @@ fn add_touches_of_list<'a>(
 #[cycle(touches)]
 fn add_touches_of_list_with_holes<'a>(
     first: u32,
-    ledger: &[LedgerEntry],
+    ledger: &Ledger,
     spot: Spot,
     gives: bool,
     nodes: &'a [Option<Node>],
@@ -188,7 +188,7 @@ fn add_touches_of_list_with_holes<'a>(
 #[cycle(touches)]
 fn add_touches_of_hole<'a>(
     first: u32,
-    ledger: &[LedgerEntry],
+    ledger: &Ledger,
     spot: Spot,
     gives: bool,
     node: &'a Option<Node>,
@@ -265,7 +265,7 @@ fn gives_value(sort: Sort, bare: bool) -> bool
 
 /// What is around the i-th part of a node that stands so.
 #[tactic(auto, using(crate::proofs::TouchesAround::within_node))]
-fn spot_in(first: u32, ledger: &[LedgerEntry], spot: Spot, node: &Node, i: usize) -> Spot
+fn spot_in(first: u32, ledger: &Ledger, spot: Spot, node: &Node, i: usize) -> Spot
     ensures { spot_here result ≡ spot_within first ledger.now (spot_here spot) node.now i }
 {
     Spot {

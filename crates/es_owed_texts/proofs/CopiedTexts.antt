@@ -11,8 +11,8 @@ use Rattle.es_binding_faults.specs.Seen.{seen}
 use Rattle.es_grouped.specs.Groups.{having}
 use Rattle.es_lowered.specs.Texts.{is_literal_among, is_string_among}
 use Rattle.es_node.specs.View.{kind_of, parts_in}
-use Rattle.es_spelled.proofs.SpelledNames.{apart}
-use Rattle.es_spelled.specs.Spelled.{spelling_number}
+use Rattle.es_generated.proofs.NumberedNames.{apart}
+use Rattle.es_generated.specs.Spellings.{spelling_number}
 use Rattle.es_steps.specs.Parts.{at}
 use Rattle.es_steps.specs.SameTrees.{same_kind, same_literal, same_part, same_parts}
 use Rattle.es_steps.specs.Values.{String}

@@ -7,7 +7,7 @@ use Rattle.es_base.specs.declared.literal.LiteralValue.{LiteralValue}
 use Rattle.es_base.specs.declared.literal.LiteralValue.TheVariants as literal_value
 use Rattle.es_binding_faults.specs.Leasts.{Numbers}
 use Rattle.es_node.specs.View.{kind_of, parts_in}
-use Rattle.es_spelled.specs.Spelled.{spelling_number}
+use Rattle.es_generated.specs.Spellings.{spelling_number}
 use Rattle.es_steps.specs.Parts.{at}
 use Rattle.es_steps.specs.Values.{String}
 

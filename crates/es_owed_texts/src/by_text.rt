@@ -17,9 +17,9 @@ use es_base::word::word_str;
 use es_binding_faults::hoisted::part_at;
 use es_binding_faults::leasts::Leasts;
 use es_by_number::numbered::Numbered;
+use es_generated::spellings::spelling_number;
 use es_grouped::Grouped;
 use es_node::node::{Node, Part};
-use es_spelled::spellings::spelling_number;
 use std::alloc::{AllocError, Global};
 
 /// A number for each text of these nodes. Fails on allocation failure alone.

@@ -13,11 +13,11 @@ use crate::by_text::{by_text, text_at, texts};
 use crate::characters::Characters;
 use crate::literals::{is_literal_among, is_string_among};
 use es_binding_faults::leasts::Leasts;
+use es_generated::spellings::spelling_number;
 use es_grouped::Grouped;
 use es_node::node::{Node, Part};
 use es_owed::free::stands_equal;
 use es_owed::listed::Listed;
-use es_spelled::spellings::spelling_number;
 use std::alloc::{AllocError, Global};
 
 /// A source, with its literals and strings of templates by their texts, the characters of its names, and those that these begin

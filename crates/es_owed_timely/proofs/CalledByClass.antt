@@ -1,17 +1,14 @@
 -- Functions that their class alone calls, node by node.
-use Rattle.std.proofs.Common.{◌≡◌, refl, ap, ℕ, List, [], ◌∷◌, ◌++◌, Bool, true, false, cond, ◌&&◌, ◌||◌, bytes_eq, Some}
-use Rattle.es_base.specs.Conforms.{is_among}
+use Rattle.std.proofs.Common.{◌≡◌, refl, ap, List, [], ◌∷◌, ◌++◌, Some}
 use Rattle.es_base.specs.Tree.{Tree, Part, Node, child}
 use Rattle.es_base.specs.declared.ids.NodeId.{NodeId}
 use Rattle.es_base.specs.declared.kind.Kind.{Kind}
 use Rattle.es_base.specs.declared.ledger.GeneratedKind.{GeneratedKind}
 use Rattle.es_base.specs.declared.ledger.LedgerEntry.{LedgerEntry}
 use Rattle.es_lowered.specs.Definitions.{spelling}
-use Rattle.es_lowered.specs.Timely.{declared_methods, is_needed_by, needed_names, super_function, super_functions}
+use Rattle.es_lowered.specs.Timely.{declared_methods, super_function, super_functions}
 use Rattle.es_node.specs.View.{kind_of, number_in, parts_in}
 use Rattle.es_steps.specs.Parts.{at}
-use Rattle.es_steps.specs.PrivateNames.{PrivateMember}
-use Rattle.es_steps.specs.Values.{String}
 use Rattle.es_owed_timely.specs.Functions.{method_in, method_of, super_at, super_in, super_of}
 
 pub methods_more : (ledger : List LedgerEntry) (t : Tree) (ts : List Tree) → declared_methods ledger (t ∷ ts) ≡ method_of ledger t ++ declared_methods ledger ts
@@ -44,10 +41,3 @@ no_super ledger (Node kind m span semantic_id ps) a b = refl
 pub super_named : (n : NodeId) (p : Part) → super_function (Some (GeneratedKind.SuperFn n)) p ≡ super_at n.0 p
 super_named n (child t) = refl
 super_named n p = refl
-
-pub needed_among : (s : String) (n : ℕ) (members : List PrivateMember) (e : LedgerEntry) (es : List LedgerEntry) → is_among s (needed_names n members (e ∷ es)) ≡ ((is_needed_by n members e.kind && bytes_eq e.name s) || is_among s (needed_names n members es))
-needed_among s n members e es = here (is_needed_by n members e.kind)
-  where
-    here : (b : Bool) → is_among s (cond b (e.name ∷ []) [] ++ needed_names n members es) ≡ ((b && bytes_eq e.name s) || is_among s (needed_names n members es))
-    here true = refl
-    here false = refl

@@ -1,3 +1,5 @@
 pub mod CalledByClass
+pub mod NeededNames
 pub mod OwnMarks
+pub mod SuperCalls
 pub mod WalkedMarks

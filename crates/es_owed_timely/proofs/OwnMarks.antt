@@ -1,18 +1,16 @@
 -- The marks that a node has by itself, by its kind.
-use Rattle.std.proofs.Common.{◌≡◌, refl, ap, ℕ, List, [], ◌∷◌, ◌++◌, Bool, true, false, cond, Option}
+use Rattle.std.proofs.Common.{◌≡◌, refl, ap, ℕ, List, [], ◌∷◌, ◌++◌, Option}
 use Rattle.std.proofs.Math.Bool.{or-false}
 use Rattle.es_base.specs.Tree.{Parts}
 use Rattle.es_base.specs.declared.kind.Kind.{Kind}
-use Rattle.es_base.specs.declared.ledger.LedgerEntry.{LedgerEntry}
 use Rattle.es_lowered.specs.ClassNames.{any_among}
 use Rattle.es_lowered.specs.Definitions.{spelling}
-use Rattle.es_lowered.specs.Timely.{Around, MarkForm, hoists, initializes, is_needed_by, needed_names, needs, uses_of}
+use Rattle.es_lowered.specs.Timely.{Around, MarkForm, hoists, initializes, needed_names, uses_of}
 use Rattle.es_steps.specs.Parts.{at}
-use Rattle.es_steps.specs.PrivateNames.{PrivateMember}
 use Rattle.es_steps.specs.References.{has_number}
 use Rattle.es_seen_names.specs.PrivateMembers.{private_members_of}
-use Rattle.es_owed_timely.specs.Search.{called_around, declared_mark, initialized_mark, mark, marks_before, marks_behind, one}
-use Rattle.es_owed_timely.specs.declared.search.Search.{Search}
+use Rattle.es_owed_timely.specs.Search.{declared_mark, initialized_mark, mark, marks_before, marks_behind}
+use Rattle.es_owed_timely.specs.declared.terms.Search.{Search}
 
 module _ (s : Search) (x : Around) (m : ℕ) (ps : Parts) where
   pub before_reference : (kind : Kind) → kind ≡ Kind.IdentifierReference → marks_before s x kind m ps ≡ marks_before s x Kind.IdentifierReference m ps
@@ -52,15 +50,6 @@ module _ (s : Search) (x : Around) (m : ℕ) (ps : Parts) where
   behind_none in_let Kind.ClassDeclaration a b c d = absurd (c refl)
   behind_none in_let Kind.ClassExpression a b c d = absurd (d refl)
   behind_none in_let kind a b c d = refl
-
--- ---- what a class needs
-
-pub needed_more : (x : Around) (n : ℕ) (members : List PrivateMember) (e : LedgerEntry) (es : List LedgerEntry) → uses_of x (needed_names n members (e ∷ es)) ≡ cond (is_needed_by n members e.kind) (one (called_around x) needs e.name [] ∷ []) [] ++ uses_of x (needed_names n members es)
-needed_more x n members e es = here (is_needed_by n members e.kind)
-  where
-    here : (b : Bool) → uses_of x (cond b (e.name ∷ []) [] ++ needed_names n members es) ≡ cond b (one (called_around x) needs e.name [] ∷ []) [] ++ uses_of x (needed_names n members es)
-    here true = refl
-    here false = refl
 
 -- ---- what is asked
 

@@ -16,7 +16,7 @@ use Rattle.es_steps.specs.Repeated.{is_arrow}
 use Rattle.es_steps.specs.Scopes.{is_let}
 use Rattle.es_owed_timely.specs.Search.{key_marks, let_form, marks, marks_at, marks_before, marks_behind, marks_in, value_marks}
 use Rattle.es_owed_timely.specs.Walk.{around_at, body_marks, gives_name, key_mark, marks_from, marks_inside, parts_from, value_mark}
-use Rattle.es_owed_timely.specs.declared.search.Search.{Search}
+use Rattle.es_owed_timely.specs.declared.terms.Search.{Search}
 
 at_once : (i : ℕ) → i + 0 ≡ i
 at_once i = omega arith

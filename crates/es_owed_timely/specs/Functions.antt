@@ -1,11 +1,14 @@
 -- Functions that their class alone calls, node by node.
-use Rattle.std.specs.Prelude.{ℕ, List, [], ◌∷◌, map}
+use Rattle.std.specs.Prelude.{ℕ, List, [], ◌∷◌, map, Bool}
+use Rattle.std.specs.List.{list_any}
+use Rattle.es_base.specs.Conforms.{is_among}
 use Rattle.es_base.specs.Preorder.{number_of}
 use Rattle.es_base.specs.Tree.{Tree, Part, Node, child}
 use Rattle.es_base.specs.declared.kind.Kind.{Kind}
 use Rattle.es_base.specs.declared.ledger.LedgerEntry.{LedgerEntry}
+use Rattle.es_grouped.specs.Groups.{having}
 use Rattle.es_lowered.specs.Definitions.{spelling}
-use Rattle.es_lowered.specs.Timely.{Mark, method_name, super_function, with_class, with_super}
+use Rattle.es_lowered.specs.Timely.{Mark, method_name, needed_names, super_function, with_class, with_super}
 use Rattle.es_steps.specs.Context.{generated_as}
 use Rattle.es_steps.specs.Parts.{at}
 use Rattle.es_steps.specs.PrivateNames.{PrivateMember}
@@ -38,6 +41,14 @@ abbrev pub super_of : List LedgerEntry → Tree → List (ℕ × ℕ)
 super_of ledger (Node Kind.VariableDeclarator m span semantic_id ps) = super_in ledger (at 0 ps) (at 1 ps)
 super_of ledger (Node Kind.AssignmentExpression m span semantic_id ps) = super_in ledger (at 1 ps) (at 2 ps)
 super_of ledger t = []
+
+-- whether name s has to be given in front of class n
+abbrev pub needs : List PrivateMember → List LedgerEntry → String → ℕ → Bool
+needs members ledger s n = is_among s (needed_names n members ledger)
+
+-- whether the class of one of these functions that has this number passes
+abbrev pub given_in : List (ℕ × ℕ) → (ℕ → Bool) → ℕ × Bool → Bool
+given_in fs test g = list_any test (having g.0 fs)
 
 -- marks as they count where such functions are called by their classes alone
 abbrev pub called_marks : List LedgerEntry → List PrivateMember → List (ℕ × String) → List (ℕ × ℕ) → List Mark → List Mark → List Mark

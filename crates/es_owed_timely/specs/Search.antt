@@ -4,12 +4,11 @@ use Rattle.es_base.specs.Tree.{Tree, Part, Parts}
 use Rattle.es_base.specs.declared.kind.Kind.{Kind}
 use Rattle.es_lowered.specs.ClassNames.{is_asked}
 use Rattle.es_lowered.specs.Timely as spec
-use Rattle.es_lowered.specs.Timely.{Around, Mark, MarkForm, is_named, is_of_class}
+use Rattle.es_lowered.specs.Timely.{Around, Mark, MarkForm, is_named}
 use Rattle.es_seen_names.specs.PrivateMembers.{private_members_of}
-use Rattle.es_steps.specs.PrivateNames.{PrivateMember, member_at}
 use Rattle.es_steps.specs.Values.{String}
 use Rattle.es_owed_timely.specs.declared.search.Asked.{Asked}
-use Rattle.es_owed_timely.specs.declared.search.Search.{Search}
+use Rattle.es_owed_timely.specs.declared.terms.Search.{Search}
 
 -- of a node
 abbrev pub has_node : String → List ℕ → Bool
@@ -26,9 +25,6 @@ one x form s ns = record { name = s; node = ns; form = form; around = x }
 
 abbrev pub called_around : Around → Around
 called_around x = record x { later = x.called }
-
-abbrev pub has_member : ℕ → ℕ → List PrivateMember → Bool
-has_member n d members = is_of_class n (member_at d members)
 
 module _ (s : Search) where
   abbrev pub mark : Around → MarkForm → String → List ℕ → List Mark

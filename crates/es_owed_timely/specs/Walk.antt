@@ -9,7 +9,7 @@ use Rattle.es_steps.specs.Parts.{at, string_of}
 use Rattle.es_steps.specs.PrivateNames.{is_element}
 use Rattle.es_marks_around.specs.Inside.{around_within}
 use Rattle.es_owed_timely.specs.Search.{is_given, key_marks, let_form, mark, marks_at, marks_in, value_marks}
-use Rattle.es_owed_timely.specs.declared.search.Search.{Search}
+use Rattle.es_owed_timely.specs.declared.terms.Search.{Search}
 
 -- whether the second part of a node is a name that the node gives a value
 abbrev pub gives_name : Kind → Parts → Bool

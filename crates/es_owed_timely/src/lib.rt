@@ -2,6 +2,8 @@
 #![tactic(auto)]
 
 pub mod functions;
+pub mod needed;
 pub mod search;
+pub mod terms;
 pub mod timely;
 pub mod walk;

@@ -13,41 +13,28 @@ ghost use Rattle.es_owed_timely.specs.Search as found;
 ghost use Rattle.es_owed_timely.specs.Search.{asked_by, called_around};
 ghost use Rattle.es_seen_names.specs.PrivateMembers.{private_members_of};
 
+use crate::terms::Search;
 use es_base::kind::Kind;
 use es_base::ledger::{GeneratedKind, LedgerEntry};
 use es_binding_faults::hoisted::part_at;
-use es_generated::ledger::{generated_as, is_generated};
+use es_generated::ledger::Ledger;
 use es_generated::numbers::has_number;
 use es_marks::around::Around;
 use es_marks::marks::{Mark, MarkForm};
 use es_node::node::{Node, Part};
 use es_owed_initialized::spelling::spelling_at;
 use es_seen_names::parts::string_at;
-use es_seen_names::private_member::{PrivateMember, member_at};
 use std::alloc::{AllocError, Global};
 
 /// Of which names or nodes marks are asked for.
 #[derive(Clone, Copy)]
 pub enum Asked<'a> {
     /// Those of these generated names.
-    Generated(&'a [LedgerEntry]),
+    Generated(&'a Ledger<'a>),
     /// Those of the nodes of these numbers.
     Nodes(&'a [u32]),
     /// Those of nodes: of all references and classes.
     AnyNode,
-}
-
-/// What marks are looked for under.
-#[derive(Clone, Copy)]
-pub struct Search<'a> {
-    /// The number of the first new node.
-    pub first: u32,
-    pub ledger: &'a [LedgerEntry],
-    /// The private members of the source.
-    pub members: &'a [PrivateMember<'a>],
-    pub asked: Asked<'a>,
-    /// The declarations by `let` at the heads of lists.
-    pub leading: &'a [u32],
 }
 
 impl<'a> Asked<'a> {
@@ -57,7 +44,7 @@ impl<'a> Asked<'a> {
         ensures { result ≡ asked_by self.now (chars name.now) (option_to_list node) }
     {
         match self {
-            Asked::Generated(ledger) => is_generated(name, ledger),
+            Asked::Generated(ledger) => ledger.is_generated(name),
             Asked::Nodes(numbers) => match node {
                 Some(node) => has_number(node, numbers),
                 None => false,
@@ -73,7 +60,7 @@ impl<'a> Asked<'a> {
 /// Adds a mark, if it is asked for. Fails on allocation failure alone.
 fn add_mark<'a>(
     alloc: Global,
-    search: &Search<'a>,
+    search: &Search<'_, 'a>,
     around: &Around<'_, 'a>,
     form: MarkForm,
     name: &'a str,
@@ -115,7 +102,7 @@ fn push_mark<'a>(
 #[tactic(auto, using(crate::proofs::OwnMarks::before_reference, crate::proofs::OwnMarks::before_class, crate::proofs::OwnMarks::before_class_expression, crate::proofs::OwnMarks::before_function, crate::proofs::OwnMarks::before_none))]
 pub fn add_marks_before<'a>(
     alloc: Global,
-    search: &Search<'a>,
+    search: &Search<'_, 'a>,
     around: &Around<'_, 'a>,
     node: &'a Node,
     marks: &mut Vec<Mark<'a>>,
@@ -141,7 +128,7 @@ pub fn add_marks_before<'a>(
 /// Adds the mark of a reference. Fails on allocation failure alone.
 fn add_use<'a>(
     alloc: Global,
-    search: &Search<'a>,
+    search: &Search<'_, 'a>,
     around: &Around<'_, 'a>,
     node: &'a Node,
     marks: &mut Vec<Mark<'a>>,
@@ -149,7 +136,7 @@ fn add_use<'a>(
     ensures { OnOk result (marks_of marks.new.items ≡ marks_of marks.old.items ++ found.marks_before search.now (around_here around.now) Kind.IdentifierReference (number_in node.now) (parts_in node.now)) }
 {
     let name = string_at(node.parts(), 0);
-    let kind = generated_as(name, search.ledger);
+    let kind = search.ledger.generated_as(name);
     let here = use_around(kind, around);
     let number = Some(node.node_id().0);
     add_mark(alloc, search, &here, use_form(kind), name, number, marks)
@@ -217,10 +204,9 @@ fn called_around<'r, 'a>(around: &Around<'r, 'a>) -> Around<'r, 'a>
 // ---- what a class needs
 
 /// Adds a mark for each name that has to be given in front of this class. Fails on allocation failure alone.
-#[tactic(auto, using(crate::proofs::OwnMarks::needed_more))]
 fn add_needed<'a>(
     alloc: Global,
-    search: &Search<'a>,
+    search: &Search<'_, 'a>,
     around: &Around<'_, 'a>,
     class: u32,
     marks: &mut Vec<Mark<'a>>,
@@ -228,42 +214,29 @@ fn add_needed<'a>(
     ensures { OnOk result (marks_of marks.new.items ≡ marks_of marks.old.items ++ spec.uses_of (around_here around.now) (spec.needed_names class (private_members_of search.now.members.now) search.now.ledger.now)) }
 {
     let called = called_around(around);
-    for entry in search.ledger {
-        if is_needed_by(class, search.members, entry.kind) {
-            push_mark(
-                alloc,
-                &called,
-                MarkForm::Needs,
-                entry.name.as_str(),
-                None,
-                marks,
-            )?;
-        }
+    let entries = search.needed_by(class);
+    for entry in entries {
+        add_needed_name(alloc, &called, *entry, marks)?;
     }
     Ok(())
 }
 
-/// Whether a name of this kind has to be given in front of this class.
-pub fn is_needed_by(class: u32, members: &[PrivateMember], kind: GeneratedKind) -> bool
-    ensures { result ≡ spec.is_needed_by class (private_members_of members.now) kind }
+fn add_needed_name<'a>(
+    alloc: Global,
+    called: &Around<'_, 'a>,
+    entry: &'a LedgerEntry,
+    marks: &mut Vec<Mark<'a>>,
+) -> Result<(), AllocError>
+    ensures { OnOk result (marks_of marks.new.items ≡ marks_of marks.old.items ++ found.one (around_here called.now) spec.needs entry.now.name [] ∷ []) }
 {
-    match kind {
-        GeneratedKind::WeakMap(key) => is_of_class(class, key.0, members),
-        GeneratedKind::Method(key) => is_of_class(class, key.0, members),
-        GeneratedKind::LooseKey(key) => is_of_class(class, key.0, members),
-        GeneratedKind::Brand(other) => class == other.0,
-        _ => false,
-    }
-}
-
-/// Whether the key is that of a member of this class.
-fn is_of_class(class: u32, key: u32, members: &[PrivateMember]) -> bool
-    ensures { result ≡ found.has_member class key (private_members_of members.now) }
-{
-    match member_at(key, members) {
-        Some(member) => class == member.class,
-        None => false,
-    }
+    push_mark(
+        alloc,
+        called,
+        MarkForm::Needs,
+        entry.name.as_str(),
+        None,
+        marks,
+    )
 }
 
 // ---- behind the marks of the parts
@@ -273,7 +246,7 @@ fn is_of_class(class: u32, key: u32, members: &[PrivateMember]) -> bool
 #[tactic(auto, using(crate::proofs::OwnMarks::behind_assignment, crate::proofs::OwnMarks::behind_declarator, crate::proofs::OwnMarks::behind_class, crate::proofs::OwnMarks::behind_class_expression, crate::proofs::OwnMarks::behind_none, es_seen_names::proofs::Strings::no_characters))]
 pub fn add_marks_behind<'a>(
     alloc: Global,
-    search: &Search<'a>,
+    search: &Search<'_, 'a>,
     around: &Around<'_, 'a>,
     in_let: Option<MarkForm>,
     node: &'a Node,
@@ -309,7 +282,7 @@ pub fn add_marks_behind<'a>(
 /// Adds the mark of what gives a name a value. Fails on allocation failure alone.
 pub fn add_initialized<'a>(
     alloc: Global,
-    search: &Search<'a>,
+    search: &Search<'_, 'a>,
     around: &Around<'_, 'a>,
     name: &'a str,
     node: Option<u32>,
@@ -331,7 +304,7 @@ pub fn add_initialized<'a>(
 /// Adds the mark of a declarator that declares by `let`. Fails on allocation failure alone.
 fn add_declared<'a>(
     alloc: Global,
-    search: &Search<'a>,
+    search: &Search<'_, 'a>,
     around: &Around<'_, 'a>,
     in_let: Option<MarkForm>,
     parts: &'a [Part],
@@ -351,7 +324,7 @@ fn add_declared<'a>(
 /// Adds the mark of a declarator that gives a value. Fails on allocation failure alone.
 fn add_given<'a>(
     alloc: Global,
-    search: &Search<'a>,
+    search: &Search<'_, 'a>,
     around: &Around<'_, 'a>,
     parts: &'a [Part],
     marks: &mut Vec<Mark<'a>>,

@@ -11,7 +11,8 @@ ghost use Rattle.es_marks.specs.Marks.{form_in, marks_of};
 ghost use Rattle.es_owed_timely.specs.Search as found;
 ghost use Rattle.es_owed_timely.specs.Walk.{around_at, body_marks, gives_name, key_mark, marks_from, marks_inside, parts_from, value_mark};
 
-use crate::search::{Search, add_initialized, add_marks_before, add_marks_behind};
+use crate::search::{add_initialized, add_marks_before, add_marks_behind};
+use crate::terms::Search;
 use es_base::kind::Kind;
 use es_base::strings::spells;
 use es_generated::numbers::has_number;
@@ -34,7 +35,7 @@ use std::alloc::{AllocError, Global};
 #[tactic(auto, using(crate::proofs::WalkedMarks::marks_node, es_node::proofs::Below::nodes_in))]
 pub fn add_marks<'a>(
     alloc: Global,
-    search: &Search<'a>,
+    search: &Search<'_, 'a>,
     around: &Around<'_, 'a>,
     in_let: Option<MarkForm>,
     node: &'a Node,
@@ -52,7 +53,7 @@ pub fn add_marks<'a>(
 #[tactic(auto, using(crate::proofs::WalkedMarks::inside_body, crate::proofs::WalkedMarks::inside_other, es_node::proofs::Below::nodes_in))]
 fn add_marks_inside<'a>(
     alloc: Global,
-    search: &Search<'a>,
+    search: &Search<'_, 'a>,
     around: &Around<'_, 'a>,
     node: &'a Node,
     marks: &mut Vec<Mark<'a>>,
@@ -83,7 +84,7 @@ fn add_marks_inside<'a>(
 #[tactic(auto, using(crate::proofs::WalkedMarks::called_arrow, crate::proofs::WalkedMarks::called_other, es_node::proofs::Below::nodes_in))]
 fn add_marks_of_call<'a>(
     alloc: Global,
-    search: &Search<'a>,
+    search: &Search<'_, 'a>,
     around: &Around<'_, 'a>,
     node: &'a Node,
     marks: &mut Vec<Mark<'a>>,
@@ -108,7 +109,7 @@ fn add_marks_of_call<'a>(
 #[tactic(auto, using(crate::proofs::WalkedMarks::dropped))]
 fn add_marks_from<'a>(
     alloc: Global,
-    search: &Search<'a>,
+    search: &Search<'_, 'a>,
     around: &Around<'_, 'a>,
     in_let: Option<MarkForm>,
     gives: bool,
@@ -139,7 +140,7 @@ fn is_given_at(gives: bool, i: usize) -> bool
 #[cycle(marks)]
 fn add_marks_of_part<'a>(
     alloc: Global,
-    search: &Search<'a>,
+    search: &Search<'_, 'a>,
     around: &Around<'_, 'a>,
     in_let: Option<MarkForm>,
     is_given: bool,
@@ -160,7 +161,7 @@ fn add_marks_of_part<'a>(
 #[cycle(marks)]
 fn add_marks_at<'a>(
     alloc: Global,
-    search: &Search<'a>,
+    search: &Search<'_, 'a>,
     around: &Around<'_, 'a>,
     in_let: Option<MarkForm>,
     part: &'a Part,
@@ -183,7 +184,7 @@ fn add_marks_at<'a>(
 #[cycle(marks)]
 fn add_marks_of_list<'a>(
     alloc: Global,
-    search: &Search<'a>,
+    search: &Search<'_, 'a>,
     around: &Around<'_, 'a>,
     in_let: Option<MarkForm>,
     nodes: &'a [Node],
@@ -200,7 +201,7 @@ fn add_marks_of_list<'a>(
 #[cycle(marks)]
 fn add_marks_of_list_with_holes<'a>(
     alloc: Global,
-    search: &Search<'a>,
+    search: &Search<'_, 'a>,
     around: &Around<'_, 'a>,
     in_let: Option<MarkForm>,
     nodes: &'a [Option<Node>],
@@ -217,7 +218,7 @@ fn add_marks_of_list_with_holes<'a>(
 #[cycle(marks)]
 fn add_marks_of_hole<'a>(
     alloc: Global,
-    search: &Search<'a>,
+    search: &Search<'_, 'a>,
     around: &Around<'_, 'a>,
     in_let: Option<MarkForm>,
     node: &'a Option<Node>,
@@ -238,7 +239,7 @@ fn add_marks_of_hole<'a>(
 #[cycle(marks)]
 fn add_marks_of_body<'a>(
     alloc: Global,
-    search: &Search<'a>,
+    search: &Search<'_, 'a>,
     around: &Around<'_, 'a>,
     elements: &'a [Node],
     marks: &mut Vec<Mark<'a>>,
@@ -256,7 +257,7 @@ fn add_marks_of_body<'a>(
 #[tactic(auto, using(crate::proofs::WalkedMarks::keys_more))]
 fn add_keys<'a>(
     alloc: Global,
-    search: &Search<'a>,
+    search: &Search<'_, 'a>,
     around: &Around<'_, 'a>,
     elements: &'a [Node],
     marks: &mut Vec<Mark<'a>>,
@@ -273,7 +274,7 @@ fn add_keys<'a>(
 #[tactic(auto, using(crate::proofs::WalkedMarks::key_first, crate::proofs::WalkedMarks::key_none, es_node::proofs::Below::nodes_in))]
 fn add_key<'a>(
     alloc: Global,
-    search: &Search<'a>,
+    search: &Search<'_, 'a>,
     around: &Around<'_, 'a>,
     element: &'a Node,
     marks: &mut Vec<Mark<'a>>,
@@ -297,7 +298,7 @@ fn add_key<'a>(
 #[tactic(auto, using(crate::proofs::WalkedMarks::values_more))]
 fn add_values<'a>(
     alloc: Global,
-    search: &Search<'a>,
+    search: &Search<'_, 'a>,
     runs: bool,
     around: &Around<'_, 'a>,
     elements: &'a [Node],
@@ -315,7 +316,7 @@ fn add_values<'a>(
 #[tactic(auto, using(crate::proofs::WalkedMarks::value_node, es_node::proofs::Below::nodes_in))]
 fn add_value<'a>(
     alloc: Global,
-    search: &Search<'a>,
+    search: &Search<'_, 'a>,
     runs: bool,
     around: &Around<'_, 'a>,
     element: &'a Node,

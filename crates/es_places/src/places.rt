@@ -11,10 +11,10 @@ ghost use Rattle.es_places.specs.Placing.{declaration_place, head_place, place_o
 
 use crate::surroundings::{Surroundings, around_program, is_class, surroundings_in};
 use es_base::kind::Kind;
-use es_base::ledger::LedgerEntry;
 use es_binding_faults::bound::is_binding_identifier;
 use es_binding_faults::hoisted::part_at;
 use es_by_number::numbered::{Numbered, sort_by_number};
+use es_generated::ledger::Ledger;
 use es_generated::numbers::{has_number, is_new};
 use es_node::node::{Node, Part};
 use es_shapes::walk::is_any_function;
@@ -24,7 +24,7 @@ use std::alloc::{AllocError, Global};
 #[derive(Clone, Copy)]
 pub struct Terms<'a> {
     pub first_new: u32,
-    pub ledger: &'a [LedgerEntry],
+    pub ledger: &'a Ledger<'a>,
     pub private_functions: &'a [u32],
 }
 

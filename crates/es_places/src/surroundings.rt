@@ -12,10 +12,10 @@ ghost use Rattle.es_steps.specs.Repeated as spec;
 ghost use Rattle.es_places.specs.Placing.{is_field, surroundings_of, surroundings_within};
 
 use es_base::kind::Kind;
-use es_base::ledger::{GeneratedKind, LedgerEntry};
+use es_base::ledger::GeneratedKind;
 use es_binding_faults::hoisted::{is_var, part_at};
 use es_binding_faults::vars::takes_vars;
-use es_generated::ledger::generated_as;
+use es_generated::ledger::Ledger;
 use es_generated::numbers::is_new;
 use es_node::node::{Node, Part};
 use es_seen_names::parts::{is_true_at, name_at};
@@ -58,7 +58,7 @@ pub fn around_program(program: &Node) -> Surroundings
 /// What is around the i-th part of a node that stands so. Nodes from the number `first` on are new.
 pub fn surroundings_in(
     first: u32,
-    ledger: &[LedgerEntry],
+    ledger: &Ledger,
     around: Surroundings,
     node: &Node,
     i: usize,
@@ -277,7 +277,7 @@ fn is_in_var(in_var: bool, node: &Node) -> bool
 /// The class whose construction a function belongs to that is the i-th part: this class for a constructor, and that of a `super`
 /// function for what its generated name is given.
 #[tactic(auto, using(crate::proofs::Placed::no_construction))]
-fn constructs_at(ledger: &[LedgerEntry], class: u32, node: &Node, i: usize) -> Option<u32>
+fn constructs_at(ledger: &Ledger, class: u32, node: &Node, i: usize) -> Option<u32>
     ensures { result ≡ spec.constructs_at ledger.now class (kind_of node.now) (parts_in node.now) i }
 {
     match node.kind() {
@@ -309,10 +309,10 @@ fn constructs_at(ledger: &[LedgerEntry], class: u32, node: &Node, i: usize) -> O
 }
 
 /// The class of a `super` function of this name.
-fn super_function(name: &str, ledger: &[LedgerEntry]) -> Option<u32>
+fn super_function(name: &str, ledger: &Ledger) -> Option<u32>
     ensures { result ≡ spec.super_function (context.generated_as (chars name.now) ledger.now) }
 {
-    match generated_as(name, ledger) {
+    match ledger.generated_as(name) {
         Some(GeneratedKind::SuperFn(class)) => Some(class.0),
         _ => None,
     }

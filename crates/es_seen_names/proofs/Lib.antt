@@ -1,5 +1,6 @@
 pub mod Declarators
 pub mod Declaring
+pub mod FirstNames
 pub mod Naming
 pub mod PrivateKinds
 pub mod Strings

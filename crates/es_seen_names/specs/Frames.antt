@@ -11,7 +11,7 @@ use Rattle.es_seen_names.specs.declared.privates.Privates.{Privates}
 
 abbrev pub names_in : Names → List spec.Declaration
 names_in names.Outside = []
-names_in (names.Inside' ds at outer) = declarations ds.now ++ names_in outer
+names_in (names.Inside' frame at outer) = declarations frame.now.list.items ++ names_in outer
 
 abbrev pub privates_in : Privates → List spec_privates.PrivateMember
 privates_in privates.Outside = []

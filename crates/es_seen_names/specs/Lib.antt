@@ -1,4 +1,5 @@
 pub mod Declarations
+pub mod Firsts
 pub mod Frames
 pub mod Items
 pub mod PrivateMembers

@@ -4,6 +4,8 @@
 
 pub mod class_in;
 pub mod declaration;
+pub mod firsts;
+pub mod frame;
 pub mod lexical;
 pub mod names;
 pub mod parts;

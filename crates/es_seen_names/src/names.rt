@@ -3,20 +3,20 @@
 ghost use Rattle.std.specs.Prelude.{◌≡◌, option_map};
 ghost use Rattle.std.specs.Str.{chars};
 ghost use Rattle.es_steps.specs.References.{declared};
-ghost use Rattle.es_seen_names.specs.Declarations.{declaration_of, declarations};
+ghost use Rattle.es_seen_names.specs.Declarations.{declaration_of};
 ghost use Rattle.es_seen_names.specs.Frames.{names_in};
 
 use crate::declaration::Declaration;
-use es_base::strings::is_word;
+use crate::frame::Frame;
 
 /// The names that are seen at a place.
 #[derive(Clone, Copy)]
 pub enum Names<'r, 'a> {
     /// None.
     Outside,
-    /// These, and those around them.
+    /// Those of a scope, and those around them.
     Inside {
-        names: &'r [Declaration<'a>],
+        frame: &'r Frame<'a>,
         outer: &'r Names<'r, 'a>,
     },
 }
@@ -28,21 +28,9 @@ pub fn declared<'a>(names: &Names<'_, 'a>, name: &str) -> Option<Declaration<'a>
 {
     match names {
         Names::Outside => None,
-        Names::Inside { names, outer } => match declared_among(names, name) {
+        Names::Inside { frame, outer } => match frame.get(name) {
             Some(declaration) => Some(declaration),
             None => declared(outer, name),
         },
     }
-}
-
-/// The first of these declarations that declares the name.
-fn declared_among<'a>(names: &[Declaration<'a>], name: &str) -> Option<Declaration<'a>>
-    ensures { option_map declaration_of result ≡ declared (chars name.now) (declarations names.now) }
-{
-    for declaration in names {
-        if is_word(declaration.name, name) {
-            return Some(*declaration);
-        }
-    }
-    None
 }

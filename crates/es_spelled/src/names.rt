@@ -9,10 +9,10 @@ ghost use Rattle.es_lowered.specs.Lowered as spec;
 ghost use Rattle.es_references.specs.References.{references_of};
 ghost use Rattle.es_spelled.specs.Spelled.{numbered_declaring, numbered_references};
 
-use crate::spellings::spelling_number;
 use es_binding_faults::bound::is_binding_identifier;
 use es_binding_faults::leasts::Leasts;
 use es_by_number::numbered::Numbered;
+use es_generated::spellings::spelling_number;
 use es_grouped::Grouped;
 use es_node::node::Node;
 use es_references::references::Reference;

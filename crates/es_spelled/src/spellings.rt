@@ -1,11 +1,6 @@
 // Numbers of spellings.
 //
-// Each spelling of an identifier that declares has the least of the numbers of these identifiers. Two names of one spelling
-// have one number, whatever it is: that is all that a look-up rests on. That other names have other numbers makes it fast.
-
-ghost use Rattle.std.specs.Prelude.{◌≡◌};
-ghost use Rattle.std.specs.Str.{chars};
-ghost use Rattle.es_spelled.specs.Spelled.{spelling_number};
+// Each spelling of an identifier that declares has the least of the numbers of these identifiers.
 
 use es_binding_faults::bound::is_binding_identifier;
 use es_binding_faults::leasts::Leasts;
@@ -27,14 +22,4 @@ fn add_spelling<'a>(node: &'a Node, spellings: &mut Leasts<'a>) -> Result<(), Al
         spellings.add(string_at(node.parts(), 0), node.node_id().0)?;
     }
     Ok(())
-}
-
-/// The number of this spelling; that of no node, if no identifier declares it.
-pub fn spelling_number(name: &str, spellings: &Leasts) -> u32
-    ensures { result ≡ spelling_number spellings.now (chars name.now) }
-{
-    match spellings.get(name) {
-        Some(number) => number,
-        None => u32::MAX,
-    }
 }

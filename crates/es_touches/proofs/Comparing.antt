@@ -7,7 +7,7 @@ use Rattle.es_lowered.specs.DeadZones as spec
 use Rattle.es_lowered.specs.DeadZones.{Body, Touch, TouchForm, runs_closure}
 use Rattle.es_steps.specs.KeptNodes.{all_pairs_stand}
 use Rattle.es_steps.specs.References.{has_number}
-use Rattle.es_touches.specs.Comparison.{front_of_run, in_same, is_any_run, is_behind_super, run_with, run_without, runs_fit, touch_fits, touches_fit, turned}
+use Rattle.es_touches.specs.Comparison.{front_of_run, in_same, is_any_run, is_behind_super, one_fits, run_with, run_without, runs_fit, touch_fits, touches_fit, turned}
 use Rattle.es_touches.specs.Touches.{closures_of, touch_of, touches_of}
 use Rattle.es_touches.specs.declared.source.Source.{Source}
 use Rattle.es_touches.specs.declared.touch.Touch as code
@@ -138,12 +138,6 @@ next_runs_unfit s b front t ts xs i d zs below is fits =
 -- the touches from the i-th on, with those in front
 abbrev pub rest_fits : Source → Body → List code.Touch → ℕ → Bool
 rest_fits s b xs i = touches_fit s b (turned (touches_of (take i xs)) []) (touches_of (drop i xs))
-
--- one touch with those in front and those behind
-abbrev pub one_fits : Source → Body → List code.Touch → List code.Touch → code.Touch → List code.Touch → Bool
-one_fits s b front front_with x behind =
-    touch_fits s b (turned (touches_of front) []) (touch_of x) (spec.put_off_behind (closures_of s.called.now) (touch_of x) (turned (touches_of front) []) ++ in_same s (touch_of x) (touches_of behind))
-    && runs_fit s b (turned (touches_of front_with) []) (touch_of x) (touches_of behind) [] b.touches
 
 pub next_touch : (s : Source) (b : Body) (xs : List code.Touch) (i : ℕ) (x : code.Touch) → i < length xs
     → rest_fits s b xs i ≡ (one_fits s b (take i xs) (take (i + 1) xs) (get_or xs i x) (drop (i + 1) xs) && rest_fits s b xs (i + 1))

@@ -1,5 +1,5 @@
 -- Constructors and arrows, node by node.
-use Rattle.std.proofs.Common.{◌≡◌, refl, ap, ℕ, List, [], ◌∷◌, ◌++◌, cond, ◌&&◌, Option, Some, None}
+use Rattle.std.proofs.Common.{◌≡◌, refl, ap, ◌∙◌, ℕ, List, [], ◌∷◌, ◌++◌, cond, ◌&&◌, Option, Some, None}
 use Rattle.std.proofs.Math.Bool.{or-false}
 use Rattle.std.specs.Prelude.{nat_eq}
 use Rattle.es_base.specs.Tree.{Tree, Part, Parts, Node, end, more, child, nullable}
@@ -26,6 +26,13 @@ constructs_more k (Node kind n span semantic_id ps) ts = refl
 
 pub arrows_more : (constructors : List ℕ) (t : Tree) (ts : List Tree) → derived_arrows constructors (t ∷ ts) ≡ cond (is_any_function (kind_of t) && has_number (number_in t) constructors) (arrows_in (parts_in t)) [] ++ derived_arrows constructors ts
 arrows_more constructors (Node kind m span semantic_id ps) ts = refl
+
+-- of the same functions
+pub same_arrows : (ks ls : List ℕ) (ts : List Tree) → ((n : ℕ) → has_number n ks ≡ has_number n ls) → derived_arrows ks ts ≡ derived_arrows ls ts
+same_arrows ks ls [] same = refl
+same_arrows ks ls (Node kind m span semantic_id ps ∷ ts) same =
+    ap (λ b. cond (is_any_function kind && b) (arrows_in ps) [] ++ derived_arrows ks ts) (same m)
+    ∙ ap (λ (ns : List ℕ). cond (is_any_function kind && has_number m ls) (arrows_in ps) [] ++ ns) (same_arrows ks ls ts same)
 
 pub statics_more : (t : Tree) (ts : List Tree) → static_arrows (t ∷ ts) ≡ cond (runs_with_class (child t)) (value_arrows (kind_of t) (parts_in t)) [] ++ static_arrows ts
 statics_more (Node kind m span semantic_id ps) ts = refl

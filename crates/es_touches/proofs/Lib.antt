@@ -1,8 +1,12 @@
 pub mod CalledClosures
 pub mod ClassNodes
 pub mod Comparing
+pub mod Counting
 pub mod DerivedFunctions
 pub mod FactsOfNodes
 pub mod FormsOfNodes
+pub mod FoundTouches
 pub mod NodesBelow
+pub mod OpenBodies
+pub mod SuperCalls
 pub mod ThrowsOfNodes

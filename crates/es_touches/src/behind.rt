@@ -102,7 +102,7 @@ fn all_behind<'a>(
 // ---- a touch of the source
 
 /// Whether a touch of the lowered program is of the node and form of one of the source.
-fn is_like(source: &Source, touch: Touch, other: Touch) -> bool
+pub fn is_like(source: &Source, touch: Touch, other: Touch) -> bool
     ensures { result ≡ compared.is_like source.now (touch_of touch.entry) (touch_of other.entry) }
 {
     (is_new(source.first, touch.number) || touch.number == other.number)

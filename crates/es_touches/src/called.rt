@@ -12,9 +12,9 @@ ghost use Rattle.es_touches.specs.Touches.{closures_of};
 
 use crate::closures::Closure;
 use es_base::kind::Kind;
-use es_base::ledger::{GeneratedKind, LedgerEntry};
+use es_base::ledger::GeneratedKind;
 use es_binding_faults::hoisted::part_at;
-use es_generated::ledger::generated_as;
+use es_generated::ledger::Ledger;
 use es_node::node::{Node, Part};
 use es_owed_initialized::spelling::spelling_at;
 use std::alloc::{AllocError, Global};
@@ -23,7 +23,7 @@ use std::alloc::{AllocError, Global};
 #[tactic(auto, using(crate::proofs::CalledClosures::closures_more))]
 pub fn closures<'a>(
     alloc: Global,
-    ledger: &[LedgerEntry],
+    ledger: &Ledger,
     nodes: &[&'a Node],
 ) -> Result<Vec<Closure<'a>>, AllocError>
     ensures { IfOk result (λ r. closures_of r.items ≡ spec.closures ledger.now (seen nodes.now)) }
@@ -38,7 +38,7 @@ pub fn closures<'a>(
 /// Adds what the node gives to a name, if that is such a closure. Fails on allocation failure alone.
 #[tactic(auto, using(crate::proofs::CalledClosures::by_assignment, crate::proofs::CalledClosures::by_declarator, crate::proofs::CalledClosures::by_none))]
 fn add_closure<'a>(
-    ledger: &[LedgerEntry],
+    ledger: &Ledger,
     node: &'a Node,
     closures: &mut Vec<Closure<'a>>,
 ) -> Result<(), AllocError>
@@ -55,7 +55,7 @@ fn add_closure<'a>(
 
 /// Adds the part at `value`, if it is an arrow and the name at `target` is that of a closure. Fails on allocation failure alone.
 fn add_closure_at<'a>(
-    ledger: &[LedgerEntry],
+    ledger: &Ledger,
     parts: &'a [Part],
     target: usize,
     value: usize,
@@ -71,7 +71,7 @@ fn add_closure_at<'a>(
 
 #[tactic(auto, using(crate::proofs::CalledClosures::closure_of_arrow, crate::proofs::CalledClosures::no_arrow))]
 fn add_arrow<'a>(
-    ledger: &[LedgerEntry],
+    ledger: &Ledger,
     name: &'a str,
     node: &Node,
     closures: &mut Vec<Closure<'a>>,
@@ -81,7 +81,7 @@ fn add_arrow<'a>(
     match node.kind() {
         // () => a
         Kind::ArrowFunctionExpression => {
-            if is_closure(generated_as(name, ledger)) {
+            if is_closure(ledger.generated_as(name)) {
                 closures.push(Closure {
                     name,
                     arrow: node.node_id().0,

@@ -4,7 +4,7 @@ ghost use Rattle.std.specs.Prelude.{◌≡◌, ◌++◌, ◌∷◌, [], cond, no
 ghost use Rattle.es_lowered.specs.DeadZones as spec;
 ghost use Rattle.es_marks.specs.Around.{held_parts};
 ghost use Rattle.es_steps.specs.References as references;
-ghost use Rattle.es_touches.specs.Comparison.{turned};
+ghost use Rattle.es_touches.specs.Comparison.{none_in_closure, turned};
 ghost use Rattle.es_touches.specs.Touches.{closure_of, closures_of, form_of, touch_of, touches_of};
 
 use crate::touch::{Touch, TouchForm, is_any_run, is_definition};
@@ -43,6 +43,18 @@ pub fn stands_in_closure(called: &[Closure], touch: Touch) -> bool
         }
     }
     false
+}
+
+/// Whether none of these touches stands in one of these closures.
+pub fn none_in_closure(called: &[Closure], touches: &[Touch]) -> bool
+    ensures { result ≡ none_in_closure (closures_of called.now) (touches_of touches.now) }
+{
+    for touch in touches {
+        if stands_in_closure(called, *touch) {
+            return false;
+        }
+    }
+    true
 }
 
 /// Whether the other touch stands in each of these closures in which the touch stands.

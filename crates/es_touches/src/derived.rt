@@ -18,8 +18,10 @@ ghost use Rattle.es_touches.specs.Derived.{arrows_inside, arrows_of_key, arrows_
 use crate::below::push_if;
 use es_base::kind::Kind;
 use es_binding_faults::hoisted::part_at;
-use es_generated::numbers::has_number;
+use es_binding_faults::numbers::Numbers;
 use es_node::node::{Node, Part};
+use es_number_set::NumberSet;
+use es_owed::numbers::set_of;
 use es_owed_initialized::kinds::{is_arrow, is_class, is_element, is_function};
 use es_owed_initialized::runs::runs_with_class;
 use es_seen_names::parts::is_present_at;
@@ -116,12 +118,19 @@ fn is_constructed_by(function: u32, node: &Node) -> bool
 // ---- arrows
 
 /// The arrows that have the `this` of one of these functions, among these nodes. Fails on allocation failure alone.
-#[tactic(auto, using(crate::proofs::DerivedFunctions::arrows_more))]
 pub fn derived_arrows(
     alloc: Global,
     constructors: &[u32],
     nodes: &[&Node],
 ) -> Result<Vec<u32>, AllocError>
+    ensures { IfOk result (λ r. r.items ≡ spec.derived_arrows constructors.now (seen nodes.now)) }
+{
+    let set = set_of(alloc, constructors)?;
+    arrows_of(alloc, &set, nodes)
+}
+
+#[tactic(auto, using(crate::proofs::DerivedFunctions::arrows_more))]
+fn arrows_of(alloc: Global, constructors: &Numbers, nodes: &[&Node]) -> Result<Vec<u32>, AllocError>
     ensures { IfOk result (λ r. r.items ≡ spec.derived_arrows constructors.now (seen nodes.now)) }
 {
     let mut numbers = Vec::new(alloc);
@@ -132,13 +141,13 @@ pub fn derived_arrows(
 }
 
 fn add_arrows_if(
-    constructors: &[u32],
+    constructors: &Numbers,
     node: &Node,
     numbers: &mut Vec<u32>,
 ) -> Result<(), AllocError>
     ensures { OnOk result (numbers.new.items ≡ numbers.old.items ++ cond (scopes.is_any_function (kind_of node.now) && references.has_number (number_in node.now) constructors.now) (spec.arrows_in (parts_in node.now)) []) }
 {
-    if is_any_function(node.kind()) && has_number(node.node_id().0, constructors) {
+    if is_any_function(node.kind()) && constructors.has(node.node_id()) {
         add_arrows_in(node.parts(), numbers)?;
     }
     Ok(())
@@ -180,11 +189,15 @@ fn add_value_arrows(element: &Node, numbers: &mut Vec<u32>) -> Result<(), AllocE
 }
 
 /// Adds those of these numbers that are among the others. Fails on allocation failure alone.
-pub fn add_common(others: &[u32], numbers: &[u32], common: &mut Vec<u32>) -> Result<(), AllocError>
+pub fn add_common(
+    others: &NumberSet,
+    numbers: &[u32],
+    common: &mut Vec<u32>,
+) -> Result<(), AllocError>
     ensures { OnOk result (common.new.items ≡ common.old.items ++ lists.common others.now numbers.now) }
 {
     for number in numbers {
-        push_if(has_number(*number, others), *number, common)?;
+        push_if(others.has(*number), *number, common)?;
     }
     Ok(())
 }

@@ -1,22 +1,27 @@
 // Whether the bodies of a lowered program fit those of the source.
 
-ghost use Rattle.std.specs.Prelude.{◌≡◌, ◌++◌, ◌&&◌, ◌||◌, [], cond, not, IfOk, OnOk};
+ghost use Rattle.std.specs.Prelude.{◌≡◌, ◌++◌, ◌&&◌, ◌||◌, [], cond, not, true, IfOk, OnOk};
 ghost use Rattle.es_steps.specs.KeptNodes.{all_pairs_stand};
 ghost use Rattle.es_steps.specs.References as references;
 ghost use Rattle.es_lowered.specs.DeadZones as spec;
 ghost use Rattle.es_touches.specs.Comparison as compared;
-ghost use Rattle.es_touches.specs.Comparison.{turned};
+ghost use Rattle.es_touches.specs.Comparison.{none_in_closure, turned};
+ghost use Rattle.es_touches.specs.Counts.{AreFound};
+ghost use Rattle.es_touches.specs.Supers.{any_super_call};
 ghost use Rattle.es_touches.specs.Touches.{bodies_of, body_of, class_of, classes_of, closures_of, form_of, touch_of, touches_of};
 
 use crate::behind::stands_like;
 use crate::closures::{
-    add_if, held_in_both, held_where_run, is_in_same, is_run_by, put_off, stands_in_closure,
+    add_if, held_in_both, held_where_run, is_in_same, is_run_by, none_in_closure, put_off,
+    stands_in_closure,
 };
+use crate::found::{found_touches, places_of};
 use crate::source::{Body, ClassParts, Source};
 use crate::touch::{
     Touch, TouchForm, is_any_run, is_asked, is_between, is_call_of_super, is_same_form, is_this,
 };
 use es_generated::numbers::{has_number, is_new};
+use es_grouped::Grouped;
 use es_marks::in_time::all_held;
 use std::alloc::{AllocError, Global};
 
@@ -25,13 +30,97 @@ use std::alloc::{AllocError, Global};
 pub fn bodies_fit(alloc: Global, source: &Source, bodies: &[Body]) -> Result<bool, AllocError>
     ensures { IfOk result (λ holds. holds ≡ compared.bodies_fit source.now (bodies_of bodies.now)) }
 {
+    let places = places_of(alloc, source.bodies)?;
+    bodies_fit_among(alloc, source, &places, bodies)
+}
+
+/// The same, where these are the places of the bodies of the source (`places_of`). Fails on allocation failure alone.
+pub fn bodies_fit_among(
+    alloc: Global,
+    source: &Source,
+    places: &Grouped<usize>,
+    bodies: &[Body],
+) -> Result<bool, AllocError>
+    ensures { IfOk result (λ holds. holds ≡ compared.bodies_fit source.now (bodies_of bodies.now)) }
+{
     for body in bodies {
-        if !touches_fit(alloc, source, body)? {
+        if !body_fits(alloc, source, places, body)? {
             return Ok(false);
         }
     }
     Ok(true)
 }
+
+/// Whether what one body touches does. Fails on allocation failure alone.
+fn body_fits<'a>(
+    alloc: Global,
+    source: &Source,
+    places: &Grouped<usize>,
+    body: &Body<'a>,
+) -> Result<bool, AllocError>
+    ensures { IfOk result (λ holds. holds ≡ compared.touches_fit source.now (body_of body.now) [] (touches_of body.now.touches.items)) }
+{
+    if none_in_closure(source.called, body.touches.as_slice()) {
+        open_body_fits(alloc, source, places, body)
+    } else {
+        touches_fit(alloc, source, body)
+    }
+}
+
+// ---- touches in no closure that is run elsewhere
+
+/// The same of a body of which no touch stands in a closure that is run elsewhere, so that what is behind a touch is what stands
+/// behind it. Fails on allocation failure alone.
+fn open_body_fits<'a>(
+    alloc: Global,
+    source: &Source,
+    places: &Grouped<usize>,
+    body: &Body<'a>,
+) -> Result<bool, AllocError>
+    requires { none_in_closure (closures_of source.now.called.now) (touches_of body.now.touches.items) ≡ true }
+    ensures { IfOk result (λ holds. holds ≡ compared.touches_fit source.now (body_of body.now) [] (touches_of body.now.touches.items)) }
+{
+    let touches = body.touches.as_slice();
+    let found = found_touches(alloc, source, places, body, touches)?;
+    Ok(open_touches_fit(source, body, touches, found))
+}
+
+/// The same of its touches, where these are found to fit.
+fn open_touches_fit(source: &Source, body: &Body, touches: &[Touch], found: Vec<bool>) -> bool
+    requires own { touches.now ≡ body.now.touches.items }
+    requires outside { none_in_closure (closures_of source.now.called.now) (touches_of body.now.touches.items) ≡ true }
+    requires found { AreFound source.now (body_of body.now) touches.now found.items }
+    ensures { result ≡ compared.touches_fit source.now (body_of body.now) [] (touches_of touches.now) }
+{
+    for (i, touch) in touches.iter().enumerate() {
+        let front = &touches[..i];
+        let behind = &touches[i + 1..];
+        if !open_touch_fits(source, body, front, *touch, behind, found[i]) {
+            return false;
+        }
+    }
+    true
+}
+
+/// Whether a touch, with these in front of it and these behind, is found to fit, or does.
+fn open_touch_fits(
+    source: &Source,
+    body: &Body,
+    front: &[Touch],
+    touch: Touch,
+    behind: &[Touch],
+    is_found: bool,
+) -> bool
+    requires { is_found ≡ true → compared.touch_fits source.now (body_of body.now) (turned (touches_of front.now) []) (touch_of touch) (touches_of behind.now) ≡ true }
+    ensures { result ≡ compared.touch_fits source.now (body_of body.now) (turned (touches_of front.now) []) (touch_of touch.entry) (touches_of behind.now) }
+{
+    if is_found {
+        return true;
+    }
+    touch_fits(source, body, front, touch, behind)
+}
+
+// ---- touches in closures
 
 /// Whether what one body touches does. Fails on allocation failure alone.
 fn touches_fit<'a>(alloc: Global, source: &Source, body: &Body<'a>) -> Result<bool, AllocError>
@@ -336,7 +425,7 @@ fn is_super_of(source: &Source, touch: Touch, other: Touch) -> bool
 
 /// Whether the touch, with these in front of it, stands behind a call of `super`.
 #[tactic(auto, using(crate::proofs::Comparing::super_front))]
-fn is_behind_super(source: &Source, touch: Touch, front: &[Touch]) -> bool
+pub fn is_behind_super(source: &Source, touch: Touch, front: &[Touch]) -> bool
     ensures { result ≡ compared.is_behind_super source.now (touch_of touch.entry) (turned (touches_of front.now) []) }
 {
     any_super(source, touch, front)
@@ -344,6 +433,27 @@ fn is_behind_super(source: &Source, touch: Touch, front: &[Touch]) -> bool
 
 /// Whether one of these touches is a call of `super` that runs wherever the touch does.
 fn any_super(source: &Source, touch: Touch, others: &[Touch]) -> bool
+    ensures { result ≡ compared.is_behind_super source.now (touch_of touch.entry) (touches_of others.now) }
+{
+    // a call that stands as one is told by its form, with no look at those of the source
+    if any_super_call(touch, others) {
+        return true;
+    }
+    any_super_of_source(source, touch, others)
+}
+
+fn any_super_call(touch: Touch, others: &[Touch]) -> bool
+    ensures { result ≡ any_super_call (touch_of touch.entry) (touches_of others.now) }
+{
+    for other in others {
+        if is_call_of_super(other.form) && all_held(other.held, touch.held) {
+            return true;
+        }
+    }
+    false
+}
+
+fn any_super_of_source(source: &Source, touch: Touch, others: &[Touch]) -> bool
     ensures { result ≡ compared.is_behind_super source.now (touch_of touch.entry) (touches_of others.now) }
 {
     for other in others {
@@ -403,7 +513,13 @@ fn reads_key(source: &Source, of_class: &[u32], form: TouchForm) -> bool
 
 /// Whether the other body is the same in the source, or is of the fields that may be defined where the body is new, or where
 /// the touch stands in a closure.
-fn is_of_body(source: &Source, is_ready: bool, is_inner: bool, body: &Body, other: &Body) -> bool
+pub fn is_of_body(
+    source: &Source,
+    is_ready: bool,
+    is_inner: bool,
+    body: &Body,
+    other: &Body,
+) -> bool
     ensures { result ≡ compared.is_of_body source.now is_ready is_inner (body_of body.now) (body_of other.now) }
 {
     body.number == other.number

@@ -12,8 +12,9 @@ ghost use Rattle.es_steps.specs.References as references;
 use crate::below::{add_number_at, numbers_inside, push_if};
 use crate::forms::ends_in_throw;
 use es_base::kind::Kind;
-use es_generated::numbers::{has_number, is_new};
+use es_generated::numbers::is_new;
 use es_node::node::Node;
+use es_number_set::NumberSet;
 use std::alloc::{AllocError, Global};
 
 /// The new nodes that always throw, but for those that stand for one of these updates; the nodes are those of a program. Fails
@@ -21,18 +22,22 @@ use std::alloc::{AllocError, Global};
 pub fn all_throws(
     alloc: Global,
     first: u32,
-    updates: &[u32],
+    updates: &NumberSet,
     nodes: &[&Node],
 ) -> Result<Vec<u32>, AllocError>
     ensures { IfOk result (λ r. r.items ≡ spec.all_throws first updates.now (seen nodes.now)) }
 {
-    let rights = right_operands(alloc, updates, nodes)?;
-    new_throws(alloc, first, updates, rights.as_slice(), nodes)
+    let rights = NumberSet::of(alloc, right_operands(alloc, updates, nodes)?)?;
+    new_throws(alloc, first, updates, &rights, nodes)
 }
 
 /// The right operands of the updates that are logical. Fails on allocation failure alone.
 #[tactic(auto, using(crate::proofs::ThrowsOfNodes::rights_more))]
-fn right_operands(alloc: Global, updates: &[u32], nodes: &[&Node]) -> Result<Vec<u32>, AllocError>
+fn right_operands(
+    alloc: Global,
+    updates: &NumberSet,
+    nodes: &[&Node],
+) -> Result<Vec<u32>, AllocError>
     ensures { IfOk result (λ r. r.items ≡ spec.right_operands updates.now (seen nodes.now)) }
 {
     let mut numbers = Vec::new(alloc);
@@ -43,13 +48,13 @@ fn right_operands(alloc: Global, updates: &[u32], nodes: &[&Node]) -> Result<Vec
 }
 
 #[tactic(auto, using(crate::proofs::ThrowsOfNodes::right_logical, crate::proofs::ThrowsOfNodes::right_none))]
-fn add_right(updates: &[u32], node: &Node, numbers: &mut Vec<u32>) -> Result<(), AllocError>
+fn add_right(updates: &NumberSet, node: &Node, numbers: &mut Vec<u32>) -> Result<(), AllocError>
     ensures { OnOk result (numbers.new.items ≡ numbers.old.items ++ spec.right_of updates.now (kind_of node.now) (number_in node.now) (parts_in node.now)) }
 {
     match node.kind() {
         // a.#b || (c, babelHelpers.readOnlyError("#b"))
         Kind::LogicalExpression => {
-            if has_number(node.node_id().0, updates) {
+            if updates.has(node.node_id().0) {
                 add_number_at(node.parts(), 2, numbers)
             } else {
                 Ok(())
@@ -63,8 +68,8 @@ fn add_right(updates: &[u32], node: &Node, numbers: &mut Vec<u32>) -> Result<(),
 fn new_throws(
     alloc: Global,
     first: u32,
-    updates: &[u32],
-    rights: &[u32],
+    updates: &NumberSet,
+    rights: &NumberSet,
     nodes: &[&Node],
 ) -> Result<Vec<u32>, AllocError>
     ensures { IfOk result (λ r. r.items ≡ spec.new_throws first updates.now rights.now (seen nodes.now)) }
@@ -80,14 +85,14 @@ fn new_throws(
 fn is_new_throw(
     alloc: Global,
     first: u32,
-    updates: &[u32],
-    rights: &[u32],
+    updates: &NumberSet,
+    rights: &NumberSet,
     node: &Node,
 ) -> Result<bool, AllocError>
     ensures { IfOk result (λ r. r ≡ (spec.throws_at (kind_of node.now) (parts_in node.now) && (numbered.is_new first (number_in node.now) && not (references.has_number (number_in node.now) rights.now || names.any_among updates.now (names.numbers_of (preorder_of (parts_in node.now))))))) }
 {
     let number = node.node_id().0;
-    if !throws_at(node) || !is_new(first, number) || has_number(number, rights) {
+    if !throws_at(node) || !is_new(first, number) || rights.has(number) {
         return Ok(false);
     }
     let inside = numbers_inside(alloc, node)?;
@@ -106,11 +111,11 @@ fn throws_at(node: &Node) -> bool
 }
 
 /// Whether one of these numbers is among the others.
-fn any_among(others: &[u32], numbers: &[u32]) -> bool
+fn any_among(others: &NumberSet, numbers: &[u32]) -> bool
     ensures { result ≡ names.any_among others.now numbers.now }
 {
     for number in numbers {
-        if has_number(*number, others) {
+        if others.has(*number) {
             return true;
         }
     }

@@ -50,6 +50,16 @@ pub clauses_fail : (part : Part) (node first : ℕ) (o : Options) (ledger : List
 clauses_fail Part.Texts node first o ledger p q f = absurd f
 clauses_fail part node first o ledger p q f = f
 
+-- what is said of a pair is said of these, which are its members
+pub of_members : {E : Type 0} (said : Verdict → ℕ → Options → List LedgerEntry → Tree → Tree → Type 0) (r : Result Verdict E) (first n : ℕ) (o asked : Options) (ledger names : List LedgerEntry) (p source q lowered : Tree)
+    → first ≡ n → o ≡ asked → ledger ≡ names → p ≡ source → q ≡ lowered → IfOk r (λ v. said v first o ledger p q) → IfOk r (λ v. said v n asked names source lowered)
+of_members said r first n o asked ledger names p source q lowered a b c d e h =
+    subst (λ (m : ℕ). IfOk r (λ v. said v m asked names source lowered)) a
+    (subst (λ (x : Options). IfOk r (λ v. said v first x names source lowered)) b
+    (subst (λ (es : List LedgerEntry). IfOk r (λ v. said v first o es source lowered)) c
+    (subst (λ (t : Tree). IfOk r (λ v. said v first o ledger t lowered)) d
+    (subst (λ (t : Tree). IfOk r (λ v. said v first o ledger p t)) e h))))
+
 -- where one is missing, there is none
 pub none_of_none : (a : Option Meaning) → MayMean None a → a ≡ None
 none_of_none None h = refl

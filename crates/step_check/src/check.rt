@@ -17,6 +17,7 @@ use es_clauses::clause::Clause;
 use es_clauses::node::node_of;
 use es_clauses::pair::{Pair, meets};
 use es_clauses::unmet::first_unmet;
+use es_generated::ledger::Ledger;
 use es_node::node::Node;
 use es_owed::listed::Listed;
 use es_owed::numbered::is_numbered;
@@ -62,14 +63,13 @@ fn judge_meanings(alloc: Global, pair: &Pair) -> Result<Verdict, CheckError>
     requires met { unmet in_order pair.now.first pair.now.options.now pair.now.ledger.now pair.now.source.program.now pair.now.lowered.program.now ≡ None }
     ensures { IfOk result (λ v. IsJudgedFrom v pair.now.first pair.now.options.now pair.now.ledger.now pair.now.source.program.now pair.now.lowered.program.now) }
 {
-    let (source, lowered) = (pair.source.program, pair.lowered.program);
     match compare(
         alloc,
         pair.first,
         pair.options,
         pair.ledger,
-        source,
-        lowered,
+        &pair.source,
+        &pair.lowered,
     ) {
         Ok(Verdict::Yes) => Ok(judge_texts(alloc, pair)?),
         Ok(Verdict::No { part, node }) => Ok(Verdict::No { part, node }),
@@ -101,7 +101,7 @@ fn count(nodes: &[&Node]) -> u32
 fn pair_of<'a>(
     alloc: Global,
     options: &'a Options,
-    ledger: &'a [LedgerEntry],
+    ledger: &'a Ledger<'a>,
     source: &'a Node,
     lowered: &'a Node,
 ) -> Result<Pair<'a>, AllocError>
@@ -131,6 +131,21 @@ pub fn step_check<'a>(
     ledger: &'a [LedgerEntry],
     source: &'a Node,
     lowered: &'a Node,
+) -> Result<Verdict, CheckError>
+    requires { nodes source.now < 2 ^ 32 }
+    ensures { IfOk result (λ v. IsJudged v options.now ledger.now source.now lowered.now) }
+{
+    let ledger = Ledger::of(alloc, ledger)?;
+    judge_programs(alloc, options, &ledger, source, lowered)
+}
+
+/// The same, where the generated names are looked up.
+fn judge_programs(
+    alloc: Global,
+    options: &Options,
+    ledger: &Ledger,
+    source: &Node,
+    lowered: &Node,
 ) -> Result<Verdict, CheckError>
     requires { nodes source.now < 2 ^ 32 }
     ensures { IfOk result (λ v. IsJudged v options.now ledger.now source.now lowered.now) }
@@ -173,6 +188,21 @@ pub fn check_clauses<'a>(
     ledger: &'a [LedgerEntry],
     source: &'a Node,
     lowered: &'a Node,
+) -> Result<Verdict, AllocError>
+    requires { nodes source.now < 2 ^ 32 }
+    ensures { IfOk result (λ v. IsJudgedByClauses v options.now ledger.now source.now lowered.now) }
+{
+    let ledger = Ledger::of(alloc, ledger)?;
+    check_programs(alloc, options, &ledger, source, lowered)
+}
+
+/// The same, where the generated names are looked up.
+fn check_programs(
+    alloc: Global,
+    options: &Options,
+    ledger: &Ledger,
+    source: &Node,
+    lowered: &Node,
 ) -> Result<Verdict, AllocError>
     requires { nodes source.now < 2 ^ 32 }
     ensures { IfOk result (λ v. IsJudgedByClauses v options.now ledger.now source.now lowered.now) }

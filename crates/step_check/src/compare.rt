@@ -1,6 +1,6 @@
 // Whether a source and a lowered program have one meaning.
 
-ghost use Rattle.std.specs.Prelude.{◌≡◌, IfOk, Option, Some, []};
+ghost use Rattle.std.specs.Prelude.{◌≡◌, IfOk, Option, Some};
 ghost use Rattle.es_base.specs.Preorder.{nodes};
 ghost use Rattle.es_code_contexts.specs.Terms.{program_of, terms_of};
 ghost use Rattle.es_meanings.specs.Differences.{IsFirst};
@@ -8,23 +8,23 @@ ghost use Rattle.es_meanings.specs.Means.{IsMeaning};
 ghost use Rattle.es_meanings.specs.declared.difference.Difference.{Difference};
 ghost use Rattle.es_steps.specs.Meaning as spec;
 ghost use Rattle.step_check.specs.Comparison.{IsComparison, MayMean};
-ghost use Rattle.step_check.specs.Facts.{before, behind};
+ghost use Rattle.step_check.specs.Facts.{before, behind, terms_with};
 
 use crate::meaning::meaning;
 use crate::verdict::{CheckError, Part, Verdict};
 use es_base::ids::NodeId;
-use es_base::ledger::LedgerEntry;
 use es_code_reading::context::Terms;
 use es_evaluator::fault::Fault;
+use es_generated::ledger::Ledger;
 use es_meanings::difference::{Difference, first_difference};
 use es_meanings::meaning::Meaning;
 use es_meanings::part::{EntryPart, part_of_entry};
 use es_named_classes::named_classes::named_classes;
-use es_node::node::Node;
 use es_outside::names::ProgramNames;
+use es_owed::listed::Listed;
 use es_seen_names::private_member::{PrivateMember, private_members};
 use es_steps::options::Options;
-use std::alloc::Global;
+use std::alloc::{AllocError, Global};
 
 /// In how many codes a code may stand where it is evaluated.
 const MOST_CODES: usize = 65_536;
@@ -145,7 +145,7 @@ struct Facts<'a> {
     first_new: u32,
     options: Options,
     /// The generated names.
-    ledger: &'a [LedgerEntry],
+    ledger: &'a Ledger<'a>,
     /// The private members of the source, and its classes that are known by names of their own.
     members: &'a [PrivateMember<'a>],
     named: &'a [(u32, u32)],
@@ -160,10 +160,24 @@ fn compare_names<'a>(
 ) -> Result<Verdict, CheckError>
     ensures { IfOk result (λ v. IsComparison (spec.means (before facts.entry) source.now.program.now) (spec.means (behind facts.entry) lowered.now.program.now) v) }
 {
+    let none = Ledger::new(alloc);
+    compare_beside(alloc, &none, &facts, source, lowered)
+}
+
+/// The same, where these are the generated names of the source.
+fn compare_beside(
+    alloc: Global,
+    source_ledger: &Ledger,
+    facts: &Facts,
+    source: &ProgramNames,
+    lowered: &ProgramNames,
+) -> Result<Verdict, CheckError>
+    ensures { IfOk result (λ v. IsComparison (spec.means (terms_with facts.now source_ledger.now) source.now.program.now) (spec.means (behind facts.now) lowered.now.program.now) v) }
+{
     let source_terms = Terms {
         first_new: facts.first_new,
         options: facts.options,
-        ledger: &[],
+        ledger: source_ledger,
         members: facts.members,
         named: facts.named,
         names: source,
@@ -176,17 +190,26 @@ fn compare_names<'a>(
     compare_terms(alloc, &source_terms, &lowered_terms)
 }
 
-/// What is said of the meanings of two programs that are read under this.
-fn compare_under<'a>(
-    alloc: Global,
-    facts: Facts<'a>,
-    source: &'a Node,
-    lowered: &'a Node,
-) -> Result<Verdict, CheckError>
-    ensures { IfOk result (λ v. IsComparison (spec.means (before facts.entry) source.now) (spec.means (behind facts.entry) lowered.now) v) }
+/// The names of a program. Fails on allocation failure alone.
+fn names_of<'a>(alloc: Global, listed: &Listed<'a>) -> Result<ProgramNames<'a>, AllocError>
+    ensures { IfOk result (λ n. n.program.now ≡ listed.now.program.now) }
 {
-    let source_names = ProgramNames::of(alloc, source)?;
-    let lowered_names = ProgramNames::of(alloc, lowered)?;
+    let references = listed.references.list.as_slice();
+    let nodes = listed.nodes.as_slice();
+    ProgramNames::from_references(alloc, listed.program, references, nodes)
+}
+
+/// What is said of the meanings of two programs that are read under this.
+fn compare_under(
+    alloc: Global,
+    facts: Facts,
+    source: &Listed,
+    lowered: &Listed,
+) -> Result<Verdict, CheckError>
+    ensures { IfOk result (λ v. IsComparison (spec.means (before facts.entry) source.now.program.now) (spec.means (behind facts.entry) lowered.now.program.now) v) }
+{
+    let source_names = names_of(alloc, source)?;
+    let lowered_names = names_of(alloc, lowered)?;
     let facts = Facts {
         ledger: &*facts.ledger,
         members: &*facts.members,
@@ -201,15 +224,15 @@ pub fn compare<'a>(
     alloc: Global,
     first_new: u32,
     options: &'a Options,
-    ledger: &'a [LedgerEntry],
-    source: &'a Node,
-    lowered: &'a Node,
+    ledger: &'a Ledger<'a>,
+    source: &Listed,
+    lowered: &Listed,
 ) -> Result<Verdict, CheckError>
-    requires { first_new ≡ nodes source.now }
-    ensures { IfOk result (λ v. IsComparison (spec.source_means options.now source.now) (spec.lowered_means options.now ledger.now source.now lowered.now) v) }
+    requires { first_new ≡ nodes source.now.program.now }
+    ensures { IfOk result (λ v. IsComparison (spec.source_means options.now source.now.program.now) (spec.lowered_means options.now ledger.now source.now.program.now lowered.now.program.now) v) }
 {
-    let members = private_members(alloc, source)?;
-    let named = named_classes(alloc, source)?;
+    let members = private_members(alloc, source.program)?;
+    let named = named_classes(alloc, source.program)?;
     let facts = Facts {
         first_new,
         options: *options,
@@ -217,5 +240,5 @@ pub fn compare<'a>(
         members: members.as_slice(),
         named: named.as_slice(),
     };
-    compare_under(alloc, facts, &*source, &*lowered)
+    compare_under(alloc, facts, source, lowered)
 }

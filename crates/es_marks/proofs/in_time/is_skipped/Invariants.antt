@@ -1,7 +1,8 @@
 use Rattle.std.proofs.Common.{◌≡◌, drop}
-use Rattle.es_lowered.specs.Timely.{is_skipped}
-use Rattle.es_marks.specs.Marks.{mark_of, marks_of}
+use Rattle.es_marks.specs.Located.{located_of}
+use Rattle.es_marks.specs.Marks.{mark_of}
+use Rattle.es_marks.specs.Named.{any_front, skips_name}
 use Rattle.es_marks.proofs.in_time.is_skipped.Given as goal
 
 abbrev pub invariant-loop-other : goal.invariant-loop-other
-invariant-loop-other l = is_skipped (mark_of l.mark) (marks_of (drop l.other-index l.front)) ≡ is_skipped (mark_of l.mark) (marks_of l.front)
+invariant-loop-other l = any_front (skips_name (mark_of l.mark)) l.place (located_of (drop l.other-index l.others)) ≡ any_front (skips_name (mark_of l.mark)) l.place (located_of l.others)

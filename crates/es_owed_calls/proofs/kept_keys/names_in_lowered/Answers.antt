@@ -9,4 +9,4 @@ returns c =
     let x = c.args.lowering.now in
     let n = c.args.class in
     c.is_naming.ensures
-    ∙ naming_at x.first c.args.number n x.ledger.now x.lowered.now.program.now (references_of x.lowered_references.list.items) c.get.result.now (seen c.numbered.result.now) (seen x.lowered.now.nodes.items) x.lowered_references_are (c.get.ensures ∙ x.lowered_identifiers_are n) c.numbered.ensures x.lowered.now.in_preorder
+    ∙ naming_at x.first c.args.number n x.ledger.now x.lowered.now.program.now (references_of x.lowered.now.references.list.items) c.get.result.now (seen c.numbered.result.now) (seen x.lowered.now.nodes.items) x.lowered.now.are_resolved (c.get.ensures ∙ x.lowered_identifiers_are n) c.numbered.ensures x.lowered.now.in_preorder

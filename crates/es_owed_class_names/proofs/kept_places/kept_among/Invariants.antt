@@ -1,10 +1,10 @@
 use Rattle.std.proofs.Common.{◌≡◌, ◌++◌, drop}
 use Rattle.es_grouped.specs.Groups.{group}
+use Rattle.es_marks.specs.Located.{located, located_of}
 use Rattle.es_marks.specs.Marks.{marks_of}
 use Rattle.es_owed_places.specs.Placed.{references_of}
 use Rattle.es_owed_class_names.specs.KeptPlaces.{kept}
-use Rattle.es_owed_class_names.specs.LocatedMarks.{is_behind_any, located}
-use Rattle.es_owed_class_names.specs.NodeMarks.{located_of}
+use Rattle.es_owed_class_names.specs.LocatedMarks.{is_behind_any}
 use Rattle.es_owed_class_names.proofs.kept_places.kept_among.Given as goal
 
 abbrev pub invariant-loop-number : goal.invariant-loop-number

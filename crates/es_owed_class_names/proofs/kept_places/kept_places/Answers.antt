@@ -5,12 +5,13 @@ use Rattle.es_lowered.specs.ClassNames as spec
 use Rattle.es_lowered.specs.ClassNames.{numbered}
 use Rattle.es_lowered.specs.FunctionsAround.{PlacedReference}
 use Rattle.es_lowered.specs.Timely.{Mark}
+use Rattle.es_marks.specs.Located.{located, located_of}
 use Rattle.es_marks.specs.Marks.{marks_of}
 use Rattle.es_owed_places.specs.Placed.{references_of}
 use Rattle.es_owed_class_names.proofs.KeptPlaces.{kept_there}
 use Rattle.es_owed_class_names.specs.KeptPlaces.{kept}
-use Rattle.es_owed_class_names.specs.LocatedMarks.{class_marks, is_behind_any, located, of_nodes}
-use Rattle.es_owed_class_names.specs.NodeMarks.{located_of, node_marks}
+use Rattle.es_owed_class_names.specs.LocatedMarks.{class_marks, is_behind_any, of_nodes}
+use Rattle.es_owed_class_names.specs.NodeMarks.{node_marks}
 use Rattle.es_owed_class_names.specs.PlacedNumbers.{all_placed}
 use Rattle.es_owed_class_names.proofs.kept_places.kept_places.Goals as goal
 

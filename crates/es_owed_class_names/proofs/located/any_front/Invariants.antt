@@ -1,7 +1,7 @@
 use Rattle.std.proofs.Common.{◌≡◌, drop}
 use Rattle.std.specs.List.{list_any}
+use Rattle.es_marks.specs.Located.{located_mark, located_of}
 use Rattle.es_owed_class_names.specs.LocatedMarks.{is_front}
-use Rattle.es_owed_class_names.specs.NodeMarks.{located_mark, located_of}
 use Rattle.es_owed_class_names.proofs.located.any_front.Given as goal
 
 abbrev pub invariant-loop-front : goal.invariant-loop-front

@@ -1,9 +1,9 @@
 use Rattle.std.proofs.Common.{refl}
 use Rattle.es_binding_faults.proofs.Appending.{appended, appended_all}
 use Rattle.es_by_number.specs.Numbered.{numbered}
+use Rattle.es_marks.specs.Located.{located, located_mark}
 use Rattle.es_marks.specs.Marks.{mark_of, marks_of}
-use Rattle.es_owed_class_names.specs.LocatedMarks.{located, with_node, with_nodes}
-use Rattle.es_owed_class_names.specs.NodeMarks.{located_mark}
+use Rattle.es_owed_class_names.specs.LocatedMarks.{with_node, with_nodes}
 use Rattle.es_owed_class_names.proofs.located.with_nodes.Goals as goal
 
 pub loop-place-preserved : goal.loop-place-preserved

@@ -1,8 +1,8 @@
 use Rattle.std.proofs.Common.{◌≡◌, ◌++◌, drop}
 use Rattle.es_by_number.specs.Numbered.{numbered}
+use Rattle.es_marks.specs.Located.{located, located_mark}
 use Rattle.es_marks.specs.Marks.{marks_of}
-use Rattle.es_owed_class_names.specs.LocatedMarks.{located, with_nodes}
-use Rattle.es_owed_class_names.specs.NodeMarks.{located_mark}
+use Rattle.es_owed_class_names.specs.LocatedMarks.{with_nodes}
 use Rattle.es_owed_class_names.proofs.located.with_nodes.Given as goal
 
 abbrev pub invariant-loop-place : goal.invariant-loop-place

@@ -8,5 +8,5 @@ use Rattle.es_owed_class_names.proofs.new_names.all_stand_with_class.Given as go
 
 abbrev pub invariant-loop-name : goal.invariant-loop-name
 invariant-loop-name l =
-    let of = list_all (λ k. spec.all_stand_with_class l.class l.inside (preorder l.lowering.lowered.now.program.now) (references_of (group k l.lowering.placed))) in
+    let of = list_all (λ k. spec.all_stand_with_class l.class l.inside (preorder l.lowering.holders.lowered.now.program.now) (references_of (group k l.lowering.placed))) in
     of (drop l.name-index l.names) ≡ of l.names

@@ -5,7 +5,7 @@ use Rattle.es_grouped.specs.Groups.{group, having}
 use Rattle.es_lowered.specs.ClassNames.{numbered}
 use Rattle.es_lowered.specs.FunctionsAround.{PlacedReference}
 use Rattle.es_owed_places.specs.Placed.{reference_of, references_of}
-use Rattle.es_owed_class_names.proofs.NodeMarks.{having_view}
+use Rattle.es_generated.proofs.NumberedNames.{having_seen}
 use Rattle.es_owed_class_names.proofs.PlacedNumbers.{having_number}
 use Rattle.es_owed_class_names.specs.PlacedNumbers.{all_placed}
 use Rattle.es_owed_class_names.proofs.placed.placed_by_number.Goals as goal
@@ -19,7 +19,7 @@ returns c =
     (λ g. (k : ℕ) → references_of (group k g) ≡ numbered k all)
     (λ g h k.
     ap references_of (h k)
-    ∙ having_view reference_of k items
+    ∙ having_seen reference_of k items
     ∙ ap (having k) (c.in_ok-items.ensures ∙ ap (λ (rs : List PlacedReference). map (λ (x : PlacedReference). (x.number, x)) rs) c.in_ok-references.ensures)
     ∙ having_number k all)
     c.of.ensures

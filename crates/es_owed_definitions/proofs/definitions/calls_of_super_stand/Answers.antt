@@ -19,6 +19,6 @@ returns c =
     (λ (h : Bool). h ≡ supers_stand x.first x.options.now x.ledger.now rs ts)
     (λ (h : Bool). h ≡ supers_stand x.first x.options.now x.ledger.now (resolve q) (preorder q))
     (λ (h : Bool) (e : h ≡ supers_stand x.first x.options.now x.ledger.now rs ts). e ∙ same_supers x rs (resolve q) ts (preorder q)
-    (ap references_of c.as_slice.ensures.value ∙ lowered.references_are)
+    (ap references_of c.as_slice.ensures.value ∙ lowered.listed.now.are_resolved)
     c.nodes.ensures)
     c.supers_stand.ensures

@@ -18,7 +18,7 @@ returns c =
     let ledger = x.ledger.now in
     let members = private_members_of c.args.members.now in
     let q = c.args.listed.now.program.now in
-    let rs = references_of c.args.references.now.list.items in
+    let rs = references_of c.args.listed.now.references.list.items in
     let ts = seen c.as_slice-2.result.now in
     let ds = definition_views c.as_slice-3.result.now in
     let gone_over : seen c.as_slice.result.now ≡ preorder q = ap seen c.as_slice.ensures.value ∙ c.args.listed.now.in_preorder in
@@ -27,5 +27,5 @@ returns c =
     IfOk-map c.definitions_by_class.result
     (λ g. (n : ℕ) → definition_views (group n g) ≡ spec.statics_of (spec.is_static_of n ledger members rs (spec.class_identifiers first n ts)) ds)
     (λ g. (n : ℕ) → definition_views (group n g) ≡ spec.static_definitions first x.options.now ledger members q n)
-    (λ g h n. h n ∙ same_statics first n ledger members rs (resolve q) ts (preorder q) ds (spec.all_definitions first x.options.now ledger (preorder q)) c.requires nodes definitions)
+    (λ g h n. h n ∙ same_statics first n ledger members rs (resolve q) ts (preorder q) ds (spec.all_definitions first x.options.now ledger (preorder q)) c.args.listed.now.are_resolved nodes definitions)
     c.definitions_by_class.ensures

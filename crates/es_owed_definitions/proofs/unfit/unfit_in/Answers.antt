@@ -14,11 +14,11 @@ returns c =
     let p = c.in_ok-names.names.program.now in
     let source = c.args.source.now.program.now in
     let q = c.args.lowered.now.listed.now.program.now in
-    let ts = seen c.as_slice.result.now in
+    let ts = seen c.as_slice-nodes.result.now in
     IfOk-map c.unfit_among.result
     (λ (n : Option ℕ). n ≡ first_unfit x.first x.options.now x.ledger.now members p q ts)
     (λ (n : Option ℕ). n ≡ first_unfit x.first x.options.now x.ledger.now members source q (preorder source))
     (λ (n : Option ℕ) (e : n ≡ first_unfit x.first x.options.now x.ledger.now members p q ts). e ∙ same_unfit x members p source q ts (preorder source)
     c.in_ok-names.ensures
-    (ap seen c.as_slice.ensures.value ∙ c.args.source.now.in_preorder))
+    (ap seen c.as_slice-nodes.ensures.value ∙ c.args.source.now.in_preorder))
     c.unfit_among.ensures

@@ -1,4 +1,4 @@
-use Rattle.std.proofs.Common.{◌≡◌, ◌∙◌, ap, ℕ, List}
+use Rattle.std.proofs.Common.{◌≡◌, ◌∙◌, ap, ℕ}
 use Rattle.es_binding_faults.proofs.Appending.{IfOk-map}
 use Rattle.es_binding_faults.specs.Seen.{seen}
 use Rattle.es_by_number.specs.Numbered.{pairs}

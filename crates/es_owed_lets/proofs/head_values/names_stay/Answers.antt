@@ -12,7 +12,7 @@ use Rattle.es_owed_lets.proofs.head_values.names_stay.Goals as goal
 pub returns : goal.returns
 returns c =
     c.stay_inside.ensures
-    ∙ stay_by_name c.args.generated.now.ledger.now (references_of c.args.references.now) c.in_ok-inside.inside (numbers_of (preorder c.args.value.now)) (spelled c.as_slice-2.result.now) c.in_ok-names.names
+    ∙ stay_by_name c.args.ledger.now (references_of c.args.references.now) c.in_ok-inside.inside (numbers_of (preorder c.args.value.now)) (spelled c.as_slice-2.result.now) c.in_ok-names.names
     (λ n. c.in_ok-inside.ensures n ∙ ap (λ (ts : List (Bor Tree)). has_number n (numbers_of (seen ts))) c.as_slice.ensures.value ∙ ap (λ (ts : List Tree). has_number n (numbers_of ts)) c.in_ok-nodes.ensures)
     (ap spelled c.as_slice-2.ensures.value ∙ c.in_ok-given.ensures)
     c.in_ok-names.ensures

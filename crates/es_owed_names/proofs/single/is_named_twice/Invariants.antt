@@ -1,5 +1,5 @@
 use Rattle.std.proofs.Common.{◌≡◌, false, drop}
-use Rattle.es_spelled.specs.Spelled.{entries_of}
+use Rattle.es_generated.specs.Spellings.{entries_of}
 use Rattle.es_owed_names.specs.Single.{another, same_name}
 use Rattle.es_owed_names.proofs.single.is_named_twice.Given as goal
 

@@ -1,12 +1,10 @@
 use Rattle.std.proofs.Common.{◌∙◌, ap, List, map}
 use Rattle.es_base.specs.declared.ids.NodeId.{NodeId}
-use Rattle.es_lowered.specs.KeptReferences.{writing_numbers}
-use Rattle.es_references.specs.References.{references_of}
 use Rattle.es_steps.specs.References.{has_number}
 use Rattle.es_owed_places.proofs.writes.writing_in.Goals as goal
 
 pub returns : goal.returns
 returns c = λ n.
     c.in_ok-set.ensures n
-    ∙ ap (λ (xs : List NodeId). has_number n (map (λ (x : NodeId). x.0) xs)) c.as_slice-2.ensures.value
-    ∙ ap (has_number n) (c.in_ok-numbers.ensures ∙ ap (λ rs. writing_numbers (references_of rs)) c.as_slice.ensures.value ∙ ap writing_numbers c.in_ok-references.ensures)
+    ∙ ap (λ (xs : List NodeId). has_number n (map (λ (x : NodeId). x.0) xs)) c.as_slice.ensures.value
+    ∙ ap (has_number n) c.in_ok-numbers.ensures

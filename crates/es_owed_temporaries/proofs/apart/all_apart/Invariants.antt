@@ -4,4 +4,4 @@ use Rattle.es_lowered.specs.Temporaries.{all_apart}
 use Rattle.es_owed_temporaries.proofs.apart.all_apart.Given as goal
 
 abbrev pub invariant-loop-entry : goal.invariant-loop-entry
-invariant-loop-entry l = all_apart (seen l.nodes) l.ledger (drop l.entry-index l.entries) ≡ all_apart (seen l.nodes) l.ledger l.entries
+invariant-loop-entry l = all_apart (seen l.lowered.nodes.items) l.ledger (drop l.entry-index l.entries) ≡ all_apart (seen l.lowered.nodes.items) l.ledger l.entries

@@ -5,4 +5,4 @@ use Rattle.es_lowered.specs.Temporaries.{has_name_around}
 use Rattle.es_owed_temporaries.proofs.apart.has_name_around.Given as goal
 
 abbrev pub invariant-loop-entry : goal.invariant-loop-entry
-invariant-loop-entry l = has_name_around (seen l.nodes) l.class (chars l.name) (drop l.entry-index l.ledger) ≡ has_name_around (seen l.nodes) l.class (chars l.name) l.ledger
+invariant-loop-entry l = has_name_around (seen l.lowered.nodes.items) l.class (chars l.name) (drop l.entry-index l.ledger) ≡ has_name_around (seen l.lowered.nodes.items) l.class (chars l.name) l.ledger

@@ -5,4 +5,4 @@ use Rattle.es_owed_temporaries.specs.Touches.{touches_all}
 use Rattle.es_owed_temporaries.proofs.steady.all_construct_with.Given as goal
 
 abbrev pub invariant-loop-touch : goal.invariant-loop-touch
-invariant-loop-touch l = all_construct (pairs l.places) l.class (touches_all (drop l.touch-index l.touches)) ≡ all_construct (pairs l.places) l.class (touches_all l.touches)
+invariant-loop-touch l = all_construct (pairs l.places.places.now) l.class (touches_all (drop l.touch-index l.touches)) ≡ all_construct (pairs l.places.places.now) l.class (touches_all l.touches)

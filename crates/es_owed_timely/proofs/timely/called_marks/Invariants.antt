@@ -7,5 +7,5 @@ use Rattle.es_owed_timely.proofs.timely.called_marks.Given as goal
 
 abbrev pub invariant-loop-mark : goal.invariant-loop-mark
 invariant-loop-mark l =
-    let of = called_marks l.search.ledger.now (private_members_of l.search.members.now) (method_functions l.methods.items) (super_functions_of l.supers.items) (marks_of l.marks) in
+    let of = called_marks l.search.ledger.now (private_members_of l.search.members.now) (method_functions l.functions.functions.now) (super_functions_of l.supers.functions.items) (marks_of l.marks) in
     marks_of l.called.items ++ of (marks_of (drop l.mark-index l.marks)) ≡ of (marks_of l.marks)

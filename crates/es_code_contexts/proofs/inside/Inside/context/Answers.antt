@@ -1,7 +1,6 @@
 use Rattle.std.proofs.Common.{refl, ap, ◌∙◌, ◌++◌}
 use Rattle.es_code_reading.specs.Contexts.{context_of}
 use Rattle.es_code_reading.specs.declared.context.Context.{Context}
-use Rattle.es_seen_names.specs.Declarations.{declarations}
 use Rattle.es_seen_names.specs.Frames.{names_in, privates_in}
 use Rattle.es_seen_names.specs.PrivateMembers.{private_members_of}
 use Rattle.es_steps.specs.Context.{around_inside}
@@ -14,8 +13,8 @@ returns c = λ i h uncaught.
     let s = c.args.self.now in
     let d : Context = record { terms = x.terms; names = c.names_within.result; privates = c.privates_within.result; uncaught = c.names_within-2.result; block = c.block_inside.result; around = s.around } in
     context_inside s x d c.args.node.now
-    (c.names_within.ensures ∙ ap (λ ds. declarations ds ++ names_in x.names) c.as_slice.ensures.value)
-    (c.privates_within.ensures ∙ ap (λ ms. private_members_of ms ++ privates_in x.privates) c.as_slice-2.ensures.value)
-    (names_in c.args.uncaught.now) (c.names_within-2.ensures ∙ ap (λ ds. declarations ds ++ names_in c.args.uncaught.now) c.as_slice-3.ensures.value)
+    c.names_within.ensures
+    (c.privates_within.ensures ∙ ap (λ ms. private_members_of ms ++ privates_in x.privates) c.as_slice.ensures.value)
+    (names_in c.args.uncaught.now) c.names_within-2.ensures
     (c.block_inside.ensures ∙ ap (around_inside (context_of x)) c.kind.ensures)
     refl refl i h uncaught

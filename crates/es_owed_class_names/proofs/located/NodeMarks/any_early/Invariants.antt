@@ -1,8 +1,8 @@
 use Rattle.std.proofs.Common.{◌≡◌, drop}
 use Rattle.std.specs.List.{list_any}
+use Rattle.es_marks.specs.Located.{located, located_of}
 use Rattle.es_marks.specs.Marks.{marks_of}
-use Rattle.es_owed_class_names.specs.LocatedMarks.{is_early, located, of_nodes}
-use Rattle.es_owed_class_names.specs.NodeMarks.{located_of}
+use Rattle.es_owed_class_names.specs.LocatedMarks.{is_early, of_nodes}
 use Rattle.es_owed_class_names.proofs.located.NodeMarks.any_early.Given as goal
 
 abbrev pub invariant-loop-number : goal.invariant-loop-number

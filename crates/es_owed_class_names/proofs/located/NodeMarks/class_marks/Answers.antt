@@ -1,9 +1,9 @@
 use Rattle.std.proofs.Common.{ap, ◌∙◌, ◌++◌}
 use Rattle.es_binding_faults.proofs.Appending.{appended_or}
+use Rattle.es_marks.specs.Located.{located, located_of}
 use Rattle.es_marks.specs.Marks.{marks_of}
 use Rattle.es_owed_class_names.proofs.NodeMarks.{class_more}
-use Rattle.es_owed_class_names.specs.LocatedMarks.{class_marks, located, of_node, of_nodes}
-use Rattle.es_owed_class_names.specs.NodeMarks.{located_of}
+use Rattle.es_owed_class_names.specs.LocatedMarks.{class_marks, of_node, of_nodes}
 use Rattle.es_owed_class_names.proofs.located.NodeMarks.class_marks.Goals as goal
 
 pub loop-number-preserved : goal.loop-number-preserved

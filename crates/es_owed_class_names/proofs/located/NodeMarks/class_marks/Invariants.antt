@@ -1,7 +1,7 @@
 use Rattle.std.proofs.Common.{◌≡◌, ◌++◌, drop}
+use Rattle.es_marks.specs.Located.{located, located_of}
 use Rattle.es_marks.specs.Marks.{marks_of}
-use Rattle.es_owed_class_names.specs.LocatedMarks.{class_marks, located, of_nodes}
-use Rattle.es_owed_class_names.specs.NodeMarks.{located_of}
+use Rattle.es_owed_class_names.specs.LocatedMarks.{class_marks, of_nodes}
 use Rattle.es_owed_class_names.proofs.located.NodeMarks.class_marks.Given as goal
 
 abbrev pub invariant-loop-number : goal.invariant-loop-number

@@ -1,9 +1,9 @@
 use Rattle.std.proofs.Common.{ap, sym, ◌∙◌, not}
 use Rattle.std.specs.List.{list_any}
+use Rattle.es_marks.specs.Located.{located, located_of}
 use Rattle.es_marks.specs.Marks.{marks_of}
 use Rattle.es_owed_class_names.proofs.NodeMarks.{standing}
-use Rattle.es_owed_class_names.specs.LocatedMarks.{is_early, located, of_nodes}
-use Rattle.es_owed_class_names.specs.NodeMarks.{located_of}
+use Rattle.es_owed_class_names.specs.LocatedMarks.{is_early, of_nodes}
 use Rattle.es_owed_class_names.proofs.located.NodeMarks.stand_behind.Goals as goal
 
 pub returns : goal.returns

@@ -21,8 +21,9 @@ invariant_of-result c =
       marks_are = c.in_ok-marks.ensures ∙ ap marks_of c.as_slice-5.ensures.value ∙ c.requires.marks;
       source_placed_are = c.in_ok-source_placed.ensures;
       placed_are = c.in_ok-placed.ensures;
+      holders_are = c.in_ok-holders.ensures;
       nodes_are = nodes;
       held_are = λ k. c.in_ok-held.ensures k ∙ ap (λ ts. has_number k (held_numbers (spec.moved_functions reads.ledger.now ts))) (c.in_ok-reads.ensures.nodes ∙ nodes);
       read_nodes_are = c.in_ok-reads.ensures.nodes ∙ nodes;
-      read_references_are = c.in_ok-reads.ensures.references ∙ ap references_of c.as_slice-6.ensures.value ∙ c.requires.references;
+      read_references_are = c.in_ok-reads.ensures.references ∙ ap references_of c.as_slice-7.ensures.value ∙ lowered.are_resolved;
     }

@@ -4,7 +4,7 @@ use Rattle.es_binding_faults.specs.Seen.{seen}
 use Rattle.es_grouped.specs.Groups.{group, having}
 use Rattle.es_lowered.specs.Texts.{is_literal_among, is_string_among}
 use Rattle.es_node.specs.View.{parts_of}
-use Rattle.es_spelled.specs.Spelled.{spelling_number}
+use Rattle.es_generated.specs.Spellings.{spelling_number}
 use Rattle.es_steps.specs.Parts.{at}
 use Rattle.es_owed_texts.specs.TextNumbers.{numbered_texts, text_of}
 use Rattle.es_owed_texts.proofs.CopiedTexts.{literal_by_text, string_by_text}

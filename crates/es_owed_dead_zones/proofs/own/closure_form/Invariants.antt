@@ -1,8 +1,0 @@
-use Rattle.std.proofs.Common.{◌≡◌, drop, false}
-use Rattle.std.specs.Str.{chars}
-use Rattle.es_lowered.specs.DeadZones.{call_form}
-use Rattle.es_touches.specs.Touches.{closures_of}
-use Rattle.es_owed_dead_zones.proofs.own.closure_form.Given as goal
-
-abbrev pub invariant-loop-closure : goal.invariant-loop-closure
-invariant-loop-closure l = call_form false (chars l.name) (closures_of (drop l.closure-index l.called)) ≡ call_form false (chars l.name) (closures_of l.called)

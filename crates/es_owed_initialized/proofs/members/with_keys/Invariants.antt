@@ -1,0 +1,7 @@
+use Rattle.std.proofs.Common.{◌≡◌, ◌++◌, drop}
+use Rattle.es_by_number.specs.Numbered.{pairs}
+use Rattle.es_owed_initialized.specs.Members.{numbered_members}
+use Rattle.es_owed_initialized.proofs.members.with_keys.Given as goal
+
+abbrev pub invariant-loop-member : goal.invariant-loop-member
+invariant-loop-member l = pairs l.items.items ++ numbered_members (drop l.member-index l.members) ≡ numbered_members l.members

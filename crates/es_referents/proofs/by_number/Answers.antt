@@ -1,0 +1,14 @@
+use Rattle.std.proofs.Common.{◌≡◌, ◌∙◌, ap, ℕ}
+use Rattle.es_binding_faults.proofs.Appending.{IfOk-map}
+use Rattle.es_by_number.specs.Numbered.{pairs}
+use Rattle.es_grouped.specs.Groups.{group, having}
+use Rattle.es_referents.specs.Meanings.{of_number}
+use Rattle.es_referents.proofs.ReferenceNumbers.{by_numbers}
+use Rattle.es_referents.proofs.by_number.Goals as goal
+
+pub returns : goal.returns
+returns c = IfOk-map c.of.result
+    (λ g. (m : ℕ) → group m g ≡ having m (pairs c.in_ok-items.items.items))
+    (λ g. (m : ℕ) → group m g ≡ of_number m c.args.references.now)
+    (λ g h m. h m ∙ ap (having m) c.in_ok-items.ensures ∙ by_numbers m c.args.references.now)
+    c.of.ensures

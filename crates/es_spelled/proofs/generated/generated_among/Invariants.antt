@@ -1,8 +1,0 @@
-use Rattle.std.proofs.Common.{◌≡◌, drop}
-use Rattle.std.specs.Str.{chars}
-use Rattle.es_steps.specs.Context.{generated_as}
-use Rattle.es_spelled.specs.Spelled.{entries_of}
-use Rattle.es_spelled.proofs.generated.generated_among.Given as goal
-
-abbrev pub invariant-loop-entry : goal.invariant-loop-entry
-invariant-loop-entry l = generated_as (chars l.name) (entries_of (drop l.entry-index l.entries)) ≡ generated_as (chars l.name) (entries_of l.entries)

@@ -1,7 +1,0 @@
-use Rattle.std.proofs.Common.{◌≡◌, ◌++◌, drop}
-use Rattle.es_by_number.specs.Numbered as by_number
-use Rattle.es_spelled.specs.Spelled.{entry_of, numbered_names}
-use Rattle.es_spelled.proofs.generated.with_numbers.Given as goal
-
-abbrev pub invariant-loop-entry : goal.invariant-loop-entry
-invariant-loop-entry l = by_number.numbered entry_of l.items.items ++ numbered_names l.spellings (drop l.entry-index l.ledger) ≡ numbered_names l.spellings l.ledger
