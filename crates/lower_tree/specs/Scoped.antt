@@ -1,25 +1,30 @@
--- A lowered program on whose nodes the numbers of its scope table are written.
-use Rattle.std.specs.Prelude.{◌≡◌, ◌≤◌, ℕ, List}
-use Rattle.std.specs.Prelude.{◌^◌}
-use Rattle.es_base.specs.Carried.{stripped}
+-- A lowered program with its scope table.
+use Rattle.std.specs.Prelude.{◌≡◌, ◌≤◌, ◌^◌, ℕ, List, true}
 use Rattle.es_base.specs.Preorder.{nodes}
 use Rattle.es_base.specs.Tree.{Tree}
 use Rattle.es_base.specs.declared.ledger.LedgerEntry.{LedgerEntry}
+use Rattle.es_scopes.specs.Built.{built_table}
+use Rattle.es_scopes.specs.Table.{Table}
+use Rattle.es_scopes_law.specs.Build.{built_tree}
 use Rattle.es_steps.specs.declared.options.Options.{Options}
+use Rattle.es_validity.specs.Validity.{is_valid}
 use Rattle.lower_es2022.specs.Own.{IsMade, IsNotYet}
 use Rattle.lower_run.specs.Outcome.{IsNotLowered}
 use Rattle.lower_tree.specs.declared.tree.NoTree.{NoTree}
 
--- t is what p is lowered to, with these generated names, but for the numbers of scopes, symbols and references on its nodes
-pub record IsScoped (o : Options) (p : Tree) (foreign : List ℕ) (names : List LedgerEntry) (t : Tree) : Type 0 where
+-- this is the scope table of what p is lowered to, with these generated names, and t that program with the numbers of the table
+-- on its nodes
+pub record IsScoped (o : Options) (p : Tree) (foreign : List ℕ) (names : List LedgerEntry) (table : Table) (t : Tree) : Type 0 where
   pub q : Tree
   pub made : IsMade o p foreign names q
-  pub same : stripped t ≡ stripped q
+  pub built : t ≡ built_tree q
+  pub scoped : table ≡ built_table q
 
--- what p is lowered to has too many nodes
+-- what a valid program p is lowered to has too many nodes
 pub record IsTooLarge (o : Options) (p : Tree) (foreign : List ℕ) : Type 0 where
   pub q : Tree
   pub names : List LedgerEntry
+  pub valid : is_valid o foreign p ≡ true
   pub made : IsMade o p foreign names q
   pub many : 2 ^ 32 ≤ nodes q
 

@@ -2,6 +2,8 @@
 
 ghost use Rattle.std.specs.Prelude.{◌≡◌, ◌<◌, ◌^◌, IfOk, OnOk, IfErr, [], true};
 ghost use Rattle.es_base.specs.Conforms.{conforms};
+ghost use Rattle.es_base.specs.Numbered.{EachOnce};
+ghost use Rattle.es_base.specs.Numbered as numbered;
 ghost use Rattle.es_base.specs.Preorder.{nodes, numbered_from};
 ghost use Rattle.es_base.specs.declared.table.Place.{Place};
 ghost use Rattle.es_reading.specs.Told.{ids};
@@ -75,6 +77,7 @@ impl From<AllocError> for NoTree {
 ///
 /// Fails on allocation failure, where the source has a fault, is not lowered yet or too deep to be judged, and where the lowered
 /// program has too many nodes.
+#[tactic(auto, using(crate::proofs::BuiltProgram::built_program, crate::proofs::BuiltProgram::built_once))]
 pub fn lower_tree(
     alloc: Global,
     options: &Options,
@@ -85,7 +88,10 @@ pub fn lower_tree(
     requires preorder { source ≡ numbered_from 0 source }
     requires few { nodes source < 2 ^ 32 }
     ensures valid { OnOk result (is_valid options.now (ids foreign.now) source ≡ true) }
-    ensures made { IfOk result (λ r. IsScoped options.now source (ids foreign.now) r.names.entries r.program) }
+    ensures program { IfOk result (λ r. conforms Place.Program r.program ≡ true) }
+    ensures once { IfOk result (λ r. EachOnce (numbered.numbers r.program)) }
+    ensures few { IfOk result (λ r. nodes r.program < 2 ^ 32) }
+    ensures made { IfOk result (λ r. IsScoped options.now source (ids foreign.now) r.names.entries r.scoping r.program) }
     ensures agrees { IfOk result (λ r. Agrees [] r.scoping r.program) }
     ensures warned { IfOk result (λ r. numbers r.warnings.items ≡ warnings_of options.now source) }
     ensures shaped { IfOk result (λ r. r.shapes.items ≡ shapes options.now source) }
