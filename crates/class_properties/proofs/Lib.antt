@@ -1,5 +1,6 @@
 pub mod Called
 pub mod Carried
+pub mod Changed
 pub mod Children
 pub mod Conforming
 pub mod Constructions
@@ -26,4 +27,5 @@ pub mod Shapeless
 pub mod Small
 pub mod Steps
 pub mod Strictness
+pub mod Tests
 pub mod Written

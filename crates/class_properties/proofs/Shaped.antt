@@ -15,10 +15,6 @@ use Rattle.es_base.specs.declared.table.Words.{Words}
 use Rattle.es_steps.proofs.FirstMeaning.{no_false, both_empty, unless_true}
 use Rattle.es_steps.specs.FirstForm.{helper_names, is_plain_literal, is_plain_value, is_plain_key, is_plain_field, is_new_name, unless, element_breaches, elements_breaches, body_breaches, statement_breaches, statements_breaches, class_names, breaches, no_numbers, most_nodes, is_first_form}
 use Rattle.es_steps.specs.Values.{String}
-use Rattle.std.specs.List.{All}
-use Rattle.std.proofs.lemmas.List.Elements.{All-nil, All-cons}
-use Rattle.class_properties.specs.Form as form
-use Rattle.class_properties.specs.Lowering.{children}
 
 pub data IsValue : Part → Type 0 where
   no_value : IsValue absent
@@ -148,19 +144,3 @@ program-shaped (Node kind m span semantic_id ps) f h = no_false f
 
 pub first_form-shaped : (t : Tree) (foreign : List ℕ) → conforms Place.Program t ≡ true → is_first_form t foreign ≡ true → IsProgram t
 first_form-shaped t foreign f h = program-shaped t f (both_empty (breaches t) foreign h).0
-
--- ---- the kinds of the nodes
-
-fields-kinds : (es : Parts) → AreFields es → All form.IsField (children es)
-fields-kinds end h = All-nil form.IsField
-fields-kinds (more p es) (a_field m span semantic_id k v (a_key i ispan i_semantic_id s) hv, h) = All-cons form.IsField _ (children es) (record { kind = refl; key = refl }) (fields-kinds es h)
-
-classes-kinds : (ps : Parts) → AreClasses ps → All form.IsClass (children ps)
-classes-kinds end h = All-nil form.IsClass
-classes-kinds (more p ps) (a_class n span semantic_id id body hid (a_body m bspan b_semantic_id es he), h) = All-cons form.IsClass _ (children ps) (record { kind = refl; body = refl; fields = fields-kinds es he }) (classes-kinds ps h)
-
-shaped-kinds : (t : Tree) → IsProgram t → form.IsProgram t
-shaped-kinds t (a_program m span semantic_id s all h) = record { kind = refl; classes = classes-kinds all h }
-
-pub program_kinds : (t : Tree) → conforms Place.Program t ≡ true → is_first_form t [] ≡ true → form.IsProgram t
-program_kinds t f h = shaped-kinds t (first_form-shaped t [] f h)

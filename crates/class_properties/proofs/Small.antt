@@ -1,5 +1,5 @@
 -- A program of the first form is small enough to be lowered.
-use Rattle.std.proofs.Common.{◌≡◌, refl, ℕ, ◌+◌, ◌<◌, ◌≤◌, ◌^◌, arith, List, [], ◌++◌, Bool, true, false, ◌&&◌}
+use Rattle.std.proofs.Common.{◌≡◌, refl, ℕ, ◌+◌, ◌*◌, ◌<◌, ◌≤◌, ◌^◌, arith, List, [], ◌++◌, Bool, true, false, ◌&&◌}
 use Rattle.std.specs.Prelude.{bytes_eq, codes, nat_le}
 use Rattle.std.proofs.lemmas.Bool.{and_parts, leb-true}
 use Rattle.es_base.proofs.PreorderLemmas.{news-le}
@@ -18,6 +18,10 @@ pub form-fits : (t : Tree) (foreign : List ℕ) → is_first_form t foreign ≡ 
 form-fits (Node kind m span semantic_id ps) foreign form =
     let small = holds (bytes_eq (string_of (at 0 ps)) (codes "script") && nat_le (nodes (Node kind m span semantic_id ps)) most_nodes) m (statements_breaches [] (class_names (items (at 1 ps))) (items (at 1 ps))) foreign form in
     leb-true (nodes (Node kind m span semantic_id ps)) most_nodes (and_parts _ _ small).1
+
+-- nor does it weigh more than there are numbers
+pub form_light : (t : Tree) → is_first_form t [] ≡ true → 14 * nodes t < 2 ^ 32
+form_light t form = omega (arith, form-fits t [] form)
 
 pub form_small : (t : Tree) → is_first_form t [] ≡ true → nodes t < 2 ^ 32
 form_small t form = omega (arith, form-fits t [] form)

@@ -16,7 +16,7 @@ fn write_bound(base: &str, scoping: &mut TraverseScoping, text: &mut String) -> 
     requires { AreTaken scoping.old root }
     ensures { OnOk result (AreTaken scoping.new root) }
 {
-    check_room(&scoping.scoping)?;
+    check_room(&scoping.scoping, ROOT)?;
     let binding = scoping.generate_uid(base, ROOT, SymbolFlags::VAR, GeneratedKind::Temp)?;
     text.push_str(binding.name.as_str())?;
     text.push(' ')?;

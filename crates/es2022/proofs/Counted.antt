@@ -57,5 +57,5 @@ pub news_few : (first : ℕ) (t : Tree) → nodes t ≤ 64 * first → first ≤
 news_few first t many few = omega (arith, news-le first t, many, few)
 
 -- the walk has room for what it makes
-pub walk_bound : (t : Tree) (first source next : ℕ) (lists : List OpenList) → nodes t ≡ source → first ≡ source → nat_le source 1048576 ≡ true → lists ≡ [] → next ≡ 0 → total one t + (63 * first + stored lists + next) < 2 ^ 32
+pub walk_bound : (t : Tree) (first source next : ℕ) (lists : List OpenList) → nodes t ≡ source → first ≡ source → nat_le source 1048576 ≡ true → lists ≡ [] → next ≡ nodes t → total one t + (63 * first + stored lists + next) < 2 ^ 32
 walk_bound t first source next lists same count few none begun = omega (arith, total_one t, same, count, leb-true source 1048576 few, ap stored none, begun)

@@ -6,6 +6,7 @@ use crate::computed_key::{
     extract_instance_prop_computed_key, substitute_temp_var_for_method_computed_key,
 };
 use crate::constructor::{calls_super_in_parameters, insert_instance_inits};
+use crate::names::Naming;
 use crate::outside_super::{
     begin_outside_super, convert_outside_property, end_outside_super, wrap_super_calls,
 };
@@ -29,21 +30,21 @@ use std::alloc::{AllocError, Global};
 
 /// Enters a class: what it has is counted, and the initializers of its instance fields go into its constructor, while their
 /// keys stay where they are: `class C { [f()] = 1; }` becomes `class C { constructor() { .. } [_f = f()]; }`.
-pub fn enter_class(state: &mut State, class: Node) -> Result<Node, AllocError> {
+pub fn enter_class(state: &mut State, names: &mut Naming, class: Node) -> Result<Node, AllocError> {
     let alloc = state.alloc;
     match class.kind() {
         Kind::ClassDeclaration => {
             let mut class = ClassDeclaration::from_node(class);
             let (id, heritage) = (class.id.as_ref(), class.super_class.as_ref());
             let head = ClassHead::new(alloc, class.node_id, true, id, heritage)?;
-            class.body = enter_body(state, head, class.body)?;
+            class.body = enter_body(state, names, head, class.body)?;
             Ok(class.into_node())
         }
         Kind::ClassExpression => {
             let mut class = ClassExpression::from_node(class);
             let (id, heritage) = (class.id.as_ref(), class.super_class.as_ref());
             let head = ClassHead::new(alloc, class.node_id, false, id, heritage)?;
-            class.body = enter_body(state, head, class.body)?;
+            class.body = enter_body(state, names, head, class.body)?;
             Ok(class.into_node())
         }
         _ => Ok(class),
@@ -101,11 +102,16 @@ fn decline_private(state: &mut State, key: &Node) {
     }
 }
 
-fn enter_body(state: &mut State, head: ClassHead, body: Node) -> Result<Node, AllocError> {
+fn enter_body(
+    state: &mut State,
+    names: &mut Naming,
+    head: ClassHead,
+    body: Node,
+) -> Result<Node, AllocError> {
     match body.kind() {
         Kind::ClassBody => {
             let mut body = ClassBody::from_node(body);
-            body.body = enter_elements(state, head, body.body)?;
+            body.body = enter_elements(state, names, head, body.body)?;
             Ok(body.into_node())
         }
         _ => Ok(body),
@@ -114,11 +120,12 @@ fn enter_body(state: &mut State, head: ClassHead, body: Node) -> Result<Node, Al
 
 fn enter_elements(
     state: &mut State,
+    names: &mut Naming,
     head: ClassHead,
     elements: List<Node>,
 ) -> Result<List<Node>, AllocError> {
     let census = census_of(state, elements.as_slice());
-    let mut details = class_details_of(state, head, census)?;
+    let mut details = class_details_of(state, names, head, census)?;
     let (number, has_super_class) = (details.head.number, details.head.has_super_class);
     let has_outside_super = has_super_class
         && census.instance_inits
@@ -131,17 +138,18 @@ fn enter_elements(
     let mut inits = List::new(state.alloc);
     let mut kept = List::new(state.alloc);
     for element in elements.into_vec() {
-        kept.push(enter_element(state, element, &mut inits)?)?;
+        kept.push(enter_element(state, names, element, &mut inits)?)?;
     }
     if inits.is_empty() {
         return Ok(kept);
     }
-    insert_instance_inits(state, number, has_super_class, kept, inits)
+    insert_instance_inits(names, number, has_super_class, kept, inits)
 }
 
 /// An element as the walk enters its class; the initializer of an instance field is added to the others.
 fn enter_element(
     state: &mut State,
+    names: &mut Naming,
     element: Node,
     inits: &mut List<Node>,
 ) -> Result<Node, AllocError> {
@@ -151,7 +159,7 @@ fn enter_element(
             if field.is_static {
                 return Ok(field.into_node());
             }
-            Ok(convert_instance_property(state, field, inits)?.into_node())
+            Ok(convert_instance_property(state, names, field, inits)?.into_node())
         }
         _ => Ok(element),
     }
@@ -161,11 +169,12 @@ fn enter_element(
 /// temporary.
 fn class_details_of(
     state: &mut State,
+    names: &mut Naming,
     head: ClassHead,
     census: Census,
 ) -> Result<ClassDetails, AllocError> {
     let needs_temp = census.static_fields && (!head.is_declaration || head.name.is_none());
-    let temp = temp_of(state, &head, needs_temp)?;
+    let temp = temp_of(state, names, &head, needs_temp)?;
     Ok(ClassDetails {
         is_transform_required: census.instance_fields
             || census.static_fields
@@ -184,13 +193,14 @@ fn class_details_of(
 /// The temporary of a class, if it needs one; that of an expression is declared.
 fn temp_of(
     state: &mut State,
+    names: &mut Naming,
     head: &ClassHead,
     is_needed: bool,
 ) -> Result<Option<Name>, AllocError> {
     if !is_needed {
         return Ok(None);
     }
-    let temp = state.create_class_temp(head)?;
+    let temp = names.create_class_temp(head)?;
     if !head.is_declaration {
         state.insert_var(&temp)?;
     }
@@ -203,6 +213,7 @@ fn temp_of(
 /// fields and blocks go behind it, keys in front of it.
 pub fn exit_class(
     state: &mut State,
+    names: &mut Naming,
     class: Node,
     is_in_strict_list: bool,
 ) -> Result<Node, AllocError> {
@@ -215,10 +226,10 @@ pub fn exit_class(
     }
     match class.kind() {
         Kind::ClassDeclaration => {
-            exit_declaration(state, details, ClassDeclaration::from_node(class))
+            exit_declaration(state, names, details, ClassDeclaration::from_node(class))
         }
         Kind::ClassExpression => {
-            exit_expression(state, details, ClassExpression::from_node(class))
+            exit_expression(state, names, details, ClassExpression::from_node(class))
         }
         _ => Ok(class),
     }
@@ -233,12 +244,13 @@ fn innermost(state: &mut State) -> Option<ClassDetails> {
 /// `class C { static x = this; }` becomes `var _C; class C {} _C = C; babelHelpers.defineProperty(C, "x", _C);`
 fn exit_declaration(
     state: &mut State,
+    names: &mut Naming,
     details: ClassDetails,
     class: ClassDeclaration,
 ) -> Result<Node, AllocError> {
     let mut details = details;
     let mut class = class;
-    class.body = exit_body(state, &mut details, class.body)?;
+    class.body = exit_body(state, names, &mut details, class.body)?;
     let mut after = List::new(state.alloc);
     if let Some(temp) = &details.temp {
         match &details.head.name {
@@ -260,12 +272,13 @@ fn exit_declaration(
 /// `class { static x = 1; }` becomes `(_Class = class {}, babelHelpers.defineProperty(_Class, "x", 1), _Class)`.
 fn exit_expression(
     state: &mut State,
+    names: &mut Naming,
     details: ClassDetails,
     class: ClassExpression,
 ) -> Result<Node, AllocError> {
     let mut details = details;
     let mut class = class;
-    class.body = exit_body(state, &mut details, class.body)?;
+    class.body = exit_body(state, names, &mut details, class.body)?;
     let ClassDetails {
         temp,
         temp_is_declared,
@@ -321,13 +334,14 @@ fn in_sequence(
 
 fn exit_body(
     state: &mut State,
+    names: &mut Naming,
     details: &mut ClassDetails,
     body: Node,
 ) -> Result<Node, AllocError> {
     match body.kind() {
         Kind::ClassBody => {
             let mut body = ClassBody::from_node(body);
-            body.body = exit_elements(state, details, body.body)?;
+            body.body = exit_elements(state, names, details, body.body)?;
             Ok(body.into_node())
         }
         _ => Ok(body),
@@ -336,13 +350,14 @@ fn exit_body(
 
 fn exit_elements(
     state: &mut State,
+    names: &mut Naming,
     details: &mut ClassDetails,
     elements: List<Node>,
 ) -> Result<List<Node>, AllocError> {
-    begin_outside_super(state, details)?;
+    begin_outside_super(names, details)?;
     let mut kept = List::new(state.alloc);
     for element in elements.into_vec() {
-        if let Some(element) = exit_element(state, details, element)? {
+        if let Some(element) = exit_element(state, names, details, element)? {
             kept.push(element)?;
         }
     }
@@ -353,21 +368,29 @@ fn exit_elements(
 /// What stays of an element.
 fn exit_element(
     state: &mut State,
+    names: &mut Naming,
     details: &mut ClassDetails,
     element: Node,
 ) -> Result<Option<Node>, AllocError> {
     match element.kind() {
         Kind::PropertyDefinition => {
-            exit_field(state, details, PropertyDefinition::from_node(element))?;
+            exit_field(
+                state,
+                names,
+                details,
+                PropertyDefinition::from_node(element),
+            )?;
             Ok(None)
         }
         Kind::StaticBlock if state.settings.transform_static_blocks => {
-            convert_static_block(state, details, StaticBlock::from_node(element))?;
+            convert_static_block(state, names, details, StaticBlock::from_node(element))?;
             Ok(None)
         }
         Kind::MethodDefinition => {
             let method = MethodDefinition::from_node(element);
-            let method = substitute_temp_var_for_method_computed_key(state, details, method)?;
+            let method = substitute_temp_var_for_method_computed_key(
+                state, names, details, method,
+            )?;
             let method = wrap_super_calls(state.alloc, details, method)?;
             Ok(Some(method.into_node()))
         }
@@ -377,12 +400,13 @@ fn exit_element(
 
 fn exit_field(
     state: &mut State,
+    names: &mut Naming,
     details: &mut ClassDetails,
     field: PropertyDefinition,
 ) -> Result<(), AllocError> {
     if field.is_static {
-        return convert_static_property(state, details, field);
+        return convert_static_property(state, names, details, field);
     }
-    let field = convert_outside_property(state, details, field)?;
-    extract_instance_prop_computed_key(state, details, field)
+    let field = convert_outside_property(state, names, details, field)?;
+    extract_instance_prop_computed_key(names, details, field)
 }

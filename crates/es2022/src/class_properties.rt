@@ -9,6 +9,7 @@ ghost use Rattle.es_base.specs.Preorder.{nodes};
 ghost use Rattle.es_ctx.specs.Stores.{stored};
 
 use crate::class::{enter_class, exit_class};
+use crate::names::Naming;
 use crate::state::{Insertions, State};
 use bitflags::Flags;
 use es_base::ids::NodeId;
@@ -18,6 +19,7 @@ use es_ctx::beside::{insert_after, insert_before};
 use es_ctx::ctx::TraverseCtx;
 use es_node::node::Node;
 use es_scopes::flags::ScopeFlags;
+use es_uids::traverse_scoping::TraverseScoping;
 use es_walk::program::Lawful;
 use es_walk::walk::Traverse;
 use std::alloc::AllocError;
@@ -59,7 +61,7 @@ impl Traverse for ClassProperties {
 
     ghost leave_keeps_place = { paid.keeps_place (λ c. c.room) };
 
-    #[tactic(auto, using(crate::specs::Paid::total_one))]
+    #[tactic(auto, using(crate::specs::Paid::total_one, crate::specs::Paid::pays_nothing))]
     fn enter(&mut self, node: &mut Node, ctx: &mut TraverseCtx) -> Result<bool, AllocError> {
         if self.is_class(node) {
             self.transform(node, ctx, true)?;
@@ -67,6 +69,7 @@ impl Traverse for ClassProperties {
         Ok(true)
     }
 
+    #[tactic(auto, using(crate::specs::Paid::pays_nothing))]
     fn exit(&mut self, node: &mut Node, ctx: &mut TraverseCtx) -> Result<(), AllocError> {
         if self.is_class(node) {
             self.transform(node, ctx, false)?;
@@ -96,9 +99,9 @@ impl ClassProperties {
     {
         let statement = statement_of(node, ctx);
         let count = node.nodes();
-        let is_in_strict_list = self.is_in_strict_list(ctx);
+        let is_in_strict_list = is_in_strict_list(ctx);
         let class = node.take();
-        let class = self.change(class, enters, is_in_strict_list)?;
+        let class = self.change(class, enters, is_in_strict_list, &mut ctx.scoping)?;
         let insertions = self.state.take_insertions();
         if !self.pay(count, &class) {
             self.state.decline(statement);
@@ -108,30 +111,27 @@ impl ClassProperties {
         self.insert_all(statement, insertions, ctx)
     }
 
-    /// Whether the innermost list of statements around is in strict code.
-    fn is_in_strict_list(&self, ctx: &TraverseCtx) -> bool {
-        let scoping = &self.state.scoping;
-        let scope = ctx.current_block_scope_id();
-        if scoping.has_scope(scope) {
-            scoping.scope_flags(scope).contains(ScopeFlags::STRICT)
-        } else {
-            false
-        }
-    }
-
-    /// The class as it is entered or left.
+    /// The class as it is entered or left. Names may be generated; the scope table stays.
     fn change(
         &mut self,
         class: Node,
         enters: bool,
         is_in_strict_list: bool,
+        scoping: &mut TraverseScoping,
     ) -> Result<Node, AllocError>
-        ensures { OnOk result (self.new.room ≡ self.old.room) }
+        ensures room { OnOk result (self.new.room ≡ self.old.room) }
+        ensures table { OnOk result (scoping.new.scoping ≡ scoping.old.scoping) }
     {
+        let mut names = Naming {
+            alloc: scoping.alloc,
+            scoping: &scoping.scoping,
+            names: &mut scoping.names,
+            ledger: &mut scoping.ledger,
+        };
         if enters {
-            enter_class(&mut self.state, class)
+            enter_class(&mut self.state, &mut names, class)
         } else {
-            exit_class(&mut self.state, class, is_in_strict_list)
+            exit_class(&mut self.state, &mut names, class, is_in_strict_list)
         }
     }
 
@@ -249,6 +249,17 @@ fn insert_one(
         Insertion::Let => ctx.insert_let(node),
         Insertion::Before => insert_before(statement, node, ctx),
         Insertion::After => insert_after(statement, node, ctx),
+    }
+}
+
+/// Whether the innermost list of statements around is in strict code.
+fn is_in_strict_list(ctx: &TraverseCtx) -> bool {
+    let scope = ctx.current_block_scope_id();
+    let scoping = ctx.scoping();
+    if scoping.has_scope(scope) {
+        scoping.scope_flags(scope).contains(ScopeFlags::STRICT)
+    } else {
+        false
     }
 }
 

@@ -2,8 +2,8 @@
 
 use crate::builders::{create_binding, create_declarator, create_reference, create_statement};
 use crate::instance_prop_init::rename_clashing_symbols;
+use crate::names::Naming;
 use crate::rewrite::{Rewriter, rewrite_statements, with_number};
-use crate::state::State;
 use crate::static_block_and_prop_init::has_outer_this;
 use crate::utils::{append, directive_count, exprs_into_stmts, with_nodes_at};
 use es_base::ids::{NodeId, ScopeId};
@@ -36,13 +36,13 @@ use std::mem;
 /// The elements of a class, whose constructor does what these initializers do: in a base class in front of all else, in a derived
 /// one behind `super(..)`. A class without a constructor gets one, as its first element.
 pub fn insert_instance_inits(
-    state: &mut State,
+    names: &mut Naming,
     class: NodeId,
     has_super_class: bool,
     elements: List<Node>,
     inits: List<Node>,
 ) -> Result<List<Node>, AllocError> {
-    let alloc = state.alloc;
+    let alloc = names.alloc;
     let mut inits = inits;
     let mut kept = List::new(alloc);
     let mut has_constructor = false;
@@ -50,13 +50,13 @@ pub fn insert_instance_inits(
         if is_constructor(&element) {
             has_constructor = true;
             let inits = mem::replace(&mut inits, List::new(alloc));
-            kept.push(insert_into(state, class, has_super_class, element, inits)?)?;
+            kept.push(insert_into(names, class, has_super_class, element, inits)?)?;
         } else {
             kept.push(element)?;
         }
     }
     if !has_constructor {
-        kept.insert(0, create_constructor(state, has_super_class, inits)?)?;
+        kept.insert(0, create_constructor(names, has_super_class, inits)?)?;
     }
     Ok(kept)
 }
@@ -72,15 +72,15 @@ fn is_constructor(element: &Node) -> bool {
 
 /// `constructor() { inits }`, and in a derived class `constructor(..._args) { super(..._args); inits }`
 fn create_constructor(
-    state: &mut State,
+    names: &mut Naming,
     has_super_class: bool,
     inits: List<Node>,
 ) -> Result<Node, AllocError> {
-    let alloc = state.alloc;
+    let alloc = names.alloc;
     let mut params = List::new(alloc);
     let mut statements = List::new(alloc);
     if has_super_class {
-        let args = state.generate("args", GeneratedKind::Args)?;
+        let args = names.generate("args", GeneratedKind::Args)?;
         params.push(make_rest_element(alloc, create_binding(alloc, &args)?)?)?;
         let call = create_super_call(alloc, &args)?;
         statements.push(create_statement(alloc, call)?)?;
@@ -129,7 +129,7 @@ fn has_super_in_parameters(constructor: &Node) -> bool {
 
 /// A constructor with these initializers.
 fn insert_into(
-    state: &mut State,
+    names: &mut Naming,
     class: NodeId,
     has_super_class: bool,
     constructor: Node,
@@ -140,9 +140,9 @@ fn insert_into(
             let mut method = MethodDefinition::from_node(constructor);
             let mut inits = inits;
             let scope = scope_of(&method.value);
-            method.value = rename_clashing_symbols(state, method.value, scope, &mut inits)?;
+            method.value = rename_clashing_symbols(names, method.value, scope, &mut inits)?;
             method.value = insert_into_function(
-                state,
+                names,
                 class,
                 has_super_class,
                 method.value,
@@ -163,7 +163,7 @@ fn scope_of(function: &Node) -> Option<ScopeId> {
 }
 
 fn insert_into_function(
-    state: &mut State,
+    names: &mut Naming,
     class: NodeId,
     has_super_class: bool,
     function: Node,
@@ -172,7 +172,7 @@ fn insert_into_function(
     match function.kind() {
         Kind::FunctionExpression => {
             let mut function = FunctionExpression::from_node(function);
-            function.body = insert_into_body(state, class, has_super_class, function.body, inits)?;
+            function.body = insert_into_body(names, class, has_super_class, function.body, inits)?;
             Ok(function.into_node())
         }
         _ => Ok(function),
@@ -180,7 +180,7 @@ fn insert_into_function(
 }
 
 fn insert_into_body(
-    state: &mut State,
+    names: &mut Naming,
     class: NodeId,
     has_super_class: bool,
     body: Node,
@@ -189,7 +189,7 @@ fn insert_into_body(
     match body.kind() {
         Kind::BlockStatement => {
             let mut body = BlockStatement::from_node(body);
-            body.body = insert_into_statements(state, class, has_super_class, body.body, inits)?;
+            body.body = insert_into_statements(names, class, has_super_class, body.body, inits)?;
             Ok(body.into_node())
         }
         _ => Ok(body),
@@ -197,20 +197,20 @@ fn insert_into_body(
 }
 
 fn insert_into_statements(
-    state: &mut State,
+    names: &mut Naming,
     class: NodeId,
     has_super_class: bool,
     statements: List<Node>,
     inits: List<Node>,
 ) -> Result<List<Node>, AllocError> {
-    let alloc = state.alloc;
+    let alloc = names.alloc;
     if !has_super_class {
         let place = directive_count(statements.as_slice());
         return with_nodes_at(alloc, statements, place, exprs_into_stmts(alloc, inits)?);
     }
     match place_behind_super(statements.as_slice()) {
         Some(place) => with_nodes_at(alloc, statements, place, exprs_into_stmts(alloc, inits)?),
-        None => insert_super_function(state, class, statements, inits),
+        None => insert_super_function(names, class, statements, inits),
     }
 }
 
@@ -259,14 +259,14 @@ fn is_call_of_super(node: &Node) -> bool {
 /// `var _super = (..._args) => (super(..._args), inits, this);` in front of the statements, in which `super(..)` becomes
 /// `_super(..)`.
 fn insert_super_function(
-    state: &mut State,
+    names: &mut Naming,
     class: NodeId,
     statements: List<Node>,
     inits: List<Node>,
 ) -> Result<List<Node>, AllocError> {
-    let alloc = state.alloc;
-    let name = state.generate("super", GeneratedKind::SuperFn(class))?;
-    let args = state.generate("args", GeneratedKind::Args)?;
+    let alloc = names.alloc;
+    let name = names.generate("super", GeneratedKind::SuperFn(class))?;
+    let args = names.generate("args", GeneratedKind::Args)?;
     let mut expressions = List::new(alloc);
     expressions.push(create_super_call(alloc, &args)?)?;
     append(&mut expressions, inits)?;

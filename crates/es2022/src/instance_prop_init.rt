@@ -1,7 +1,7 @@
 // Names of a constructor that the initializers which go into it would meet.
 
+use crate::names::Naming;
 use crate::rewrite::{Rewriter, rewrite_expression};
-use crate::state::State;
 use es_base::ids::{ReferenceId, ScopeId, SymbolId};
 use es_base::kind::Kind;
 use es_base::list::List;
@@ -10,7 +10,7 @@ use es_node::node::Node;
 use es_tree::identifier::{
     BindingIdentifier, BindingIdentifierRef, IdentifierReference, IdentifierReferenceRef,
 };
-use std::alloc::{AllocError, Global};
+use std::alloc::AllocError;
 
 /// A symbol of a constructor, and its new name.
 #[derive(Drop)]
@@ -22,7 +22,7 @@ struct Renamed {
 /// `constructor(y) { this.z = y; }`, into which `y` of an initializer goes, becomes `constructor(_y) { this.z = _y; }`
 /// (oxc_transformer, `ConstructorSymbolRenamer`). The initializers are not changed.
 pub fn rename_clashing_symbols(
-    state: &mut State,
+    names: &mut Naming,
     constructor: Node,
     scope: Option<ScopeId>,
     inits: &mut List<Node>,
@@ -30,9 +30,9 @@ pub fn rename_clashing_symbols(
     let Some(scope) = scope else {
         return Ok(constructor);
     };
-    let alloc = state.alloc;
+    let alloc = names.alloc;
     let mut search = ClashSearch {
-        state: &mut *state,
+        names: &mut *names,
         scope,
         renamed: List::new(alloc),
     };
@@ -46,8 +46,7 @@ pub fn rename_clashing_symbols(
     let mut constructor = constructor;
     rewrite_expression(
         &mut SymbolRenamer {
-            alloc,
-            state,
+            names: &*names,
             renamed,
         },
         &mut constructor,
@@ -67,13 +66,13 @@ fn name_of(renamed: &[Renamed], symbol: SymbolId) -> Option<&Name> {
 
 /// Looks for names in initializers that the scope of a constructor binds to something else.
 #[derive(Drop)]
-struct ClashSearch<'a> {
-    state: &'a mut State,
+struct ClashSearch<'a, 'b> {
+    names: &'a mut Naming<'b>,
     scope: ScopeId,
     renamed: List<Renamed>,
 }
 
-impl Rewriter for ClashSearch<'_> {
+impl Rewriter for ClashSearch<'_, '_> {
     fn goes_into(&mut self, _node: &Node) -> Result<bool, AllocError> {
         Ok(true)
     }
@@ -87,15 +86,15 @@ impl Rewriter for ClashSearch<'_> {
             return Ok(());
         }
         let reference = IdentifierReferenceRef::from_node(node);
-        let Some(symbol) = self.state.binding_in(self.scope, reference.name.as_str()) else {
+        let Some(symbol) = self.names.binding_in(self.scope, reference.name.as_str()) else {
             return Ok(());
         };
-        if self.state.means(reference.reference_id, symbol)
+        if self.names.means(reference.reference_id, symbol)
             || name_of(self.renamed.as_slice(), symbol).is_some()
         {
             return Ok(());
         }
-        let name = self.state.generate_name(reference.name.as_str())?;
+        let name = self.names.generate_name(reference.name.as_str())?;
         self.renamed.push(Renamed { symbol, name })
     }
 
@@ -106,17 +105,16 @@ impl Rewriter for ClashSearch<'_> {
 
 /// Gives symbols their new names.
 #[derive(Drop)]
-struct SymbolRenamer<'a> {
-    alloc: Global,
-    state: &'a mut State,
+struct SymbolRenamer<'a, 'b> {
+    names: &'a Naming<'b>,
     renamed: List<Renamed>,
 }
 
-impl SymbolRenamer<'_> {
+impl SymbolRenamer<'_, '_> {
     /// The new name of what a reference means, if it has one.
     fn name_of_reference(&self, reference: Option<ReferenceId>) -> Option<&Name> {
         for one in self.renamed.as_slice() {
-            if self.state.means(reference, one.symbol) {
+            if self.names.means(reference, one.symbol) {
                 return Some(&one.name);
             }
         }
@@ -124,7 +122,7 @@ impl SymbolRenamer<'_> {
     }
 }
 
-impl Rewriter for SymbolRenamer<'_> {
+impl Rewriter for SymbolRenamer<'_, '_> {
     fn goes_into(&mut self, _node: &Node) -> Result<bool, AllocError> {
         Ok(true)
     }
@@ -139,7 +137,7 @@ impl Rewriter for SymbolRenamer<'_> {
         }
         let reference = IdentifierReferenceRef::from_node(node).reference_id;
         if let Some(name) = self.name_of_reference(reference) {
-            let name = name.try_clone(self.alloc)?;
+            let name = name.try_clone(self.names.alloc)?;
             let mut reference = IdentifierReference::from_node(node.take());
             reference.name = name;
             *node = reference.into_node();
@@ -156,7 +154,7 @@ impl Rewriter for SymbolRenamer<'_> {
         };
         if let Some(name) = name_of(self.renamed.as_slice(), symbol) {
             let mut binding = BindingIdentifier::from_node(node.take());
-            binding.name = name.try_clone(self.alloc)?;
+            binding.name = name.try_clone(self.names.alloc)?;
             *node = binding.into_node();
         }
         Ok(())

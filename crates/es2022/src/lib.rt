@@ -11,6 +11,7 @@ mod computed_key;
 mod constructor;
 mod instance_prop_init;
 pub mod lower;
+mod names;
 mod outside_super;
 mod prop_decl;
 mod rewrite;

@@ -1,21 +1,19 @@
 // The lowering of a program.
 
-ghost use Rattle.std.specs.Prelude.{◌≡◌, ◌*◌, ◌<◌, ◌≤◌, ◌^◌, IfOk};
+ghost use Rattle.std.specs.Prelude.{◌≡◌, ◌*◌, ◌<◌, ◌≤◌, ◌^◌, IfErr, IfOk};
 ghost use Rattle.es_base.specs.Preorder.{nodes};
+ghost use Rattle.es_lowering.specs.Any.{DeclinesByNode};
 
 use crate::class_properties::ClassProperties;
 use crate::state::{Settings, State};
 use es_base::ids::NodeId;
-use es_base::ledger::Ledger;
 use es_ctx::ctx::TraverseCtx;
 use es_lowering::lowering::{LoweredProgram, Unlowered};
-use es_names::names::Names;
 use es_node::node::Node;
 use es_scopes::scoping::Scoping;
 use es_scopes_build::build::build;
 use es_steps::options::Options;
 use es_walk::program::walk_program;
-use program_names::collect::spellings_of;
 use std::alloc::{AllocError, Global};
 
 /// Programs of more nodes are not lowered.
@@ -29,29 +27,30 @@ const ROOM: u32 = 63;
 /// Fails on allocation failure, and where a form is not lowered: private names, and a class without a place for what it needs.
 #[tactic(auto, using(crate::specs::Paid::total_one))]
 pub fn lower(alloc: Global, options: &Options, source: &Node) -> Result<LoweredProgram, Unlowered>
-    ensures { IfOk result (λ r. nodes r.program ≤ 64 * nodes source.now) }
+    ensures few { IfOk result (λ r. nodes r.program ≤ 64 * nodes source.now) }
+    ensures declined { IfErr result (DeclinesByNode options.now source.now) }
 {
     if !source.has_at_most(MAX_NODES) {
         return Err(Unlowered::NotYet { node: NodeId(0) });
     }
     let first = source.nodes();
     let (mut program, scoping) = with_scopes(alloc, source)?;
-    let names = Names::new(alloc, spellings_of(alloc, source)?);
+    let mut ctx = TraverseCtx::new(alloc, &program, scoping, options.assumptions)?;
     let mut transform = ClassProperties {
         room: ROOM * first,
-        state: State::new(alloc, Settings::of(options), scoping, names),
+        state: State::new(alloc, Settings::of(options)),
     };
-    let mut ctx = TraverseCtx::new(alloc, 0);
     walk_program(&mut transform, &mut program, &mut ctx)?;
     let state = transform.state;
     match state.declined {
         Some(node) => Err(Unlowered::NotYet { node }),
-        None => Ok(LoweredProgram {
-            program: numbered(program, first),
-            names: Ledger {
-                entries: state.ledger,
-            },
-        }),
+        None => {
+            let (_table, _warnings, names) = ctx.finish();
+            Ok(LoweredProgram {
+                program: numbered(program, first),
+                names,
+            })
+        }
     }
 }
 

@@ -11,6 +11,7 @@
 use crate::builders::{create_assignment, create_declarator, create_string};
 use crate::class_details::{ClassDetails, OutsideSuper};
 use crate::constructor::SuperRewriter;
+use crate::names::Naming;
 use crate::prop_decl::convert_instance_property;
 use crate::rewrite::rewrite_part;
 use crate::state::State;
@@ -30,14 +31,14 @@ use std::alloc::{AllocError, Global};
 
 /// Draws the name of the function, as a class that needs it is left.
 pub fn begin_outside_super(
-    state: &mut State,
+    names: &mut Naming,
     details: &mut ClassDetails,
 ) -> Result<(), AllocError> {
     if details.has_outside_super {
         let kind = GeneratedKind::SuperFn(details.head.number);
         details.outside_super = Some(OutsideSuper {
-            name: state.generate("super", kind)?,
-            inits: List::new(state.alloc),
+            name: names.generate("super", kind)?,
+            inits: List::new(names.alloc),
         });
     }
     Ok(())
@@ -46,6 +47,7 @@ pub fn begin_outside_super(
 /// An instance field as its class is left: where there is such a function, what defines the field goes into that.
 pub fn convert_outside_property(
     state: &mut State,
+    names: &mut Naming,
     details: &mut ClassDetails,
     field: PropertyDefinition,
 ) -> Result<PropertyDefinition, AllocError> {
@@ -53,9 +55,9 @@ pub fn convert_outside_property(
         return Ok(field);
     };
     let mut inits = List::new(state.alloc);
-    let field = convert_instance_property(state, field, &mut inits)?;
+    let field = convert_instance_property(state, names, field, &mut inits)?;
     for init in inits.into_vec() {
-        let init = transform_outside_initializer(state, details, init)?;
+        let init = transform_outside_initializer(names, details, init)?;
         outside.inits.push(init)?;
     }
     details.outside_super = Some(outside);

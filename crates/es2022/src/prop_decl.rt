@@ -3,6 +3,7 @@
 use crate::builders::{create_helper_call, create_null, create_reference, create_string};
 use crate::class_details::ClassDetails;
 use crate::computed_key::{create_computed_key_temp_var_if_required, extract_computed_key};
+use crate::names::Naming;
 use crate::state::State;
 use crate::static_block_and_prop_init::{replace_new_target, transform_static_initializer};
 use es_base::kind::Kind;
@@ -23,6 +24,7 @@ use std::alloc::{AllocError, Global};
 /// field stays, with a key that is evaluated in front of the class, if there is one.
 pub fn convert_instance_property(
     state: &mut State,
+    names: &mut Naming,
     field: PropertyDefinition,
     inits: &mut List<Node>,
 ) -> Result<PropertyDefinition, AllocError> {
@@ -37,6 +39,7 @@ pub fn convert_instance_property(
     let this = make_this_expression(state.alloc)?;
     let Init { init, assignment } = create_init(
         state,
+        names,
         this,
         field.key,
         field.computed,
@@ -57,20 +60,22 @@ pub fn convert_instance_property(
 /// `static k = v;` becomes `babelHelpers.defineProperty(C, "k", v)`, or `C.k = v` where fields are set, behind the class.
 pub fn convert_static_property(
     state: &mut State,
+    names: &mut Naming,
     details: &mut ClassDetails,
     field: PropertyDefinition,
 ) -> Result<(), AllocError> {
     let mut field = field;
     if field.value.is_none() && state.settings.removes_empty_fields() {
-        return extract_computed_key(state, details, field);
+        return extract_computed_key(names, details, field);
     }
     let value = match field.value.take() {
-        Some(value) => transform_static_initializer(state, details, value)?,
+        Some(value) => transform_static_initializer(state, names, details, value)?,
         None => create_void_0(state.alloc)?,
     };
     let class = create_class_reference(state.alloc, details)?;
     let Init { init, assignment } = create_init(
         state,
+        names,
         class,
         field.key,
         field.computed,
@@ -101,6 +106,7 @@ struct Init {
 
 fn create_init(
     state: &mut State,
+    names: &mut Naming,
     object: Node,
     key: Node,
     computed: bool,
@@ -108,9 +114,9 @@ fn create_init(
     is_static: bool,
 ) -> Result<Init, AllocError> {
     if state.settings.set_public_class_fields && !(is_static && is_built_in(&key, computed)) {
-        create_set(state, object, key, computed, value)
+        create_set(state, names, object, key, computed, value)
     } else {
-        create_define(state, object, key, computed, value)
+        create_define(state, names, object, key, computed, value)
     }
 }
 
@@ -136,12 +142,13 @@ fn is_name_or_length(name: &str) -> bool {
 /// `babelHelpers.defineProperty(object, key, value)`
 fn create_define(
     state: &mut State,
+    names: &mut Naming,
     object: Node,
     key: Node,
     computed: bool,
     value: Node,
 ) -> Result<Init, AllocError> {
-    let (key, assignment) = define_key(state, key, computed)?;
+    let (key, assignment) = define_key(state, names, key, computed)?;
     let arguments = List::from_vec(vec![in state.alloc; object, key, value]?);
     Ok(Init {
         init: create_helper_call(state.alloc, "defineProperty", arguments)?,
@@ -152,6 +159,7 @@ fn create_define(
 /// `"k"` for the key `k`, and else the key.
 fn define_key(
     state: &mut State,
+    names: &mut Naming,
     key: Node,
     computed: bool,
 ) -> Result<(Node, Option<Node>), AllocError> {
@@ -161,7 +169,7 @@ fn define_key(
             Ok((create_string(state.alloc, name)?, None))
         }
         _ => {
-            let held = create_computed_key_temp_var_if_required(state, key)?;
+            let held = create_computed_key_temp_var_if_required(state, names, key)?;
             Ok((held.key, held.assignment))
         }
     }
@@ -170,6 +178,7 @@ fn define_key(
 /// `object.k = value`, or `object[key] = value`
 fn create_set(
     state: &mut State,
+    names: &mut Naming,
     object: Node,
     key: Node,
     computed: bool,
@@ -186,7 +195,7 @@ fn create_set(
             )
         }
         _ => {
-            let held = create_computed_key_temp_var_if_required(state, key)?;
+            let held = create_computed_key_temp_var_if_required(state, names, key)?;
             (
                 make_member_expression(state.alloc, object, held.key, true, false)?,
                 held.assignment,

@@ -1,15 +1,11 @@
 // What the transform carries along.
 
 use crate::builders::create_declarator;
-use crate::class_details::{ClassDetails, ClassHead};
-use es_base::ids::{NodeId, ReferenceId, ScopeId, SymbolId};
-use es_base::ledger::{GeneratedKind, LedgerEntry};
+use crate::class_details::ClassDetails;
+use es_base::ids::NodeId;
 use es_base::list::List;
 use es_base::name::Name;
-use es_duplicates::repetition::meant_symbol;
-use es_names::names::Names;
 use es_node::node::Node;
-use es_scopes::scoping::Scoping;
 use es_steps::options::Options;
 use std::alloc::{AllocError, Global};
 use std::mem;
@@ -65,14 +61,11 @@ impl Insertions {
     }
 }
 
-/// What the transform carries along, but for the room that it has.
+/// What the transform carries along, but for the room that it has, and what is in the context of the walk.
 #[derive(Drop)]
 pub struct State {
     pub alloc: Global,
     pub settings: Settings,
-    pub scoping: Scoping,
-    names: Names,
-    pub ledger: List<LedgerEntry>,
     /// The classes around, the innermost last.
     pub classes: List<ClassDetails>,
     pub insertions: Insertions,
@@ -81,14 +74,11 @@ pub struct State {
 }
 
 impl State {
-    /// The state in front of a program with this scope table, whose names are these.
-    pub fn new(alloc: Global, settings: Settings, scoping: Scoping, names: Names) -> State {
+    /// The state in front of a program.
+    pub fn new(alloc: Global, settings: Settings) -> State {
         State {
             alloc,
             settings,
-            scoping,
-            names,
-            ledger: List::new(alloc),
             classes: List::new(alloc),
             insertions: Insertions::new(alloc),
             declined: None,
@@ -100,21 +90,6 @@ impl State {
         if self.declined.is_none() {
             self.declined = Some(node);
         }
-    }
-
-    /// A name of its own, that stands for this.
-    pub fn generate(&mut self, base: &str, kind: GeneratedKind) -> Result<Name, AllocError> {
-        let name = self.names.generate(base)?;
-        self.ledger.push(LedgerEntry {
-            name: name.try_clone(self.alloc)?,
-            kind,
-        })?;
-        Ok(name)
-    }
-
-    /// A name of its own for a binding of the source, which stands for what it stood for.
-    pub fn generate_name(&mut self, base: &str) -> Result<Name, AllocError> {
-        self.names.generate(base)
     }
 
     // var name;
@@ -133,24 +108,5 @@ impl State {
     pub fn take_insertions(&mut self) -> Insertions {
         let alloc = self.alloc;
         mem::replace(&mut self.insertions, Insertions::new(alloc))
-    }
-
-    /// A temporary for a class: `_C`.
-    pub fn create_class_temp(&mut self, head: &ClassHead) -> Result<Name, AllocError> {
-        self.generate(head.base(), GeneratedKind::ClassTemp(head.number))
-    }
-
-    /// Whether a reference means this symbol.
-    pub fn means(&self, reference: Option<ReferenceId>, symbol: SymbolId) -> bool {
-        meant_symbol(&self.scoping, reference) == Some(symbol)
-    }
-
-    /// What a scope binds a name to.
-    pub fn binding_in(&self, scope: ScopeId, name: &str) -> Option<SymbolId> {
-        if self.scoping.has_scope(scope) {
-            self.scoping.get_binding(scope, name)
-        } else {
-            None
-        }
     }
 }

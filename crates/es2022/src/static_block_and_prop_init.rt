@@ -2,6 +2,7 @@
 
 use crate::builders::create_reference_at;
 use crate::class_details::ClassDetails;
+use crate::names::Naming;
 use crate::rewrite::{Rewriter, rewrite_expression, rewrite_statements};
 use crate::state::State;
 use crate::super_converter::{
@@ -28,6 +29,7 @@ use std::alloc::{AllocError, Global};
 /// class, `new.target` is `void 0` (ECMA-262, 15.7.10), and `super` is what reads, calls and writes by the temporary.
 pub fn transform_static_initializer(
     state: &mut State,
+    names: &mut Naming,
     details: &mut ClassDetails,
     value: Node,
 ) -> Result<Node, AllocError> {
@@ -39,13 +41,13 @@ pub fn transform_static_initializer(
     };
     rewrite_expression(&mut constants, &mut value)?;
     rewrite_expression(
-        &mut ThisRewriter::new(&mut *state, &mut *details),
+        &mut ThisRewriter::new(state, &mut *names, &mut *details),
         &mut value,
     )?;
     if let Some(symbol) = symbol {
         rewrite_expression(
             &mut NameRewriter {
-                state,
+                names,
                 details,
                 symbol,
             },
@@ -58,6 +60,7 @@ pub fn transform_static_initializer(
 /// `static { f(); }` becomes `f()` behind the class, and `static { f(); g(); }` becomes `(() => { f(); g(); })()`.
 pub fn convert_static_block(
     state: &mut State,
+    names: &mut Naming,
     details: &mut ClassDetails,
     block: StaticBlock,
 ) -> Result<(), AllocError> {
@@ -69,13 +72,13 @@ pub fn convert_static_block(
     };
     rewrite_statements(&mut constants, &mut statements)?;
     rewrite_statements(
-        &mut ThisRewriter::new(&mut *state, &mut *details),
+        &mut ThisRewriter::new(state, &mut *names, &mut *details),
         &mut statements,
     )?;
     if let Some(symbol) = symbol {
         rewrite_statements(
             &mut NameRewriter {
-                state: &mut *state,
+                names: &mut *names,
                 details: &mut *details,
                 symbol,
             },
@@ -83,7 +86,7 @@ pub fn convert_static_block(
         )?;
     }
     let is_declaration = details.head.is_declaration;
-    let expression = in_expression(state.alloc, statements, is_declaration)?;
+    let expression = in_expression(names.alloc, statements, is_declaration)?;
     details.after.push(expression)
 }
 
@@ -124,7 +127,7 @@ pub fn replace_new_target(alloc: Global, value: Node) -> Result<Node, AllocError
 
 /// What defines an instance field outside of its class expression, where the name of the class is its temporary.
 pub fn transform_outside_initializer(
-    state: &mut State,
+    names: &mut Naming,
     details: &mut ClassDetails,
     init: Node,
 ) -> Result<Node, AllocError> {
@@ -135,7 +138,7 @@ pub fn transform_outside_initializer(
     if let Some(symbol) = details.head.symbol {
         rewrite_expression(
             &mut NameRewriter {
-                state,
+                names,
                 details,
                 symbol,
             },
@@ -146,12 +149,12 @@ pub fn transform_outside_initializer(
 }
 
 /// The temporary of a class, which is made where it is first needed (oxc_transformer, `get_or_init_static_binding`).
-fn class_temp(state: &mut State, details: &mut ClassDetails) -> Result<Name, AllocError> {
+fn class_temp(names: &mut Naming, details: &mut ClassDetails) -> Result<Name, AllocError> {
     if let Some(temp) = &details.temp {
-        return temp.try_clone(state.alloc);
+        return temp.try_clone(names.alloc);
     }
-    let temp = state.create_class_temp(&details.head)?;
-    let copy = temp.try_clone(state.alloc)?;
+    let temp = names.create_class_temp(&details.head)?;
+    let copy = temp.try_clone(names.alloc)?;
     details.temp = Some(temp);
     Ok(copy)
 }
@@ -222,8 +225,9 @@ impl Rewriter for ConstantRewriter {
 
 /// `this` becomes the temporary of the class, and `super` what reads, calls and writes by the temporary.
 #[derive(Drop)]
-struct ThisRewriter<'a> {
+struct ThisRewriter<'a, 'b> {
     state: &'a mut State,
+    names: &'a mut Naming<'b>,
     details: &'a mut ClassDetails,
     /// The numbers of the calls of members of `super`.
     super_calls: List<NodeId>,
@@ -231,11 +235,16 @@ struct ThisRewriter<'a> {
     super_writes: List<WriteTemps>,
 }
 
-impl<'a> ThisRewriter<'a> {
-    fn new(state: &'a mut State, details: &'a mut ClassDetails) -> ThisRewriter<'a> {
+impl<'a, 'b> ThisRewriter<'a, 'b> {
+    fn new(
+        state: &'a mut State,
+        names: &'a mut Naming<'b>,
+        details: &'a mut ClassDetails,
+    ) -> ThisRewriter<'a, 'b> {
         let alloc = state.alloc;
         ThisRewriter {
             state,
+            names,
             details,
             super_calls: List::new(alloc),
             super_writes: List::new(alloc),
@@ -247,12 +256,12 @@ impl<'a> ThisRewriter<'a> {
         if is_super_call(node) {
             self.super_calls.push(node.node_id())
         } else if is_super_member(node) {
-            drop(class_temp(self.state, self.details)?);
+            drop(class_temp(self.names, self.details)?);
             Ok(())
         } else if is_super_write(node) {
-            let key = declare_key_temp(self.state, node)?;
-            drop(class_temp(self.state, self.details)?);
-            let update = declare_update_temps(self.state, node)?;
+            let key = declare_key_temp(self.state, self.names, node)?;
+            drop(class_temp(self.names, self.details)?);
+            let update = declare_update_temps(self.state, self.names, node)?;
             self.super_writes.push(WriteTemps { key, update })
         } else {
             Ok(())
@@ -263,11 +272,11 @@ impl<'a> ThisRewriter<'a> {
     fn rewrite_super(&mut self, node: &mut Node) -> Result<(), AllocError> {
         let alloc = self.state.alloc;
         if is_super_member(node) {
-            let temp = class_temp(self.state, self.details)?;
+            let temp = class_temp(self.names, self.details)?;
             return convert_super_member(alloc, &temp, node);
         }
         if is_super_write(node) {
-            let temp = class_temp(self.state, self.details)?;
+            let temp = class_temp(self.names, self.details)?;
             if let Some(temps) = self.innermost_write() {
                 return convert_super_write(alloc, &temp, temps, node);
             }
@@ -285,7 +294,7 @@ impl<'a> ThisRewriter<'a> {
     }
 }
 
-impl Rewriter for ThisRewriter<'_> {
+impl Rewriter for ThisRewriter<'_, '_> {
     fn goes_into(&mut self, node: &Node) -> Result<bool, AllocError> {
         if !has_outer_this(node) {
             return Ok(false);
@@ -296,7 +305,7 @@ impl Rewriter for ThisRewriter<'_> {
 
     fn rewrite_expression(&mut self, node: &mut Node) -> Result<(), AllocError> {
         if node.kind() == Kind::ThisExpression {
-            let temp = class_temp(self.state, self.details)?;
+            let temp = class_temp(self.names, self.details)?;
             *node = create_reference_at(self.state.alloc, &temp, node)?;
             return Ok(());
         }
@@ -314,13 +323,13 @@ impl Rewriter for ThisRewriter<'_> {
 
 /// The name of the class becomes its temporary, in functions too.
 #[derive(Drop)]
-struct NameRewriter<'a> {
-    state: &'a mut State,
+struct NameRewriter<'a, 'b> {
+    names: &'a mut Naming<'b>,
     details: &'a mut ClassDetails,
     symbol: SymbolId,
 }
 
-impl Rewriter for NameRewriter<'_> {
+impl Rewriter for NameRewriter<'_, '_> {
     fn goes_into(&mut self, _node: &Node) -> Result<bool, AllocError> {
         Ok(true)
     }
@@ -334,9 +343,9 @@ impl Rewriter for NameRewriter<'_> {
             return Ok(());
         }
         let reference = IdentifierReferenceRef::from_node(node).reference_id;
-        if self.state.means(reference, self.symbol) {
-            let temp = class_temp(self.state, self.details)?;
-            *node = create_reference_at(self.state.alloc, &temp, node)?;
+        if self.names.means(reference, self.symbol) {
+            let temp = class_temp(self.names, self.details)?;
+            *node = create_reference_at(self.names.alloc, &temp, node)?;
         }
         Ok(())
     }

@@ -3,6 +3,7 @@
 use crate::builders::{
     create_assignment, create_helper_call, create_null, create_reference, create_string,
 };
+use crate::names::Naming;
 use crate::rewrite::with_number;
 use crate::state::State;
 use es_base::ids::{NodeId, Span};
@@ -73,17 +74,21 @@ pub struct UpdateTemps {
 }
 
 /// `_k` for `super[k()] += v` and `super[k()]++`, with `var _k;`.
-pub fn declare_key_temp(state: &mut State, write: &Node) -> Result<Option<Name>, AllocError> {
+pub fn declare_key_temp(
+    state: &mut State,
+    names: &mut Naming,
+    write: &Node,
+) -> Result<Option<Name>, AllocError> {
     match write.kind() {
         Kind::AssignmentExpression => {
             let assignment = AssignmentExpressionRef::from_node(write);
             if assignment.operator == AssignmentOperator::Assign {
                 return Ok(None);
             }
-            declare_key_temp_of_member(state, assignment.left)
+            declare_key_temp_of_member(state, names, assignment.left)
         }
         Kind::UpdateExpression => {
-            declare_key_temp_of_member(state, UpdateExpressionRef::from_node(write).argument)
+            declare_key_temp_of_member(state, names, UpdateExpressionRef::from_node(write).argument)
         }
         _ => Ok(None),
     }
@@ -91,40 +96,42 @@ pub fn declare_key_temp(state: &mut State, write: &Node) -> Result<Option<Name>,
 
 fn declare_key_temp_of_member(
     state: &mut State,
+    names: &mut Naming,
     member: &Node,
 ) -> Result<Option<Name>, AllocError> {
     match member.kind() {
         Kind::MemberExpression => {
             let member = MemberExpressionRef::from_node(member);
-            if !member.computed || !is_held(state, member.property) {
+            if !member.computed || !is_held(names, member.property) {
                 return Ok(None);
             }
             let base = suggest(state.alloc, member.property)?;
-            Ok(Some(declare_temp(state, base.as_str())?))
+            Ok(Some(declare_temp(state, names, base.as_str())?))
         }
         _ => Ok(None),
     }
 }
 
 /// Whether a key is evaluated once, and a temporary read behind that.
-fn is_held(state: &State, key: &Node) -> bool {
-    key.kind() != Kind::ThisExpression && key_needs_temp_var(key, &state.scoping)
+fn is_held(names: &Naming, key: &Node) -> bool {
+    key.kind() != Kind::ThisExpression && key_needs_temp_var(key, names.scoping)
 }
 
 /// `_super$k` for `++super.k`, and `_super$k` and `_super$k2` for `super.k++`.
 pub fn declare_update_temps(
     state: &mut State,
+    names: &mut Naming,
     write: &Node,
 ) -> Result<Option<UpdateTemps>, AllocError> {
     match write.kind() {
         Kind::UpdateExpression => {
             let update = UpdateExpressionRef::from_node(write);
             let base = suggest(state.alloc, update.argument)?;
-            let value = declare_temp(state, base.as_str())?;
+            let value = declare_temp(state, names, base.as_str())?;
             let old = if update.prefix {
                 None
             } else {
-                Some(declare_temp(state, base.as_str())?)
+                Some(declare_temp(state, names, base.as_str())?)
             };
             Ok(Some(UpdateTemps { value, old }))
         }
@@ -133,8 +140,8 @@ pub fn declare_update_temps(
 }
 
 // var _t;
-fn declare_temp(state: &mut State, base: &str) -> Result<Name, AllocError> {
-    let name = state.generate(base, GeneratedKind::Temp)?;
+fn declare_temp(state: &mut State, names: &mut Naming, base: &str) -> Result<Name, AllocError> {
+    let name = names.generate(base, GeneratedKind::Temp)?;
     state.insert_var(&name)?;
     Ok(name)
 }

@@ -155,4 +155,99 @@ impl BoundIdentifier {
         id.symbol_id = Some(self.symbol_id);
         Ok(id.into_node())
     }
+
+    /// The same as an identifier: this tree has one type of nodes.
+    pub fn create_read_reference(
+        &self,
+        alloc: Global,
+        scoping: &mut Scoping,
+    ) -> Result<Node, AllocError>
+        requires symbol { HasSymbol scoping.old self.now.symbol_id }
+        requires room { HasRoom scoping.old.references }
+        ensures node { IfOk result (λ t. t ≡ identifier_reference unnumbered None (Some (length scoping.old.references)) self.now.name) }
+        ensures table { OnOk result (scoping.new ≡ with_created_reference scoping.old (Some self.now.symbol_id) flag.READ) }
+    {
+        self.create_read_expression(alloc, scoping)
+    }
+
+    /// `name`, as it is written where no pattern stands.
+    pub fn create_write_simple_target(
+        &self,
+        alloc: Global,
+        scoping: &mut Scoping,
+    ) -> Result<Node, AllocError>
+        requires symbol { HasSymbol scoping.old self.now.symbol_id }
+        requires room { HasRoom scoping.old.references }
+        ensures node { IfOk result (λ t. t ≡ identifier_reference unnumbered None (Some (length scoping.old.references)) self.now.name) }
+        ensures table { OnOk result (scoping.new ≡ with_created_reference scoping.old (Some self.now.symbol_id) flag.WRITE) }
+    {
+        self.create_target(alloc, scoping)
+    }
+
+    /// `name`, as it is read and then written: in `name += 1`. Fails on allocation failure alone.
+    pub fn create_read_write_simple_target(
+        &self,
+        alloc: Global,
+        scoping: &mut Scoping,
+    ) -> Result<Node, AllocError>
+        requires symbol { HasSymbol scoping.old self.now.symbol_id }
+        requires room { HasRoom scoping.old.references }
+        ensures node { IfOk result (λ t. t ≡ identifier_reference unnumbered None (Some (length scoping.old.references)) self.now.name) }
+        ensures table { OnOk result (scoping.new ≡ with_created_reference scoping.old (Some self.now.symbol_id) (record { 0 = read_write })) }
+    {
+        self.create_spanned_read_write_simple_target(alloc, None, scoping)
+    }
+
+    /// `name`, as it is read, with a span. Fails on allocation failure alone, as the calls below do.
+    pub fn create_spanned_read_reference(
+        &self,
+        alloc: Global,
+        span: Option<Span>,
+        scoping: &mut Scoping,
+    ) -> Result<Node, AllocError>
+        requires symbol { HasSymbol scoping.old self.now.symbol_id }
+        requires room { HasRoom scoping.old.references }
+        ensures node { IfOk result (λ t. t ≡ identifier_reference unnumbered (span_of span) (Some (length scoping.old.references)) self.now.name) }
+        ensures table { OnOk result (scoping.new ≡ with_created_reference scoping.old (Some self.now.symbol_id) flag.READ) }
+    {
+        self.create_reference(alloc, span, ReferenceFlags::READ, scoping)
+    }
+
+    /// `name`, as it is written, with a span.
+    pub fn create_spanned_write_simple_target(
+        &self,
+        alloc: Global,
+        span: Option<Span>,
+        scoping: &mut Scoping,
+    ) -> Result<Node, AllocError>
+        requires symbol { HasSymbol scoping.old self.now.symbol_id }
+        requires room { HasRoom scoping.old.references }
+        ensures node { IfOk result (λ t. t ≡ identifier_reference unnumbered (span_of span) (Some (length scoping.old.references)) self.now.name) }
+        ensures table { OnOk result (scoping.new ≡ with_created_reference scoping.old (Some self.now.symbol_id) flag.WRITE) }
+    {
+        self.create_reference(alloc, span, ReferenceFlags::WRITE, scoping)
+    }
+
+    /// `name`, as it is read and then written, with a span.
+    pub fn create_spanned_read_write_simple_target(
+        &self,
+        alloc: Global,
+        span: Option<Span>,
+        scoping: &mut Scoping,
+    ) -> Result<Node, AllocError>
+        requires symbol { HasSymbol scoping.old self.now.symbol_id }
+        requires room { HasRoom scoping.old.references }
+        ensures node { IfOk result (λ t. t ≡ identifier_reference unnumbered (span_of span) (Some (length scoping.old.references)) self.now.name) }
+        ensures table { OnOk result (scoping.new ≡ with_created_reference scoping.old (Some self.now.symbol_id) (record { 0 = read_write })) }
+    {
+        let flags = ReferenceFlags::READ.with(ReferenceFlags::WRITE);
+        self.create_reference(alloc, span, flags, scoping)
+    }
+
+    /// `name`, as a pattern that declares the symbol.
+    pub fn create_binding_pattern(&self, alloc: Global) -> Result<Node, AllocError>
+        ensures { IfOk result (λ t. t ≡ binding_identifier unnumbered None (Some self.now.symbol_id.0) self.now.name) }
+    {
+        self.create_binding_identifier(alloc, None)
+    }
 }

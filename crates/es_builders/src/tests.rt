@@ -57,5 +57,9 @@ fn references(rt: HostRuntime) -> Result<(), Fail> {
     assert!(rt; read.kind() == Kind::IdentifierReference && read.semantic_id() == Some(0));
     let id = a.create_binding_identifier(alloc, None)?;
     assert!(rt; id.kind() == Kind::BindingIdentifier && id.semantic_id() == Some(symbol.0));
+    let pattern = a.create_binding_pattern(alloc)?;
+    assert!(rt;
+        pattern.kind() == Kind::BindingIdentifier && pattern.semantic_id() == Some(symbol.0)
+    );
     Ok(())
 }

@@ -1,6 +1,7 @@
 // Statements that go beside an element of an open list (oxc_transformer, `StatementInjectorStore`).
 
 ghost use Rattle.std.specs.Prelude.{◌≡◌, ◌<◌, [], ◌∷◌, length, OnOk};
+ghost use Rattle.es_ctx.specs.Outcome.{KeepsOutcome};
 ghost use Rattle.es_ctx.specs.Stores.{kept_beside};
 ghost use Rattle.es_ctx.specs.declared.stores.Side as sides;
 
@@ -19,7 +20,7 @@ pub fn insert_before(stmt: NodeId, new: Node, ctx: &mut TraverseCtx) -> Result<(
     ensures next { ctx.new.next ≡ ctx.old.next }
     ensures path { ctx.new.path ≡ ctx.old.path }
     ensures lists { OnOk result (ctx.new.lists ≡ kept_beside sides.Side.Before (new ∷ []) stmt.0 ctx.old.lists) }
-    ensures diagnostics { ctx.new.diagnostics ≡ ctx.old.diagnostics }
+    ensures outcome { KeepsOutcome ctx.old ctx.new }
 {
     let mut statements = List::new(ctx.alloc);
     statements.push(new)?;
@@ -32,7 +33,7 @@ pub fn insert_after(stmt: NodeId, new: Node, ctx: &mut TraverseCtx) -> Result<()
     ensures next { ctx.new.next ≡ ctx.old.next }
     ensures path { ctx.new.path ≡ ctx.old.path }
     ensures lists { OnOk result (ctx.new.lists ≡ kept_beside sides.Side.After (new ∷ []) stmt.0 ctx.old.lists) }
-    ensures diagnostics { ctx.new.diagnostics ≡ ctx.old.diagnostics }
+    ensures outcome { KeepsOutcome ctx.old ctx.new }
 {
     let mut statements = List::new(ctx.alloc);
     statements.push(new)?;
@@ -49,7 +50,7 @@ pub fn insert_many_before(
     ensures next { ctx.new.next ≡ ctx.old.next }
     ensures path { ctx.new.path ≡ ctx.old.path }
     ensures lists { OnOk result (ctx.new.lists ≡ kept_beside sides.Side.Before new stmt.0 ctx.old.lists) }
-    ensures diagnostics { ctx.new.diagnostics ≡ ctx.old.diagnostics }
+    ensures outcome { KeepsOutcome ctx.old ctx.new }
 {
     ctx.insert(Side::Before, stmt, new)
 }
@@ -64,7 +65,7 @@ pub fn insert_many_after(
     ensures next { ctx.new.next ≡ ctx.old.next }
     ensures path { ctx.new.path ≡ ctx.old.path }
     ensures lists { OnOk result (ctx.new.lists ≡ kept_beside sides.Side.After new stmt.0 ctx.old.lists) }
-    ensures diagnostics { ctx.new.diagnostics ≡ ctx.old.diagnostics }
+    ensures outcome { KeepsOutcome ctx.old ctx.new }
 {
     ctx.insert(Side::After, stmt, new)
 }

@@ -1,11 +1,20 @@
 // The context of a walk.
 
-ghost use Rattle.std.specs.Prelude.{◌≡◌, ◌+◌, ◌-◌, ◌<◌, ◌^◌, [], ◌∷◌, ◌++◌, length, reverse, slice_get, true, IsTrue, ◌↔◌, OnErr, OnOk, Some};
+ghost use Rattle.std.specs.Prelude.{◌≡◌, ◌+◌, ◌-◌, ◌<◌, ◌^◌, [], ◌∷◌, ◌++◌, length, reverse, slice_get, false, true, IsTrue, ◌↔◌, IfOk, OnErr, OnOk, Some};
+ghost use Rattle.std.specs.Str.{chars};
+ghost use Rattle.es_base.specs.Conforms.{is_among};
+ghost use Rattle.es_base.specs.Preorder.{nodes};
+ghost use Rattle.es_base.specs.declared.ids.ScopeId.{ScopeId};
+ghost use Rattle.es_base.specs.declared.ledger.GeneratedKind.TheVariants as kinds;
 ghost use Rattle.es_base.specs.declared.table.Sort as sorts;
 ghost use Rattle.es_ctx.specs.Ancestors.{going_into, has_statements};
 ghost use Rattle.es_ctx.specs.ScopesAround.{current_scope_id, current_hoist_scope_id, current_block_scope_id};
 ghost use Rattle.es_ctx.specs.Stores.{front, opened, closed, placed, filled, innermost, place_of, kept_beside, changed, with_var, with_let};
+ghost use Rattle.es_names.specs.Candidates.{base_of, first_free};
 ghost use Rattle.es_node.specs.View.{part_of, is_list, has_shape};
+ghost use Rattle.es_scopes.specs.Table.{HasRoom, HasScope, HasSymbol};
+ghost use Rattle.es_uids.specs.Uids.{AreTaken, IsGenerated};
+ghost use Rattle.program_names.specs.Suggested.{suggested};
 
 use crate::ancestor::{Ancestor, Parent, has_statements};
 use crate::ancestors::Ancestors;
@@ -13,37 +22,89 @@ use crate::scopes::{hoist_scope, scope_from};
 use crate::stores::{OpenList, Side, keep_beside, place};
 use es_base::diagnostic::Diagnostic;
 use es_base::ids::{NodeId, ScopeId};
+use es_base::ledger::{GeneratedKind, Ledger};
 use es_base::list::List;
+use es_base::name::Name;
+use es_builders::bound_identifier::BoundIdentifier;
+use es_names::names::Names;
 use es_node::node::{Node, Part};
+use es_scopes::flags::SymbolFlags;
+use es_scopes::scoping::Scoping;
+use es_steps::options::CompilerAssumptions;
+use es_uids::traverse_scoping::TraverseScoping;
+use program_names::collect::spellings_of;
 use std::alloc::{AllocError, Global};
 
-/// What a walk carries along: the number that is given next, the nodes around the node at hand, what is to be
-/// put into the open lists of statements, and the warnings so far. The innermost of nodes and lists stand last.
+/// What a walk carries along: the number that is given next, the nodes around the node at hand, and what is to be put
+/// into the open lists of statements; and what it hands on at its end, the scope table, the generated names and the
+/// warnings. The innermost of nodes and lists stand last.
 #[derive(Drop)]
 pub struct TraverseCtx {
     pub alloc: Global,
     pub next: u32,
     pub path: List<Ancestor>,
     pub lists: List<OpenList>,
+    pub scoping: TraverseScoping,
+    pub assumptions: CompilerAssumptions,
     pub diagnostics: List<Diagnostic>,
 }
 
 impl TraverseCtx {
-    /// A context at the root of a tree, with nothing around and nothing kept; `next` is the first number
-    /// that it gives. Allocates nothing.
-    pub fn new(alloc: Global, next: u32) -> TraverseCtx
-        ensures next { result.next ≡ next }
-        ensures path { result.path ≡ [] }
-        ensures lists { result.lists ≡ [] }
-        ensures diagnostics { result.diagnostics ≡ [] }
+    ghost use Rattle.es_ctx.specs.Outcome.{KeepsOutcome, KeepsPosition, BeginsAt};
+
+    /// A context at the root of a program with this table: no generated name yet, and none to come that the program
+    /// spells; the first number that it gives is that of its nodes, which none of them has, where these are numbered
+    /// from 0. Fails on allocation failure alone.
+    pub fn new(
+        alloc: Global,
+        program: &Node,
+        scoping: Scoping,
+        assumptions: CompilerAssumptions,
+    ) -> Result<TraverseCtx, AllocError>
+        requires { nodes program.now < 2 ^ 32 }
+        ensures { IfOk result (BeginsAt program.now scoping assumptions) }
     {
-        TraverseCtx {
+        let names = Names::new(alloc, spellings_of(alloc, program)?);
+        Ok(TraverseCtx {
             alloc,
-            next,
+            next: program.nodes(),
             path: List::new(alloc),
             lists: List::new(alloc),
+            scoping: TraverseScoping::new(alloc, scoping, names),
+            assumptions,
             diagnostics: List::new(alloc),
-        }
+        })
+    }
+
+    /// The scope table, the warnings and the generated names, in the order in which they were made. Takes no memory.
+    pub fn finish(self) -> (Scoping, List<Diagnostic>, Ledger)
+        ensures scoping { result.0 ≡ self.scoping.scoping }
+        ensures diagnostics { result.1 ≡ self.diagnostics }
+        ensures ledger { result.2.entries ≡ self.scoping.ledger }
+    {
+        let TraverseCtx {
+            scoping,
+            diagnostics,
+            ..
+        } = self;
+        let ledger = Ledger {
+            entries: scoping.ledger,
+        };
+        (scoping.scoping, diagnostics, ledger)
+    }
+
+    /// The scope table.
+    pub fn scoping(&self) -> &Scoping
+        ensures { result.now ≡ self.now.scoping.scoping }
+    {
+        &self.scoping.scoping
+    }
+
+    /// What may be assumed of the program.
+    pub fn assumptions(&self) -> &CompilerAssumptions
+        ensures { result.now ≡ self.now.assumptions }
+    {
+        &self.assumptions
     }
 
     /// A number that was not given before. Allocates nothing.
@@ -53,18 +114,88 @@ impl TraverseCtx {
         ensures next { self.new.next ≡ self.old.next + 1 }
         ensures path { self.new.path ≡ self.old.path }
         ensures lists { self.new.lists ≡ self.old.lists }
-        ensures diagnostics { self.new.diagnostics ≡ self.old.diagnostics }
+        ensures outcome { KeepsOutcome self.old self.new }
     {
         let id = NodeId(self.next);
         self.next += 1;
         id
     }
 
+    /// A name that was not taken yet, and now is, which no scope holds. Fails on allocation failure alone, as the calls
+    /// below do; then nothing is said of the names and the table.
+    pub fn generate_uid_name(&mut self, base: &str) -> Result<Name, AllocError>
+        ensures first { IfOk result (λ name. name ≡ first_free self.old.scoping.names (base_of (chars base.now))) }
+        ensures free { IfOk result (λ name. is_among name self.old.scoping.names ≡ false) }
+        ensures names { IfOk result (λ name. self.new.scoping.names ≡ self.old.scoping.names ++ name ∷ []) }
+        ensures scoping { self.new.scoping.scoping ≡ self.old.scoping.scoping }
+        ensures ledger { self.new.scoping.ledger ≡ self.old.scoping.ledger }
+        ensures position { KeepsPosition self.old self.new }
+        ensures assumptions { self.new.assumptions ≡ self.old.assumptions }
+        ensures diagnostics { self.new.diagnostics ≡ self.old.diagnostics }
+    {
+        self.scoping.generate_uid_name(base)
+    }
+
+    /// A name that was not taken yet, bound in a scope, whose names are taken. Whatever scope had taken names alone has
+    /// them still.
+    pub fn generate_uid(
+        &mut self,
+        base: &str,
+        scope: ScopeId,
+        flags: SymbolFlags,
+        kind: GeneratedKind,
+    ) -> Result<BoundIdentifier, AllocError>
+        requires scope { HasScope self.old.scoping.scoping scope }
+        requires taken { AreTaken self.old.scoping scope }
+        requires room { HasRoom self.old.scoping.scoping.symbols }
+        ensures generated { IfOk result (IsGenerated self.old.scoping self.new.scoping (chars base.now) scope flags kind) }
+        ensures bound { IfOk result (λ b. HasSymbol self.new.scoping.scoping b.symbol_id) }
+        ensures taken { OnOk result ((other : ScopeId) → AreTaken self.old.scoping other → AreTaken self.new.scoping other) }
+        ensures position { KeepsPosition self.old self.new }
+        ensures assumptions { self.new.assumptions ≡ self.old.assumptions }
+        ensures diagnostics { self.new.diagnostics ≡ self.old.diagnostics }
+    {
+        self.scoping.generate_uid(base, scope, flags, kind)
+    }
+
+    /// The same from the name that an expression suggests; it stands for a temporary.
+    pub fn generate_uid_based_on_node(
+        &mut self,
+        expression: &Node,
+        scope: ScopeId,
+        flags: SymbolFlags,
+    ) -> Result<BoundIdentifier, AllocError>
+        requires scope { HasScope self.old.scoping.scoping scope }
+        requires taken { AreTaken self.old.scoping scope }
+        requires room { HasRoom self.old.scoping.scoping.symbols }
+        ensures generated { IfOk result (IsGenerated self.old.scoping self.new.scoping (suggested expression.now) scope flags kinds.Temp) }
+        ensures bound { IfOk result (λ b. HasSymbol self.new.scoping.scoping b.symbol_id) }
+        ensures taken { OnOk result ((other : ScopeId) → AreTaken self.old.scoping other → AreTaken self.new.scoping other) }
+        ensures position { KeepsPosition self.old self.new }
+        ensures assumptions { self.new.assumptions ≡ self.old.assumptions }
+        ensures diagnostics { self.new.diagnostics ≡ self.old.diagnostics }
+    {
+        self.scoping
+            .generate_uid_based_on_node(expression, scope, flags)
+    }
+
+    /// Enters a private name that a lowering makes for a class.
+    pub fn note_private(&mut self, name: &Name, class: NodeId) -> Result<(), AllocError>
+        ensures ledger { OnOk result (self.new.scoping.ledger ≡ self.old.scoping.ledger ++ record { name = name.now; kind = kinds.Private class } ∷ []) }
+        ensures names { self.new.scoping.names ≡ self.old.scoping.names }
+        ensures scoping { self.new.scoping.scoping ≡ self.old.scoping.scoping }
+        ensures position { KeepsPosition self.old self.new }
+        ensures assumptions { self.new.assumptions ≡ self.old.assumptions }
+        ensures diagnostics { self.new.diagnostics ≡ self.old.diagnostics }
+    {
+        self.scoping.note_private(name, class)
+    }
+
     /// Adds a warning. Fails on allocation failure alone, and then adds none.
     pub fn warn(&mut self, diagnostic: Diagnostic) -> Result<(), AllocError>
-        ensures next { self.new.next ≡ self.old.next }
-        ensures path { self.new.path ≡ self.old.path }
-        ensures lists { self.new.lists ≡ self.old.lists }
+        ensures position { KeepsPosition self.old self.new }
+        ensures scoping { self.new.scoping ≡ self.old.scoping }
+        ensures assumptions { self.new.assumptions ≡ self.old.assumptions }
         ensures ok { OnOk result (self.new.diagnostics ≡ self.old.diagnostics ++ diagnostic ∷ []) }
         ensures err { OnErr result (self.new.diagnostics ≡ self.old.diagnostics) }
     {
@@ -78,7 +209,7 @@ impl TraverseCtx {
         ensures next { OnOk result (self.new.next ≡ self.old.next) }
         ensures path { OnOk result (self.new.path ≡ going_into self.old.path parent at) }
         ensures lists { OnOk result (self.new.lists ≡ opened (has_statements parent.kind at) (part_of part.now) self.old.lists) }
-        ensures diagnostics { self.new.diagnostics ≡ self.old.diagnostics }
+        ensures outcome { KeepsOutcome self.old self.new }
     {
         let ancestor = Ancestor::of(self.path.as_slice(), parent, at);
         self.path.push(ancestor)?;
@@ -99,7 +230,7 @@ impl TraverseCtx {
         ensures lists { OnOk result (self.new.lists ≡ closed (has_statements parent.kind at) self.old.lists) }
         ensures part { OnOk result (part_of part.new ≡ filled (has_statements parent.kind at) self.old.lists (part_of part.old)) }
         ensures shape { OnOk result ((sort : sorts.Sort) → has_shape sort part.new ≡ has_shape sort part.old) }
-        ensures diagnostics { self.new.diagnostics ≡ self.old.diagnostics }
+        ensures outcome { KeepsOutcome self.old self.new }
     {
         self.leave();
         if has_statements(parent.kind, at) && !self.lists.is_empty() {
@@ -115,7 +246,7 @@ impl TraverseCtx {
         ensures next { self.new.next ≡ self.old.next }
         ensures path { self.new.path ≡ front self.old.path }
         ensures lists { self.new.lists ≡ self.old.lists }
-        ensures diagnostics { self.new.diagnostics ≡ self.old.diagnostics }
+        ensures outcome { KeepsOutcome self.old self.new }
     {
         if !self.path.is_empty() {
             let innermost = self.path.len() - 1;
@@ -196,7 +327,7 @@ impl TraverseCtx {
         ensures next { self.new.next ≡ self.old.next }
         ensures path { self.new.path ≡ self.old.path }
         ensures lists { OnOk result (self.new.lists ≡ kept_beside side new statement.0 self.old.lists) }
-        ensures diagnostics { self.new.diagnostics ≡ self.old.diagnostics }
+        ensures outcome { KeepsOutcome self.old self.new }
     {
         let place = place_of(statement.0, self.lists.as_slice());
         let lists = self.lists.as_mut_slice();
@@ -211,7 +342,7 @@ impl TraverseCtx {
         ensures next { self.new.next ≡ self.old.next }
         ensures path { self.new.path ≡ self.old.path }
         ensures lists { OnOk result (self.new.lists ≡ changed (innermost self.old.lists) (with_var declarator) self.old.lists) }
-        ensures diagnostics { self.new.diagnostics ≡ self.old.diagnostics }
+        ensures outcome { KeepsOutcome self.old self.new }
     {
         let place = self.lists.len() - 1;
         let lists = self.lists.as_mut_slice();
@@ -226,7 +357,7 @@ impl TraverseCtx {
         ensures next { self.new.next ≡ self.old.next }
         ensures path { self.new.path ≡ self.old.path }
         ensures lists { OnOk result (self.new.lists ≡ changed (innermost self.old.lists) (with_let declarator) self.old.lists) }
-        ensures diagnostics { self.new.diagnostics ≡ self.old.diagnostics }
+        ensures outcome { KeepsOutcome self.old self.new }
     {
         let place = self.lists.len() - 1;
         let lists = self.lists.as_mut_slice();

@@ -6,6 +6,7 @@ ghost use Rattle.es_base.specs.declared.kind.Kind.{Kind};
 ghost use Rattle.es_base.specs.Carried.{reference_number};
 ghost use Rattle.es_base.specs.declared.ledger.GeneratedKind.TheVariants as kinds;
 ghost use Rattle.es_common.specs.Declared.{declarator};
+ghost use Rattle.es_ctx.specs.ScopesAround.{current_block_scope_id};
 ghost use Rattle.es_ctx.specs.Stores.{changed, innermost, with_var};
 ghost use Rattle.es_duplicates.specs.Duplicated.{IsDuplicated, IsHeld, name_in, temporary_base, with_name_read, with_read_alone};
 ghost use Rattle.es_duplicates.specs.Repetition.{repetition};
@@ -18,7 +19,7 @@ ghost use Rattle.es_uids.specs.Uids.{AreTaken, IsGenerated};
 use crate::copy::copies;
 use crate::read::{assign_and_read, read_names};
 use crate::repetition::{Repetition, repetition_of};
-use es_base::ids::{ReferenceId, ScopeId, SymbolId};
+use es_base::ids::{ReferenceId, SymbolId};
 use es_base::kind::Kind;
 use es_base::list::List;
 use es_builders::bound_identifier::BoundIdentifier;
@@ -32,32 +33,30 @@ use es_uids::traverse_scoping::TraverseScoping;
 use std::alloc::AllocError;
 
 /// The expression to be evaluated first, and one that stands for it behind that: `a.b` gives `_a$b = a.b` and
-/// `_a$b`, where `var _a$b` is declared in the innermost open list and bound in the scope; `this` gives `this` and `this`
+/// `_a$b`, where `var _a$b` is declared in the innermost open list and bound in its scope; `this` gives `this` and `this`
 /// (oxc_transformer, `common/duplicate`). Fails on allocation failure alone, as the calls below do; then nothing is said
 /// of the table and the lists.
 pub fn duplicate_expression(
     expr: Node,
     mutated_symbol_needs_temp_var: bool,
-    scope: ScopeId,
-    scoping: &mut TraverseScoping,
     ctx: &mut TraverseCtx,
 ) -> Result<(Node, Node), AllocError>
-    requires scope { HasScope scoping.old.scoping scope }
-    requires taken { AreTaken scoping.old scope }
-    requires symbols { HasRoom scoping.old.scoping.symbols }
-    requires references { length scoping.old.scoping.references + 1 < 2 ^ 32 - 1 }
+    requires scope { HasScope ctx.old.scoping.scoping (current_block_scope_id ctx.old.path) }
+    requires taken { AreTaken ctx.old.scoping (current_block_scope_id ctx.old.path) }
+    requires symbols { HasRoom ctx.old.scoping.scoping.symbols }
+    requires references { length ctx.old.scoping.scoping.references + 1 < 2 ^ 32 - 1 }
     requires open { 0 < length ctx.old.lists }
-    ensures form { IfOk result (λ d. IsDuplicated (repetition scoping.old.scoping mutated_symbol_needs_temp_var expr) scope scoping.old scoping.new ctx.old.lists ctx.new.lists expr 1 d.0 (d.1 ∷ [])) }
-    ensures taken { OnOk result ((other : ScopeId) → AreTaken scoping.old other → AreTaken scoping.new other) }
+    ensures form { IfOk result (λ d. IsDuplicated (repetition ctx.old.scoping.scoping mutated_symbol_needs_temp_var expr) (current_block_scope_id ctx.old.path) ctx.old.scoping ctx.new.scoping ctx.old.lists ctx.new.lists expr 1 d.0 (d.1 ∷ [])) }
+    ensures taken { OnOk result ((other : ScopeId) → AreTaken ctx.old.scoping other → AreTaken ctx.new.scoping other) }
     ensures next { ctx.new.next ≡ ctx.old.next }
     ensures path { ctx.new.path ≡ ctx.old.path }
+    ensures assumptions { ctx.new.assumptions ≡ ctx.old.assumptions }
+    ensures diagnostics { ctx.new.diagnostics ≡ ctx.old.diagnostics }
 {
     let (first, mut again) = duplicate_expression_multiple(
         expr,
         mutated_symbol_needs_temp_var,
         1,
-        scope,
-        scoping,
         ctx,
     )?;
     Ok((first, again.remove(0)))
@@ -67,26 +66,24 @@ pub fn duplicate_expression(
 pub fn duplicate_expression_twice(
     expr: Node,
     mutated_symbol_needs_temp_var: bool,
-    scope: ScopeId,
-    scoping: &mut TraverseScoping,
     ctx: &mut TraverseCtx,
 ) -> Result<(Node, Node, Node), AllocError>
-    requires scope { HasScope scoping.old.scoping scope }
-    requires taken { AreTaken scoping.old scope }
-    requires symbols { HasRoom scoping.old.scoping.symbols }
-    requires references { length scoping.old.scoping.references + 2 < 2 ^ 32 - 1 }
+    requires scope { HasScope ctx.old.scoping.scoping (current_block_scope_id ctx.old.path) }
+    requires taken { AreTaken ctx.old.scoping (current_block_scope_id ctx.old.path) }
+    requires symbols { HasRoom ctx.old.scoping.scoping.symbols }
+    requires references { length ctx.old.scoping.scoping.references + 2 < 2 ^ 32 - 1 }
     requires open { 0 < length ctx.old.lists }
-    ensures form { IfOk result (λ d. IsDuplicated (repetition scoping.old.scoping mutated_symbol_needs_temp_var expr) scope scoping.old scoping.new ctx.old.lists ctx.new.lists expr 2 d.0 (d.1 ∷ d.2 ∷ [])) }
-    ensures taken { OnOk result ((other : ScopeId) → AreTaken scoping.old other → AreTaken scoping.new other) }
+    ensures form { IfOk result (λ d. IsDuplicated (repetition ctx.old.scoping.scoping mutated_symbol_needs_temp_var expr) (current_block_scope_id ctx.old.path) ctx.old.scoping ctx.new.scoping ctx.old.lists ctx.new.lists expr 2 d.0 (d.1 ∷ d.2 ∷ [])) }
+    ensures taken { OnOk result ((other : ScopeId) → AreTaken ctx.old.scoping other → AreTaken ctx.new.scoping other) }
     ensures next { ctx.new.next ≡ ctx.old.next }
     ensures path { ctx.new.path ≡ ctx.old.path }
+    ensures assumptions { ctx.new.assumptions ≡ ctx.old.assumptions }
+    ensures diagnostics { ctx.new.diagnostics ≡ ctx.old.diagnostics }
 {
     let (first, mut again) = duplicate_expression_multiple(
         expr,
         mutated_symbol_needs_temp_var,
         2,
-        scope,
-        scoping,
         ctx,
     )?;
     let second = again.remove(0);
@@ -99,31 +96,31 @@ pub fn duplicate_expression_multiple(
     expr: Node,
     mutated_symbol_needs_temp_var: bool,
     count: usize,
-    scope: ScopeId,
-    scoping: &mut TraverseScoping,
     ctx: &mut TraverseCtx,
 ) -> Result<(Node, List<Node>), AllocError>
-    requires scope { HasScope scoping.old.scoping scope }
-    requires taken { AreTaken scoping.old scope }
-    requires symbols { HasRoom scoping.old.scoping.symbols }
-    requires references { length scoping.old.scoping.references + count < 2 ^ 32 - 1 }
+    requires scope { HasScope ctx.old.scoping.scoping (current_block_scope_id ctx.old.path) }
+    requires taken { AreTaken ctx.old.scoping (current_block_scope_id ctx.old.path) }
+    requires symbols { HasRoom ctx.old.scoping.scoping.symbols }
+    requires references { length ctx.old.scoping.scoping.references + count < 2 ^ 32 - 1 }
     requires open { 0 < length ctx.old.lists }
-    ensures form { IfOk result (λ d. IsDuplicated (repetition scoping.old.scoping mutated_symbol_needs_temp_var expr) scope scoping.old scoping.new ctx.old.lists ctx.new.lists expr count d.0 d.1) }
+    ensures form { IfOk result (λ d. IsDuplicated (repetition ctx.old.scoping.scoping mutated_symbol_needs_temp_var expr) (current_block_scope_id ctx.old.path) ctx.old.scoping ctx.new.scoping ctx.old.lists ctx.new.lists expr count d.0 d.1) }
     ensures count { IfOk result (λ d. length d.1 ≡ count) }
-    ensures taken { OnOk result ((other : ScopeId) → AreTaken scoping.old other → AreTaken scoping.new other) }
+    ensures taken { OnOk result ((other : ScopeId) → AreTaken ctx.old.scoping other → AreTaken ctx.new.scoping other) }
     ensures next { ctx.new.next ≡ ctx.old.next }
     ensures path { ctx.new.path ≡ ctx.old.path }
+    ensures assumptions { ctx.new.assumptions ≡ ctx.old.assumptions }
+    ensures diagnostics { ctx.new.diagnostics ≡ ctx.old.diagnostics }
 {
-    match repetition_of(&scoping.scoping, mutated_symbol_needs_temp_var, &expr) {
+    match repetition_of(ctx.scoping(), mutated_symbol_needs_temp_var, &expr) {
         Repetition::Copied => {
-            let again = copies(scoping.alloc, &expr, count)?;
+            let again = copies(ctx.alloc, &expr, count)?;
             Ok((expr, again))
         }
         Repetition::Name(symbol) => {
-            let again = read_again(&expr, symbol, count, scoping)?;
+            let again = read_again(&expr, symbol, count, &mut ctx.scoping)?;
             Ok((expr, again))
         }
-        Repetition::Held => hold(expr, count, scope, scoping, ctx),
+        Repetition::Held => hold(expr, count, ctx),
     }
 }
 
@@ -153,53 +150,46 @@ fn read_again(
 
 // var _t;
 // _t = expr, _t
-fn hold(
-    expr: Node,
-    count: usize,
-    scope: ScopeId,
-    scoping: &mut TraverseScoping,
-    ctx: &mut TraverseCtx,
-) -> Result<(Node, List<Node>), AllocError>
-    requires scope { HasScope scoping.old.scoping scope }
-    requires taken { AreTaken scoping.old scope }
-    requires symbols { HasRoom scoping.old.scoping.symbols }
-    requires references { length scoping.old.scoping.references + count < 2 ^ 32 - 1 }
+fn hold(expr: Node, count: usize, ctx: &mut TraverseCtx) -> Result<(Node, List<Node>), AllocError>
+    requires scope { HasScope ctx.old.scoping.scoping (current_block_scope_id ctx.old.path) }
+    requires taken { AreTaken ctx.old.scoping (current_block_scope_id ctx.old.path) }
+    requires symbols { HasRoom ctx.old.scoping.scoping.symbols }
+    requires references { length ctx.old.scoping.scoping.references + count < 2 ^ 32 - 1 }
     requires open { 0 < length ctx.old.lists }
-    ensures form { IfOk result (λ d. IsHeld with_var flag.VAR (temporary_base expr) scope (record scoping.old { scoping = with_name_read expr scoping.old.scoping }) scoping.new ctx.old.lists ctx.new.lists expr count d.0 d.1) }
-    ensures taken { OnOk result ((other : ScopeId) → AreTaken scoping.old other → AreTaken scoping.new other) }
+    ensures form { IfOk result (λ d. IsHeld with_var flag.VAR (temporary_base expr) (current_block_scope_id ctx.old.path) (record ctx.old.scoping { scoping = with_name_read expr ctx.old.scoping.scoping }) ctx.new.scoping ctx.old.lists ctx.new.lists expr count d.0 d.1) }
+    ensures taken { OnOk result ((other : ScopeId) → AreTaken ctx.old.scoping other → AreTaken ctx.new.scoping other) }
     ensures next { ctx.new.next ≡ ctx.old.next }
     ensures path { ctx.new.path ≡ ctx.old.path }
+    ensures assumptions { ctx.new.assumptions ≡ ctx.old.assumptions }
+    ensures diagnostics { ctx.new.diagnostics ≡ ctx.old.diagnostics }
 {
-    let temporary = declare_temporary(&expr, scope, scoping, ctx)?;
-    assign_and_read(scoping.alloc, &temporary, expr, count, &mut scoping.scoping)
+    let temporary = declare_temporary(&expr, ctx)?;
+    assign_and_read(ctx.alloc, &temporary, expr, count, &mut ctx.scoping.scoping)
 }
 
 /// `var _t;`, for a temporary that is named after the expression. A name that was read and written, as in `x += 1`, is
 /// read alone from now on, as in `_x = x`.
-fn declare_temporary(
-    expr: &Node,
-    scope: ScopeId,
-    scoping: &mut TraverseScoping,
-    ctx: &mut TraverseCtx,
-) -> Result<BoundIdentifier, AllocError>
-    requires scope { HasScope scoping.old.scoping scope }
-    requires taken { AreTaken scoping.old scope }
-    requires room { HasRoom scoping.old.scoping.symbols }
+fn declare_temporary(expr: &Node, ctx: &mut TraverseCtx) -> Result<BoundIdentifier, AllocError>
+    requires scope { HasScope ctx.old.scoping.scoping (current_block_scope_id ctx.old.path) }
+    requires taken { AreTaken ctx.old.scoping (current_block_scope_id ctx.old.path) }
+    requires room { HasRoom ctx.old.scoping.scoping.symbols }
     requires open { 0 < length ctx.old.lists }
-    ensures generated { IfOk result (IsGenerated (record scoping.old { scoping = with_name_read expr.now scoping.old.scoping }) scoping.new (temporary_base expr.now) scope flag.VAR kinds.Temp) }
-    ensures bound { IfOk result (λ b. HasSymbol scoping.new.scoping b.symbol_id) }
-    ensures taken { OnOk result ((other : ScopeId) → AreTaken scoping.old other → AreTaken scoping.new other) }
+    ensures generated { IfOk result (IsGenerated (record ctx.old.scoping { scoping = with_name_read expr.now ctx.old.scoping.scoping }) ctx.new.scoping (temporary_base expr.now) (current_block_scope_id ctx.old.path) flag.VAR kinds.Temp) }
+    ensures bound { IfOk result (λ b. HasSymbol ctx.new.scoping.scoping b.symbol_id) }
+    ensures taken { OnOk result ((other : ScopeId) → AreTaken ctx.old.scoping other → AreTaken ctx.new.scoping other) }
     ensures next { ctx.new.next ≡ ctx.old.next }
     ensures path { ctx.new.path ≡ ctx.old.path }
+    ensures assumptions { ctx.new.assumptions ≡ ctx.old.assumptions }
+    ensures diagnostics { ctx.new.diagnostics ≡ ctx.old.diagnostics }
     ensures lists { IfOk result (λ b. ctx.new.lists ≡ changed (innermost ctx.old.lists) (with_var (declarator b None)) ctx.old.lists) }
 {
     match expr.kind() {
         Kind::IdentifierReference => {
             let name = IdentifierReferenceRef::from_node(expr);
-            read_alone(name.reference_id, &mut scoping.scoping);
-            create_uid_var(name.name.as_str(), scope, scoping, ctx)
+            read_alone(name.reference_id, &mut ctx.scoping.scoping);
+            create_uid_var(name.name.as_str(), ctx)
         }
-        _ => create_uid_var_based_on_node(expr, scope, scoping, ctx),
+        _ => create_uid_var_based_on_node(expr, ctx),
     }
 }
 

@@ -12,3 +12,8 @@ MakesAny o p names q = Unit {0}
 -- for any reason
 abbrev pub DeclinesAny : Options → Tree → Unlowered → Type 0
 DeclinesAny o p error = Unit {0}
+
+-- by any node, and never since codes stand too deep
+abbrev pub DeclinesByNode : Options → Tree → Unlowered → Type 0
+DeclinesByNode o p Unlowered.TooDeep = ⊥
+DeclinesByNode o p error = Unit {0}

@@ -13,7 +13,7 @@ use Rattle.es_node.specs.View.{kind_of}
 use Rattle.es_visit.specs.declared.roles.Role.{Role}
 use Rattle.es_walk.specs.Placing.{place_here, place_on}
 use Rattle.es_walk.specs.Steps.{OpensPart, ClosesPart, KeepsPlace, KeepPlaces}
-use Rattle.es_walk.specs.Weight.{total, heft, NoMore, KeepsReady}
+use Rattle.es_walk.specs.Weight.{total, heft, NoMore, KeepsReady, nodes-heft}
 use Rattle.es_walk.specs.declared.hooks.Hook.{Hook}
 
 abbrev pub is_entering : Hook → Bool
@@ -110,19 +110,16 @@ module _ {T : Type 0} (does : Hook → T × TraverseCtx → Tree → T × Traver
 
   -- numbers: a node that is left keeps its weight until its last hook
   module _ (weight : Kind → ℕ) (load : T × TraverseCtx → ℕ) where
-    calls_pay : (sort : Hook → Bool) (o : Option Hook) (before : Tree → ℕ) → ((h : Hook) → sort h ≡ true → NoMore (does h) before before load) → NoMore (Calls sort does o) before before load
+    pub calls_pay : (sort : Hook → Bool) (o : Option Hook) (before : Tree → ℕ) → ((h : Hook) → sort h ≡ true → NoMore (does h) before before load) → NoMore (Calls sort does o) before before load
     calls_pay sort (Some h) before law s e t u x = law h x.0 s e t u x.1
     calls_pay sort None before law s e t u x = omega (arith, ap before x.0, ap load x.1)
 
     pub enters_pay : ((h : Hook) → is_entering h ≡ true → NoMore (does h) (total weight) (total weight) load) → NoMore EntersNode (total weight) (total weight) load
     enters_pay law s e t u (enters m v x y) = omega (arith, calls_pay is_entering (enter_hook_of_role (role_here s.1.path) (kind_of t)) (total weight) law s m t v x, calls_pay is_entering (enter_hook_of_kind (kind_of v)) (total weight) law m e v u y)
 
-    nodes-heft : ((k : Kind) → 1 ≤ weight k) → (t : Tree) → nodes t ≤ heft weight t
-    nodes-heft some (Node k i sp si ps) = omega (arith, some k)
-
     last_pays : ((k : Kind) → 1 ≤ weight k) → (o : Option Hook) → ((h : Hook) → is_last h ≡ true → NoMore (does h) (heft weight) nodes load) → NoMore (Calls is_last does o) (heft weight) nodes load
     last_pays some (Some h) law s e t u x = law h x.0 s e t u x.1
-    last_pays some None law s e t u x = omega (arith, ap nodes x.0, ap load x.1, nodes-heft some t)
+    last_pays some None law s e t u x = omega (arith, ap nodes x.0, ap load x.1, nodes-heft weight some t)
 
     pub leaves_pay : ((k : Kind) → 1 ≤ weight k) → ((h : Hook) → is_leaving h ≡ true → NoMore (does h) (heft weight) (heft weight) load) → ((h : Hook) → is_last h ≡ true → NoMore (does h) (heft weight) nodes load) → NoMore LeavesNode (heft weight) nodes load
     leaves_pay some law last s e t u (leaves m v x y) = omega (arith, calls_pay is_leaving (exit_hook_of_kind (kind_of t)) (heft weight) law s m t v x, last_pays some (exit_hook_of_role (role_here s.1.path) (kind_of t)) last m e v u y)
@@ -130,10 +127,10 @@ module _ {T : Type 0} (does : Hook → T × TraverseCtx → Tree → T × Traver
 -- what is done beside the hooks, seen from a transform inside another
 module _ {T N : Type 0} (inner : N → T) where
   pub inner_opens : (s : N × TraverseCtx) (parent : Parent) (at : ℕ) (p : Part) (e : N × TraverseCtx) → OpensPart s parent at p e → OpensPart (inner s.0, s.1) parent at p (inner e.0, e.1)
-  inner_opens s parent at p e h = record { transform = ap inner h.transform; next = h.next; path = h.path; lists = h.lists; diagnostics = h.diagnostics }
+  inner_opens s parent at p e h = record { transform = ap inner h.transform; next = h.next; path = h.path; lists = h.lists; outcome = h.outcome }
 
   pub inner_closes : (s : N × TraverseCtx) (parent : Parent) (at : ℕ) (p : Part) (e : N × TraverseCtx) (q : Part) → ClosesPart s parent at p e q → ClosesPart (inner s.0, s.1) parent at p (inner e.0, e.1) q
-  inner_closes s parent at p e q h = record { transform = ap inner h.transform; next = h.next; path = h.path; lists = h.lists; diagnostics = h.diagnostics; part = h.part }
+  inner_closes s parent at p e q h = record { transform = ap inner h.transform; next = h.next; path = h.path; lists = h.lists; outcome = h.outcome; part = h.part }
 
   pub inner_place : (s e : N × TraverseCtx) → KeepsPlace (inner s.0, s.1) (inner e.0, e.1) → KeepsPlace s e
   inner_place s e h = record { path = h.path; depth = h.depth; given = h.given }

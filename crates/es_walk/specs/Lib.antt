@@ -1,9 +1,12 @@
+pub mod Changed
+pub mod Given
 pub mod Holes
 pub mod Hooks
 pub mod Idle
 pub mod Inserted
 pub mod Laws
 pub mod Placing
+pub mod Rewriting
 pub mod SettledStores
 pub mod Steps
 pub mod Traversed

@@ -11,6 +11,7 @@ use Rattle.es_ctx.specs.declared.ancestor.Parent.{Parent}
 use Rattle.es_ctx.specs.declared.ctx.TraverseCtx.{TraverseCtx}
 use Rattle.es_ctx.specs.declared.stores.OpenList.{OpenList}
 use Rattle.es_ctx.specs.declared.stores.Slot.{Slot}
+use Rattle.es_walk.specs.Given.{Ids, ids_given-same, load}
 use Rattle.es_walk.specs.Steps.{OpensPart, ClosesPart, KeepsPlace}
 
 -- ---- lists
@@ -126,12 +127,12 @@ stored-closed true (l ∷ []) p = omega (arith, nodes-placed l p)
 stored-closed true (l ∷ m ∷ ls) p = omega (arith, stored-closed true (m ∷ ls) p)
 stored-closed false ls p = omega arith
 
-module _ {T : Type 0} (spare : T → ℕ) where
-  pub open_pays : (s m : T × TraverseCtx) (k : Parent) (at : ℕ) (p : Part) → OpensPart s k at p m → spare m.0 + stored m.1.lists + m.1.next ≤ spare s.0 + stored s.1.lists + s.1.next
-  open_pays s m k at p h = omega (arith, h.next, ap spare h.transform, ap stored h.lists, stored-opened (has_statements k.kind at) p s.1.lists)
+module _ {T : Type 0} (spare : T → ℕ) (ids : Ids) where
+  pub open_pays : (s m : T × TraverseCtx) (k : Parent) (at : ℕ) (p : Part) → OpensPart s k at p m → load spare ids m ≤ load spare ids s
+  open_pays s m k at p h = omega (arith, ids_given-same ids s.1 m.1 h.next (ap (λ x. x.scoping) h.outcome.scoping), ap spare h.transform, ap stored h.lists, stored-opened (has_statements k.kind at) p s.1.lists)
 
-  pub close_pays : (s e : T × TraverseCtx) (k : Parent) (at : ℕ) (p q : Part) → ClosesPart s k at p e q → nodes_of_part q + (spare e.0 + stored e.1.lists + e.1.next) ≤ nodes_of_part p + (spare s.0 + stored s.1.lists + s.1.next)
-  close_pays s e k at p q h = omega (arith, h.next, ap spare h.transform, ap stored h.lists, ap nodes_of_part h.part, stored-closed (has_statements k.kind at) s.1.lists p)
+  pub close_pays : (s e : T × TraverseCtx) (k : Parent) (at : ℕ) (p q : Part) → ClosesPart s k at p e q → nodes_of_part q + load spare ids e ≤ nodes_of_part p + load spare ids s
+  close_pays s e k at p q h = omega (arith, ids_given-same ids s.1 e.1 h.next (ap (λ x. x.scoping) h.outcome.scoping), ap spare h.transform, ap stored h.lists, ap nodes_of_part h.part, stored-closed (has_statements k.kind at) s.1.lists p)
 
 -- ---- where the walk stands
 

@@ -2,6 +2,7 @@
 use Rattle.std.specs.Prelude.{◌≡◌, ℕ, ◌≤◌, List, length}
 use Rattle.es_base.specs.Tree.{Tree, Part}
 use Rattle.es_ctx.specs.Ancestors.{going_into, has_statements}
+use Rattle.es_ctx.specs.Outcome.{KeepsOutcome}
 use Rattle.es_ctx.specs.Stores.{front, opened, closed, filled}
 use Rattle.es_ctx.specs.declared.ancestor.Ancestor.{Ancestor}
 use Rattle.es_ctx.specs.declared.ancestor.Parent.{Parent}
@@ -22,7 +23,7 @@ pub record OpensPart {T : Type 0} (s : T × TraverseCtx) (parent : Parent) (at :
   pub next : m.1.next ≡ s.1.next
   pub path : m.1.path ≡ going_into s.1.path parent at
   pub lists : m.1.lists ≡ opened (has_statements parent.kind at) p s.1.lists
-  pub diagnostics : m.1.diagnostics ≡ s.1.diagnostics
+  pub outcome : KeepsOutcome s.1 m.1
 
 -- that place is left; the list is closed, and gets what was kept for it
 pub record ClosesPart {T : Type 0} (s : T × TraverseCtx) (parent : Parent) (at : ℕ) (p : Part) (e : T × TraverseCtx) (q : Part) : Type 0 where
@@ -30,7 +31,7 @@ pub record ClosesPart {T : Type 0} (s : T × TraverseCtx) (parent : Parent) (at 
   pub next : e.1.next ≡ s.1.next
   pub path : e.1.path ≡ front s.1.path
   pub lists : e.1.lists ≡ closed (has_statements parent.kind at) s.1.lists
-  pub diagnostics : e.1.diagnostics ≡ s.1.diagnostics
+  pub outcome : KeepsOutcome s.1 e.1
   pub part : q ≡ filled (has_statements parent.kind at) s.1.lists p
 
 -- where the walk stands, and how many lists are open, is not changed; no number is given back

@@ -53,3 +53,6 @@ module _ (w : Kind → ℕ) (some : (k : Kind) → 1 ≤ w k) where
     pub nodes_of-total : (ps : Parts) → nodes_of ps ≤ total_of w ps
     nodes_of-total end = omega arith
     nodes_of-total (more p ps) = omega (arith, nodes_of_part-total p, nodes_of-total ps)
+
+  pub nodes-heft : (t : Tree) → nodes t ≤ heft w t
+  nodes-heft (Node kind id span semantic_id parts) = omega (arith, some kind)

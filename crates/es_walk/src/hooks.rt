@@ -8,6 +8,7 @@ ghost use Rattle.es_ctx.specs.Stores.{stored};
 ghost use Rattle.es_ctx.specs.declared.ancestor.Parent as parents;
 ghost use Rattle.es_ctx.specs.declared.ctx.TraverseCtx as ctxs;
 ghost use Rattle.es_node.specs.View.{kind_of};
+ghost use Rattle.es_walk.specs.Given.{Ids, load};
 ghost use Rattle.es_walk.specs.Hooks.{is_entering, is_leaving, is_last, enter_hook_of_role, enter_hook_of_kind, exit_hook_of_role, exit_hook_of_kind, role_here, Calls, EntersNode, LeavesNode, enters_ready, leaves_ready, enters_pay, leaves_pay, enters_place, leaves_place, inner_opens, inner_closes, inner_place, never};
 ghost use Rattle.es_walk.specs.Holes.{Hole, places, pending, pending_below};
 ghost use Rattle.es_walk.specs.Laws.{AllSettled, BelowSettled};
@@ -162,12 +163,12 @@ pub trait Hooks {
 
     ghost weighs_something: { (k : kind.Kind) → 1 ≤ weight k };
 
-    ghost entering_pays: { (h : hook.Hook) → is_entering h ≡ true → NoMore (does h) (total weight) (total weight) (λ s. spare s.0 + stored s.1.lists + s.1.next) };
+    ghost entering_pays: { (h : hook.Hook) → is_entering h ≡ true → (ids : Ids) → NoMore (does h) (total weight) (total weight) (load spare ids) };
 
-    ghost leaving_pays: { (h : hook.Hook) → is_leaving h ≡ true → NoMore (does h) (heft weight) (heft weight) (λ s. spare s.0 + stored s.1.lists + s.1.next) };
+    ghost leaving_pays: { (h : hook.Hook) → is_leaving h ≡ true → (ids : Ids) → NoMore (does h) (heft weight) (heft weight) (load spare ids) };
 
     /// The last hook of an expression turns its weight into nodes.
-    ghost last_pays: { (h : hook.Hook) → is_last h ≡ true → NoMore (does h) (heft weight) nodes (λ s. spare s.0 + stored s.1.lists + s.1.next) };
+    ghost last_pays: { (h : hook.Hook) → is_last h ≡ true → (ids : Ids) → NoMore (does h) (heft weight) nodes (load spare ids) };
 
     ghost keeps_place: { (h : hook.Hook) → KeepPlaces (does h) };
 }
@@ -324,9 +325,9 @@ impl<T: Hooks> Traverse for Named<T> {
 
     ghost weighs_something = { T.weighs_something };
 
-    ghost enter_pays = { λ goes s e t u h. enters_pay T.does T.weight (λ s. T.spare s.0 + stored s.1.lists + s.1.next) T.entering_pays (s.0.transform, s.1) (e.0.transform, e.1) t u h.1 };
+    ghost enter_pays = { λ goes ids s e t u h. enters_pay T.does T.weight (load T.spare ids) (λ k is. T.entering_pays k is ids) (s.0.transform, s.1) (e.0.transform, e.1) t u h.1 };
 
-    ghost leave_pays = { λ s e t u h. leaves_pay T.does T.weight (λ s. T.spare s.0 + stored s.1.lists + s.1.next) T.weighs_something T.leaving_pays T.last_pays (s.0.transform, s.1) (e.0.transform, e.1) t u h };
+    ghost leave_pays = { λ ids s e t u h. leaves_pay T.does T.weight (load T.spare ids) T.weighs_something (λ k is. T.leaving_pays k is ids) (λ k is. T.last_pays k is ids) (s.0.transform, s.1) (e.0.transform, e.1) t u h };
 
     ghost enter_keeps_place = { λ goes s e t u h. inner_place (λ x. x.transform) s e (enters_place T.does T.keeps_place (s.0.transform, s.1) (e.0.transform, e.1) t u h.1) };
 

@@ -6,6 +6,7 @@ ghost use Rattle.es_base.specs.Tree.{Tree, Part};
 ghost use Rattle.es_ctx.specs.Stores.{stored};
 ghost use Rattle.es_ctx.specs.declared.ancestor.Parent as parents;
 ghost use Rattle.es_ctx.specs.declared.ctx.TraverseCtx as ctxs;
+ghost use Rattle.es_walk.specs.Given.{Ids, ids_given};
 ghost use Rattle.es_walk.specs.Holes.{Hole, places, pending, pending_below};
 ghost use Rattle.es_walk.specs.Laws.{AllSettled, BelowSettled};
 ghost use Rattle.es_walk.specs.SettledStores.{ListsSettled};
@@ -73,6 +74,7 @@ pub fn walk_program<T: Lawful>(
     ensures walked { OnOk result (Traversed T.enters T.leaves OpensPart ClosesPart (transform.old, ctx.old) program.old (transform.new, ctx.new) program.new) }
     ensures ready { OnOk result (T.ready (transform.new, ctx.new)) }
     ensures numbers { OnOk result (nodes program.new + (T.spare transform.new + ctx.new.next) ≤ total T.weight program.old + (T.spare transform.old + ctx.old.next)) }
+    ensures budget { OnOk result ((ids : Ids) → nodes program.new + (T.spare transform.new + ids_given ids ctx.new) ≤ total T.weight program.old + (T.spare transform.old + ids_given ids ctx.old)) }
     ensures given { OnOk result (ctx.old.next ≤ ctx.new.next) }
     ensures path { OnOk result (ctx.new.path ≡ []) }
     ensures stores { OnOk result (ctx.new.lists ≡ []) }

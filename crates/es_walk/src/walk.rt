@@ -11,6 +11,7 @@ ghost use Rattle.es_ctx.specs.Stores.{stored};
 ghost use Rattle.es_ctx.specs.declared.ancestor.Parent as parents;
 ghost use Rattle.es_ctx.specs.declared.ctx.TraverseCtx as ctxs;
 ghost use Rattle.es_node.specs.View.{part_of, parts_of, is_list, has_shape, have_shapes};
+ghost use Rattle.es_walk.specs.Given.{Ids, load};
 ghost use Rattle.es_walk.specs.Steps.{OpensPart, ClosesPart, KeepPlaces};
 ghost use Rattle.es_walk.specs.Traversed.{Traversed, TraversedMember, TraversedPart, TraversedParts, TraversedItem, TraversedItems};
 ghost use Rattle.es_walk.specs.Weight.{total, total_of, total_of_part, heft, NoMore, KeepsReady};
@@ -65,10 +66,11 @@ pub trait Traverse {
     /// No node weighs nothing.
     ghost weighs_something: { (k : kind.Kind) → 1 ≤ weight k };
 
-    /// What the tree, the transform and the stores weigh together, with the numbers given, does not grow.
-    ghost enter_pays: { (goes : Bool) → NoMore (enters goes) (total weight) (total weight) (λ s. spare s.0 + stored s.1.lists + s.1.next) };
+    /// What the tree, the transform and the stores weigh together, with the numbers given to nodes, does not grow; nor
+    /// does it with those of scopes, of symbols or of references.
+    ghost enter_pays: { (goes : Bool) (ids : Ids) → NoMore (enters goes) (total weight) (total weight) (load spare ids) };
 
-    ghost leave_pays: { NoMore leaves (heft weight) nodes (λ s. spare s.0 + stored s.1.lists + s.1.next) };
+    ghost leave_pays: { (ids : Ids) → NoMore leaves (heft weight) nodes (load spare ids) };
 
     /// A hook leaves where the walk stands, and how many lists are open; it gives no number back.
     ghost enter_keeps_place: { (goes : Bool) → KeepPlaces (enters goes) };

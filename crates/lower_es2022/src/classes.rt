@@ -1,4 +1,4 @@
-// The lowering of classes, of which nothing is taken for granted.
+// The lowering of classes, of which nothing is taken for granted but how many nodes it makes.
 
 use es_base::ids::NodeId;
 use es_left::left::first_left;
@@ -13,11 +13,12 @@ use std::alloc::Global;
 pub struct Classes;
 
 impl Lowering for Classes {
-    ghost use Rattle.es_lowering.specs.Any.{DeclinesAny, MakesAny};
+    ghost use Rattle.es_lowering.specs.Any.{DeclinesByNode};
+    ghost use Rattle.lower_es2022.specs.Own.{MakesFew};
 
-    ghost makes = { MakesAny };
+    ghost makes = { MakesFew };
 
-    ghost declines = { DeclinesAny };
+    ghost declines = { DeclinesByNode };
 
     fn lower(
         &self,

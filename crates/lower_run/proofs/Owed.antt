@@ -34,7 +34,7 @@ unchanged-owed IsPlain o t r names turn none same unnamed = subst (λ (ns : List
 })
 
 pub unchanged-made : (o : Options) (t r : Tree) (foreign : List ℕ) (names : List LedgerEntry) → t ≡ numbered_from 0 t → nothing_left o t ≡ true → r ≡ t → names ≡ [] → IsMade o t foreign names r
-unchanged-made o t r foreign names turn none same unnamed = record { form = inl none; unnamed = unnamed; owed = unchanged-owed Unit o t r names turn none same unnamed }
+unchanged-made o t r foreign names turn none same unnamed = record { form = inl none; unnamed = unnamed; exact = λ some. absurd (true≢false (sym none ∙ some)); owed = unchanged-owed Unit o t r names turn none same unnamed }
 
 pub unchanged-conforms : (t r : Tree) → conforms Place.Program t ≡ true → r ≡ t → conforms Place.Program r ≡ true
 unchanged-conforms t r fits same = ap (conforms Place.Program) same ∙ fits
@@ -51,7 +51,7 @@ module _ (o : Options) (t r : Tree) (foreign : List ℕ) (fits : conforms Place.
   }
 
   pub formed-made : (names : List LedgerEntry) → r ≡ lowered t → names ≡ [] → IsMade o t foreign names r
-  formed-made names same unnamed = record { form = inr form; unnamed = unnamed; owed = subst (λ (ns : List LedgerEntry). IsOwed Unit o t ns r) (sym unnamed) (subst (IsOwed Unit o t []) (sym same) formed_owed) }
+  formed-made names same unnamed = record { form = inr form; unnamed = unnamed; exact = λ some. same; owed = subst (λ (ns : List LedgerEntry). IsOwed Unit o t ns r) (sym unnamed) (subst (IsOwed Unit o t []) (sym same) formed_owed) }
 
   pub formed-conforms : r ≡ lowered t → conforms Place.Program r ≡ true
   formed-conforms same = ap (conforms Place.Program) same ∙ lowered-conforms t fits form.2 turn

@@ -1,5 +1,6 @@
 -- What is proved to be lowered: programs with nothing to lower, and those of the first form where fields are defined.
 use Rattle.std.specs.Prelude.{◌≡◌, List, [], ℕ, Option, Some, None, ◌⊎◌, true, false, cond}
+use Rattle.class_properties.specs.Lowering.{lowered}
 use Rattle.class_properties.specs.Options.{defines_fields}
 use Rattle.es_base.specs.Tree.{Tree}
 use Rattle.es_base.specs.declared.ledger.LedgerEntry.{LedgerEntry}
@@ -19,10 +20,12 @@ IsOfForm o p foreign = (defines_fields o ≡ true) × (foreign ≡ []) × (is_fi
 abbrev pub not_yet_lowered : Options → Tree → List ℕ → Option ℕ
 not_yet_lowered o p foreign = cond (defines_fields o) (not_yet p foreign) (first_left o p)
 
--- what is made of a program that has nothing to lower or is of the form: no name is generated, and each keeps its meaning
+-- what is made of a program that has nothing to lower or is of the form: no name is generated, and each keeps its meaning; of one
+-- that has something to lower, just what the definition of its lowering says
 pub record IsMade (o : Options) (p : Tree) (foreign : List ℕ) (names : List LedgerEntry) (q : Tree) : Type 0 where
   pub form : (nothing_left o p ≡ true) ⊎ IsOfForm o p foreign
   pub unnamed : names ≡ []
+  pub exact : nothing_left o p ≡ false → q ≡ lowered p
   pub owed : IsOwed (Unit {0}) o p names q
 
 -- why nothing is made of a program: it has something to lower, and is not lowered yet

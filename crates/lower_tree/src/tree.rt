@@ -12,7 +12,9 @@ ghost use Rattle.es_validity.specs.Validity.{is_valid};
 ghost use Rattle.es_shapes.specs.Warnings.{numbers};
 ghost use Rattle.es_steps.specs.Shapes.{shapes};
 ghost use Rattle.es_steps.specs.Told.{warnings_of};
-ghost use Rattle.lower_tree.specs.Scoped.{IsReason, IsScoped};
+ghost use Rattle.lower_es2022.specs.Own.{IsNotYet};
+ghost use Rattle.lower_run.specs.Outcome.{IsNotLowered};
+ghost use Rattle.lower_tree.specs.Scoped.{IsScoped};
 
 use es_base::diagnostic::Diagnostic;
 use es_base::ids::NodeId;
@@ -24,7 +26,7 @@ use es_scopes_build::build::build;
 use es_steps::options::Options;
 use lower_es2022::own::ClassLowering;
 use lower_run::program::{NotLowered, Warned, lower_program};
-use std::alloc::{AllocError, Global};
+use std::alloc::Global;
 
 /// A lowered program, for what transforms it next.
 #[derive(Drop)]
@@ -40,50 +42,18 @@ pub struct LoweredTree {
     pub shapes: Vec<Shape>,
 }
 
-/// Why there is no lowered program.
-#[derive(Debug, Clone, Copy, PartialEq, Eq)]
-pub enum NoTree {
-    /// The source is not lowered.
-    NotLowered(NotLowered),
-    /// It is lowered to 4,294,967,296 nodes or more, which cannot have a scope table.
-    TooLarge,
-}
-
-impl From<NotLowered> for NoTree {
-    ghost use Rattle.lower_tree.specs.declared.tree.NoTree.{NoTree};
-
-    ghost from_gives = { λ reason error. error ≡ NoTree.NotLowered reason };
-
-    fn from(reason: NotLowered) -> NoTree {
-        NoTree::NotLowered(reason)
-    }
-}
-
-impl From<AllocError> for NoTree {
-    ghost use Rattle.es_validity.specs.declared.error.LowerError.{LowerError};
-    ghost use Rattle.lower_run.specs.declared.program.NotLowered.{NotLowered};
-    ghost use Rattle.lower_tree.specs.declared.tree.NoTree.{NoTree};
-
-    ghost from_gives = { λ _ error. error ≡ NoTree.NotLowered (NotLowered.Refused LowerError.NoMemory) };
-
-    fn from(error: AllocError) -> NoTree {
-        NoTree::NotLowered(NotLowered::from(error))
-    }
-}
-
 /// What a program is lowered to under the options, as the run lowers it (`lower_es2022::run::run`), with the scope table of the lowered
 /// program, built anew (ECMA-262 sections 8.2 and 9.1): the scopes of functions that were moved out of a class are below the
 /// scopes that they stand in now. `foreign` has the numbers of the nodes that have members outside the table.
 ///
-/// Fails on allocation failure, where the source has a fault, is not lowered yet or too deep to be judged, and where the lowered
-/// program has too many nodes.
+/// Fails on allocation failure, and where the source has a fault, is not lowered yet or too deep to be judged.
 #[tactic(auto, using(crate::proofs::BuiltProgram::built_program, crate::proofs::BuiltProgram::built_once))]
 pub fn lower_tree(
     alloc: Global,
     options: &Options,
     source: Node,
     foreign: &[NodeId],
-) -> Result<LoweredTree, NoTree>
+) -> Result<LoweredTree, NotLowered>
     requires conforms { conforms Place.Program source ≡ true }
     requires preorder { source ≡ numbered_from 0 source }
     requires few { nodes source < 2 ^ 32 }
@@ -95,7 +65,7 @@ pub fn lower_tree(
     ensures agrees { IfOk result (λ r. Agrees [] r.scoping r.program) }
     ensures warned { IfOk result (λ r. numbers r.warnings.items ≡ warnings_of options.now source) }
     ensures shaped { IfOk result (λ r. r.shapes.items ≡ shapes options.now source) }
-    ensures refused { IfErr result (IsReason options.now source (ids foreign.now)) }
+    ensures refused { IfErr result (IsNotLowered IsNotYet options.now source (ids foreign.now)) }
 {
     let Warned { lowered, warnings } = lower_program(
         alloc,
@@ -104,9 +74,6 @@ pub fn lower_tree(
         source,
         foreign,
     )?;
-    if !lowered.program.has_at_most(u32::MAX) {
-        return Err(NoTree::TooLarge);
-    }
     let mut program = lowered.program;
     let scoping = build(alloc, &mut program)?;
     Ok(LoweredTree {

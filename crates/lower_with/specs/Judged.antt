@@ -20,9 +20,11 @@ pub record IsJudged (v : Verdict) (o : Options) (names : List LedgerEntry) (p q 
   pub shapeless : shapes o p ≡ [] → step_check.IsJudged v o names p q
   pub shaped : ¬ (shapes o p ≡ []) → IsJudgedByClauses v o names p q
 
--- what is made of a program: a right one
-abbrev pub IsMade : Options → Tree → List ℕ → List LedgerEntry → Tree → Type 0
-IsMade o p foreign names q = IsOwed (IsPlain o p) o p names q
+-- what is made of a program by a lowering that makes such programs: a right one, which where the program has something to lower is
+-- one that the lowering makes
+pub record IsMade (Makes : Options → Tree → List LedgerEntry → Tree → Type 0) (o : Options) (p : Tree) (foreign : List ℕ) (names : List LedgerEntry) (q : Tree) : Type 0 where
+  pub owed : IsOwed (IsPlain o p) o p names q
+  pub made : nothing_left o p ≡ false → Makes o p names q
 
 -- ---- of a program q that p was lowered to, with these generated names
 

@@ -1,6 +1,6 @@
 // A lowering whose lowered programs are judged.
 
-ghost use Rattle.std.specs.Prelude.{◌≡◌, ◌<◌, ◌^◌, Err, IfErr, IfOk, [], false, true};
+ghost use Rattle.std.specs.Prelude.{◌≡◌, ◌<◌, ◌^◌, Err, IfErr, IfOk, OnOk, [], false, true};
 ghost use Rattle.es_base.specs.Conforms.{conforms};
 ghost use Rattle.es_base.specs.Preorder.{nodes, numbered_from};
 ghost use Rattle.es_base.specs.declared.table.Place.{Place};
@@ -8,7 +8,7 @@ ghost use Rattle.es_reading.specs.Told.{ids};
 ghost use Rattle.es_steps.specs.LoweredClasses.{has_lowered_class, nothing_left};
 ghost use Rattle.es_steps.specs.Shapes.{shapes};
 ghost use Rattle.lower_run.specs.Lowering.{IsDeclined, IsOwed, IsPlain};
-ghost use Rattle.lower_with.specs.Judged.{IsFault, IsJudged, IsReason, IsRefusedFor, IsUnmade};
+ghost use Rattle.lower_with.specs.Judged.{IsFault, IsJudged, IsMade, IsReason, IsRefusedFor, IsUnmade};
 ghost use Rattle.step_check.specs.declared.verdict.CheckError.{CheckError};
 
 use es_base::ids::NodeId;
@@ -57,7 +57,7 @@ pub struct Judged<'a, L> {
 impl<L: Lowering> Lowers for Judged<'_, L> {
     ghost use Rattle.lower_with.specs.Judged.{IsMade, IsUnmade};
 
-    ghost makes = { IsMade };
+    ghost makes = { IsMade L.makes };
 
     ghost declines = { IsUnmade L.makes L.declines };
 
@@ -73,7 +73,7 @@ impl<L: Lowering> Lowers for Judged<'_, L> {
 }
 
 /// What a program is lowered to, if it has nothing to lower or what the lowering makes of it is right.
-#[tactic(auto, using(crate::proofs::Reasons::reason_unmade))]
+#[tactic(auto, using(crate::proofs::Made::made_of_right, crate::proofs::Reasons::reason_unmade))]
 fn lower_judged<L: Lowering>(
     alloc: Global,
     lowering: &L,
@@ -85,7 +85,7 @@ fn lower_judged<L: Lowering>(
     requires preorder { source ≡ numbered_from 0 source }
     requires few { nodes source < 2 ^ 32 }
     ensures program { IfOk result (λ r. conforms Place.Program r.program ≡ true) }
-    ensures made { IfOk result (λ r. IsOwed (IsPlain options.now source) options.now source r.names.entries r.program) }
+    ensures made { IfOk result (λ r. IsMade L.makes options.now source (ids foreign.now) r.names.entries r.program) }
     ensures shaped { IfOk result (λ r. r.shapes.items ≡ shapes options.now source) }
     ensures declined { IfErr result (IsDeclined (IsUnmade L.makes L.declines options.now source (ids foreign.now))) }
 {
@@ -99,7 +99,7 @@ fn lower_judged<L: Lowering>(
 }
 
 /// The same of a program with something to lower.
-#[tactic(auto, using(crate::proofs::Reasons::declined_reason, crate::proofs::Reasons::refused_reason))]
+#[tactic(auto, using(crate::proofs::Reasons::declined_reason))]
 fn lower_changed<L: Lowering>(
     alloc: Global,
     lowering: &L,
@@ -109,7 +109,8 @@ fn lower_changed<L: Lowering>(
     requires few { nodes source.now < 2 ^ 32 }
     requires changed { nothing_left options.now source.now ≡ false }
     ensures program { IfOk result (λ r. conforms Place.Program r.program ≡ true) }
-    ensures made { IfOk result (λ r. IsOwed (IsPlain options.now source.now) options.now source.now r.names.entries r.program) }
+    ensures owed { IfOk result (λ r. IsOwed (IsPlain options.now source.now) options.now source.now r.names.entries r.program) }
+    ensures made { IfOk result (λ r. L.makes options.now source.now r.names.entries r.program) }
     ensures shaped { IfOk result (λ r. r.shapes.items ≡ shapes options.now source.now) }
     ensures declined { IfErr result (IsDeclined (IsReason L.makes L.declines options.now source.now)) }
 {
@@ -118,44 +119,43 @@ fn lower_changed<L: Lowering>(
         return Err(Unlowered::NotYet { node: NodeId(0) });
     }
     match lowering.lower(alloc, options, source) {
-        Ok(lowered) => match if_right(alloc, options, source, lowered) {
-            Ok(lowered) => Ok(lowered),
+        Ok(lowered) => match shapes_if_right(alloc, options, source, &lowered) {
+            Ok(shapes) => Ok(Lowered {
+                program: lowered.program,
+                names: lowered.names,
+                shapes,
+            }),
             Err(error) => Err(error),
         },
         Err(error) => Err(error),
     }
 }
 
-/// What a program was lowered to, if it is right.
-fn if_right(
+/// The shapes of a source, if what it was lowered to is right.
+fn shapes_if_right(
     alloc: Global,
     options: &Options,
     source: &Node,
-    lowered: LoweredProgram,
-) -> Result<Lowered, Unlowered>
+    lowered: &LoweredProgram,
+) -> Result<Vec<Shape>, Unlowered>
     requires few { nodes source.now < 2 ^ 32 }
     requires changed { nothing_left options.now source.now ≡ false }
     requires classes { has_lowered_class options.now source.now ≡ true }
-    ensures program { IfOk result (λ r. conforms Place.Program r.program ≡ true) }
-    ensures made { IfOk result (λ r. IsOwed (IsPlain options.now source.now) options.now source.now r.names.entries r.program) }
-    ensures shaped { IfOk result (λ r. r.shapes.items ≡ shapes options.now source.now) }
-    ensures refused { IfErr result (IsDeclined (IsRefusedFor options.now lowered.names.entries source.now lowered.program)) }
+    ensures program { OnOk result (conforms Place.Program lowered.now.program ≡ true) }
+    ensures owed { OnOk result (IsOwed (IsPlain options.now source.now) options.now source.now lowered.now.names.entries lowered.now.program) }
+    ensures shaped { IfOk result (λ s. s.items ≡ shapes options.now source.now) }
+    ensures refused { IfErr result (IsDeclined (IsRefusedFor options.now lowered.now.names.entries source.now lowered.now.program)) }
 {
-    let LoweredProgram { program, names } = lowered;
     let shapes = outside_shapes(alloc, source, options)?;
     match fault_of(
         alloc,
         options,
         shapes.as_slice(),
         source,
-        &program,
-        names.entries.as_slice(),
+        &lowered.program,
+        lowered.names.entries.as_slice(),
     ) {
-        Ok(None) => Ok(Lowered {
-            program,
-            names,
-            shapes,
-        }),
+        Ok(None) => Ok(shapes),
         Ok(Some(node)) => Err(Unlowered::NotYet { node }),
         Err(error) => Err(error),
     }

@@ -20,10 +20,11 @@ use std::alloc::Global;
 /// With `Done` the source's tree is valid, and the sink has gained the compact JSON text of a tree that meets the clauses on
 /// lowered programs (docs/MEANING.md), with its generated names, the warnings and the shapes of the source, and a line feed:
 /// nothing that the options lower is left in it, and every generated name has its declaration. Where the source has no shape, or
-/// nothing to lower, the tree means what the source means. Nothing is asked of the lowering. Where what it made is wrong, or it makes
-/// nothing of a program, the status is `Refused`, with `NotYet` and the node that the judge or the lowering names, and then alone, if
-/// the program is valid and has a class that is lowered. It is `TooDeep` where codes stand in each other too deep to be judged. The
-/// other statuses are those of `lower_run::run::run_by`.
+/// nothing to lower, the tree means what the source means; and where it has something to lower, the tree is one that the lowering
+/// makes. Nothing is asked of the lowering. Where what it made is wrong, or it makes nothing of a program, the status is `Refused`,
+/// with `NotYet` and the node that the judge or the lowering names, and then alone, if the program is valid and has a class that is
+/// lowered. It is `TooDeep` where codes stand in each other too deep to be judged. The other statuses are those of
+/// `lower_run::run::run_by`.
 pub fn run_with<L: Lowering, S: Source, K: Sink>(
     alloc: Global,
     lowering: &L,
@@ -31,8 +32,8 @@ pub fn run_with<L: Lowering, S: Source, K: Sink>(
     source: &mut S,
     sink: &mut K,
 ) -> Status
-    ensures done { result ≡ Status.Done → (b held now : List ℕ) → S.left source.old ≡ Some b → K.held sink.old ≡ Some held → K.held sink.new ≡ Some now → HasLowered IsMade (IsUnmade L.makes L.declines) (settings_of (map string_bytes arguments.now)) b held now }
-    ensures cause { Cause IsMade (IsUnmade L.makes L.declines) (settings_of (map string_bytes arguments.now)) (S.left source.old) (S.faults source.old) (S.faults source.new) (K.held sink.old) (K.held sink.new) (K.faults sink.old) (K.faults sink.new) result }
+    ensures done { result ≡ Status.Done → (b held now : List ℕ) → S.left source.old ≡ Some b → K.held sink.old ≡ Some held → K.held sink.new ≡ Some now → HasLowered (IsMade L.makes) (IsUnmade L.makes L.declines) (settings_of (map string_bytes arguments.now)) b held now }
+    ensures cause { Cause (IsMade L.makes) (IsUnmade L.makes L.declines) (settings_of (map string_bytes arguments.now)) (S.left source.old) (S.faults source.old) (S.faults source.new) (K.held sink.old) (K.held sink.new) (K.faults sink.old) (K.faults sink.new) result }
     ensures complete { Complete (IsUnmade L.makes L.declines) (settings_of (map string_bytes arguments.now)) (S.left source.old) (S.faults source.old) (S.faults source.new) (K.faults sink.old) (K.faults sink.new) result }
     ensures end { IsReadToEnd (S.left source.old) (S.left source.new) result }
     ensures source_later { S.faults source.old ≤ S.faults source.new }

@@ -4,9 +4,9 @@ use Rattle.std.proofs.Common.{ap, ◌∙◌, arith}
 use Rattle.es_base.specs.Preorder.{nodes, nodes_of, nodes_of_part}
 use Rattle.es_base.specs.Tree.{Tree, Part, Parts, Node, end, more, child, absent, list, string, no_string, boolean, literal}
 use Rattle.es_base.specs.declared.kind.Kind.{Kind}
-use Rattle.es_ctx.specs.Stores.{stored}
 use Rattle.es_ctx.specs.declared.ctx.TraverseCtx.{TraverseCtx}
 use Rattle.es_node.specs.View.{kind_of}
+use Rattle.es_walk.specs.Given.{Ids, load}
 use Rattle.es_walk.specs.Holes.{Hole}
 use Rattle.es_walk.specs.Hooks as hooks
 use Rattle.es_walk.specs.Hooks.{is_entering, is_leaving, is_last, role_here, enter_hook_of_role, enter_hook_of_kind, exit_hook_of_role, exit_hook_of_kind, Calls, EntersNode, LeavesNode}
@@ -47,11 +47,11 @@ mutual
   total_of-same (more p ps) = omega (arith, total_of_part-same p, total_of-same ps)
 
 module _ {T : Type 0} where
-  pub stays_pays : (h : Hook) (before : Tree → ℕ) → NoMore {S = T × TraverseCtx} (Stays h) before before (λ s. 0 + stored s.1.lists + s.1.next)
-  stays_pays h before s e t u x = rw (x.0, x.1) (omega arith)
+  pub stays_pays : (h : Hook) (before : Tree → ℕ) (ids : Ids) → NoMore {S = T × TraverseCtx} (Stays h) before before (load (λ t. 0) ids)
+  stays_pays h before ids s e t u x = rw (x.0, x.1) (omega arith)
 
-  pub last_pays : (h : Hook) → NoMore {S = T × TraverseCtx} (Stays h) (heft weight) nodes (λ s. 0 + stored s.1.lists + s.1.next)
-  last_pays h s e t u x = rw (x.0, x.1) (omega (arith, heft-nodes t))
+  pub last_pays : (h : Hook) (ids : Ids) → NoMore {S = T × TraverseCtx} (Stays h) (heft weight) nodes (load (λ t. 0) ids)
+  last_pays h ids s e t u x = rw (x.0, x.1) (omega (arith, heft-nodes t))
 
   pub keeps_place : (h : Hook) → KeepPlaces {T = T} (Stays h)
   keeps_place h s e t u x = rw x.1 (record { path = refl; depth = refl; given = omega arith })

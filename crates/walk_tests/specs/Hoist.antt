@@ -48,4 +48,4 @@ abbrev pub Enters : {T : Type 0} → Bool → T × TraverseCtx → Tree → T ×
 Enters goes s t e u = (goes ≡ true) × (u ≡ t) × (e ≡ s)
 
 abbrev pub Leaves : {T : Type 0} → T × TraverseCtx → Tree → T × TraverseCtx → Tree → Type 0
-Leaves s t e u = (u ≡ replaced (is_this t) t) × (e.1.next ≡ s.1.next) × (e.1.path ≡ s.1.path) × (e.1.lists ≡ hoisted (is_this t) s.1.lists)
+Leaves s t e u = (u ≡ replaced (is_this t) t) × (e.1.next ≡ s.1.next) × (e.1.path ≡ s.1.path) × (e.1.lists ≡ hoisted (is_this t) s.1.lists) × (e.1.scoping ≡ s.1.scoping)

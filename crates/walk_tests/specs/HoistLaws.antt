@@ -12,6 +12,7 @@ use Rattle.es_ctx.specs.declared.ancestor.Parent.{Parent}
 use Rattle.es_ctx.specs.declared.ctx.TraverseCtx.{TraverseCtx}
 use Rattle.es_ctx.specs.declared.stores.OpenList.{OpenList}
 use Rattle.es_statement.specs.Statement.{variable_declaration}
+use Rattle.es_walk.specs.Given.{Ids, ids_given-same, load}
 use Rattle.es_walk.specs.Inserted.{stored-changed, stored-var}
 use Rattle.es_walk.specs.Laws.{AllSettled, BelowSettled}
 use Rattle.es_walk.specs.SettledStores.{ListsSettled, changed-settled, var-settled}
@@ -114,11 +115,11 @@ module _ {T : Type 0} where
   pub close_ready : (s e : T × TraverseCtx) (k : Parent) (at : ℕ) (p q : Part) → ClosesPart s k at p e q → Ready s → Ready e
   close_ready s e k at p q h r = rw h.lists (closed-quiet unnumbered (has_statements k.kind at) s.1.lists r)
 
-  pub enter_pays : (goes : Bool) → NoMore {S = T × TraverseCtx} (Enters goes) (total weight) (total weight) (λ s. 0 + stored s.1.lists + s.1.next)
-  enter_pays goes s e t u h = rw (h.1, h.2) (omega arith)
+  pub enter_pays : (goes : Bool) (ids : Ids) → NoMore {S = T × TraverseCtx} (Enters goes) (total weight) (total weight) (load (λ t. 0) ids)
+  enter_pays goes ids s e t u h = rw (h.1, h.2) (omega arith)
 
-  pub leave_pays : NoMore {S = T × TraverseCtx} Leaves (heft weight) nodes (λ s. 0 + stored s.1.lists + s.1.next)
-  leave_pays s e t u h = omega (arith, ap nodes h.0, lowered-total t s.1.lists, h.1, ap stored h.3)
+  pub leave_pays : (ids : Ids) → NoMore {S = T × TraverseCtx} Leaves (heft weight) nodes (load (λ t. 0) ids)
+  leave_pays ids s e t u h = omega (arith, ap nodes h.0, lowered-total t s.1.lists, ids_given-same ids s.1 e.1 h.1 (ap (λ x. x.scoping) h.4), ap stored h.3)
 
   pub enter_keeps_place : (goes : Bool) → KeepPlaces {T = T} (Enters goes)
   enter_keeps_place goes s e t u h = rw h.2 (record { path = refl; depth = refl; given = omega arith })

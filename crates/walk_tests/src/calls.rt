@@ -1,11 +1,13 @@
 // Hooks by name that change nothing: which are called, and in what order.
 
-ghost use Rattle.std.specs.Prelude.{◌≡◌, ◌<◌, ◌^◌, OnOk};
+ghost use Rattle.std.specs.Prelude.{◌≡◌, ◌*◌, ◌<◌, ◌^◌, OnOk};
 ghost use Rattle.es_base.specs.Preorder.{nodes};
 ghost use Rattle.walk_tests.specs.Calls as laws;
 
 use es_ctx::ctx::TraverseCtx;
 use es_node::node::Node;
+use es_scopes::scoping::Scoping;
+use es_steps::options::CompilerAssumptions;
 use es_walk::hooks::{Hooks, LawfulHooks, Named};
 use es_walk::program::walk_program;
 use std::alloc::{AllocError, Global};
@@ -163,14 +165,19 @@ impl LawfulHooks for Calls {
 /// allocation failure alone.
 #[tactic(auto, using(crate::specs::Calls::total_same))]
 pub fn called_hooks(alloc: Global, program: &mut Node) -> Result<String, AllocError>
-    requires { nodes program.old < 2 ^ 32 }
+    requires { 2 * nodes program.old < 2 ^ 32 }
     ensures { OnOk result (program.new ≡ program.old) }
 {
     let calls = Calls {
         text: String::new(alloc),
     };
     let mut named = Named { transform: calls };
-    let mut ctx = TraverseCtx::new(alloc, 0);
+    let mut ctx = TraverseCtx::new(
+        alloc,
+        program,
+        Scoping::new(alloc),
+        CompilerAssumptions::default(),
+    )?;
     walk_program(&mut named, program, &mut ctx)?;
     let Named { transform } = named;
     let Calls { text } = transform;

@@ -9,21 +9,39 @@ use es_base::kind::Kind;
 use es_base::list::List;
 use es_base::literal::LiteralValue;
 use es_base::name::Name;
+use es_base::operator::SourceType;
 use es_ctx::ancestor::{Parent, has_statements};
 use es_ctx::ancestor_kind::AncestorKind;
 use es_ctx::beside::{insert_after, insert_before, insert_many_after, insert_many_before};
 use es_ctx::ctx::TraverseCtx;
 use es_ctx::stores::Side;
 use es_node::node::{Node, Part};
+use es_scopes::scoping::Scoping;
+use es_steps::options::CompilerAssumptions;
 use es_tree::class::{make_class_body, make_class_declaration};
 use es_tree::identifier::{make_binding_identifier, make_identifier_reference};
 use es_tree::literal::make_literal;
+use es_tree::program::make_program;
 use es_tree::statement::{
     BlockStatement, BreakStatement, ExpressionStatement, make_block_statement,
     make_break_statement, make_expression_statement, make_variable_declarator,
 };
 use std::alloc::{AllocError, Global};
 use std::test::Fail;
+
+/// The context of an empty program.
+fn context(alloc: Global) -> Result<TraverseCtx, Fail> {
+    let program = make_program(alloc, SourceType::Script, List::new(alloc))?;
+    if !program.has_at_most(1) {
+        return Err(Fail::new("too many nodes"));
+    }
+    Ok(TraverseCtx::new(
+        alloc,
+        &program,
+        Scoping::new(alloc),
+        CompilerAssumptions::default(),
+    )?)
+}
 
 /// A statement of this number.
 fn statement(alloc: Global, number: u32) -> Result<Node, AllocError> {
@@ -139,7 +157,7 @@ fn keep_some(ctx: &mut TraverseCtx) -> Result<(), Fail> {
 
 /// The list of the statements, after it was opened and closed.
 fn closed(alloc: Global) -> Result<String, Fail> {
-    let mut ctx = TraverseCtx::new(alloc, 5);
+    let mut ctx = context(alloc)?;
     let parent = block(alloc)?;
     let mut part = Part::List(statements(alloc)?);
     ctx.open(parent, 0, &part)?;
@@ -162,8 +180,11 @@ fn statements_go_beside_their_elements(rt: HostRuntime) -> Result<(), Fail> {
 #[test]
 fn numbers_are_given(rt: HostRuntime) -> Result<(), Fail> {
     let alloc = rt.alloc();
-    let mut ctx = TraverseCtx::new(alloc, 5);
-    assert!(rt; ctx.fresh_id() == NodeId(5));
+    let mut ctx = context(alloc)?;
+    if ctx.next > 1 {
+        return Err(Fail::new("no number is left"));
+    }
+    assert!(rt; ctx.fresh_id() == NodeId(1));
     assert!(rt; !ctx.has_open_list());
     let parent = block(alloc)?;
     assert!(rt; parent.node == 9);
@@ -184,7 +205,7 @@ fn kinds(alloc: Global, ctx: &TraverseCtx) -> Result<String, AllocError> {
 #[test]
 fn places_are_named(rt: HostRuntime) -> Result<(), Fail> {
     let alloc = rt.alloc();
-    let mut ctx = TraverseCtx::new(alloc, 5);
+    let mut ctx = context(alloc)?;
     assert!(rt; ctx.is_root());
     let part = Part::List(List::new(alloc));
     let mut function = block(alloc)?;
@@ -209,7 +230,7 @@ fn places_are_named(rt: HostRuntime) -> Result<(), Fail> {
 #[test]
 fn warnings_are_kept(rt: HostRuntime) -> Result<(), Fail> {
     let alloc = rt.alloc();
-    let mut ctx = TraverseCtx::new(alloc, 5);
+    let mut ctx = context(alloc)?;
     ctx.warn(Diagnostic {
         node: NodeId(3),
         span: None,

@@ -14,6 +14,8 @@ use es_base::kind::Kind;
 use es_base::name::Name;
 use es_ctx::ctx::TraverseCtx;
 use es_node::node::{Node, Part};
+use es_scopes::scoping::Scoping;
+use es_steps::options::CompilerAssumptions;
 use es_tree::identifier::{
     IdentifierReference, make_binding_identifier, make_identifier_reference,
 };
@@ -136,6 +138,7 @@ fn declare(alloc: Global, ctx: &mut TraverseCtx) -> Result<(), AllocError>
     ensures next { OnOk result (ctx.new.next ≡ ctx.old.next) }
     ensures path { OnOk result (ctx.new.path ≡ ctx.old.path) }
     ensures lists { OnOk result (ctx.new.lists ≡ hoisted true ctx.old.lists) }
+    ensures scoping { OnOk result (ctx.new.scoping ≡ ctx.old.scoping) }
 {
     if ctx.has_open_list() {
         ctx.insert_var(make_declarator(alloc)?)?;
@@ -156,13 +159,18 @@ fn make_declarator(alloc: Global) -> Result<Node, AllocError>
 /// the nodes of a declaration have none. Fails on allocation failure alone.
 #[tactic(auto, using(crate::specs::HoistLaws::total_most))]
 pub fn hoist_this(alloc: Global, program: &mut Node) -> Result<(), AllocError>
-    requires { 4 * nodes program.old < 2 ^ 32 }
+    requires { 5 * nodes program.old < 2 ^ 32 }
     ensures settled { OnOk result (AllSettled IsNoThis program.new) }
     ensures numbers { OnOk result (old_numbers unnumbered program.new ≡ old_numbers unnumbered program.old) }
     ensures growth { OnOk result (nodes program.new ≤ 4 * nodes program.old) }
 {
     let mut transform = Hoist { alloc };
-    let mut ctx = TraverseCtx::new(alloc, 0);
+    let mut ctx = TraverseCtx::new(
+        alloc,
+        program,
+        Scoping::new(alloc),
+        CompilerAssumptions::default(),
+    )?;
     walk_program(&mut transform, program, &mut ctx)?;
     Ok(())
 }

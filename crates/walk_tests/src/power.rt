@@ -16,6 +16,8 @@ use es_base::name::Name;
 use es_base::operator::BinaryOperator;
 use es_ctx::ctx::TraverseCtx;
 use es_node::node::Node;
+use es_scopes::scoping::Scoping;
+use es_steps::options::CompilerAssumptions;
 use es_tree::expression::{
     BinaryExpression, BinaryExpressionRef, CallExpression, MemberExpression, make_call_expression,
     make_member_expression,
@@ -158,17 +160,22 @@ fn make_callee(alloc: Global, number: NodeId) -> Result<Node, AllocError>
     Ok(member.into_node())
 }
 
-/// Replaces each power by a call, whose new nodes have numbers from `first` on; each call has the number of
-/// its power. Fails on allocation failure alone.
+/// Replaces each power by a call, whose new nodes have the numbers behind those of the program, which are below the
+/// number of its nodes; each call has the number of its power. Fails on allocation failure alone.
 #[tactic(auto, using(crate::specs::PowerLaws::total_most))]
-pub fn lower_powers(alloc: Global, program: &mut Node, first: u32) -> Result<(), AllocError>
-    requires { 7 * nodes program.old + first < 2 ^ 32 }
+pub fn lower_powers(alloc: Global, program: &mut Node) -> Result<(), AllocError>
+    requires { 8 * nodes program.old < 2 ^ 32 }
     ensures settled { OnOk result (AllSettled IsNoPower program.new) }
-    ensures numbers { OnOk result (old_numbers first program.new ≡ old_numbers first program.old) }
+    ensures numbers { OnOk result (old_numbers (nodes program.old) program.new ≡ old_numbers (nodes program.old) program.old) }
     ensures growth { OnOk result (nodes program.new ≤ 7 * nodes program.old) }
 {
     let mut transform = Powers { alloc };
-    let mut ctx = TraverseCtx::new(alloc, first);
+    let mut ctx = TraverseCtx::new(
+        alloc,
+        program,
+        Scoping::new(alloc),
+        CompilerAssumptions::default(),
+    )?;
     walk_program(&mut transform, program, &mut ctx)?;
     Ok(())
 }

@@ -11,6 +11,7 @@ use es_json::read::read_program;
 use es_json::write::write_program;
 use es_node::node::Node;
 use es_reading::count::is_countable;
+use es_scopes::scoping::Scoping;
 use serde_json::Value;
 use std::alloc::Global;
 use std::test::Fail;
@@ -46,7 +47,7 @@ fn powers_become_calls(rt: HostRuntime) -> Result<(), Fail> {
     let wanted =
         r#"{"type":"Program","sourceType":"script","body":[{"type":"ExpressionStatement","expression":{"type":"CallExpression","callee":{"type":"MemberExpression","object":{"type":"Identifier","name":"Math"},"property":{"type":"Identifier","name":"pow"},"computed":false,"optional":false},"arguments":[{"type":"Identifier","name":"x"},{"type":"CallExpression","callee":{"type":"MemberExpression","object":{"type":"Identifier","name":"Math"},"property":{"type":"Identifier","name":"pow"},"computed":false,"optional":false},"arguments":[{"type":"Identifier","name":"y"},{"type":"Identifier","name":"z"}],"optional":false}],"optional":false}}]}"#;
     let mut program = read(alloc, source)?;
-    lower_powers(alloc, &mut program, 100)?;
+    lower_powers(alloc, &mut program)?;
     program.number();
     let found = write(alloc, &program)?;
     let wanted = write(alloc, &read(alloc, wanted)?)?;
@@ -93,7 +94,7 @@ fn awaits_are_warned_of(rt: HostRuntime) -> Result<(), Fail> {
     let source =
         r#"{"type":"Program","sourceType":"module","body":[{"type":"ExpressionStatement","expression":{"type":"AwaitExpression","argument":{"type":"AwaitExpression","argument":{"type":"Identifier","name":"x"}}}}]}"#;
     let mut program = read(alloc, source)?;
-    let found = warn_of_awaits(alloc, &mut program)?;
+    let (_scoping, found) = warn_of_awaits(alloc, &mut program, Scoping::new(alloc))?;
     let mut text = String::new(alloc);
     for warning in found.as_slice() {
         write!(text, "{} ", warning.node.0)?;

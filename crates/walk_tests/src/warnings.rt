@@ -1,6 +1,6 @@
 // A warning of each `await`: a transform that leaves the tree as it is, and adds to the context.
 
-ghost use Rattle.std.specs.Prelude.{◌≡◌, ◌++◌, ◌<◌, ◌^◌, [], IfOk, OnOk};
+ghost use Rattle.std.specs.Prelude.{◌≡◌, ◌*◌, ◌++◌, ◌<◌, ◌^◌, [], IfOk, OnOk};
 ghost use Rattle.es_base.specs.Preorder.{nodes};
 ghost use Rattle.es_walk.specs.Holes.{pending};
 ghost use Rattle.walk_tests.specs.Calls as calls;
@@ -12,6 +12,8 @@ use es_base::kind::Kind;
 use es_base::list::List;
 use es_ctx::ctx::TraverseCtx;
 use es_node::node::Node;
+use es_scopes::scoping::Scoping;
+use es_steps::options::CompilerAssumptions;
 use es_walk::program::{Lawful, walk_program};
 use es_walk::walk::Traverse;
 use std::alloc::{AllocError, Global};
@@ -93,6 +95,7 @@ fn warn_if_await(node: &Node, ctx: &mut TraverseCtx) -> Result<(), AllocError>
     ensures next { ctx.new.next ≡ ctx.old.next }
     ensures path { ctx.new.path ≡ ctx.old.path }
     ensures lists { ctx.new.lists ≡ ctx.old.lists }
+    ensures scoping { ctx.new.scoping ≡ ctx.old.scoping }
     ensures warned { OnOk result (warned ctx.new.diagnostics ≡ warned ctx.old.diagnostics ++ own_await node.now) }
 {
     match node.kind() {
@@ -107,15 +110,21 @@ fn warn_if_await(node: &Node, ctx: &mut TraverseCtx) -> Result<(), AllocError>
     }
 }
 
-/// Warns of each `await` of a program, in preorder. Fails on allocation failure alone.
-#[tactic(auto, using(crate::specs::Calls::total_same, crate::specs::Warnings::none_warned, crate::specs::Warnings::all_warned))]
-pub fn warn_of_awaits(alloc: Global, program: &mut Node) -> Result<List<Diagnostic>, AllocError>
-    requires { nodes program.old < 2 ^ 32 }
+/// Warns of each `await` of a program, in preorder, and hands its scope table back. Fails on allocation failure alone.
+#[tactic(auto, using(crate::specs::Calls::total_same, crate::specs::Warnings::none_warned, crate::specs::Warnings::all_warned, crate::specs::Warnings::table_stays))]
+pub fn warn_of_awaits(
+    alloc: Global,
+    program: &mut Node,
+    scoping: Scoping,
+) -> Result<(Scoping, List<Diagnostic>), AllocError>
+    requires { 2 * nodes program.old < 2 ^ 32 }
     ensures program { OnOk result (program.new ≡ program.old) }
-    ensures warnings { IfOk result (λ found. warned found ≡ awaits (pending program.old [])) }
+    ensures table { IfOk result (λ r. r.0 ≡ scoping) }
+    ensures warnings { IfOk result (λ r. warned r.1 ≡ awaits (pending program.old [])) }
 {
     let mut transform = Warnings { alloc };
-    let mut ctx = TraverseCtx::new(alloc, 0);
+    let mut ctx = TraverseCtx::new(alloc, program, scoping, CompilerAssumptions::default())?;
     walk_program(&mut transform, program, &mut ctx)?;
-    Ok(ctx.diagnostics)
+    let (scoping, found, _names) = ctx.finish();
+    Ok((scoping, found))
 }

@@ -1,5 +1,6 @@
 use Rattle.std.proofs.Common.{◌∙◌, ap, arith}
 use Rattle.es_ctx.specs.Stores.{stored}
+use Rattle.es_walk.specs.Given.{of_nodes}
 use Rattle.es_walk.specs.Laws as laws
 use Rattle.es_walk.proofs.Lawful.{none_left, all_settled, kept_whole}
 use Rattle.es_walk.proofs.Walked as walked
@@ -15,7 +16,13 @@ pub returns-clause-numbers : goal.returns-clause-numbers
 returns-clause-numbers g c =
     let T = g.T.Traverse in
     let met = g.met.T.Traverse in
-    omega (arith, walked.node_pays T.enters T.leaves T.weight T.spare met.weighs_something met.enter_pays met.leave_pays met.enter_keeps_place met.leave_keeps_place c.in_ok-walk_node.ensures, ap stored c.requires.stores)
+    omega (arith, walked.node_pays T.enters T.leaves T.weight T.spare met.weighs_something met.enter_pays met.leave_pays met.enter_keeps_place met.leave_keeps_place of_nodes c.in_ok-walk_node.ensures, ap stored c.requires.stores)
+
+pub returns-clause-budget : goal.returns-clause-budget
+returns-clause-budget g c =
+    let T = g.T.Traverse in
+    let met = g.met.T.Traverse in
+    λ ids. omega (arith, walked.node_pays T.enters T.leaves T.weight T.spare met.weighs_something met.enter_pays met.leave_pays met.enter_keeps_place met.leave_keeps_place ids c.in_ok-walk_node.ensures, ap stored c.requires.stores)
 
 pub returns-clause-given : goal.returns-clause-given
 returns-clause-given g c =

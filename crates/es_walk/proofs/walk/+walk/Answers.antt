@@ -9,6 +9,7 @@ use Rattle.es_ctx.specs.Stores.{stored}
 use Rattle.es_node.proofs.Renumbered.{have_shapes-set}
 use Rattle.es_node.specs.View.{part_of, parts_of}
 use Rattle.es_visit.proofs.Along as along
+use Rattle.es_walk.specs.Given.{of_nodes}
 use Rattle.es_walk.specs.Laws as laws
 use Rattle.es_walk.specs.Placing.{stored-opened}
 use Rattle.es_walk.specs.Steps.{OpensPart}
@@ -25,7 +26,7 @@ walk_node-walk_parts-requires g t c κs within =
     let is = a.taken_is c.enter.new.node c.take-taken.result c.kind-kind.result inner.node_id.0 (span_of inner.span) inner.semantic_id inner.parts c.take-taken.ensures.taken c.kind-kind.ensures c.into_contents-contents.ensures.view in
     let weighs = a.total-node g.T.Traverse.weight c.enter.new.node c.kind-kind.result inner.node_id.0 (span_of inner.span) inner.semantic_id inner.parts is in
     let some = g.met.T.Traverse.weighs_something c.kind-kind.result in
-    let entered = g.met.T.Traverse.enter_pays _ _ _ _ _ c.in_ok-goes.ensures in
+    let entered = g.met.T.Traverse.enter_pays _ of_nodes _ _ _ _ c.in_ok-goes.ensures in
     let given = (g.met.T.Traverse.enter_keeps_place _ _ _ _ _ c.in_ok-goes.ensures).given in (
       omega (arith, weighs, some, entered, given, c.decreases),
       (
@@ -54,8 +55,8 @@ walk_node-exit-requires-clause-bound g t c =
     let is = a.taken_is c.enter.new.node c.take-taken.result c.kind-kind.result inner.node_id.0 (span_of inner.span) inner.semantic_id inner.parts c.take-taken.ensures.taken c.kind-kind.ensures c.into_contents-contents.ensures.view in
     let before = a.total-node g.T.Traverse.weight c.enter.new.node c.kind-kind.result inner.node_id.0 (span_of inner.span) inner.semantic_id inner.parts is in
     let after = a.heft-node g.T.Traverse.weight c.new.result c.kind-kind.result inner.node_id.0 (span_of inner.span) inner.semantic_id c.walk_parts.new.parts c.new.ensures in
-    let entered = g.met.T.Traverse.enter_pays _ _ _ _ _ c.in_ok-goes.ensures in
-    let pays = walked.parts_pay g.T.Traverse.enters g.T.Traverse.leaves g.T.Traverse.weight g.T.Traverse.spare g.met.T.Traverse.weighs_something g.met.T.Traverse.enter_pays g.met.T.Traverse.leave_pays g.met.T.Traverse.enter_keeps_place g.met.T.Traverse.leave_keeps_place c.in_ok-walk_parts.ensures.walked in
+    let entered = g.met.T.Traverse.enter_pays _ of_nodes _ _ _ _ c.in_ok-goes.ensures in
+    let pays = walked.parts_pay g.T.Traverse.enters g.T.Traverse.leaves g.T.Traverse.weight g.T.Traverse.spare g.met.T.Traverse.weighs_something g.met.T.Traverse.enter_pays g.met.T.Traverse.leave_pays g.met.T.Traverse.enter_keeps_place g.met.T.Traverse.leave_keeps_place of_nodes c.in_ok-walk_parts.ensures.walked in
     omega (arith, entered, pays, before, after, c.requires.bound)
 
 pub walk_node-returns-then-goes : goal.walk_node-returns-then-goes
@@ -70,7 +71,7 @@ walk_node-returns g t c = a.node_passed _ _ _ _ c.if-goes.false c.in_ok-goes.ens
 pub walk_member-walk_part-requires : goal.walk_member-walk_part-requires
 walk_member-walk_part-requires g t c κs within =
     let same = ap stored c.in_ok-open.ensures.lists ∙ stored-opened (has_statements c.args.parent.kind c.args.at) (part_of c.args.part.now) c.args.ctx.now.lists in
-    let opens : OpensPart (c.args.transform.now, c.args.ctx.now) c.args.parent c.args.at (part_of c.args.part.now) (c.args.transform.now, c.open.new.self) = record { transform = refl; next = c.in_ok-open.ensures.next; path = c.in_ok-open.ensures.path; lists = c.in_ok-open.ensures.lists; diagnostics = c.in_ok-open.ensures.diagnostics } in (
+    let opens : OpensPart (c.args.transform.now, c.args.ctx.now) c.args.parent c.args.at (part_of c.args.part.now) (c.args.transform.now, c.open.new.self) = record { transform = refl; next = c.in_ok-open.ensures.next; path = c.in_ok-open.ensures.path; lists = c.in_ok-open.ensures.lists; outcome = c.in_ok-open.ensures.outcome } in (
       omega (arith, same, c.decreases),
       (
         within,
@@ -85,7 +86,7 @@ pub walk_member-close-requires : goal.walk_member-close-requires
 walk_member-close-requires g t c = λ is. c.in_ok-walk_part.ensures.shape (Sort.List Place.Statement) ∙ c.requires.shape is
 
 pub walk_member-returns-clause-walked : goal.walk_member-returns-clause-walked
-walk_member-returns-clause-walked g t c = w.between (record { transform = refl; next = c.in_ok-open.ensures.next; path = c.in_ok-open.ensures.path; lists = c.in_ok-open.ensures.lists; diagnostics = c.in_ok-open.ensures.diagnostics }) c.in_ok-walk_part.ensures.walked (record { transform = refl; next = c.in_ok-close.ensures.next; path = c.in_ok-close.ensures.path; lists = c.in_ok-close.ensures.lists; diagnostics = c.in_ok-close.ensures.diagnostics; part = c.in_ok-close.ensures.part })
+walk_member-returns-clause-walked g t c = w.between (record { transform = refl; next = c.in_ok-open.ensures.next; path = c.in_ok-open.ensures.path; lists = c.in_ok-open.ensures.lists; outcome = c.in_ok-open.ensures.outcome }) c.in_ok-walk_part.ensures.walked (record { transform = refl; next = c.in_ok-close.ensures.next; path = c.in_ok-close.ensures.path; lists = c.in_ok-close.ensures.lists; outcome = c.in_ok-close.ensures.outcome; part = c.in_ok-close.ensures.part })
 
 pub walk_member-returns-clause-shape : goal.walk_member-returns-clause-shape
 walk_member-returns-clause-shape g t c = λ sort. c.in_ok-close.ensures.shape sort ∙ c.in_ok-walk_part.ensures.shape sort
@@ -96,7 +97,7 @@ walk_nodes-loop-i-preserved g t c =
     let met = g.met.T.Traverse in
     let h = w.item c.in_ok-walk_node.ensures in
     let inside : c.loop-i.i < length c.loop-i.all = omega (arith, c.loop-i-test.true, c.loop-i.auto.all) in
-    let pays = walked.item_pays T.enters T.leaves T.weight T.spare met.weighs_something met.enter_pays met.leave_pays met.enter_keeps_place met.leave_keeps_place h in
+    let pays = walked.item_pays T.enters T.leaves T.weight T.spare met.weighs_something met.enter_pays met.leave_pays met.enter_keeps_place met.leave_keeps_place of_nodes h in
     let place = walked.item_place T.enters T.leaves T.weight T.spare met.weighs_something met.enter_pays met.leave_pays met.enter_keeps_place met.leave_keeps_place h in
     let here = load.item_load child trees refl (λ x xs. refl) T.weight c.loop-i.all c.loop-i.i c.index-all-i.result inside in
     let after = load.set_load child trees refl (λ x xs. refl) T.weight c.loop-i.all c.loop-i.i c.walk_node.new.node inside in
@@ -115,7 +116,7 @@ walk_nodes_or_holes-loop-i-preserved g t c =
     let met = g.met.T.Traverse in
     let h = c.in_ok-walk_node_or_hole.ensures in
     let inside : c.loop-i.i < length c.loop-i.all = omega (arith, c.loop-i-test.true, c.loop-i.auto.all) in
-    let pays = walked.item_pays T.enters T.leaves T.weight T.spare met.weighs_something met.enter_pays met.leave_pays met.enter_keeps_place met.leave_keeps_place h in
+    let pays = walked.item_pays T.enters T.leaves T.weight T.spare met.weighs_something met.enter_pays met.leave_pays met.enter_keeps_place met.leave_keeps_place of_nodes h in
     let place = walked.item_place T.enters T.leaves T.weight T.spare met.weighs_something met.enter_pays met.leave_pays met.enter_keeps_place met.leave_keeps_place h in
     let here = load.item_load nullable nullable_trees refl (λ x xs. refl) T.weight c.loop-i.all c.loop-i.i c.index-all-i.result inside in
     let after = load.set_load nullable nullable_trees refl (λ x xs. refl) T.weight c.loop-i.all c.loop-i.i c.walk_node_or_hole.new.node inside in
@@ -154,7 +155,7 @@ walk_parts-loop-i-preserved g t c =
     let met = g.met.T.Traverse in
     let h = c.in_ok-walk_member.ensures.walked in
     let inside : c.loop-i.i < length c.loop-i.all = omega (arith, c.loop-i-test.true, c.loop-i.auto.all) in
-    let pays = walked.member_pays T.enters T.leaves T.weight T.spare met.weighs_something met.enter_pays met.leave_pays met.enter_keeps_place met.leave_keeps_place h in
+    let pays = walked.member_pays T.enters T.leaves T.weight T.spare met.weighs_something met.enter_pays met.leave_pays met.enter_keeps_place met.leave_keeps_place of_nodes h in
     let place = walked.member_place T.enters T.leaves T.weight T.spare met.weighs_something met.enter_pays met.leave_pays met.enter_keeps_place met.leave_keeps_place h in
     let here = load.item_load part_of parts_of refl (λ x xs. refl) T.weight c.loop-i.all c.loop-i.i c.index-all-i.result inside in
     let after = load.set_load part_of parts_of refl (λ x xs. refl) T.weight c.loop-i.all c.loop-i.i c.walk_member.new.part inside in

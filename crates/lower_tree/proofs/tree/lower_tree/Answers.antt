@@ -1,10 +1,14 @@
-use Rattle.std.proofs.Common.{◌∙◌, sym, arith}
-use Rattle.std.proofs.lemmas.Bool.{leb-true}
-use Rattle.es_base.specs.Preorder.{nodes}
-use Rattle.lower_tree.proofs.BuiltProgram.{built_few}
+use Rattle.es_reading.specs.Told.{ids}
+use Rattle.lower_tree.proofs.BuiltProgram.{built_few, made_few}
 use Rattle.lower_tree.proofs.tree.lower_tree.Goals as goal
+
+pub build-requires : goal.build-requires
+build-requires c =
+    let r = c.in_ok-lowered.field-0.lowered in
+    made_few c.args.options.now c.args.source r.program (ids c.args.foreign.now) r.names.entries c.in_ok-lowered.ensures.valid c.in_ok-lowered.ensures.made
 
 pub returns-clause-few : goal.returns-clause-few
 returns-clause-few c =
-    let q = c.in_ok-lowered.field-0.lowered.program in
-    built_few q c.build.new.program c.in_ok-scoping.ensures.stripped (omega (arith, leb-true (nodes q) 4294967295 (sym c.has_at_most.ensures ∙ c.if-not-has_at_most.false)))
+    let r = c.in_ok-lowered.field-0.lowered in
+    let few = made_few c.args.options.now c.args.source r.program (ids c.args.foreign.now) r.names.entries c.in_ok-lowered.ensures.valid c.in_ok-lowered.ensures.made in
+    built_few r.program c.build.new.program c.in_ok-scoping.ensures.stripped few
