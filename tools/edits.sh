@@ -1,6 +1,6 @@
 #!/usr/bin/env bash
-# Tries the must-fail edits of a crate that stand outside the gate (crates/NAME/edits): the prover must refuse each. What a run of the
-# gate proved on this machine is not proved again.
+# Tries the must-fail edits of a crate that stand outside the gate (crates/NAME/edits): the prover must refuse each. Goes on from what
+# runs of the gate kept on this machine (docs/TIMES.md).
 # usage: tools/edits.sh NAME..
 set -e
 cd "$(dirname "$0")/.."
