@@ -9,9 +9,15 @@ use Rattle.es_base.specs.declared.kind.Kind.{Kind}
 use Rattle.es_ctx.specs.declared.ctx.TraverseCtx.{TraverseCtx}
 use Rattle.es_node.specs.View.{kind_of}
 use Rattle.es_visit.specs.Changed.{chosen}
+use Rattle.es_walk.specs.Any.{Any, any_settled}
 use Rattle.es_walk.specs.Given.{Ids, load}
+use Rattle.es_walk.specs.Idle.{NothingKept}
+use Rattle.es_walk.specs.Laws.{AllSettled, BelowSettled}
 use Rattle.es_walk.specs.Rewriting as rewriting
 use Rattle.es_walk.specs.Rewriting.{Enters, Leaves}
+use Rattle.es_walk.specs.SettledStores.{ListsSettled}
+use Rattle.es_walk.specs.StateStays as keeping
+use Rattle.es_walk.specs.Steps.{lists_of}
 use Rattle.es_walk.specs.Weight.{total, total_of, total_of_part, heft, NoMore, nodes-heft}
 use Rattle.class_properties.specs.Form.{is_named_field, is_body_of_fields, is_class_of_fields}
 use Rattle.class_properties.specs.Lowering.{children, value_or_void, definition, lowered_elements, lowered_body, lowered_class}
@@ -89,3 +95,10 @@ module _ {T : Type 0} where
 
   pub leave_pays : (ids : Ids) → NoMore {S = T × TraverseCtx} (Leaves stays) (heft weight) nodes (load (λ s. 0) ids)
   leave_pays = rewriting.leave_pays goes_into lowered_node stays weight (λ s. 0) (nodes-heft weight weighs_something)
+
+  -- of a class below a node that the walk does not go into nothing is said
+  pub pass_settles : (s e : T × TraverseCtx) (t u : Tree) → Enters goes_into lowered_node false s t e u → NothingKept s → ListsSettled Any (lists_of s) → ListsSettled Any (lists_of e) × AllSettled Any u
+  pass_settles = keeping.pass_settles goes_into lowered_node stays Any (λ t out. any_settled (lowered_node t))
+
+  pub leave_settles : (s e : T × TraverseCtx) (t u : Tree) → Leaves stays s t e u → NothingKept s → ListsSettled Any (lists_of s) → BelowSettled Any t → ListsSettled Any (lists_of e) × AllSettled Any u
+  leave_settles = keeping.leave_settles goes_into lowered_node stays Any (λ t below. any_settled t)

@@ -1,13 +1,16 @@
 // The lowering as a transform of the walk (docs/WALK.md).
 
-ghost use Rattle.std.specs.Prelude.{◌≡◌, ◌*◌, ◌<◌, ◌^◌, [], OnOk};
+ghost use Rattle.std.specs.Prelude.{◌≡◌, ◌*◌, ◌<◌, ◌^◌, [], true, false, OnOk};
 ghost use Rattle.std.specs.List.{list_all};
 ghost use Rattle.es_base.specs.Preorder.{nodes};
 ghost use Rattle.es_node.specs.View.{kind_of};
+ghost use Rattle.es_walk.specs.Any.{Any};
 ghost use Rattle.es_walk.specs.Changed.{changed};
 ghost use Rattle.es_walk.specs.Idle.{NothingKept, open_keeps_none, close_keeps_none};
 ghost use Rattle.es_walk.specs.Rewriting as rewriting;
 ghost use Rattle.es_walk.specs.Rewriting.{Enters, Leaves};
+ghost use Rattle.es_walk.specs.StateStays as keeping;
+ghost use Rattle.es_walk.specs.StateStays.{StateStays};
 ghost use Rattle.class_properties.specs.Form.{is_name, is_named_field, is_body_of_fields, is_class_of_fields};
 ghost use Rattle.class_properties.specs.Transform as laws;
 ghost use Rattle.class_properties.specs.Transform.{goes_into, lowered_node, stays, weight};
@@ -23,7 +26,8 @@ use es_scopes::scoping::Scoping;
 use es_steps::options::CompilerAssumptions;
 use es_tree::class::{ClassBodyRef, ClassDeclarationRef, PropertyDefinitionRef};
 use es_uids::traverse_scoping::TraverseScoping;
-use es_walk::walk::{Traverse, walk_node};
+use es_walk::program::{Lawful, walk_program};
+use es_walk::walk::Traverse;
 use std::alloc::{AllocError, Global};
 
 /// Lowers each class of a program whose elements are all fields with a name. The walk goes into the program alone.
@@ -74,23 +78,53 @@ impl Traverse for ClassProperties {
     }
 }
 
+/// The transform stays, and of the context the scope table, the names and the warnings. What becomes of the tree is said of all of
+/// it at once (`lower_classes`), and not of each node, since a class that is no statement of the program stays.
+impl Lawful for ClassProperties {
+    ghost settled = { λ transform. Any };
+
+    ghost kept = { λ begin program s t around rest. StateStays begin s };
+
+    ghost enter_steady = { λ goes s e t u h v x. x };
+
+    ghost leave_steady = { λ s e t u h v x. x };
+
+    ghost enter_settles = { keeping.enter_settles goes_into lowered_node stays Any };
+
+    ghost pass_settles = { laws.pass_settles };
+
+    ghost leave_settles = { laws.leave_settles };
+
+    ghost enter_keeps = { keeping.enter_keeps goes_into lowered_node stays true };
+
+    ghost pass_keeps = { keeping.enter_keeps goes_into lowered_node stays false };
+
+    ghost leave_keeps = { keeping.leave_keeps goes_into lowered_node stays };
+
+    ghost open_keeps = { keeping.open_keeps };
+
+    ghost close_keeps = { keeping.close_keeps };
+}
+
 /// Lowers the classes of a program whose elements are all fields with a name. Fails on allocation failure alone; then nothing
 /// is said of the program.
-#[tactic(auto, using(crate::proofs::Changed::weighs_few))]
+#[tactic(auto, using(es_walk::specs::StateStays::begins))]
 pub fn lower_classes(alloc: Global, program: &mut Node) -> Result<(), AllocError>
     requires { 14 * nodes program.old < 2 ^ 32 }
     ensures { OnOk result (program.new ≡ changed goes_into lowered_node stays program.old) }
 {
     let mut transform = ClassProperties { alloc };
     let mut ctx = root_ctx(alloc, program.nodes());
-    walk_node(&mut transform, program, &mut ctx)?;
+    walk_program(&mut transform, program, &mut ctx)?;
     Ok(())
 }
 
 /// A context at the root, with no scopes and no names: this lowering reads none.
 fn root_ctx(alloc: Global, next: u32) -> TraverseCtx
     ensures next { result.next ≡ next }
+    ensures path { result.path ≡ [] }
     ensures lists { result.lists ≡ [] }
+    ensures table { result.scoping.scoping ≡ record { scopes = []; symbols = []; references = [] } }
 {
     let names = Names::new(alloc, Spellings::new(alloc));
     TraverseCtx {

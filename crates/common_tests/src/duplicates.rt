@@ -2,7 +2,7 @@
 
 ghost use Rattle.std.specs.Prelude.{◌≡◌, ◌+◌, ◌<◌, ◌≤◌, [], IfOk, OnOk, length};
 ghost use Rattle.es_base.specs.declared.ids.ScopeId.{ScopeId};
-ghost use Rattle.es_ctx.specs.ScopesAround.{current_block_scope_id};
+ghost use Rattle.es_ctx.specs.ScopesAround.{current_block_scope_id, current_var_scope_id};
 ghost use Rattle.es_scopes.specs.Table.{HasRoom, HasScope};
 ghost use Rattle.es_uids.specs.Uids.{AreTaken};
 ghost use Rattle.common_tests.specs.Root.{one_scope};
@@ -46,17 +46,20 @@ fn in_block(alloc: Global) -> Result<TraverseCtx, Fail>
         CompilerAssumptions::default(),
     )?;
     let block = make_block_statement(alloc, List::new(alloc))?;
-    ctx.open(Parent::of(&block), 0, &Part::List(List::new(alloc)))?;
+    let parent = Parent::of(alloc, &block)?;
+    ctx.open(&parent, 0, &Part::List(List::new(alloc)))?;
     Ok(ctx)
 }
 
 /// Fails where no temporary can be declared.
 fn check_ready(ctx: &TraverseCtx) -> Result<(), Fail>
-    ensures scope { OnOk result (HasScope ctx.now.scoping.scoping (current_block_scope_id ctx.now.path)) }
+    ensures block { OnOk result (HasScope ctx.now.scoping.scoping (current_block_scope_id ctx.now.path)) }
+    ensures hoisted { OnOk result (HasScope ctx.now.scoping.scoping (current_var_scope_id ctx.now.path)) }
     ensures symbols { OnOk result (HasRoom ctx.now.scoping.scoping.symbols) }
     ensures open { OnOk result (0 < length ctx.now.lists) }
 {
     check_room(ctx.scoping(), ctx.current_block_scope_id())?;
+    check_room(ctx.scoping(), ctx.current_var_scope_id())?;
     if !ctx.has_open_list() {
         return Err(Fail::new("no list is open"));
     }

@@ -1,14 +1,19 @@
 -- A tree has as many nodes whatever numbers they have, and whatever semantic ids.
-use Rattle.std.proofs.Common.{◌≡◌, refl, sym, ap, ◌∙◌, ℕ, ◌+◌, ◌*◌, ◌<◌, ◌≤◌, ◌^◌, List, [], true, arith}
+use Rattle.std.proofs.Common.{◌≡◌, refl, sym, ap, ◌∙◌, ℕ, ◌+◌, ◌*◌, ◌<◌, ◌≤◌, ◌^◌, length, true, arith}
 use Rattle.std.proofs.lemmas.Bool.{leb-true}
 use Rattle.std.specs.Prelude.{nat_le}
+use Rattle.es2022.proofs.Rows.{HasAtMost, few_rows}
 use Rattle.es2022.specs.Paid.{one, total_one}
 use Rattle.es_base.proofs.PreorderLemmas.{news-le}
 use Rattle.es_base.specs.Carried.{stripped, stripped_part, stripped_parts}
 use Rattle.es_base.specs.Preorder.{news, news_of_part, nodes, nodes_of, nodes_of_part, one_if, renumbered, renumbered_part, renumbered_parts}
 use Rattle.es_base.specs.Tree.{Tree, Part, Parts, Node, end, more, child, absent, list, string, no_string, boolean, literal}
-use Rattle.es_ctx.specs.Stores.{stored}
-use Rattle.es_ctx.specs.declared.stores.OpenList.{OpenList}
+use Rattle.es_ctx.specs.Outcome.{BeginsAt}
+use Rattle.es_ctx.specs.declared.ctx.TraverseCtx.{TraverseCtx}
+use Rattle.es_scopes.specs.Built.{built_table}
+use Rattle.es_scopes.specs.Table.{Table}
+use Rattle.es_steps.specs.declared.options.CompilerAssumptions.{CompilerAssumptions}
+use Rattle.es_walk.specs.Given.{Suffice, suffice_begun}
 use Rattle.es_walk.specs.Weight.{total}
 
 mutual
@@ -56,6 +61,13 @@ numbered_nodes f n t u e = ap nodes e ∙ nodes-renumbered f n t
 pub news_few : (first : ℕ) (t : Tree) → nodes t ≤ 64 * first → first ≤ 2 ^ 20 → first + news first t < 2 ^ 32
 news_few first t many few = omega (arith, news-le first t, many, few)
 
--- the walk has room for what it makes
-pub walk_bound : (t : Tree) (first source next : ℕ) (lists : List OpenList) → nodes t ≡ source → first ≡ source → nat_le source 1048576 ≡ true → lists ≡ [] → next ≡ nodes t → total one t + (63 * first + stored lists + next) < 2 ^ 32
-walk_bound t first source next lists same count few none begun = omega (arith, total_one t, same, count, leb-true source 1048576 few, ap stored none, begun)
+-- the walk has room for what it makes: for nodes, scopes, symbols and references
+pub walk_suffices : (source t : Tree) (first : ℕ) (table : Table) (a : CompilerAssumptions) (c : TraverseCtx) → nodes t ≡ nodes source → first ≡ nodes source → nat_le (nodes source) 1048576 ≡ true → table ≡ built_table source → BeginsAt t table a c → Suffice (λ (room : ℕ). room) (total one t) (63 * first, c)
+walk_suffices source t first table a c same count few built begins =
+    let least : nodes source ≤ 1048576 = leb-true (nodes source) 1048576 few in
+    let rows : HasAtMost (nodes source) (built_table source) = few_rows source in
+    suffice_begun (λ (room : ℕ). room) (total one t) (63 * first) c t table a begins
+    (omega (arith, total_one t, same, count, least))
+    (omega (arith, total_one t, same, count, least, rows.scopes, ap (λ (x : Table). length x.scopes) built))
+    (omega (arith, total_one t, same, count, least, rows.symbols, ap (λ (x : Table). length x.symbols) built))
+    (omega (arith, total_one t, same, count, least, rows.references, ap (λ (x : Table). length x.references) built))

@@ -1,3 +1,2 @@
 pub mod Paid
 pub mod Searched
-pub mod Settled

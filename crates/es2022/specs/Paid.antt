@@ -1,5 +1,5 @@
 -- What a hook does that pays for the nodes that it makes with the room that it has.
-use Rattle.std.specs.Prelude.{◌≡◌, ℕ, zero, suc, ◌+◌, ◌≤◌, List, [], ◌∷◌, Bool, length, refl}
+use Rattle.std.specs.Prelude.{◌≡◌, ℕ, zero, suc, ◌+◌, ◌<◌, ◌≤◌, ◌^◌, List, [], ◌∷◌, Bool, length, refl}
 use Rattle.std.proofs.Common.{◌∙◌, ap, arith}
 use Rattle.es_base.specs.Preorder.{nodes, nodes_of, nodes_of_part}
 use Rattle.es_base.specs.Tree.{Tree, Part, Parts, Node, end, more, child, absent, list, string, no_string, boolean, literal}
@@ -9,7 +9,7 @@ use Rattle.es_ctx.specs.Stores.{beside, changed, innermost, kept_beside, place_o
 use Rattle.es_ctx.specs.declared.ctx.TraverseCtx.{TraverseCtx}
 use Rattle.es_ctx.specs.declared.stores.OpenList.{OpenList}
 use Rattle.es_ctx.specs.declared.stores.Side.{Side}
-use Rattle.es_walk.specs.Given.{Ids, ids_given-same, load}
+use Rattle.es_walk.specs.Given.{Ids, of_nodes, ids_given-same, load, Suffice}
 use Rattle.es_walk.specs.Inserted.{stored-beside, stored-changed, stored-let, stored-var}
 use Rattle.es_walk.specs.Placing.{place_here}
 use Rattle.es_walk.specs.Steps.{KeepPlaces, KeepsPlace}
@@ -105,7 +105,7 @@ spent_on room left count c d paid s = record { within = omega (arith, paid, s.ro
 pub pays_for : {T : Type 0} (room : T → ℕ) (s e : T × TraverseCtx) (c : TraverseCtx) (t u : Tree) (paid : ℕ) → Spent paid c (room e.0) e.1 → c.next ≡ s.1.next → c.path ≡ s.1.path → c.lists ≡ s.1.lists → c.scoping.scoping ≡ s.1.scoping.scoping → nodes u + paid ≤ nodes t + room s.0 → Pays room s t e u
 pays_for room s e c t u paid spent next path lists table h = record {
   pays = λ ids. omega (arith, h, spent.within, ids_given-same ids c e.1 spent.next (ap (λ x. x.scoping) spent.scoping), ids_given-same ids s.1 c next table, ap stored lists);
-  place = record { path = spent.path ∙ path; depth = spent.depth ∙ ap length lists; given = omega (arith, spent.next, next) };
+  place = record { path = spent.path ∙ path; depth = spent.depth ∙ ap length lists; given = λ ids. omega (arith, ids_given-same ids c e.1 spent.next (ap (λ x. x.scoping) spent.scoping), ids_given-same ids s.1 c next table) };
 }
 
 pub enter_pays : {T : Type 0} (room : T → ℕ) (goes : Bool) (ids : Ids) → NoMore {S = T × TraverseCtx} (λ s t e u. Pays room s t e u) (total one) (total one) (load room ids)
@@ -116,3 +116,11 @@ leave_pays room ids s e t u h = omega (arith, h.pays ids, heft_one t)
 
 pub keeps_place : {T : Type 0} (room : T → ℕ) → KeepPlaces {T = T} (λ s t e u. Pays room s t e u)
 keeps_place room s e t u h = h.place
+
+-- what a node becomes can be counted, as the walk enters it and as it leaves it
+module _ {T : Type 0} (room : T → ℕ) (t : Tree) (s : T × TraverseCtx) where
+  pub room_entered : Suffice room (total one t) s → nodes t + room s.0 < 2 ^ 32
+  room_entered enough = omega (arith, enough of_nodes, total_one t)
+
+  pub room_left : Suffice room (heft one t) s → nodes t + room s.0 < 2 ^ 32
+  room_left enough = omega (arith, enough of_nodes, heft_one t)

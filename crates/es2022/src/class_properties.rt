@@ -3,10 +3,8 @@
 ghost use Rattle.std.specs.Prelude.{◌≡◌, ◌+◌, ◌<◌, ◌≤◌, ◌^◌, OnOk, true, false, length};
 ghost use Rattle.es2022.specs.Paid.{Pays, Spent, Stores, one};
 ghost use Rattle.es2022.specs.Paid as paid;
-ghost use Rattle.es2022.specs.Settled.{Any};
-ghost use Rattle.es2022.specs.Settled as settled;
 ghost use Rattle.es_base.specs.Preorder.{nodes};
-ghost use Rattle.es_ctx.specs.Stores.{stored};
+ghost use Rattle.es_walk.specs.Any.{Any, any_settled, lists_settled};
 
 use crate::class::{enter_class, exit_class};
 use crate::names::Naming;
@@ -61,7 +59,7 @@ impl Traverse for ClassProperties {
 
     ghost leave_keeps_place = { paid.keeps_place (λ c. c.room) };
 
-    #[tactic(auto, using(crate::specs::Paid::total_one, crate::specs::Paid::pays_nothing))]
+    #[tactic(auto, using(crate::specs::Paid::pays_nothing))]
     fn enter(&mut self, node: &mut Node, ctx: &mut TraverseCtx) -> Result<bool, AllocError> {
         if self.is_class(node) {
             self.transform(node, ctx, true)?;
@@ -94,7 +92,7 @@ impl ClassProperties {
         ctx: &mut TraverseCtx,
         enters: bool,
     ) -> Result<(), AllocError>
-        requires { nodes node.old + (self.old.room + stored ctx.old.lists + ctx.old.next) < 2 ^ 32 }
+        requires { nodes node.old + self.old.room < 2 ^ 32 }
         ensures { OnOk result (Pays (λ c. c.room) (self.old, ctx.old) node.old (self.new, ctx.new) node.new) }
     {
         let statement = statement_of(node, ctx);
@@ -287,11 +285,11 @@ impl Lawful for ClassProperties {
 
     ghost leave_steady = { λ s e t u h v x. tt };
 
-    ghost enter_settles = { λ s e t u h r l. settled.settled_lists e.1.lists };
+    ghost enter_settles = { λ s e t u h r l. lists_settled e.1.lists };
 
-    ghost pass_settles = { λ s e t u h r l. (settled.settled_lists e.1.lists, settled.settled u) };
+    ghost pass_settles = { λ s e t u h r l. (lists_settled e.1.lists, any_settled u) };
 
-    ghost leave_settles = { λ s e t u h r l below. (settled.settled_lists e.1.lists, settled.settled u) };
+    ghost leave_settles = { λ s e t u h r l below. (lists_settled e.1.lists, any_settled u) };
 
     ghost enter_keeps = { λ begin program s e t u h r hole here around rest x. tt };
 

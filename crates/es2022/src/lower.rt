@@ -3,6 +3,7 @@
 ghost use Rattle.std.specs.Prelude.{◌≡◌, ◌*◌, ◌<◌, ◌≤◌, ◌^◌, IfErr, IfOk};
 ghost use Rattle.es_base.specs.Preorder.{nodes};
 ghost use Rattle.es_lowering.specs.Any.{DeclinesByNode};
+ghost use Rattle.es_scopes.specs.Built.{built_table};
 
 use crate::class_properties::ClassProperties;
 use crate::state::{Settings, State};
@@ -58,7 +59,8 @@ pub fn lower(alloc: Global, options: &Options, source: &Node) -> Result<LoweredP
 #[tactic(auto, using(crate::proofs::Counted::built_nodes))]
 fn with_scopes(alloc: Global, source: &Node) -> Result<(Node, Scoping), AllocError>
     requires { nodes source.now < 2 ^ 32 }
-    ensures { IfOk result (λ r. nodes r.0 ≡ nodes source.now) }
+    ensures nodes { IfOk result (λ r. nodes r.0 ≡ nodes source.now) }
+    ensures table { IfOk result (λ r. r.1 ≡ built_table source.now) }
 {
     let mut program = source.clone_tree(alloc)?;
     let scoping = build(alloc, &mut program)?;

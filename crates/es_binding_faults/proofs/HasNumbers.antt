@@ -1,11 +1,14 @@
 -- A set of numbers holds what was added.
-use Rattle.std.proofs.Common.{◌≡◌, refl, sym, ap, ◌∙◌, ℕ, ◌+◌, ◌<◌, ◌≤◌, List, [], ◌∷◌, ◌++◌, map, length, drop, get_or, Bool, true, false, cond, ◌||◌, nat_eq}
+use Rattle.std.proofs.Common.{◌≡◌, refl, sym, ap, ◌∙◌, ℕ, ◌+◌, ◌<◌, ◌≤◌, List, [], ◌∷◌, ◌++◌, map, length, drop, get_or, Bool, true, false, cond, ◌||◌, nat_eq, is_some, Option, Some}
 use Rattle.std.specs.List.{list_any}
+use Rattle.std.specs.Map.{keys_of}
+use Rattle.std.proofs.lemmas.Map.Made.{is_some-lookup}
 use Rattle.std.proofs.lemmas.List.{at_drop_more, at_drop_all}
 use Rattle.std.proofs.lemmas.Bool.{eqb-true}
 use Rattle.es_base.specs.declared.ids.NodeId.{NodeId}
 use Rattle.es_steps.specs.References.{has_number}
 use Rattle.indexmap.specs.IndexSet.{insert_key}
+use Rattle.number_map.specs.Entries.{value_at}
 
 pub contained : (n : ℕ) (ks : List ℕ) → list_any (nat_eq n) ks ≡ has_number n ks
 contained n [] = refl
@@ -37,6 +40,17 @@ inserted n k ks = elim (has_number k ks) as (λ b. has_number k ks ≡ b → has
   | true ↦ λ t. there n k ks t
   | false ↦ λ f. has_number-append n ks (k ∷ []) ∙ or_swapped (has_number n ks) (nat_eq n k)
 ] refl
+
+-- the numbers of a map are those that have values
+pub has_number-keys : {V : Type 0} (n : ℕ) (m : List (ℕ × V)) → has_number n (keys_of m) ≡ is_some (value_at n m)
+has_number-keys n m = sym (contained n (keys_of m)) ∙ sym (is_some-lookup (nat_eq n) m)
+
+pub has_number-more : {V : Type 0} (n k : ℕ) (v : V) (old new : List (ℕ × V)) → value_at n new ≡ cond (nat_eq n k) (Some v) (value_at n old) → has_number n (keys_of new) ≡ (nat_eq n k || has_number n (keys_of old))
+has_number-more {V} n k v old new more = has_number-keys n new ∙ ap is_some more ∙ either (nat_eq n k) (value_at n old) ∙ ap (λ b. nat_eq n k || b) (sym (has_number-keys n old))
+  where
+    either : (b : Bool) (o : Option V) → is_some (cond b (Some v) o) ≡ (b || is_some o)
+    either true o = refl
+    either false o = refl
 
 moved : (a b c : Bool) → ((a || b) || c) ≡ (b || (a || c))
 moved true true c = refl

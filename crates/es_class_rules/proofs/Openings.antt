@@ -1,6 +1,6 @@
 -- Definitions that are opened, and what they evaluate.
-use Rattle.std.proofs.Common.{◌≡◌, refl, sym, ap, ap₂, ◌∙◌, ℕ, zero, suc, ◌+◌, ◌-◌, ◌<◌, ◌≤◌, ◌||◌, ◌&&◌, not, List, [], ◌∷◌, ◌++◌, length, drop, get_or, Bool, true, false, cond, Option, Some, None, arith}
-use Rattle.std.proofs.lemmas.List.{append_assoc, append-nil, drop_more, drop_all}
+use Rattle.std.proofs.Common.{◌≡◌, refl, sym, ap, ap₂, ◌∙◌, ℕ, zero, suc, ◌+◌, ◌-◌, ◌<◌, ◌≤◌, ◌||◌, not, List, [], ◌∷◌, ◌++◌, length, drop, get_or, map, Bool, true, false, cond, Option, Some, None, Bor, arith}
+use Rattle.std.proofs.lemmas.List.{drop_more, drop_all}
 use Rattle.es_steps.specs.Code.{Codes, Opened, and, done}
 use Rattle.es_steps.specs.Code as of_code
 use Rattle.es_steps.specs.Evaluation.{has_instance_methods}
@@ -11,7 +11,8 @@ use Rattle.es_codes.specs.CodeView.{code_of, codes_of}
 use Rattle.es_evaluation.specs.Direct as direct
 use Rattle.es_evaluation.specs.Direct.{State, and_then, brand_first}
 use Rattle.es_evaluator.specs.Steps.{Opens}
-use Rattle.es_code_rules.specs.Elsewhere.{definition_of, left, opens_of}
+use Rattle.es_code_rules.proofs.DefinitionNumbers.{defines_one, not_both}
+use Rattle.es_code_rules.specs.Elsewhere.{definition_behind, definition_of, definitions_behind, is_shut, left, opened_by, opens_of}
 use Rattle.es_code_rules.specs.Steps.{value_at}
 use Rattle.es_code_rules.specs.declared.definition.Definition.{Definition}
 use Rattle.es_code_rules.specs.declared.definition.Opening.{Opening}
@@ -19,101 +20,95 @@ use Rattle.es_class_rules.specs.Steps.{opened_at, defined_at, construction_at, f
 
 -- ---- which one is opened
 
-abbrev unless_shut : Bool → of.Definition → List of.Definition → List of.Definition
-unless_shut true d ds = ds
-unless_shut false d ds = d ∷ ds
+-- where something is shut, it has no definition, and all else has those that it had
+without_one : (o : Opened) (d : of.Definition) (ds : List of.Definition) → of.definition_of o (of.without_definition (opened_by d) ds) ≡ cond (of.defines o d) None (of.definition_of o ds)
+without_one o d ds = here (of.defines o d) refl
+  where
+    -- of it
+    its_own : (b : Bool) (e : of.Definition) (es : List of.Definition) → of.defines o e ≡ b → of.definition_of o (of.without_definition o es) ≡ None → of.definition_of o (cond b (of.without_definition o es) (e ∷ of.without_definition o es)) ≡ None
+    its_own true e es is h = h
+    its_own false e es is h = ap (λ (c : Bool). cond c (Some e) (of.definition_of o (of.without_definition o es))) is ∙ h
 
-left_is : (d : Definition) (ds : List Definition) (f : Bool) (fs : List Bool) → left (d ∷ ds) (f ∷ fs) ≡ unless_shut f (definition_of d) (left ds fs)
-left_is d ds true fs = refl
-left_is d ds false fs = refl
+    none : (es : List of.Definition) → of.definition_of o (of.without_definition o es) ≡ None
+    none [] = refl
+    none (e ∷ es) = its_own (of.defines o e) e es refl (none es)
 
-left_more : (ds : List Definition) (fs : List Bool) (i : ℕ) (d : Definition) (b : Bool) → i < length ds → i < length fs → left (drop i ds) (drop i fs) ≡ unless_shut (get_or fs i b) (definition_of (get_or ds i d)) (left (drop (i + 1) ds) (drop (i + 1) fs))
-left_more ds fs i d b h k = ap₂ left (drop_more ds i d h) (drop_more fs i b k) ∙ left_is (get_or ds i d) (drop (i + 1) ds) (get_or fs i b) (drop (i + 1) fs)
+    -- of another
+    others : (b : Bool) (e : of.Definition) (es : List of.Definition) → of.defines o d ≡ false → of.defines (opened_by d) e ≡ b → of.definition_of o (of.without_definition (opened_by d) es) ≡ of.definition_of o es
+        → of.definition_of o (cond b (of.without_definition (opened_by d) es) (e ∷ of.without_definition (opened_by d) es)) ≡ cond (of.defines o e) (Some e) (of.definition_of o es)
+    others true e es apart is h = h ∙ ap (λ (c : Bool). cond c (Some e) (of.definition_of o es)) (sym (not_both o d e apart is))
+    others false e es apart is h = ap (λ (x : Option of.Definition). cond (of.defines o e) (Some e) x) h
 
-found_of_one : (o : Opened) (b : Bool) (d : of.Definition) (ds : List of.Definition) → of.definition_of o (unless_shut b d ds) ≡ cond (not b && of.defines o d) (Some d) (of.definition_of o ds)
-found_of_one o true d ds = refl
-found_of_one o false d ds = refl
+    same : (es : List of.Definition) → of.defines o d ≡ false → of.definition_of o (of.without_definition (opened_by d) es) ≡ of.definition_of o es
+    same [] apart = refl
+    same (e ∷ es) apart = others (of.defines (opened_by d) e) e es apart refl (same es apart)
 
-found_at : (o : Opened) (ds : List Definition) (fs : List Bool) (i : ℕ) (d : Definition) (b : Bool) → i < length ds → i < length fs → of.definition_of o (left (drop i ds) (drop i fs)) ≡ cond (not (get_or fs i b) && of.defines o (definition_of (get_or ds i d))) (Some (definition_of (get_or ds i d))) (of.definition_of o (left (drop (i + 1) ds) (drop (i + 1) fs)))
-found_at o ds fs i d b h k = ap (of.definition_of o) (left_more ds fs i d b h k) ∙ found_of_one o (get_or fs i b) (definition_of (get_or ds i d)) (left (drop (i + 1) ds) (drop (i + 1) fs))
+    here : (b : Bool) → of.defines o d ≡ b → of.definition_of o (of.without_definition (opened_by d) ds) ≡ cond b None (of.definition_of o ds)
+    here true is = ap (λ (p : Opened). of.definition_of o (of.without_definition p ds)) (sym (defines_one o d is)) ∙ none ds
+    here false is = same ds is
 
-pub found_there : (o : Opened) (ds : List Definition) (fs : List Bool) (i : ℕ) (d : Definition) (b : Bool) → i < length ds → i < length fs → not (get_or fs i b) && of.defines o (definition_of (get_or ds i d)) ≡ true → of.definition_of o (left (drop i ds) (drop i fs)) ≡ Some (definition_of (get_or ds i d))
-found_there o ds fs i d b h k t =
-    found_at o ds fs i d b h k
-    ∙ ap (λ (c : Bool). cond c (Some (definition_of (get_or ds i d))) (of.definition_of o (left (drop (i + 1) ds) (drop (i + 1) fs)))) t
+looked_up : (o : Opened) (ds shut : List of.Definition) → of.definition_of o (left ds shut) ≡ cond (is_shut o shut) None (of.definition_of o ds)
+looked_up o ds [] = refl
+looked_up o ds (d ∷ shut) =
+    looked_up o (of.without_definition (opened_by d) ds) shut
+    ∙ ap (λ (x : Option of.Definition). cond (is_shut o shut) None x) (without_one o d ds)
+    ∙ either (of.defines o d) (is_shut o shut)
+  where
+    either : (b c : Bool) → cond c None (cond b None (of.definition_of o ds)) ≡ cond (b || c) None (of.definition_of o ds)
+    either true true = refl
+    either true false = refl
+    either false c = refl
 
-pub not_there : (o : Opened) (ds : List Definition) (fs : List Bool) (i : ℕ) (d : Definition) (b : Bool) → i < length ds → i < length fs → not (get_or fs i b) && of.defines o (definition_of (get_or ds i d)) ≡ false → of.definition_of o (left (drop i ds) (drop i fs)) ≡ of.definition_of o (left (drop (i + 1) ds) (drop (i + 1) fs))
-not_there o ds fs i d b h k t =
-    found_at o ds fs i d b h k
-    ∙ ap (λ (c : Bool). cond c (Some (definition_of (get_or ds i d))) (of.definition_of o (left (drop (i + 1) ds) (drop (i + 1) fs)))) t
+pub none_there : (o : Opened) (ds shut : List of.Definition) → is_shut o shut ≡ true → of.definition_of o (left ds shut) ≡ None
+none_there o ds shut h = looked_up o ds shut ∙ ap (λ (c : Bool). cond c None (of.definition_of o ds)) h
 
-pub no_definition : (o : Opened) (ds : List Definition) (fs : List Bool) (i : ℕ) → length ds ≤ i → of.definition_of o (left (drop i ds) (drop i fs)) ≡ None
-no_definition o ds fs i h = ap (λ (l : List Definition). of.definition_of o (left l (drop i fs))) (drop_all i ds h)
-
-left_none : (ds : List Definition) → left ds [] ≡ []
-left_none [] = refl
-left_none (d ∷ ds) = refl
-
-pub no_flag : (o : Opened) (ds : List Definition) (fs : List Bool) (i : ℕ) → length fs ≤ i → of.definition_of o (left (drop i ds) (drop i fs)) ≡ None
-no_flag o ds fs i h = ap (λ (l : List Bool). of.definition_of o (left (drop i ds) l)) (drop_all i fs h) ∙ ap (of.definition_of o) (left_none (drop i ds))
+pub found_there : (o : Opened) (ds shut : List of.Definition) → is_shut o shut ≡ false → of.definition_of o (left ds shut) ≡ of.definition_of o ds
+found_there o ds shut h = looked_up o ds shut ∙ ap (λ (c : Bool). cond c None (of.definition_of o ds)) h
 
 -- ---- which are shut then
 
-abbrev pub flags : Opened → List Definition → List Bool → List Bool
-flags o [] fs = []
-flags o (d ∷ ds) [] = []
-flags o (d ∷ ds) (f ∷ fs) = (f || of.defines o (definition_of d)) ∷ flags o ds fs
+shut_more : (ds : List of.Definition) (shut : List (Bor Definition)) (d : Bor Definition) → left ds (definitions_behind (shut ++ d ∷ [])) ≡ of.without_definition (opened_by (definition_behind d)) (left ds (definitions_behind shut))
+shut_more ds [] d = refl
+shut_more ds (e ∷ shut) d = shut_more (of.without_definition (opened_by (definition_behind e)) ds) shut d
 
-no_flags : (o : Opened) (ds : List Definition) → flags o ds [] ≡ []
-no_flags o [] = refl
-no_flags o (d ∷ ds) = refl
-
-pub flags_more : (o : Opened) (ds : List Definition) (fs : List Bool) (so : List Bool) (i : ℕ) (d : Definition) (b : Bool) → i < length ds → i < length fs → so ++ flags o (drop i ds) (drop i fs) ≡ (so ++ (get_or fs i b || of.defines o (definition_of (get_or ds i d))) ∷ []) ++ flags o (drop (i + 1) ds) (drop (i + 1) fs)
-flags_more o ds fs so i d b h k =
-    ap₂ (λ (l : List Definition) (m : List Bool). so ++ flags o l m) (drop_more ds i d h) (drop_more fs i b k)
-    ∙ sym (append_assoc so ((get_or fs i b || of.defines o (definition_of (get_or ds i d))) ∷ []) (flags o (drop (i + 1) ds) (drop (i + 1) fs)))
-
-pub flags_end : (o : Opened) (ds : List Definition) (fs : List Bool) (so : List Bool) (i : ℕ) → length ds ≤ i → so ++ flags o (drop i ds) (drop i fs) ≡ so
-flags_end o ds fs so i h = ap (λ (l : List Definition). so ++ flags o l (drop i fs)) (drop_all i ds h) ∙ append-nil so
-
-pub flags_stop : (o : Opened) (ds : List Definition) (fs : List Bool) (so : List Bool) (i : ℕ) → length fs ≤ i → so ++ flags o (drop i ds) (drop i fs) ≡ so
-flags_stop o ds fs so i h = ap (λ (l : List Bool). so ++ flags o (drop i ds) l) (drop_all i fs h) ∙ ap (λ (l : List Bool). so ++ l) (no_flags o (drop i ds)) ∙ append-nil so
-
-left_of_one : (o : Opened) (f b : Bool) (d : of.Definition) (ls ms : List of.Definition) → b ≡ of.defines o d → ls ≡ of.without_definition o ms → unless_shut (f || b) d ls ≡ of.without_definition o (unless_shut f d ms)
-left_of_one o true b d ls ms e h = h
-left_of_one o false true d ls ms e h = h ∙ ap (λ (c : Bool). cond c (of.without_definition o ms) (d ∷ of.without_definition o ms)) e
-left_of_one o false false d ls ms e h = ap (λ (l : List of.Definition). d ∷ l) h ∙ ap (λ (c : Bool). cond c (of.without_definition o ms) (d ∷ of.without_definition o ms)) e
-
-pub left_of_flags : (o : Opened) (ds : List Definition) (fs : List Bool) → left ds (flags o ds fs) ≡ of.without_definition o (left ds fs)
-left_of_flags o [] fs = refl
-left_of_flags o (d ∷ ds) [] = refl
-left_of_flags o (d ∷ ds) (f ∷ fs) =
-    left_is d ds (f || of.defines o (definition_of d)) (flags o ds fs)
-    ∙ left_of_one o f (of.defines o (definition_of d)) (definition_of d) (left ds (flags o ds fs)) (left ds fs) refl (left_of_flags o ds fs)
-    ∙ sym (ap (of.without_definition o) (left_is d ds f fs))
+-- what is found is a definition of what is opened
+found_defines : (o : Opened) (ds : List of.Definition) (d : of.Definition) → of.definition_of o ds ≡ Some d → of.defines o d ≡ true
+found_defines o [] d h = absurd (cc)
+found_defines o (e ∷ ds) d h = here (of.defines o e) refl h (found_defines o ds d)
+  where
+    here : (b : Bool) → of.defines o e ≡ b → cond b (Some e) (of.definition_of o ds) ≡ Some d → (of.definition_of o ds ≡ Some d → of.defines o d ≡ true) → of.defines o d ≡ true
+    here true is k later = let one : e ≡ d = cc in ap (of.defines o) (sym one) ∙ is
+    here false is k later = later k
 
 -- ---- what is opened
 
 pub none_left : (ds : List Definition) (p : Opening) (o : Opened) (s : State) → p.depth ≡ 0 → opened_at (opens_of ds p) o s ≡ None
 unfolding opened_at opens_of
-none_left ds p o s h = ap (λ (k : ℕ). direct.opening_in k (left ds p.is_shut.items) o s) h
+none_left ds p o s h = ap (λ (k : ℕ). direct.opening_in k (left (map definition_of ds) (definitions_behind p.shut.items)) o s) h
 
 in_depth : (k : ℕ) (ds : List of.Definition) (o : Opened) (s : State) → 0 < k → direct.opening_in k ds o s ≡ direct.definition (direct.opening_in (k - 1) (of.without_definition o ds)) (of.definition_of o ds) s
 in_depth zero ds o s h = absurd (omega arith)
 in_depth (suc k) ds o s h = let e : k ≡ suc k - 1 = omega arith in ap (λ (j : ℕ). direct.definition (direct.opening_in j (of.without_definition o ds)) (of.definition_of o ds) s) e
 
-pub none_defined : (ds : List Definition) (p : Opening) (o : Opened) (s : State) → 0 < p.depth → of.definition_of o (left ds p.is_shut.items) ≡ None → opened_at (opens_of ds p) o s ≡ None
+pub none_defined : (ds : List Definition) (p : Opening) (o : Opened) (s : State) → 0 < p.depth → of.definition_of o (left (map definition_of ds) (definitions_behind p.shut.items)) ≡ None → opened_at (opens_of ds p) o s ≡ None
 unfolding opened_at opens_of
 none_defined ds p o s h e =
-    in_depth p.depth (left ds p.is_shut.items) o s h
-    ∙ ap (λ (d : Option of.Definition). direct.definition (direct.opening_in (p.depth - 1) (of.without_definition o (left ds p.is_shut.items))) d s) e
+    let there : List of.Definition = left (map definition_of ds) (definitions_behind p.shut.items) in
+    in_depth p.depth there o s h
+    ∙ ap (λ (d : Option of.Definition). direct.definition (direct.opening_in (p.depth - 1) (of.without_definition o there)) d s) e
 
-pub one_defined : (ds : List Definition) (p q : Opening) (o : Opened) (d : of.Definition) (s : State) → 0 < p.depth → q.depth ≡ p.depth - 1 → left ds q.is_shut.items ≡ of.without_definition o (left ds p.is_shut.items) → of.definition_of o (left ds p.is_shut.items) ≡ Some d → opened_at (opens_of ds p) o s ≡ defined_at (opens_of ds q) (Some d) s
+pub one_defined : (ds : List Definition) (p q : Opening) (o : Opened) (d : Bor Definition) (s : State) → 0 < p.depth → q.depth ≡ p.depth - 1 → q.shut.items ≡ p.shut.items ++ d ∷ [] → of.definition_of o (left (map definition_of ds) (definitions_behind p.shut.items)) ≡ Some (definition_behind d) → opened_at (opens_of ds p) o s ≡ defined_at (opens_of ds q) (Some (definition_behind d)) s
 unfolding opened_at opens_of defined_at
 one_defined ds p q o d s h e f g =
-    in_depth p.depth (left ds p.is_shut.items) o s h
-    ∙ ap (λ (x : Option of.Definition). direct.definition (direct.opening_in (p.depth - 1) (of.without_definition o (left ds p.is_shut.items))) x s) g
-    ∙ sym (ap₂ (λ (k : ℕ) (l : List of.Definition). direct.definition (direct.opening_in k l) (Some d) s) e f)
+    let all : List of.Definition = map definition_of ds in
+    let there : List of.Definition = left all (definitions_behind p.shut.items) in
+    let shut : left all (definitions_behind q.shut.items) ≡ of.without_definition o there =
+    ap (λ (l : List (Bor Definition)). left all (definitions_behind l)) f
+    ∙ shut_more all p.shut.items d
+    ∙ ap (λ (x : Opened). of.without_definition x there) (sym (defines_one o (definition_behind d) (found_defines o there (definition_behind d) g))) in
+    in_depth p.depth there o s h
+    ∙ ap (λ (x : Option of.Definition). direct.definition (direct.opening_in (p.depth - 1) (of.without_definition o there)) x s) g
+    ∙ sym (ap₂ (λ (k : ℕ) (l : List of.Definition). direct.definition (direct.opening_in k l) (Some (definition_behind d)) s) e shut)
 
 -- ---- what a definition evaluates
 

@@ -1,19 +1,19 @@
 // What is evaluated elsewhere than where it stands.
 
-ghost use Rattle.std.specs.Prelude.{◌≡◌, ◌&&◌, not, IfOk, Some, None, option_map};
+ghost use Rattle.std.specs.Prelude.{◌≡◌, ◌++◌, ◌∷◌, [], IfOk, Some, map, option_map};
 ghost use Rattle.es_steps.specs.Code.{and, done};
 ghost use Rattle.es_steps.specs.Evaluation.{has_instance_methods};
 ghost use Rattle.es_steps.specs.Opening as of;
 ghost use Rattle.es_codes.specs.CodeView.{code_of, codes_of, opened_of};
 ghost use Rattle.es_evaluator.specs.Running.{Returns, state_of};
-ghost use Rattle.es_code_rules.specs.Elsewhere.{definition_of, left, opens_of};
+ghost use Rattle.es_code_rules.specs.Elsewhere.{definition_behind, definition_of, definitions_behind, is_shut, left, opens_of};
 ghost use Rattle.es_code_rules.specs.Within.{MayEvaluate, Evaluates};
 ghost use Rattle.es_class_rules.specs.Steps.{opened_at, defined_at, construction_at};
 
 use crate::classes::evaluate_fields;
 use es_base::list::List;
-use es_base::strings::is_word;
 use es_code_rules::definition::{Definition, Opening};
+use es_code_rules::definitions::{Definitions, is_opened};
 use es_code_rules::within::Within;
 use es_codes::code::{Code, Opened};
 use es_codes::value::Value;
@@ -22,73 +22,44 @@ use es_evaluator::operands::add_brand;
 use es_evaluator::state::State;
 use std::alloc::{AllocError, Global};
 
-/// Whether the definition is that of what is opened.
-pub fn is_opened(definition: &Definition, opened: &Opened) -> bool
-    ensures { result ≡ of.defines (opened_of opened.now) (definition_of definition.now) }
+/// Whether one of these is a definition of what is opened.
+fn is_shut(shut: &[&Definition], opened: &Opened) -> bool
+    ensures { result ≡ is_shut (opened_of opened.now) (definitions_behind shut.now) }
 {
-    match opened {
-        Opened::InitializersOf(opened) => match definition {
-            Definition::OfClass { class, .. } => *opened == *class,
-            Definition::OfName { .. } => false,
-            Definition::OfCalled { .. } => false,
-        },
-        Opened::BodyOf(opened) => match definition {
-            Definition::OfClass { .. } => false,
-            Definition::OfName { name, .. } => is_word(name.as_str(), opened.as_str()),
-            Definition::OfCalled { .. } => false,
-        },
-        Opened::CalledBodyOf(opened) => match definition {
-            Definition::OfClass { .. } => false,
-            Definition::OfName { .. } => false,
-            Definition::OfCalled { name, .. } => is_word(name.as_str(), opened.as_str()),
-        },
+    for definition in shut {
+        if is_opened(definition, opened) {
+            return true;
+        }
     }
+    false
 }
 
-/// Whether the definition is that of what is opened, and not shut.
-fn is_found(definition: &Definition, is_shut: bool, opened: &Opened) -> bool
-    ensures { result ≡ (not is_shut && of.defines (opened_of opened.now) (definition_of definition.now)) }
-{
-    !is_shut && is_opened(definition, opened)
-}
-
-/// The first definition that is not shut of what is opened.
-#[tactic(auto, using(crate::proofs::Openings::found_there, crate::proofs::Openings::not_there, crate::proofs::Openings::no_definition, crate::proofs::Openings::no_flag))]
+/// The first definition of what is opened, unless it is shut.
+#[tactic(auto, using(crate::proofs::Openings::found_there, crate::proofs::Openings::none_there))]
 pub fn find_opened<'a>(
-    definitions: &'a [Definition],
-    is_shut: &[bool],
+    definitions: &Definitions<'a>,
+    shut: &[&Definition],
     opened: &Opened,
 ) -> Option<&'a Definition>
-    ensures { option_map (λ d. definition_of d.now) result ≡ of.definition_of (opened_of opened.now) (left definitions.now is_shut.now) }
+    ensures { option_map definition_behind result ≡ of.definition_of (opened_of opened.now) (left (map definition_of definitions.now) (definitions_behind shut.now)) }
 {
-    let mut i = 0;
-    while i < definitions.len() && i < is_shut.len() {
-        if is_found(&definitions[i], is_shut[i], opened) {
-            return Some(&definitions[i]);
-        }
-        i += 1;
+    if is_shut(shut, opened) {
+        return None;
     }
-    None
+    definitions.get(opened)
 }
 
-/// Which definitions are shut where this is opened: its own too. Fails on allocation failure alone.
-#[tactic(auto, using(crate::proofs::Openings::flags_more, crate::proofs::Openings::flags_end, crate::proofs::Openings::flags_stop, crate::proofs::Openings::left_of_flags))]
-pub fn shut(
+/// What is shut where this is opened too. Fails on allocation failure alone.
+fn shut_too<'a>(
     alloc: Global,
-    definitions: &[Definition],
-    is_shut: &[bool],
-    opened: &Opened,
-) -> Result<Vec<bool>, AllocError>
-    ensures { IfOk result (λ fs. left definitions.now fs.items ≡ of.without_definition (opened_of opened.now) (left definitions.now is_shut.now)) }
+    shut: &[&'a Definition],
+    definition: &'a Definition,
+) -> Result<Vec<&'a Definition>, AllocError>
+    ensures { IfOk result (λ v. v.items ≡ shut.now ++ definition.entry ∷ []) }
 {
-    let mut flags = Vec::new(alloc);
-    let mut i = 0;
-    while i < definitions.len() && i < is_shut.len() {
-        let is_own = is_opened(&definitions[i], opened);
-        flags.push(is_shut[i] || is_own)?;
-        i += 1;
-    }
-    Ok(flags)
+    let mut all = shut.to_vec(alloc)?;
+    all.push(definition)?;
+    Ok(all)
 }
 
 /// Evaluates what stands elsewhere, with all others but itself.
@@ -105,13 +76,13 @@ pub fn evaluate_opened<'a, F: Fn(Global, &Opening, &mut State, &Code) -> Result<
     if within.opening.depth == 0 {
         return Err(Fault::NoMeaning);
     }
-    let is_shut = within.opening.is_shut.as_slice();
-    match find_opened(within.definitions, is_shut, opened) {
+    let shut = within.opening.shut.as_slice();
+    match find_opened(within.definitions, shut, opened) {
         None => Err(Fault::NoMeaning),
         Some(definition) => {
-            let is_shut = shut(within.alloc, within.definitions, is_shut, opened)?;
+            let shut = shut_too(within.alloc, shut, definition)?;
             let opening = Opening {
-                is_shut,
+                shut,
                 depth: within.opening.depth - 1,
             };
             let inside = Within {

@@ -1,6 +1,6 @@
 // Codes, bodies of functions and constructions of classes, and what stands in front of codes, among definitions.
 
-ghost use Rattle.std.specs.Prelude.{◌≡◌, ℕ, List, IfOk, false, length, map, replicate};
+ghost use Rattle.std.specs.Prelude.{◌≡◌, ℕ, List, IfOk, length, map};
 ghost use Rattle.es_codes.specs.CodeView.{callee_of, code_of, codes_of, target_of};
 ghost use Rattle.es_steps.specs.Entries.{ev_body, ev_construction, ev_given};
 ghost use Rattle.es_steps.specs.Evaluation.{bind_parameters, ev, ev_all, ev_callee, ev_field, ev_initializers, ev_key, ev_keys, ev_static, ev_take, ev_target, gives};
@@ -18,6 +18,7 @@ use es_base::list::List;
 use es_base::name::Name;
 use es_class_rules::classes::{evaluate_field, evaluate_key, evaluate_static};
 use es_code_rules::definition::{Definition, Opening};
+use es_code_rules::definitions::Definitions;
 use es_code_rules::within::Within;
 use es_codes::code::{Callee, Code, Target};
 use es_codes::value::Value;
@@ -31,24 +32,24 @@ use std::alloc::{AllocError, Global};
 #[derive(Drop)]
 pub struct Among<'a> {
     pub alloc: Global,
-    pub definitions: &'a List<Definition>,
-    pub opening: Opening,
+    pub definitions: Definitions<'a>,
+    pub opening: Opening<'a>,
     pub limit: usize,
-    pub ghost is_deep: { opening.depth ≡ length definitions.now },
-    pub ghost is_open: { opening.is_shut.items ≡ replicate (length definitions.now) false },
+    pub ghost is_deep: { opening.depth ≡ length definitions },
+    pub ghost is_open: { length opening.shut.items ≡ 0 },
 }
 
 /// Calls a rule with what it has at hand among definitions.
 macro_rules! within {
     ($among:expr, |$within:ident| $evaluated:expr) => {{
-        let definitions = $among.definitions;
+        let definitions = &$among.definitions;
         let limit = $among.limit;
         let inside = |alloc: Global, opening: &Opening, state: &mut State, code: &Code| {
             evaluate(alloc, definitions, opening, limit, state, code)
         };
         let $within = Within {
             alloc: $among.alloc,
-            definitions: definitions.as_slice(),
+            definitions: &$among.definitions,
             opening: &$among.opening,
             evaluate: &inside,
         };
@@ -64,15 +65,15 @@ impl<'a> Among<'a> {
         definitions: &'a List<Definition>,
         limit: usize,
     ) -> Result<Among<'a>, AllocError>
-        ensures { IfOk result (λ a. a.definitions.now ≡ definitions.now) }
+        ensures { IfOk result (λ a. a.definitions ≡ definitions.now) }
     {
         let opening = Opening {
-            is_shut: vec![in alloc; false; definitions.len()]?,
+            shut: Vec::new(alloc),
             depth: definitions.len(),
         };
         Ok(Among {
             alloc,
-            definitions,
+            definitions: Definitions::of(alloc, definitions.as_slice())?,
             opening,
             limit,
         })
@@ -81,11 +82,11 @@ impl<'a> Among<'a> {
     /// The value of a code: undefined if its list throws.
     #[tactic(auto, using(crate::proofs::Whole::code_among))]
     pub fn evaluate(&self, state: &mut State, code: &Code) -> Result<Value, Fault>
-        ensures { Returns (λ v. v) result state.new (onto (state_of state.old) (ev (of.opening (map definition_of self.now.definitions.now)) (code_of code.now) (state_of state.old).names)) }
+        ensures { Returns (λ v. v) result state.new (onto (state_of state.old) (ev (of.opening (map definition_of self.now.definitions)) (code_of code.now) (state_of state.old).names)) }
     {
         evaluate(
             self.alloc,
-            self.definitions,
+            &self.definitions,
             &self.opening,
             self.limit,
             state,
@@ -95,21 +96,21 @@ impl<'a> Among<'a> {
 
     /// Codes in order.
     pub fn evaluate_all(&self, state: &mut State, codes: &[Code]) -> Result<Value, Fault>
-        ensures { Returns (λ v. v) result state.new (onto (state_of state.old) (ev_all (of.opening (map definition_of self.now.definitions.now)) (codes_of codes.now) (λ vs. gives Undefined) (state_of state.old).names)) }
+        ensures { Returns (λ v. v) result state.new (onto (state_of state.old) (ev_all (of.opening (map definition_of self.now.definitions)) (codes_of codes.now) (λ vs. gives Undefined) (state_of state.old).names)) }
     {
         within!(self, |within| alone::evaluate_all(&within, state, codes))
     }
 
     /// The operands of a target that is neither read nor written.
     pub fn evaluate_target(&self, state: &mut State, to: &Target) -> Result<Value, Fault>
-        ensures { Returns (λ v. v) result state.new (onto (state_of state.old) (ev_target (of.opening (map definition_of self.now.definitions.now)) (target_of to.now) (λ t. gives Undefined) (state_of state.old).names)) }
+        ensures { Returns (λ v. v) result state.new (onto (state_of state.old) (ev_target (of.opening (map definition_of self.now.definitions)) (target_of to.now) (λ t. gives Undefined) (state_of state.old).names)) }
     {
         within!(self, |within| alone::evaluate_target(&within, state, to))
     }
 
     /// The value of a callee that is not called.
     pub fn evaluate_callee(&self, state: &mut State, callee: &Callee) -> Result<Value, Fault>
-        ensures { Returns (λ v. v) result state.new (onto (state_of state.old) (ev_callee (of.opening (map definition_of self.now.definitions.now)) (callee_of callee.now) (λ v receiver. gives v) (state_of state.old).names)) }
+        ensures { Returns (λ v. v) result state.new (onto (state_of state.old) (ev_callee (of.opening (map definition_of self.now.definitions)) (callee_of callee.now) (λ v receiver. gives v) (state_of state.old).names)) }
     {
         within!(
             self,
@@ -124,7 +125,7 @@ impl<'a> Among<'a> {
         parameters: &[Name],
         arguments: &[Code],
     ) -> Result<Value, Fault>
-        ensures { Returns (λ v. v) result state.new (onto (state_of state.old) (ev_all (of.opening (map definition_of self.now.definitions.now)) (codes_of arguments.now) (λ vs. bind_parameters parameters.now vs) (state_of state.old).names)) }
+        ensures { Returns (λ v. v) result state.new (onto (state_of state.old) (ev_all (of.opening (map definition_of self.now.definitions)) (codes_of arguments.now) (λ vs. bind_parameters parameters.now vs) (state_of state.old).names)) }
     {
         within!(
             self,
@@ -139,21 +140,21 @@ impl<'a> Among<'a> {
         value: &Value,
         member: &Code,
     ) -> Result<Value, Fault>
-        ensures { Returns (λ v. v) result state.new (onto (state_of state.old) (ev_take (of.opening (map definition_of self.now.definitions.now)) value.now (code_of member.now) (state_of state.old).names)) }
+        ensures { Returns (λ v. v) result state.new (onto (state_of state.old) (ev_take (of.opening (map definition_of self.now.definitions)) value.now (code_of member.now) (state_of state.old).names)) }
     {
         within!(self, |within| evaluate_take(&within, state, value, member))
     }
 
     /// The key of an element of a class: undefined where it has none.
     pub fn evaluate_key(&self, state: &mut State, element: &Code) -> Result<Value, Fault>
-        ensures { Returns (λ v. v) result state.new (onto (state_of state.old) (ev_key (of.opening (map definition_of self.now.definitions.now)) (code_of element.now) (state_of state.old).names)) }
+        ensures { Returns (λ v. v) result state.new (onto (state_of state.old) (ev_key (of.opening (map definition_of self.now.definitions)) (code_of element.now) (state_of state.old).names)) }
     {
         within!(self, |within| evaluate_key(&within, state, element))
     }
 
     /// The keys of the elements of a class in order.
     pub fn evaluate_keys(&self, state: &mut State, elements: &[Code]) -> Result<Value, Fault>
-        ensures { Returns (λ v. v) result state.new (onto (state_of state.old) (ev_keys (of.opening (map definition_of self.now.definitions.now)) (codes_of elements.now) (λ ks. gives Undefined) (state_of state.old).names)) }
+        ensures { Returns (λ v. v) result state.new (onto (state_of state.old) (ev_keys (of.opening (map definition_of self.now.definitions)) (codes_of elements.now) (λ ks. gives Undefined) (state_of state.old).names)) }
     {
         within!(
             self,
@@ -169,7 +170,7 @@ impl<'a> Among<'a> {
         key: &Value,
         element: &Code,
     ) -> Result<Value, Fault>
-        ensures { Returns (λ v. v) result state.new (onto (state_of state.old) (ev_static (of.opening (map definition_of self.now.definitions.now)) class key.now (code_of element.now) (state_of state.old).names)) }
+        ensures { Returns (λ v. v) result state.new (onto (state_of state.old) (ev_static (of.opening (map definition_of self.now.definitions)) class key.now (code_of element.now) (state_of state.old).names)) }
     {
         within!(
             self,
@@ -184,7 +185,7 @@ impl<'a> Among<'a> {
         class: u32,
         element: &Code,
     ) -> Result<Value, Fault>
-        ensures { Returns (λ v. v) result state.new (onto (state_of state.old) (ev_field (of.opening (map definition_of self.now.definitions.now)) class (code_of element.now) (state_of state.old).names)) }
+        ensures { Returns (λ v. v) result state.new (onto (state_of state.old) (ev_field (of.opening (map definition_of self.now.definitions)) class (code_of element.now) (state_of state.old).names)) }
     {
         within!(
             self,
@@ -200,7 +201,7 @@ impl<'a> Among<'a> {
         class: u32,
         elements: &[Code],
     ) -> Result<Value, Fault>
-        ensures { Returns (λ v. v) result state.new (onto (state_of state.old) (ev_initializers (of.opening (map definition_of self.now.definitions.now)) class (codes_of elements.now) (state_of state.old).names)) }
+        ensures { Returns (λ v. v) result state.new (onto (state_of state.old) (ev_initializers (of.opening (map definition_of self.now.definitions)) class (codes_of elements.now) (state_of state.old).names)) }
     {
         within!(
             self,
@@ -212,7 +213,7 @@ impl<'a> Among<'a> {
     /// 10.2.11).
     #[tactic(auto, using(crate::proofs::Whole::given_among))]
     pub fn evaluate_given(&self, state: &mut State, parameters: &[Code]) -> Result<Value, Fault>
-        ensures { (first_new : ℕ) (late : List ℕ) → Returns (λ v. v) result state.new (onto (state_of state.old) (ev_given (of.opening (map definition_of self.now.definitions.now)) first_new late (codes_of parameters.now) (state_of state.old).names)) }
+        ensures { (first_new : ℕ) (late : List ℕ) → Returns (λ v. v) result state.new (onto (state_of state.old) (ev_given (of.opening (map definition_of self.now.definitions)) first_new late (codes_of parameters.now) (state_of state.old).names)) }
     {
         within!(self, |within| evaluate_given(&within, state, parameters))
     }
@@ -225,7 +226,7 @@ impl<'a> Among<'a> {
         parameters: &[Code],
         body: &Code,
     ) -> Result<Value, Fault>
-        ensures { (first_new : ℕ) (late : List ℕ) → Returns (λ v. v) result state.new (onto (state_of state.old) (ev_body (of.opening (map definition_of self.now.definitions.now)) first_new late (codes_of parameters.now) (code_of body.now) (state_of state.old).names)) }
+        ensures { (first_new : ℕ) (late : List ℕ) → Returns (λ v. v) result state.new (onto (state_of state.old) (ev_body (of.opening (map definition_of self.now.definitions)) first_new late (codes_of parameters.now) (code_of body.now) (state_of state.old).names)) }
     {
         within!(
             self,
@@ -244,7 +245,7 @@ impl<'a> Among<'a> {
         heritage: &[Code],
         elements: &[Code],
     ) -> Result<Value, Fault>
-        ensures { (first_new : ℕ) → Returns (λ v. v) result state.new (onto (state_of state.old) (ev_construction (of.opening (map definition_of self.now.definitions.now)) first_new late.now class (codes_of heritage.now) (codes_of elements.now) (codes_of elements.now) (state_of state.old).names)) }
+        ensures { (first_new : ℕ) → Returns (λ v. v) result state.new (onto (state_of state.old) (ev_construction (of.opening (map definition_of self.now.definitions)) first_new late.now class (codes_of heritage.now) (codes_of elements.now) (codes_of elements.now) (state_of state.old).names)) }
     {
         within!(
             self,

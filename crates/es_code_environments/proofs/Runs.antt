@@ -29,7 +29,7 @@ pub leads_nowhere : (t : Terms) (part : Part) (env : Environment) (s : State) �
 leads_nowhere t part env s e h = led_nowhere env (run t part env) (here t part env s None e h)
 
 pub leads_over : (t : Terms) (part : Part) (env : Environment) (s : State) (v : Value) (d : State) → s ≡ standing env → onto s (run_of (opens_in t) t.late.now part s.names) ≡ Some (v, d) → kept (length env) d.names ≡ env
-leads_over t part env s v d e h = led_over env (run t part env) v d (part_is_fine t.among.definitions.now t.late.now part env) (here t part env s (Some (v, d)) e h)
+leads_over t part env s v d e h = led_over env (run t part env) v d (part_is_fine t.among.definitions t.late.now part env) (here t part env s (Some (v, d)) e h)
 
 pub has_value : (t : Terms) (part : Part) (env : Environment) (s : State) (v : Value) (d : State) → s ≡ standing env → onto s (run_of (opens_in t) t.late.now part s.names) ≡ Some (v, d) → value_in (run_of (opens_in t) t.late.now part env) ≡ Some (unless_thrown d v)
 has_value t part env s v d e h = led_value env (run t part env) v d (here t part env s (Some (v, d)) e h)

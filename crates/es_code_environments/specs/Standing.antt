@@ -13,7 +13,7 @@ use Rattle.es_code_environments.specs.declared.terms.Terms.{Terms}
 
 -- what stands elsewhere
 abbrev pub opens_in : Terms → Opened → Evaluation
-opens_in t = opening (map definition_of t.among.definitions.now)
+opens_in t = opening (map definition_of t.among.definitions)
 
 -- what an evaluation begins with in an environment
 abbrev pub standing : Environment → direct.State

@@ -23,7 +23,7 @@ impl<'a> Terms<'a> {
         limit: usize,
         late: &'a [u32],
     ) -> Result<Terms<'a>, AllocError>
-        ensures definitions { IfOk result (λ t. t.among.definitions.now ≡ definitions.now) }
+        ensures definitions { IfOk result (λ t. t.among.definitions ≡ definitions.now) }
         ensures late { IfOk result (λ t. t.late.now ≡ late.now) }
     {
         let among = Among::new(alloc, definitions, limit)?;

@@ -1,4 +1,5 @@
 pub mod CallForms
+pub mod DefinitionNumbers
 pub mod Depths
 pub mod Forms
 pub mod Runs

@@ -1,3 +1,4 @@
 pub mod Elsewhere
+pub mod Indexed
 pub mod Steps
 pub mod Within

@@ -14,9 +14,10 @@ pub enum Definition {
     OfCalled { name: Name, body: Code },
 }
 
-/// Which definitions are shut, since they are being opened, and how many may be opened one inside another.
+/// The definitions that are being opened, which are shut with all others of the same, and how many may be opened one inside
+/// another.
 #[derive(Drop)]
-pub struct Opening {
-    pub is_shut: Vec<bool>,
+pub struct Opening<'a> {
+    pub shut: Vec<&'a Definition>,
     pub depth: usize,
 }

@@ -5,6 +5,7 @@ pub mod accesses;
 pub mod callees;
 pub mod calls;
 pub mod definition;
+pub mod definitions;
 pub mod lists;
 pub mod parts;
 pub mod within;

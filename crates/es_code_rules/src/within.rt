@@ -8,7 +8,8 @@ ghost use Rattle.es_code_rules.specs.Elsewhere.{opens_of};
 ghost use Rattle.es_code_rules.specs.Steps.{value_at};
 ghost use Rattle.es_code_rules.specs.Within.{MayEvaluate, Evaluates};
 
-use crate::definition::{Definition, Opening};
+use crate::definition::Opening;
+use crate::definitions::Definitions;
 use es_codes::code::Code;
 use es_codes::event::{Place, Token};
 use es_codes::value::Value;
@@ -20,8 +21,8 @@ use std::alloc::Global;
 #[derive(Drop)]
 pub struct Within<'a, F> {
     pub alloc: Global,
-    pub definitions: &'a [Definition],
-    pub opening: &'a Opening,
+    pub definitions: &'a Definitions<'a>,
+    pub opening: &'a Opening<'a>,
     pub evaluate: &'a F,
 }
 

@@ -5,7 +5,7 @@ ghost use Rattle.std.specs.Str.{chars};
 ghost use Rattle.es_base.specs.declared.ids.ScopeId.{ScopeId};
 ghost use Rattle.es_base.specs.declared.ledger.GeneratedKind.TheVariants as kinds;
 ghost use Rattle.es_ctx.specs.Outcome.{KeepsOutcome};
-ghost use Rattle.es_ctx.specs.ScopesAround.{current_block_scope_id};
+ghost use Rattle.es_ctx.specs.ScopesAround.{current_var_scope_id};
 ghost use Rattle.es_ctx.specs.Stores.{changed, innermost, with_let, with_var};
 ghost use Rattle.es_scopes.specs.Table.{HasRoom, HasScope, HasSymbol};
 ghost use Rattle.es_scopes.specs.declared.flags.TheConstants.SymbolFlags as flag;
@@ -52,14 +52,14 @@ pub fn insert_let(
     ctx.insert_let(declarator)
 }
 
-/// `var name;` of a new name for a temporary, bound in the scope of the innermost list of statements, and declared in the
-/// innermost open list.
+/// `var name;` of a new name for a temporary, declared in the innermost open list, and bound in the scope that it is hoisted to
+/// from there.
 pub fn create_uid_var(base: &str, ctx: &mut TraverseCtx) -> Result<BoundIdentifier, AllocError>
-    requires scope { HasScope ctx.old.scoping.scoping (current_block_scope_id ctx.old.path) }
-    requires taken { AreTaken ctx.old.scoping (current_block_scope_id ctx.old.path) }
+    requires scope { HasScope ctx.old.scoping.scoping (current_var_scope_id ctx.old.path) }
+    requires taken { AreTaken ctx.old.scoping (current_var_scope_id ctx.old.path) }
     requires room { HasRoom ctx.old.scoping.scoping.symbols }
     requires open { 0 < length ctx.old.lists }
-    ensures generated { IfOk result (IsGenerated ctx.old.scoping ctx.new.scoping (chars base.now) (current_block_scope_id ctx.old.path) flag.VAR kinds.Temp) }
+    ensures generated { IfOk result (IsGenerated ctx.old.scoping ctx.new.scoping (chars base.now) (current_var_scope_id ctx.old.path) flag.VAR kinds.Temp) }
     ensures bound { IfOk result (λ b. HasSymbol ctx.new.scoping.scoping b.symbol_id) }
     ensures taken { OnOk result ((other : ScopeId) → AreTaken ctx.old.scoping other → AreTaken ctx.new.scoping other) }
     ensures next { ctx.new.next ≡ ctx.old.next }
@@ -68,7 +68,7 @@ pub fn create_uid_var(base: &str, ctx: &mut TraverseCtx) -> Result<BoundIdentifi
     ensures diagnostics { ctx.new.diagnostics ≡ ctx.old.diagnostics }
     ensures lists { IfOk result (λ b. ctx.new.lists ≡ changed (innermost ctx.old.lists) (with_var (declarator b None)) ctx.old.lists) }
 {
-    let scope = ctx.current_block_scope_id();
+    let scope = ctx.current_var_scope_id();
     let binding = ctx.generate_uid(base, scope, SymbolFlags::VAR, GeneratedKind::Temp)?;
     insert_var(&binding, ctx)?;
     Ok(binding)
@@ -79,11 +79,11 @@ pub fn create_uid_var_based_on_node(
     expression: &Node,
     ctx: &mut TraverseCtx,
 ) -> Result<BoundIdentifier, AllocError>
-    requires scope { HasScope ctx.old.scoping.scoping (current_block_scope_id ctx.old.path) }
-    requires taken { AreTaken ctx.old.scoping (current_block_scope_id ctx.old.path) }
+    requires scope { HasScope ctx.old.scoping.scoping (current_var_scope_id ctx.old.path) }
+    requires taken { AreTaken ctx.old.scoping (current_var_scope_id ctx.old.path) }
     requires room { HasRoom ctx.old.scoping.scoping.symbols }
     requires open { 0 < length ctx.old.lists }
-    ensures generated { IfOk result (IsGenerated ctx.old.scoping ctx.new.scoping (suggested expression.now) (current_block_scope_id ctx.old.path) flag.VAR kinds.Temp) }
+    ensures generated { IfOk result (IsGenerated ctx.old.scoping ctx.new.scoping (suggested expression.now) (current_var_scope_id ctx.old.path) flag.VAR kinds.Temp) }
     ensures bound { IfOk result (λ b. HasSymbol ctx.new.scoping.scoping b.symbol_id) }
     ensures taken { OnOk result ((other : ScopeId) → AreTaken ctx.old.scoping other → AreTaken ctx.new.scoping other) }
     ensures next { ctx.new.next ≡ ctx.old.next }
@@ -92,7 +92,7 @@ pub fn create_uid_var_based_on_node(
     ensures diagnostics { ctx.new.diagnostics ≡ ctx.old.diagnostics }
     ensures lists { IfOk result (λ b. ctx.new.lists ≡ changed (innermost ctx.old.lists) (with_var (declarator b None)) ctx.old.lists) }
 {
-    let scope = ctx.current_block_scope_id();
+    let scope = ctx.current_var_scope_id();
     let binding = ctx.generate_uid_based_on_node(expression, scope, SymbolFlags::VAR)?;
     insert_var(&binding, ctx)?;
     Ok(binding)

@@ -1,7 +1,8 @@
 -- The nodes around the node at hand, as they are told of.
-use Rattle.std.specs.Prelude.{ℕ, zero, suc, List, [], ◌∷◌, ◌++◌, Bool, true, false, Option, Some, None}
+use Rattle.std.specs.Prelude.{ℕ, zero, suc, List, [], ◌∷◌, ◌++◌, Bool, true, false, ◌||◌, Option, Some, None, option_map, bytes_eq, codes}
+use Rattle.std.proofs.Common.{Bor}
 use Rattle.es_base.specs.Table.{Field, members_of}
-use Rattle.es_base.specs.Tree.{Tree, Part, Parts, Node, end, more, child}
+use Rattle.es_base.specs.Tree.{Tree, Part, Parts, Node, end, more, child, string}
 use Rattle.es_base.specs.declared.kind.Kind.{Kind}
 use Rattle.es_base.specs.declared.table.Place.{Place}
 use Rattle.es_base.specs.declared.table.Sort.{Sort}
@@ -10,6 +11,7 @@ use Rattle.es_ctx.specs.declared.ancestor.Ancestor.{Ancestor}
 use Rattle.es_ctx.specs.declared.ancestor.ClassHead.{ClassHead}
 use Rattle.es_ctx.specs.declared.ancestor.Parent.{Parent}
 use Rattle.es_ctx.specs.declared.ancestor_kind.AncestorKind.{AncestorKind}
+use Rattle.es_steps.specs.Expressions.{is_logical}
 use Rattle.es_visit.specs.Roles.{is_computed, is_static, role_at}
 use Rattle.es_visit.specs.declared.roles.Role.{Role}
 
@@ -35,9 +37,41 @@ class_head Kind.ClassDeclaration ps = Some (class_head_of true ps)
 class_head Kind.ClassExpression ps = Some (class_head_of false ps)
 class_head k ps = None
 
+-- a name that is read where it stands
+abbrev pub borrowed_name : Option (Bor (List ℕ)) → Option (List ℕ)
+borrowed_name name = option_map (λ n. n.now) name
+
+abbrev pub identifier_name : Tree → Option (List ℕ)
+identifier_name (Node Kind.BindingIdentifier i sp si (more (string name) ps)) = Some name
+identifier_name (Node Kind.IdentifierReference i sp si (more (string name) ps)) = Some name
+identifier_name t = None
+
+abbrev pub first_name : Parts → Option (List ℕ)
+first_name (more (child t) rest) = identifier_name t
+first_name ps = None
+
+-- the name of a class, or of the variable that a node declares, assigns to, or gives a default value
+abbrev pub name_of : Kind → Parts → Option (List ℕ)
+name_of Kind.ClassDeclaration ps = first_name ps
+name_of Kind.ClassExpression ps = first_name ps
+name_of Kind.VariableDeclarator ps = first_name ps
+name_of Kind.AssignmentPattern ps = first_name ps
+name_of Kind.AssignmentTargetWithDefault ps = first_name ps
+name_of Kind.AssignmentExpression (more operator rest) = first_name rest
+name_of kind ps = None
+
+-- whether an anonymous function or class gets the name of what this assigns it to (ECMA-262, 13.15.2)
+abbrev pub assigns_plainly : List ℕ → Bool
+assigns_plainly operator = bytes_eq operator (codes "=") || is_logical operator
+
+-- `a = b`, `a ||= b`, `a &&= b`, `a ??= b`
+abbrev pub is_plain_or_logical : Kind → Parts → Bool
+is_plain_or_logical Kind.AssignmentExpression (more (string operator) rest) = assigns_plainly operator
+is_plain_or_logical kind ps = false
+
 -- what is told of a node
 abbrev pub parent_of : Tree → Parent
-parent_of (Node k i sp si ps) = record { kind = k; node = i; scope = si; is_computed = is_computed k ps; is_static = is_static k ps; class = class_head k ps }
+parent_of (Node k i sp si ps) = record { kind = k; node = i; scope = si; is_computed = is_computed k ps; is_static = is_static k ps; class = class_head k ps; name = name_of k ps; is_plain_or_logical = is_plain_or_logical k ps }
 
 -- ---- places
 

@@ -1,5 +1,6 @@
 pub mod AncestorKinds
 pub mod Ancestors
+pub mod Lending
 pub mod Lists
 pub mod Outcome
 pub mod ScopesAround

@@ -39,9 +39,10 @@ is_hoisted_to kind = false
 abbrev pub hoist_scope_there : Ancestor → Option ℕ
 hoist_scope_there a = pick (is_hoisted_to a.kind) a.parent.scope None
 
-abbrev pub hoist_scope_from : List Ancestor → ℕ
-hoist_scope_from [] = 0
-hoist_scope_from (a ∷ rest) = unwrap_or (hoist_scope_there a) (hoist_scope_from rest)
+-- that of the first of these places that has one, from the first list of statements on, or from here
+abbrev pub hoist_scope_from : Bool → List Ancestor → ℕ
+hoist_scope_from here [] = 0
+hoist_scope_from here (a ∷ rest) = unwrap_or (pick (here || is_in_list a) (hoist_scope_there a) None) (hoist_scope_from (here || is_in_list a) rest)
 
 -- ---- by the path, which stands outermost first
 
@@ -55,4 +56,8 @@ current_block_scope_id path = record { 0 = scope_from false (reverse path) }
 
 -- the scope that `var` is hoisted to
 abbrev pub current_hoist_scope_id : List Ancestor → ScopeId
-current_hoist_scope_id path = record { 0 = hoist_scope_from (reverse path) }
+current_hoist_scope_id path = record { 0 = hoist_scope_from true (reverse path) }
+
+-- the scope that a `var` of the innermost list of statements is hoisted to
+abbrev pub current_var_scope_id : List Ancestor → ScopeId
+current_var_scope_id path = record { 0 = hoist_scope_from false (reverse path) }

@@ -1,16 +1,22 @@
 // The nodes around the node at hand.
 
-ghost use Rattle.std.specs.Prelude.{◌≡◌, map};
+ghost use Rattle.std.specs.Prelude.{◌≡◌, map, IfOk};
 ghost use Rattle.es_base.specs.Table.{field_of};
-ghost use Rattle.es_ctx.specs.Ancestors.{parent_of, innermost_kind, ancestor_of, ancestor_role, class_head, class_head_of, is_node, begins_with_node, semantic_id_of, is_statement_list, has_statements_in, has_statements};
+ghost use Rattle.es_base.specs.Words.{assignment_operator_string};
+ghost use Rattle.es_ctx.specs.Ancestors.{parent_of, innermost_kind, ancestor_of, ancestor_role, class_head, class_head_of, is_node, begins_with_node, semantic_id_of, borrowed_name, identifier_name, first_name, name_of, assigns_plainly, is_plain_or_logical, is_statement_list, has_statements_in, has_statements};
 ghost use Rattle.es_ctx.specs.ScopesAround.{is_discriminant, scope_there, is_in_list, is_hoisted_to, hoist_scope_there};
-ghost use Rattle.es_node.specs.View.{part_of, parts_of};
+ghost use Rattle.es_node.specs.View.{kind_of, part_of, parts_of, parts_in};
 
 use crate::ancestor_kind::{AncestorKind, kind_inside};
 use es_base::kind::Kind;
+use es_base::name::Name;
+use es_base::operator::AssignmentOperator;
 use es_base::table::{Member, Place, Sort, members};
+use es_expression::expression::AssignmentExpressionRef;
+use es_expression::identifier::{BindingIdentifierRef, IdentifierReferenceRef};
 use es_node::node::{Node, Part};
 use es_visit::roles::{Role, is_computed, is_static, role_at};
+use std::alloc::{AllocError, Global};
 
 /// What a class says of itself before its body.
 #[derive(Debug, Clone, Copy, PartialEq, Eq)]
@@ -23,7 +29,7 @@ pub struct ClassHead {
 }
 
 /// A node that is walked, as its parts are: what is told of it to the hooks below.
-#[derive(Debug, Clone, Copy, PartialEq, Eq)]
+#[derive(Drop)]
 pub struct Parent {
     pub kind: Kind,
     pub node: u32,
@@ -35,28 +41,63 @@ pub struct Parent {
     pub is_static: bool,
     /// Of a class.
     pub class: Option<ClassHead>,
+    /// The name of the class, or of the variable that it declares, assigns to, or gives a default value. It is told at every
+    /// member; an anonymous function or class gets it that stands as the value. A tree does not show parentheses around the
+    /// variable, with which none gets it.
+    pub name: Option<Name>,
+    /// Whether it assigns as `=`, `||=`, `&&=` and `??=` do, which name an anonymous function or class by the variable
+    /// that is assigned to (ECMA-262, 13.15.2).
+    pub is_plain_or_logical: bool,
 }
 
 impl Parent {
-    /// What is told of this node.
-    pub fn of(node: &Node) -> Parent
-        ensures { result ≡ parent_of node.now }
+    /// What is told of this node. Fails on allocation failure alone, as the calls below do.
+    pub fn of(alloc: Global, node: &Node) -> Result<Parent, AllocError>
+        ensures { IfOk result (λ parent. parent ≡ parent_of node.now) }
     {
         let kind = node.kind();
         let parts = node.parts();
-        Parent {
+        Ok(Parent {
             kind,
             node: node.node_id().0,
             scope: node.semantic_id(),
             is_computed: is_computed(kind, parts),
             is_static: is_static(kind, parts),
             class: class_head(kind, parts),
-        }
+            name: clone_name(alloc, name_of(kind, parts))?,
+            is_plain_or_logical: is_plain_or_logical(node),
+        })
+    }
+
+    /// An equal one.
+    pub fn try_clone(&self, alloc: Global) -> Result<Parent, AllocError>
+        ensures { IfOk result (λ parent. parent ≡ self.now) }
+    {
+        Ok(Parent {
+            kind: self.kind,
+            node: self.node,
+            scope: self.scope,
+            is_computed: self.is_computed,
+            is_static: self.is_static,
+            class: self.class,
+            name: clone_name(alloc, self.name.as_ref())?,
+            is_plain_or_logical: self.is_plain_or_logical,
+        })
+    }
+}
+
+/// An equal name, if there is one.
+fn clone_name(alloc: Global, name: Option<&Name>) -> Result<Option<Name>, AllocError>
+    ensures { IfOk result (λ copy. copy ≡ borrowed_name name.entry) }
+{
+    match name {
+        Some(name) => Ok(Some(name.try_clone(alloc)?)),
+        None => Ok(None),
     }
 }
 
 /// A node around the node at hand, and at which of its members that stands.
-#[derive(Debug, Clone, Copy, PartialEq, Eq)]
+#[derive(Drop)]
 pub struct Ancestor {
     /// The place of that member.
     pub kind: AncestorKind,
@@ -65,15 +106,21 @@ pub struct Ancestor {
 }
 
 impl Ancestor {
-    /// Of a member of the node of which this is told, behind the places around that node, the outermost first.
-    pub fn of(around: &[Ancestor], parent: Parent, at: usize) -> Ancestor
-        ensures { result ≡ ancestor_of around.now parent at }
+    /// Of a member of the node of which this is told, behind the places around that node, the outermost first. Fails on
+    /// allocation failure alone.
+    pub fn of(
+        alloc: Global,
+        around: &[Ancestor],
+        parent: &Parent,
+        at: usize,
+    ) -> Result<Ancestor, AllocError>
+        ensures { IfOk result (λ place. place ≡ ancestor_of around.now parent.now at) }
     {
-        Ancestor {
+        Ok(Ancestor {
             kind: kind_inside(innermost_kind(around), parent.kind, at),
-            parent,
+            parent: parent.try_clone(alloc)?,
             at,
-        }
+        })
     }
 
     /// Whether what stands there is an element of a list of statements.
@@ -204,6 +251,71 @@ fn semantic_id_of(part: &Part) -> Option<u32>
         Part::Child(node) => node.semantic_id(),
         _ => None,
     }
+}
+
+/// The name of a class, or of the variable that a node declares, assigns to, or gives a default value.
+fn name_of(kind: Kind, parts: &[Part]) -> Option<&Name>
+    ensures { borrowed_name result ≡ name_of kind (parts_of parts.now) }
+{
+    match kind {
+        // class a {}, (class a {}), var a = b;, ({ a = b }) => c, ({ a = b } = c)
+        Kind::ClassDeclaration
+        | Kind::ClassExpression
+        | Kind::VariableDeclarator
+        | Kind::AssignmentPattern
+        | Kind::AssignmentTargetWithDefault => first_name(parts),
+        // a = b
+        Kind::AssignmentExpression => match parts {
+            [_, rest @ ..] => first_name(rest),
+            [] => None,
+        },
+        _ => None,
+    }
+}
+
+/// The name of the identifier that stands first.
+fn first_name(parts: &[Part]) -> Option<&Name>
+    ensures { borrowed_name result ≡ first_name (parts_of parts.now) }
+{
+    match parts {
+        [Part::Child(node), ..] => identifier_name(node),
+        _ => None,
+    }
+}
+
+/// The name of an identifier.
+fn identifier_name(node: &Node) -> Option<&Name>
+    ensures { borrowed_name result ≡ identifier_name node.now }
+{
+    match node.kind() {
+        Kind::BindingIdentifier => Some(BindingIdentifierRef::from_node(node).name),
+        Kind::IdentifierReference => Some(IdentifierReferenceRef::from_node(node).name),
+        _ => None,
+    }
+}
+
+// a = b, a ||= b, a &&= b, a ??= b
+fn is_plain_or_logical(node: &Node) -> bool
+    ensures { result ≡ is_plain_or_logical (kind_of node.now) (parts_in node.now) }
+{
+    match node.kind() {
+        Kind::AssignmentExpression => {
+            assigns_plainly(AssignmentExpressionRef::from_node(node).operator)
+        }
+        _ => false,
+    }
+}
+
+fn assigns_plainly(operator: AssignmentOperator) -> bool
+    ensures { result ≡ assigns_plainly (assignment_operator_string operator) }
+{
+    matches!(
+        operator,
+        AssignmentOperator::Assign
+            | AssignmentOperator::LogicalOr
+            | AssignmentOperator::LogicalAnd
+            | AssignmentOperator::LogicalNullish
+    )
 }
 
 /// Whether the member of a node of this kind at this place is a list of statements: the body of a program, a

@@ -1,7 +1,7 @@
 // The places around the node at hand, one after the other.
 
 ghost use Rattle.std.specs.Prelude.{◌≡◌, reverse};
-ghost use Rattle.std.specs.Iterator.{YieldsFirst, item_count};
+ghost use Rattle.std.specs.Iterator.{YieldsFirstRef, item_count};
 
 use crate::ancestor::Ancestor;
 use std::marker::Model;
@@ -40,18 +40,18 @@ impl<'a> Ancestors<'a> {
 }
 
 impl<'a> Iterator for Ancestors<'a> {
-    type Item = Ancestor;
+    type Item = &'a Ancestor;
 
-    ghost next_gives = { YieldsFirst (λ rest. rest) };
+    ghost next_gives = { YieldsFirstRef (λ rest. rest) };
 
     ghost remaining = { item_count (λ rest. rest) };
 
     #[tactic(auto, using(crate::proofs::Around::innermost_left, crate::proofs::Around::none_left))]
-    fn next(&mut self) -> Option<Ancestor> {
+    fn next(&mut self) -> Option<&'a Ancestor> {
         if self.left == 0 {
             return None;
         }
         self.left -= 1;
-        Some(self.path[self.left])
+        Some(&self.path[self.left])
     }
 }

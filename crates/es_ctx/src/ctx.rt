@@ -1,6 +1,6 @@
 // The context of a walk.
 
-ghost use Rattle.std.specs.Prelude.{◌≡◌, ◌+◌, ◌-◌, ◌<◌, ◌^◌, [], ◌∷◌, ◌++◌, length, reverse, slice_get, false, true, IsTrue, ◌↔◌, IfOk, OnErr, OnOk, Some};
+ghost use Rattle.std.specs.Prelude.{◌≡◌, ◌+◌, ◌-◌, ◌<◌, ◌^◌, [], ◌∷◌, ◌++◌, length, reverse, slice_get, false, true, All, IsTrue, ◌↔◌, IfOk, OnErr, OnOk, Some};
 ghost use Rattle.std.specs.Str.{chars};
 ghost use Rattle.es_base.specs.Conforms.{is_among};
 ghost use Rattle.es_base.specs.Preorder.{nodes};
@@ -8,8 +8,11 @@ ghost use Rattle.es_base.specs.declared.ids.ScopeId.{ScopeId};
 ghost use Rattle.es_base.specs.declared.ledger.GeneratedKind.TheVariants as kinds;
 ghost use Rattle.es_base.specs.declared.table.Sort as sorts;
 ghost use Rattle.es_ctx.specs.Ancestors.{going_into, has_statements};
-ghost use Rattle.es_ctx.specs.ScopesAround.{current_scope_id, current_hoist_scope_id, current_block_scope_id};
+ghost use Rattle.es_ctx.specs.Lending.{LendsTable};
+ghost use Rattle.es_ctx.specs.ScopesAround.{current_scope_id, current_hoist_scope_id, current_block_scope_id, current_var_scope_id};
 ghost use Rattle.es_ctx.specs.Stores.{front, opened, closed, placed, filled, innermost, place_of, kept_beside, changed, with_var, with_let};
+ghost use Rattle.es_iife.specs.FirstScopes.{first_scopes};
+ghost use Rattle.es_iife.specs.ScopeBelow.{CanStandBelow, with_scope_below};
 ghost use Rattle.es_names.specs.Candidates.{base_of, first_free};
 ghost use Rattle.es_node.specs.View.{part_of, is_list, has_shape};
 ghost use Rattle.es_scopes.specs.Table.{HasRoom, HasScope, HasSymbol};
@@ -18,7 +21,7 @@ ghost use Rattle.program_names.specs.Suggested.{suggested};
 
 use crate::ancestor::{Ancestor, Parent, has_statements};
 use crate::ancestors::Ancestors;
-use crate::scopes::{hoist_scope, scope_from};
+use crate::scopes::{hoist_scope_from, scope_from};
 use crate::stores::{OpenList, Side, keep_beside, place};
 use es_base::diagnostic::Diagnostic;
 use es_base::ids::{NodeId, ScopeId};
@@ -26,9 +29,10 @@ use es_base::ledger::{GeneratedKind, Ledger};
 use es_base::list::List;
 use es_base::name::Name;
 use es_builders::bound_identifier::BoundIdentifier;
+use es_iife::scope_below::insert_scope_below_expression;
 use es_names::names::Names;
 use es_node::node::{Node, Part};
-use es_scopes::flags::SymbolFlags;
+use es_scopes::flags::{ScopeFlags, SymbolFlags};
 use es_scopes::scoping::Scoping;
 use es_steps::options::CompilerAssumptions;
 use es_uids::traverse_scoping::TraverseScoping;
@@ -50,6 +54,7 @@ pub struct TraverseCtx {
 }
 
 impl TraverseCtx {
+    ghost use Rattle.std.specs.Borrow.{sem};
     ghost use Rattle.es_ctx.specs.Outcome.{KeepsOutcome, KeepsPosition, BeginsAt};
 
     /// A context at the root of a program with this table: no generated name yet, and none to come that the program
@@ -100,6 +105,15 @@ impl TraverseCtx {
         &self.scoping.scoping
     }
 
+    /// The scope table, to be changed.
+    pub fn scoping_mut(&mut self) -> &mut Scoping
+        ensures* writes_back { sem 𝓛 (LendsTable self.entry result) }
+        ensures value { result.now ≡ self.old.scoping.scoping }
+    {
+        let scoping = &mut self.scoping;
+        &mut scoping.scoping
+    }
+
     /// What may be assumed of the program.
     pub fn assumptions(&self) -> &CompilerAssumptions
         ensures { result.now ≡ self.now.assumptions }
@@ -122,7 +136,7 @@ impl TraverseCtx {
     }
 
     /// A name that was not taken yet, and now is, which no scope holds. Fails on allocation failure alone, as the calls
-    /// below do; then nothing is said of the names and the table.
+    /// below do; then nothing is said of what the call changes.
     pub fn generate_uid_name(&mut self, base: &str) -> Result<Name, AllocError>
         ensures first { IfOk result (λ name. name ≡ first_free self.old.scoping.names (base_of (chars base.now))) }
         ensures free { IfOk result (λ name. is_among name self.old.scoping.names ≡ false) }
@@ -191,6 +205,30 @@ impl TraverseCtx {
         self.scoping.note_private(name, class)
     }
 
+    /// A new scope below the current one, in which the expression is to stand: the first scopes of the expression get it as
+    /// their parent. It is strict where the current one is (ECMA-262, 11.2.2). Fails on allocation failure alone; then
+    /// nothing is said of the table.
+    pub fn insert_scope_below_expression(
+        &mut self,
+        expression: &Node,
+        flags: ScopeFlags,
+    ) -> Result<ScopeId, AllocError>
+        requires around { HasScope self.old.scoping.scoping (current_scope_id self.old.path) }
+        requires room { HasRoom self.old.scoping.scoping.scopes }
+        requires below { All (CanStandBelow self.old.scoping.scoping (current_scope_id self.old.path)) (first_scopes expression.now) }
+        ensures number { IfOk result (λ s. s.0 ≡ length self.old.scoping.scoping.scopes) }
+        ensures table { OnOk result (self.new.scoping.scoping ≡ with_scope_below self.old.scoping.scoping (current_scope_id self.old.path) flags (first_scopes expression.now)) }
+        ensures names { self.new.scoping.names ≡ self.old.scoping.names }
+        ensures ledger { self.new.scoping.ledger ≡ self.old.scoping.ledger }
+        ensures position { KeepsPosition self.old self.new }
+        ensures assumptions { self.new.assumptions ≡ self.old.assumptions }
+        ensures diagnostics { self.new.diagnostics ≡ self.old.diagnostics }
+    {
+        let around = self.current_scope_id();
+        let scoping = &mut self.scoping.scoping;
+        insert_scope_below_expression(self.alloc, expression, flags, around, scoping)
+    }
+
     /// Adds a warning. Fails on allocation failure alone, and then adds none.
     pub fn warn(&mut self, diagnostic: Diagnostic) -> Result<(), AllocError>
         ensures position { KeepsPosition self.old self.new }
@@ -204,14 +242,14 @@ impl TraverseCtx {
 
     /// Goes into a member of a node; its list is opened, if it is one of statements. Fails on allocation
     /// failure alone, as the calls below do; then nothing is said of the context.
-    pub fn open(&mut self, parent: Parent, at: usize, part: &Part) -> Result<(), AllocError>
-        requires { has_statements parent.kind at ≡ true → is_list part.now ≡ true }
+    pub fn open(&mut self, parent: &Parent, at: usize, part: &Part) -> Result<(), AllocError>
+        requires { has_statements parent.now.kind at ≡ true → is_list part.now ≡ true }
         ensures next { OnOk result (self.new.next ≡ self.old.next) }
-        ensures path { OnOk result (self.new.path ≡ going_into self.old.path parent at) }
-        ensures lists { OnOk result (self.new.lists ≡ opened (has_statements parent.kind at) (part_of part.now) self.old.lists) }
+        ensures path { OnOk result (self.new.path ≡ going_into self.old.path parent.now at) }
+        ensures lists { OnOk result (self.new.lists ≡ opened (has_statements parent.now.kind at) (part_of part.now) self.old.lists) }
         ensures outcome { KeepsOutcome self.old self.new }
     {
-        let ancestor = Ancestor::of(self.path.as_slice(), parent, at);
+        let ancestor = Ancestor::of(self.alloc, self.path.as_slice(), parent, at)?;
         self.path.push(ancestor)?;
         if has_statements(parent.kind, at) {
             let list = OpenList::open(self.alloc, part.as_list())?;
@@ -223,12 +261,12 @@ impl TraverseCtx {
     /// Comes out of a member of a node; its list is closed, if it is one of statements, and gets what was
     /// kept for it.
     #[tactic(auto, using(crate::proofs::Last::front_removed, crate::proofs::Last::front_empty, crate::proofs::Last::filled_last))]
-    pub fn close(&mut self, parent: Parent, at: usize, part: &mut Part) -> Result<(), AllocError>
-        requires { has_statements parent.kind at ≡ true → is_list part.old ≡ true }
+    pub fn close(&mut self, parent: &Parent, at: usize, part: &mut Part) -> Result<(), AllocError>
+        requires { has_statements parent.now.kind at ≡ true → is_list part.old ≡ true }
         ensures next { OnOk result (self.new.next ≡ self.old.next) }
         ensures path { OnOk result (self.new.path ≡ front self.old.path) }
-        ensures lists { OnOk result (self.new.lists ≡ closed (has_statements parent.kind at) self.old.lists) }
-        ensures part { OnOk result (part_of part.new ≡ filled (has_statements parent.kind at) self.old.lists (part_of part.old)) }
+        ensures lists { OnOk result (self.new.lists ≡ closed (has_statements parent.now.kind at) self.old.lists) }
+        ensures part { OnOk result (part_of part.new ≡ filled (has_statements parent.now.kind at) self.old.lists (part_of part.old)) }
         ensures shape { OnOk result ((sort : sorts.Sort) → has_shape sort part.new ≡ has_shape sort part.old) }
         ensures outcome { KeepsOutcome self.old self.new }
     {
@@ -289,7 +327,16 @@ impl TraverseCtx {
     pub fn current_hoist_scope_id(&self) -> ScopeId
         ensures { result ≡ current_hoist_scope_id self.now.path }
     {
-        ScopeId(hoist_scope(self.ancestors()))
+        ScopeId(hoist_scope_from(true, self.ancestors()))
+    }
+
+    /// The scope that a `var` of the innermost list of statements around the node at hand is hoisted to. It is that of
+    /// `current_hoist_scope_id`, unless a function without such a list stands between: in `(a = b) => c`, what is kept for
+    /// a list is put outside the arrow.
+    pub fn current_var_scope_id(&self) -> ScopeId
+        ensures { result ≡ current_var_scope_id self.now.path }
+    {
+        ScopeId(hoist_scope_from(false, self.ancestors()))
     }
 
     /// The scope of the innermost list of statements around the node at hand.

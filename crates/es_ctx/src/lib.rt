@@ -1,5 +1,5 @@
-// What a walk that lowers carries along: the nodes around, and the statements and declarations that are
-// still to be put into the lists of statements that are open. docs/WALK.md says what they promise.
+// What a walk that lowers carries along: the nodes around, the statements and declarations that are still to be put into
+// the lists of statements that are open, the scope table, the names and the warnings. docs/WALK.md says what is promised.
 #![tactic(auto)]
 
 pub mod ancestor;

@@ -23,12 +23,15 @@ pub(crate) fn scope_from(here: bool, around: Ancestors<'_>) -> u32
     ROOT
 }
 
-/// The scope of the first of these places that `var` is hoisted to.
-pub(crate) fn hoist_scope(around: Ancestors<'_>) -> u32
-    ensures { result ≡ hoist_scope_from around.entry }
+/// The scope of the first of these places that `var` is hoisted to, from the first list of statements on, or from here.
+pub(crate) fn hoist_scope_from(here: bool, around: Ancestors<'_>) -> u32
+    ensures { result ≡ hoist_scope_from here around.entry }
 {
+    let mut inside = here;
     for ancestor in around {
-        if let Some(scope) = ancestor.hoist_scope() {
+        inside = inside || ancestor.is_in_list();
+        let scope = if inside { ancestor.hoist_scope() } else { None };
+        if let Some(scope) = scope {
             return scope;
         }
     }

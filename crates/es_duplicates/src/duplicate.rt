@@ -6,7 +6,7 @@ ghost use Rattle.es_base.specs.declared.kind.Kind.{Kind};
 ghost use Rattle.es_base.specs.Carried.{reference_number};
 ghost use Rattle.es_base.specs.declared.ledger.GeneratedKind.TheVariants as kinds;
 ghost use Rattle.es_common.specs.Declared.{declarator};
-ghost use Rattle.es_ctx.specs.ScopesAround.{current_block_scope_id};
+ghost use Rattle.es_ctx.specs.ScopesAround.{current_var_scope_id};
 ghost use Rattle.es_ctx.specs.Stores.{changed, innermost, with_var};
 ghost use Rattle.es_duplicates.specs.Duplicated.{IsDuplicated, IsHeld, name_in, temporary_base, with_name_read, with_read_alone};
 ghost use Rattle.es_duplicates.specs.Repetition.{repetition};
@@ -41,12 +41,12 @@ pub fn duplicate_expression(
     mutated_symbol_needs_temp_var: bool,
     ctx: &mut TraverseCtx,
 ) -> Result<(Node, Node), AllocError>
-    requires scope { HasScope ctx.old.scoping.scoping (current_block_scope_id ctx.old.path) }
-    requires taken { AreTaken ctx.old.scoping (current_block_scope_id ctx.old.path) }
+    requires scope { HasScope ctx.old.scoping.scoping (current_var_scope_id ctx.old.path) }
+    requires taken { AreTaken ctx.old.scoping (current_var_scope_id ctx.old.path) }
     requires symbols { HasRoom ctx.old.scoping.scoping.symbols }
     requires references { length ctx.old.scoping.scoping.references + 1 < 2 ^ 32 - 1 }
     requires open { 0 < length ctx.old.lists }
-    ensures form { IfOk result (λ d. IsDuplicated (repetition ctx.old.scoping.scoping mutated_symbol_needs_temp_var expr) (current_block_scope_id ctx.old.path) ctx.old.scoping ctx.new.scoping ctx.old.lists ctx.new.lists expr 1 d.0 (d.1 ∷ [])) }
+    ensures form { IfOk result (λ d. IsDuplicated (repetition ctx.old.scoping.scoping mutated_symbol_needs_temp_var expr) (current_var_scope_id ctx.old.path) ctx.old.scoping ctx.new.scoping ctx.old.lists ctx.new.lists expr 1 d.0 (d.1 ∷ [])) }
     ensures taken { OnOk result ((other : ScopeId) → AreTaken ctx.old.scoping other → AreTaken ctx.new.scoping other) }
     ensures next { ctx.new.next ≡ ctx.old.next }
     ensures path { ctx.new.path ≡ ctx.old.path }
@@ -68,12 +68,12 @@ pub fn duplicate_expression_twice(
     mutated_symbol_needs_temp_var: bool,
     ctx: &mut TraverseCtx,
 ) -> Result<(Node, Node, Node), AllocError>
-    requires scope { HasScope ctx.old.scoping.scoping (current_block_scope_id ctx.old.path) }
-    requires taken { AreTaken ctx.old.scoping (current_block_scope_id ctx.old.path) }
+    requires scope { HasScope ctx.old.scoping.scoping (current_var_scope_id ctx.old.path) }
+    requires taken { AreTaken ctx.old.scoping (current_var_scope_id ctx.old.path) }
     requires symbols { HasRoom ctx.old.scoping.scoping.symbols }
     requires references { length ctx.old.scoping.scoping.references + 2 < 2 ^ 32 - 1 }
     requires open { 0 < length ctx.old.lists }
-    ensures form { IfOk result (λ d. IsDuplicated (repetition ctx.old.scoping.scoping mutated_symbol_needs_temp_var expr) (current_block_scope_id ctx.old.path) ctx.old.scoping ctx.new.scoping ctx.old.lists ctx.new.lists expr 2 d.0 (d.1 ∷ d.2 ∷ [])) }
+    ensures form { IfOk result (λ d. IsDuplicated (repetition ctx.old.scoping.scoping mutated_symbol_needs_temp_var expr) (current_var_scope_id ctx.old.path) ctx.old.scoping ctx.new.scoping ctx.old.lists ctx.new.lists expr 2 d.0 (d.1 ∷ d.2 ∷ [])) }
     ensures taken { OnOk result ((other : ScopeId) → AreTaken ctx.old.scoping other → AreTaken ctx.new.scoping other) }
     ensures next { ctx.new.next ≡ ctx.old.next }
     ensures path { ctx.new.path ≡ ctx.old.path }
@@ -98,12 +98,12 @@ pub fn duplicate_expression_multiple(
     count: usize,
     ctx: &mut TraverseCtx,
 ) -> Result<(Node, List<Node>), AllocError>
-    requires scope { HasScope ctx.old.scoping.scoping (current_block_scope_id ctx.old.path) }
-    requires taken { AreTaken ctx.old.scoping (current_block_scope_id ctx.old.path) }
+    requires scope { HasScope ctx.old.scoping.scoping (current_var_scope_id ctx.old.path) }
+    requires taken { AreTaken ctx.old.scoping (current_var_scope_id ctx.old.path) }
     requires symbols { HasRoom ctx.old.scoping.scoping.symbols }
     requires references { length ctx.old.scoping.scoping.references + count < 2 ^ 32 - 1 }
     requires open { 0 < length ctx.old.lists }
-    ensures form { IfOk result (λ d. IsDuplicated (repetition ctx.old.scoping.scoping mutated_symbol_needs_temp_var expr) (current_block_scope_id ctx.old.path) ctx.old.scoping ctx.new.scoping ctx.old.lists ctx.new.lists expr count d.0 d.1) }
+    ensures form { IfOk result (λ d. IsDuplicated (repetition ctx.old.scoping.scoping mutated_symbol_needs_temp_var expr) (current_var_scope_id ctx.old.path) ctx.old.scoping ctx.new.scoping ctx.old.lists ctx.new.lists expr count d.0 d.1) }
     ensures count { IfOk result (λ d. length d.1 ≡ count) }
     ensures taken { OnOk result ((other : ScopeId) → AreTaken ctx.old.scoping other → AreTaken ctx.new.scoping other) }
     ensures next { ctx.new.next ≡ ctx.old.next }
@@ -151,12 +151,12 @@ fn read_again(
 // var _t;
 // _t = expr, _t
 fn hold(expr: Node, count: usize, ctx: &mut TraverseCtx) -> Result<(Node, List<Node>), AllocError>
-    requires scope { HasScope ctx.old.scoping.scoping (current_block_scope_id ctx.old.path) }
-    requires taken { AreTaken ctx.old.scoping (current_block_scope_id ctx.old.path) }
+    requires scope { HasScope ctx.old.scoping.scoping (current_var_scope_id ctx.old.path) }
+    requires taken { AreTaken ctx.old.scoping (current_var_scope_id ctx.old.path) }
     requires symbols { HasRoom ctx.old.scoping.scoping.symbols }
     requires references { length ctx.old.scoping.scoping.references + count < 2 ^ 32 - 1 }
     requires open { 0 < length ctx.old.lists }
-    ensures form { IfOk result (λ d. IsHeld with_var flag.VAR (temporary_base expr) (current_block_scope_id ctx.old.path) (record ctx.old.scoping { scoping = with_name_read expr ctx.old.scoping.scoping }) ctx.new.scoping ctx.old.lists ctx.new.lists expr count d.0 d.1) }
+    ensures form { IfOk result (λ d. IsHeld with_var flag.VAR (temporary_base expr) (current_var_scope_id ctx.old.path) (record ctx.old.scoping { scoping = with_name_read expr ctx.old.scoping.scoping }) ctx.new.scoping ctx.old.lists ctx.new.lists expr count d.0 d.1) }
     ensures taken { OnOk result ((other : ScopeId) → AreTaken ctx.old.scoping other → AreTaken ctx.new.scoping other) }
     ensures next { ctx.new.next ≡ ctx.old.next }
     ensures path { ctx.new.path ≡ ctx.old.path }
@@ -170,11 +170,11 @@ fn hold(expr: Node, count: usize, ctx: &mut TraverseCtx) -> Result<(Node, List<N
 /// `var _t;`, for a temporary that is named after the expression. A name that was read and written, as in `x += 1`, is
 /// read alone from now on, as in `_x = x`.
 fn declare_temporary(expr: &Node, ctx: &mut TraverseCtx) -> Result<BoundIdentifier, AllocError>
-    requires scope { HasScope ctx.old.scoping.scoping (current_block_scope_id ctx.old.path) }
-    requires taken { AreTaken ctx.old.scoping (current_block_scope_id ctx.old.path) }
+    requires scope { HasScope ctx.old.scoping.scoping (current_var_scope_id ctx.old.path) }
+    requires taken { AreTaken ctx.old.scoping (current_var_scope_id ctx.old.path) }
     requires room { HasRoom ctx.old.scoping.scoping.symbols }
     requires open { 0 < length ctx.old.lists }
-    ensures generated { IfOk result (IsGenerated (record ctx.old.scoping { scoping = with_name_read expr.now ctx.old.scoping.scoping }) ctx.new.scoping (temporary_base expr.now) (current_block_scope_id ctx.old.path) flag.VAR kinds.Temp) }
+    ensures generated { IfOk result (IsGenerated (record ctx.old.scoping { scoping = with_name_read expr.now ctx.old.scoping.scoping }) ctx.new.scoping (temporary_base expr.now) (current_var_scope_id ctx.old.path) flag.VAR kinds.Temp) }
     ensures bound { IfOk result (λ b. HasSymbol ctx.new.scoping.scoping b.symbol_id) }
     ensures taken { OnOk result ((other : ScopeId) → AreTaken ctx.old.scoping other → AreTaken ctx.new.scoping other) }
     ensures next { ctx.new.next ≡ ctx.old.next }

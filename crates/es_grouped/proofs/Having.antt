@@ -1,5 +1,5 @@
 -- The values of a number, of lists one behind the other.
-use Rattle.std.proofs.Common.{◌≡◌, refl, ap, ◌∙◌, ℕ, List, [], ◌∷◌, ◌++◌, Bool, true, false, cond, nat_eq}
+use Rattle.std.proofs.Common.{◌≡◌, refl, ap, ℕ, List, [], ◌∷◌, ◌++◌, Bool, true, false, cond, nat_eq}
 use Rattle.es_grouped.specs.Groups.{having}
 
 pub having_append : {T : Type 0} (m : ℕ) (ps qs : List (ℕ × T)) → having m (ps ++ qs) ≡ having m ps ++ having m qs

@@ -3,16 +3,30 @@
 
 ghost use Rattle.std.specs.Prelude.{◌≡◌, ◌++◌, ◌∷◌, [], ℕ, cond, nat_eq, IfOk, OnOk};
 ghost use Rattle.es_by_number.specs.Numbered.{pairs};
-ghost use Rattle.es_grouped.specs.Groups.{group, having, if_any};
+ghost use Rattle.es_grouped.specs.Groups.{group, having, in_table, list_at};
 
+mod extent;
+mod lists;
+mod runs;
+
+use crate::lists::Lists;
+use crate::runs::{Runs, runs_of};
 use es_by_number::numbered::Numbered;
-use indexmap::IndexMap;
 use std::alloc::{AllocError, Global};
+use std::mem::replace;
+
+/// Values by number.
+#[derive(Drop)]
+enum Table<T> {
+    /// Those that were there at once, if those of each number stood side by side.
+    Runs(Runs<T>),
+    Lists(Lists<T>),
+}
 
 /// Values, each of which belongs to a number. To look one up takes the same time however many there are.
 #[derive(Drop)]
 pub struct Grouped<T> {
-    groups: IndexMap<u32, Vec<T>>,
+    table: Table<T>,
 }
 
 impl<T: Drop> Grouped<T> {
@@ -21,7 +35,7 @@ impl<T: Drop> Grouped<T> {
         ensures { (m : ℕ) → group m result ≡ [] }
     {
         Grouped {
-            groups: IndexMap::new(alloc),
+            table: Table::Lists(Lists::new(alloc)),
         }
     }
 
@@ -29,20 +43,20 @@ impl<T: Drop> Grouped<T> {
     pub fn of(alloc: Global, items: Vec<Numbered<T>>) -> Result<Grouped<T>, AllocError>
         ensures { IfOk result (λ g. (m : ℕ) → group m g ≡ having m (pairs items.items)) }
     {
-        let mut grouped = Grouped::new(alloc);
-        for item in items {
-            grouped.add(alloc, item.number, item.value)?;
-        }
-        Ok(grouped)
+        let table = match runs_of(alloc, items.as_slice())? {
+            Some(runs) => Table::Runs(Runs::of(alloc, runs, items)?),
+            None => Table::Lists(Lists::of(alloc, items)?),
+        };
+        Ok(Grouped { table })
     }
 
     /// The values of this number, in the order in which they were added.
     pub fn get(&self, number: u32) -> &[T]
         ensures { result.now ≡ group number self.now }
     {
-        match self.groups.get(&number) {
-            Some(values) => values.as_slice(),
-            None => &[],
+        match &self.table {
+            Table::Runs(runs) => runs.get(number),
+            Table::Lists(lists) => lists.get(number),
         }
     }
 
@@ -50,23 +64,33 @@ impl<T: Drop> Grouped<T> {
     pub fn add(&mut self, alloc: Global, number: u32, value: T) -> Result<(), AllocError>
         ensures { OnOk result ((m : ℕ) → group m self.new ≡ group m self.old ++ cond (nat_eq m number) (value ∷ []) []) }
     {
-        match self.groups.get_mut(&number) {
-            Some(values) => {
-                values.push(value)?;
-                Ok(())
-            }
-            None => self.add_first(alloc, number, value),
+        match &mut self.table {
+            Table::Lists(lists) => lists.add(alloc, number, value),
+            Table::Runs(_) => self.add_to_runs(alloc, number, value),
         }
     }
 
-    /// Adds the first value of a number. Fails on allocation failure alone.
-    fn add_first(&mut self, alloc: Global, number: u32, value: T) -> Result<(), AllocError>
-        requires { group number self.now ≡ [] }
+    /// The same, where the values may be in runs.
+    fn add_to_runs(&mut self, alloc: Global, number: u32, value: T) -> Result<(), AllocError>
         ensures { OnOk result ((m : ℕ) → group m self.new ≡ group m self.old ++ cond (nat_eq m number) (value ∷ []) []) }
     {
-        let mut values = Vec::new(alloc);
-        values.push(value)?;
-        self.groups.insert(number, values)?;
+        let table = replace(&mut self.table, Table::Lists(Lists::new(alloc)));
+        let mut lists = into_lists(alloc, table)?;
+        lists.add(alloc, number, value)?;
+        self.table = Table::Lists(lists);
         Ok(())
+    }
+}
+
+/// A list for each number of a table. Fails on allocation failure alone.
+fn into_lists<T: Drop>(alloc: Global, table: Table<T>) -> Result<Lists<T>, AllocError>
+    ensures { IfOk result (λ l. (m : ℕ) → list_at m l ≡ in_table m table) }
+{
+    match table {
+        Table::Runs(runs) => {
+            let items = runs.into_items(alloc)?;
+            Lists::of(alloc, items)
+        }
+        Table::Lists(lists) => Ok(lists),
     }
 }

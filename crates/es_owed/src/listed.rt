@@ -1,4 +1,4 @@
-// A program with its nodes and references.
+// A program with its nodes, references and names.
 
 ghost use Rattle.std.specs.Prelude.{◌≡◌, ℕ, map, IfOk};
 ghost use Rattle.es_base.specs.Preorder.{number_of, preorder};
@@ -13,10 +13,11 @@ use es_binding_faults::preorder::preorder;
 use es_by_number::numbered::Numbered;
 use es_grouped::Grouped;
 use es_node::node::Node;
+use es_outside::names::ProgramNames;
 use es_referents::Referents;
 use std::alloc::{AllocError, Global};
 
-/// A program, its nodes in preorder, and its references.
+/// A program, its nodes in preorder, its references, and its names.
 #[derive(Drop)]
 pub struct Listed<'a> {
     pub program: &'a Node,
@@ -24,25 +25,34 @@ pub struct Listed<'a> {
     /// The same nodes by their numbers.
     pub by_number: Grouped<&'a Node>,
     pub references: Referents<'a>,
+    pub names: ProgramNames<'a>,
 
     ghost in_preorder: { seen nodes.items ≡ preorder program.now },
     ghost are_numbered: { (m : ℕ) → seen (group m by_number) ≡ numbered m (seen nodes.items) },
     ghost are_resolved: { references_of references.list.items ≡ resolve program.now },
+    ghost are_named: { names.program.now ≡ program.now },
 }
 
 impl<'a> Listed<'a> {
-    /// This program with its nodes and references. Fails on allocation failure alone.
+    /// This program with its nodes, references and names. Fails on allocation failure alone.
     pub fn of(alloc: Global, program: &'a Node) -> Result<Listed<'a>, AllocError>
         ensures { IfOk result (λ l. l.program.now ≡ program.now) }
     {
         let nodes = preorder(alloc, program)?;
         let by_number = by_number(alloc, nodes.as_slice())?;
         let references = Referents::of(alloc, program)?;
+        let names = ProgramNames::from_references(
+            alloc,
+            program,
+            references.list.as_slice(),
+            nodes.as_slice(),
+        )?;
         Ok(Listed {
             program,
             nodes,
             by_number,
             references,
+            names,
         })
     }
 

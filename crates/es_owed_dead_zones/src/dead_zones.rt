@@ -19,7 +19,6 @@ use es_generated::ledger::Ledger;
 use es_kept_bodies::bodies::bodies_fit;
 use es_node::node::Node;
 use es_number_set::NumberSet;
-use es_outside::names::ProgramNames;
 use es_owed::listed::Listed;
 use es_owed::numbers::is_within;
 use es_owed_initialized::numbers::add_numbers;
@@ -115,10 +114,8 @@ fn source_classes(
 ) -> Result<Vec<ClassParts>, AllocError>
     ensures { IfOk result (λ r. classes_of r.items ≡ spec.class_parts options.now (written source.now.program.now) (resolve source.now.program.now) (preorder source.now.program.now)) }
 {
-    let references = source.references.list.as_slice();
     let nodes = source.nodes.as_slice();
-    let names = ProgramNames::from_references(alloc, source.program, references, nodes)?;
-    class_parts(alloc, options, &names, nodes)
+    class_parts(alloc, options, &source.names, nodes)
 }
 
 /// Whether the bodies of a lowered program fit those of the source, where these are facts of the source, and the closures of the

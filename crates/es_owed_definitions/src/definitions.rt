@@ -14,7 +14,6 @@ use crate::supers::supers_stand;
 use crate::terms::Terms;
 use es_base::ledger::{GeneratedKind, LedgerEntry};
 use es_generated::ledger::Ledger;
-use es_outside::names::ProgramNames;
 use es_owed::listed::Listed;
 use es_seen_names::private_member::private_members;
 use es_shapes::asked::lowers_fields;
@@ -113,10 +112,8 @@ fn fields_stand(
     requires { HasStatics lowered.now.terms (private_members_of lowered.now.members.now) lowered.now.listed.now.program.now lowered.now.statics }
     ensures { IfOk result (λ holds. holds ≡ spec.classes_fit lowered.now.terms.first lowered.now.terms.options.now lowered.now.terms.ledger.now (private_members_of lowered.now.members.now) source.now.program.now lowered.now.listed.now.program.now (preorder source.now.program.now)) }
 {
-    let references = source.references.list.as_slice();
     let nodes = source.nodes.as_slice();
-    let names = ProgramNames::from_references(alloc, source.program, references, nodes)?;
-    classes_fit(alloc, &names, lowered, nodes)
+    classes_fit(alloc, &source.names, lowered, nodes)
 }
 
 /// Whether what stands for `super(..)` and is not called has definitions alone. Fails on allocation failure alone.

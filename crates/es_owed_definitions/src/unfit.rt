@@ -60,10 +60,8 @@ fn unfit_in(
     requires { HasStatics lowered.now.terms (private_members_of lowered.now.members.now) lowered.now.listed.now.program.now lowered.now.statics }
     ensures { IfOk result (λ n. n ≡ first_unfit lowered.now.terms.first lowered.now.terms.options.now lowered.now.terms.ledger.now (private_members_of lowered.now.members.now) source.now.program.now lowered.now.listed.now.program.now (preorder source.now.program.now)) }
 {
-    let references = source.references.list.as_slice();
     let nodes = source.nodes.as_slice();
-    let names = ProgramNames::from_references(alloc, source.program, references, nodes)?;
-    unfit_among(alloc, &names, lowered, nodes)
+    unfit_among(alloc, &source.names, lowered, nodes)
 }
 
 #[tactic(auto, using(crate::proofs::UnfitClasses::unfit_here, crate::proofs::UnfitClasses::unfit_behind))]

@@ -40,7 +40,7 @@ pub fn keys_stand(
 ) -> Result<bool, AllocError>
     ensures { IfOk result (λ holds. (members : List PrivateMember) → holds ≡ spec.keys_stand first options.now ledger.now members lowered.now.program.now (keys_of keys.now)) }
 {
-    if !lowers_fields(options) {
+    if keys.is_empty() || !lowers_fields(options) {
         return Ok(true);
     }
     if !all_different(alloc, keys)? {

@@ -1,6 +1,6 @@
 -- A walk along a list, whose items stand as parts.
 use Rattle.std.specs.Prelude.{◌≡◌, ℕ, ◌+◌, ◌<◌, ◌≤◌, List, [], ◌∷◌, ◌++◌, take, drop, length, refl}
-use Rattle.std.proofs.Common.{sym, ◌∙◌, ap, get_or, set, arith}
+use Rattle.std.proofs.Common.{◌∙◌, ap, get_or, set, arith}
 use Rattle.std.proofs.lemmas.List.{take_more_set, drop-set-lt, drop_more, take_all, drop_all}
 use Rattle.es_base.specs.Preorder.{nodes_of, nodes_of_part}
 use Rattle.es_base.specs.Tree.{Part, Parts, end, more}

@@ -63,11 +63,11 @@ module _ {S : Type 0} (enters : Hook → S → Tree → Bool → S → Type 0) (
       let below : w.VisitedBelow enters leaves scope_enters scope_leaves k (is_computed k (parts_of ps)) 0 m (parts_of ps) n (parts_of qs) = rw key at h in
       rw (is, is') (w.inside before below after)
 
-  pub some_visited : {role : Role} {s e : S} {u : Tree} {o : Option Tree} (x : Tree) → o ≡ Some x → w.Visited enters leaves scope_enters scope_leaves role s x e u → w.VisitedItem enters leaves scope_enters scope_leaves role s (nullable o) e (child u)
-  some_visited x is h = rw is (w.item h)
+  pub some_visited : {role : Role} {s e : S} {u : Tree} {o : Option Tree} (x : Tree) → o ≡ Some x → w.Visited enters leaves scope_enters scope_leaves role s x e u → w.VisitedPart enters leaves scope_enters scope_leaves role s (nullable o) e (child u)
+  some_visited x is h = rw is (w.of_child h)
 
-  pub none_visited : {role : Role} {s : S} {o : Option Tree} → o ≡ None → w.VisitedItem enters leaves scope_enters scope_leaves role s (nullable o) s (nullable o)
-  none_visited is = rw is (w.hole refl)
+  pub none_visited : {role : Role} {s : S} {o : Option Tree} → o ≡ None → w.VisitedPart enters leaves scope_enters scope_leaves role s (nullable o) s (nullable o)
+  none_visited is = rw is (w.bare refl)
 
   pub child_visited : {role : Role} {s e : S} {y : code.Part} (x u : Tree) → y ≡ part.Child x → w.Visited enters leaves scope_enters scope_leaves role s x e u → w.VisitedPart enters leaves scope_enters scope_leaves role s (part_of y) e (child u)
   child_visited x u is h = rw is (w.of_child h)

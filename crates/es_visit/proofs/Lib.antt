@@ -1,7 +1,9 @@
 pub mod Along
 pub mod Assembly
 pub mod InOrder
+pub mod Meetings
 pub mod Nodes
+pub mod Order
 pub mod Ready
 pub mod Rewrites
 pub mod Rows

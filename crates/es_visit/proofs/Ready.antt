@@ -1,5 +1,5 @@
 -- What holds whenever a hook is called holds after a walk.
-use Rattle.std.specs.Prelude.{◌≡◌, ℕ, Bool, Option, Some, None}
+use Rattle.std.specs.Prelude.{ℕ, Bool, Option, Some, None}
 use Rattle.es_base.specs.Tree.{Tree, Part, Parts}
 use Rattle.es_base.specs.declared.kind.Kind.{Kind}
 use Rattle.es_visit.specs.Visited as w
@@ -48,8 +48,4 @@ module _ {S : Type 0} (enters : Hook → S → Tree → Bool → S → Type 0) (
 
     pub stays_items : {role : Role} {s e : S} {ps qs : Parts} → w.VisitedItems enters leaves scope_enters scope_leaves role s ps e qs → ready s → ready e
     stays_items w.no_item r = r
-    stays_items (w.next_item h hs) r = stays_items hs (stays_item h r)
-
-    pub stays_item : {role : Role} {s e : S} {p q : Part} → w.VisitedItem enters leaves scope_enters scope_leaves role s p e q → ready s → ready e
-    stays_item (w.item h) r = stays h r
-    stays_item (w.hole is) r = r
+    stays_items (w.next_item h hs) r = stays_items hs (stays_part h r)

@@ -1,13 +1,13 @@
 -- A visitor whose hooks are functions of the node makes of a tree what those functions make of it.
-use Rattle.std.specs.Prelude.{◌≡◌, ℕ, ◌+◌, Bool, true, false, Option, Some, None, refl}
+use Rattle.std.specs.Prelude.{◌≡◌, ℕ, Bool, true, false, Option, refl}
 use Rattle.std.proofs.Common.{ap, sym, ◌∙◌}
 use Rattle.es_base.specs.Table.{members_of}
-use Rattle.es_base.specs.Tree.{Tree, Part, Parts, Node, end, more, child, absent, list, string, no_string, boolean, literal}
+use Rattle.es_base.specs.Tree.{Tree, Part, Parts, Node, more, child, absent, list, string, no_string, boolean, literal}
 use Rattle.es_base.specs.declared.kind.Kind.{Kind}
 use Rattle.es_node.specs.View.{kind_of}
-use Rattle.es_visit.specs.Bare.{is_bare, is_child}
+use Rattle.es_visit.specs.Bare.{is_bare}
 use Rattle.es_visit.specs.Changed as c
-use Rattle.es_visit.specs.Roles.{role_at, is_computed}
+use Rattle.es_visit.specs.Roles.{role_at}
 use Rattle.es_visit.specs.Visited.{hook_of_role, hook_of_kind}
 use Rattle.es_visit.specs.Visited as w
 use Rattle.es_visit.specs.declared.roles.Role.{Role}
@@ -31,15 +31,6 @@ module _ {S : Type 0} (enters : Hook → S → Tree → Bool → S → Type 0) (
   bare-part role no_string e = refl
   bare-part role (boolean b) e = refl
   bare-part role (literal v) e = refl
-
-  other-item : (role : Role) (p : Part) → is_child p ≡ false → p ≡ c.changed_item goes change role p
-  other-item role (child t) e = absurd (cc e)
-  other-item role (list ps) e = refl
-  other-item role absent e = refl
-  other-item role (string s) e = refl
-  other-item role no_string e = refl
-  other-item role (boolean b) e = refl
-  other-item role (literal v) e = refl
 
   went : (hook : Hook) (t v x u : Tree) → true ≡ goes hook t → u ≡ change hook v → v ≡ x → u ≡ c.chosen (goes hook t) (change hook x) t
   went hook t v x u into is below = rw (← into) (is ∙ ap (change hook) below)
@@ -77,8 +68,4 @@ module _ {S : Type 0} (enters : Hook → S → Tree → Bool → S → Type 0) (
     rewrites_items : {role : Role} {s e : S} {ps qs : Parts} → w.VisitedItems enters leaves scope_enters scope_leaves role s ps e qs → qs ≡ c.changed_items goes change role ps
     rewrites_items w.no_item = refl
     rewrites_items {role} (w.next_item {p = p} {q = q} {ps = ps} {qs = qs} h hs) =
-        ap (λ x. more x qs) (rewrites_item h) ∙ ap (more (c.changed_item goes change role p)) (rewrites_items hs)
-
-    rewrites_item : {role : Role} {s e : S} {p q : Part} → w.VisitedItem enters leaves scope_enters scope_leaves role s p e q → q ≡ c.changed_item goes change role p
-    rewrites_item (w.item h) = ap child (rewrites h)
-    rewrites_item {role} (w.hole {p = p} is) = other-item role p is
+        ap (λ x. more x qs) (rewrites_part h) ∙ ap (more (c.changed_part goes change role p)) (rewrites_items hs)

@@ -1,5 +1,5 @@
 -- The members of a row by their places.
-use Rattle.std.proofs.Common.{◌≡◌, refl, ℕ, zero, suc, ◌+◌, ◌<◌, ◌≤◌, List, [], ◌∷◌, map, length, get_or, Bool, arith}
+use Rattle.std.proofs.Common.{◌≡◌, refl, ℕ, zero, suc, ◌<◌, ◌≤◌, List, [], ◌∷◌, map, length, get_or, Bool, arith}
 use Rattle.es_base.specs.Table.{field_of}
 use Rattle.es_base.specs.declared.table.Member.{Member}
 use Rattle.es_visit.specs.Roles.{role_of, role_at}

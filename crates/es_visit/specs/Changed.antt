@@ -1,6 +1,6 @@
 -- What becomes of a tree where the hooks that leave nodes change them as a function of the node, and those
 -- that enter them answer as one.
-use Rattle.std.specs.Prelude.{◌≡◌, ℕ, ◌+◌, Bool, true, false, Option, Some, None}
+use Rattle.std.specs.Prelude.{ℕ, ◌+◌, Bool, true, false, Option, Some, None}
 use Rattle.es_base.specs.Table.{members_of}
 use Rattle.es_base.specs.Tree.{Tree, Part, Parts, Node, end, more, child, absent, list, string, no_string, boolean, literal}
 use Rattle.es_base.specs.declared.kind.Kind.{Kind}
@@ -38,16 +38,7 @@ module _ (goes : Hook → Tree → Bool) (change : Hook → Tree → Tree) where
 
     pub changed_items : Role → Parts → Parts
     changed_items role end = end
-    changed_items role (more p ps) = more (changed_item role p) (changed_items role ps)
-
-    pub changed_item : Role → Part → Part
-    changed_item role (child t) = child (changed role t)
-    changed_item role absent = absent
-    changed_item role (list all) = list all
-    changed_item role (string s) = string s
-    changed_item role no_string = no_string
-    changed_item role (boolean b) = boolean b
-    changed_item role (literal v) = literal v
+    changed_items role (more p ps) = more (changed_part role p) (changed_items role ps)
 
   -- what becomes of a node but for the hook of its place, and but for both its hooks
   abbrev pub changed_inside : Tree → Tree

@@ -1,10 +1,10 @@
 -- What a walk does whose hooks may change the nodes.
-use Rattle.std.specs.Prelude.{◌≡◌, ℕ, ◌+◌, List, [], ◌∷◌, Bool, true, false, Option, Some, None}
+use Rattle.std.specs.Prelude.{◌≡◌, ℕ, ◌+◌, Bool, true, false, Option, Some, None}
 use Rattle.es_base.specs.Table.{members_of, is_statement, is_expression}
-use Rattle.es_base.specs.Tree.{Tree, Part, Parts, Node, end, more, child, absent, list, string, no_string, boolean, literal}
+use Rattle.es_base.specs.Tree.{Tree, Part, Parts, Node, end, more, child, list}
 use Rattle.es_base.specs.declared.kind.Kind.{Kind}
 use Rattle.es_node.specs.View.{kind_of}
-use Rattle.es_visit.specs.Bare.{is_bare, is_child}
+use Rattle.es_visit.specs.Bare.{is_bare}
 use Rattle.es_visit.specs.Roles.{role_at, is_computed}
 use Rattle.es_visit.specs.declared.roles.Role.{Role}
 use Rattle.es_visit.specs.declared.visit_mut.Hook.{Hook}
@@ -76,6 +76,7 @@ module _ {S : Type 0} (enters : Hook → S → Tree → Bool → S → Type 0) (
       none : {k : Kind} {computed : Bool} {at : ℕ} {s : S} → VisitedBelow k computed at s end s end
       next : {k : Kind} {computed : Bool} {at : ℕ} {s m e : S} {p q : Part} {ps qs : Parts} → VisitedPart (role_at computed (members_of k) at) s p m q → VisitedBelow k computed (at + 1) m ps e qs → VisitedBelow k computed at s (more p ps) e (more q qs)
 
+    -- a part of a node, or an item of a list: what is no node and no list, as a hole, is passed by
     pub data VisitedPart : Role → S → Part → S → Part → Type 0 where
       of_child : {role : Role} {s e : S} {t u : Tree} → Visited role s t e u → VisitedPart role s (child t) e (child u)
       of_list : {role : Role} {s e : S} {ps qs : Parts} → VisitedItems role s ps e qs → VisitedPart role s (list ps) e (list qs)
@@ -83,9 +84,4 @@ module _ {S : Type 0} (enters : Hook → S → Tree → Bool → S → Type 0) (
 
     pub data VisitedItems : Role → S → Parts → S → Parts → Type 0 where
       no_item : {role : Role} {s : S} → VisitedItems role s end s end
-      next_item : {role : Role} {s m e : S} {p q : Part} {ps qs : Parts} → VisitedItem role s p m q → VisitedItems role m ps e qs → VisitedItems role s (more p ps) e (more q qs)
-
-    -- an item of a list; a hole is passed by
-    pub data VisitedItem : Role → S → Part → S → Part → Type 0 where
-      item : {role : Role} {s e : S} {t u : Tree} → Visited role s t e u → VisitedItem role s (child t) e (child u)
-      hole : {role : Role} {s : S} {p : Part} → is_child p ≡ false → VisitedItem role s p s p
+      next_item : {role : Role} {s m e : S} {p q : Part} {ps qs : Parts} → VisitedPart role s p m q → VisitedItems role m ps e qs → VisitedItems role s (more p ps) e (more q qs)

@@ -7,7 +7,7 @@ ghost use Rattle.es_base.specs.Tree.{Tree, trees, nullable, nullable_trees};
 ghost use Rattle.es_base.specs.declared.table.Sort as sorts;
 ghost use Rattle.es_node.specs.View.{part_of, parts_of, has_shape, have_shapes, kind_of};
 ghost use Rattle.es_visit.specs.declared.visit_mut.Hook as hook;
-ghost use Rattle.es_visit.specs.Visited.{hook_of_role, hook_of_kind, scope_of, EntersScope, LeavesScope, Visited, VisitedBy, VisitedKind, VisitedInside, VisitedBelow, VisitedPart, VisitedItems, VisitedItem};
+ghost use Rattle.es_visit.specs.Visited.{hook_of_role, hook_of_kind, scope_of, EntersScope, LeavesScope, Visited, VisitedBy, VisitedKind, VisitedInside, VisitedBelow, VisitedPart, VisitedItems};
 
 use crate::roles::{Role, is_computed, role_at};
 use es_base::ids::ScopeId;
@@ -416,7 +416,7 @@ fn walk_node_or_hole<V: VisitMut>(
     node: &mut Option<Node>,
 ) -> Result<(), AllocError>
     requires { V.ready visitor.old }
-    ensures { OnOk result (VisitedItem V.enters V.leaves V.scope_enters V.scope_leaves role visitor.old (nullable node.old) visitor.new (nullable node.new)) }
+    ensures { OnOk result (VisitedPart V.enters V.leaves V.scope_enters V.scope_leaves role visitor.old (nullable node.old) visitor.new (nullable node.new)) }
 {
     match node {
         Some(node) => {

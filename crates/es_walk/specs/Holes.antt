@@ -21,7 +21,8 @@ mutual
     of_child : (place : PartHole) → Hole
     of_item : (before after : Parts) (place : PartHole) → Hole
 
-  -- the place of a part; `parent` is what was told of the node around as it was entered
+  -- the place of a part; `parent` is what was told of the node around as it was entered, which says whether the part is an open
+  -- list
   pub data PartHole : Type 0 where
     at_part : (parent : Parent) (kind : Kind) (id : ℕ) (span : Option (ℕ × ℕ)) (semantic_id : Option ℕ) (before after : Parts) (outer : Hole) → PartHole
 

@@ -3,7 +3,7 @@ use Rattle.std.specs.Prelude.{◌≡◌, ℕ, ◌≤◌, List, Bool, true, false
 use Rattle.std.proofs.Common.{ap, arith}
 use Rattle.es_base.specs.Preorder.{nodes}
 use Rattle.es_base.specs.Table.{is_statement, is_expression, is_target}
-use Rattle.es_base.specs.Tree.{Tree, Part, Node}
+use Rattle.es_base.specs.Tree.{Tree, Part}
 use Rattle.es_base.specs.declared.kind.Kind.{Kind}
 use Rattle.es_ctx.specs.Ancestors.{innermost_or, ancestor_role}
 use Rattle.es_ctx.specs.declared.ancestor.Ancestor.{Ancestor}

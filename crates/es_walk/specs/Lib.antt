@@ -1,3 +1,4 @@
+pub mod Any
 pub mod Changed
 pub mod Given
 pub mod Holes
@@ -8,6 +9,7 @@ pub mod Laws
 pub mod Placing
 pub mod Rewriting
 pub mod SettledStores
+pub mod StateStays
 pub mod Steps
 pub mod Traversed
 pub mod Weight

@@ -11,7 +11,7 @@ use Rattle.es_ctx.specs.declared.ancestor.Parent.{Parent}
 use Rattle.es_ctx.specs.declared.ctx.TraverseCtx.{TraverseCtx}
 use Rattle.es_ctx.specs.declared.stores.OpenList.{OpenList}
 use Rattle.es_ctx.specs.declared.stores.Slot.{Slot}
-use Rattle.es_walk.specs.Given.{Ids, ids_given-same, load}
+use Rattle.es_walk.specs.Given.{Ids, ids_given, ids_given-same, load}
 use Rattle.es_walk.specs.Steps.{OpensPart, ClosesPart, KeepsPlace}
 
 -- ---- lists
@@ -145,11 +145,15 @@ pub member_keeps : {T : Type 0} (s m n e : T × TraverseCtx) (k : Parent) (at : 
 member_keeps s m n e k at p q r a h b = record {
   path = b.path ∙ ap front (h.path ∙ a.path) ∙ front-push s.1.path (ancestor_of s.1.path k at);
   depth = ap length b.lists ∙ length-opened (has_statements k.kind at) p s.1.lists n.1.lists (h.depth ∙ ap length a.lists);
-  given = omega (arith, a.next, h.given, b.next);
+  given = λ ids. omega (arith, ids_given-same ids s.1 m.1 a.next (ap (λ x. x.scoping) a.outcome.scoping), h.given ids, ids_given-same ids n.1 e.1 b.next (ap (λ x. x.scoping) b.outcome.scoping));
 }
 
+-- where the context stays as it is
+pub place_same : {T : Type 0} (s e : T × TraverseCtx) → e.1 ≡ s.1 → KeepsPlace s e
+place_same s e same = record { path = ap (λ (c : TraverseCtx). c.path) same; depth = ap (λ (c : TraverseCtx). length c.lists) same; given = λ ids. omega (arith, ap (ids_given ids) same) }
+
 pub place_here : {T : Type 0} (s : T × TraverseCtx) → KeepsPlace s s
-place_here s = record { path = refl; depth = refl; given = omega arith }
+place_here s = place_same s s refl
 
 pub place_on : {T : Type 0} (s m e : T × TraverseCtx) → KeepsPlace s m → KeepsPlace m e → KeepsPlace s e
-place_on s m e a b = record { path = b.path ∙ a.path; depth = b.depth ∙ a.depth; given = omega (arith, a.given, b.given) }
+place_on s m e a b = record { path = b.path ∙ a.path; depth = b.depth ∙ a.depth; given = λ ids. omega (arith, a.given ids, b.given ids) }

@@ -8,6 +8,7 @@ use Rattle.es_ctx.specs.declared.ancestor.Ancestor.{Ancestor}
 use Rattle.es_ctx.specs.declared.ancestor.Parent.{Parent}
 use Rattle.es_ctx.specs.declared.ctx.TraverseCtx.{TraverseCtx}
 use Rattle.es_ctx.specs.declared.stores.OpenList.{OpenList}
+use Rattle.es_walk.specs.Given.{Ids, ids_given}
 
 -- the nodes around, the outermost first
 abbrev pub path_of : {T : Type 0} → T × TraverseCtx → List Ancestor
@@ -34,11 +35,11 @@ pub record ClosesPart {T : Type 0} (s : T × TraverseCtx) (parent : Parent) (at 
   pub outcome : KeepsOutcome s.1 e.1
   pub part : q ≡ filled (has_statements parent.kind at) s.1.lists p
 
--- where the walk stands, and how many lists are open, is not changed; no number is given back
+-- where the walk stands, and how many lists are open, is not changed; no number of any sort is given back
 pub record KeepsPlace {T : Type 0} (s e : T × TraverseCtx) : Type 0 where
   pub path : e.1.path ≡ s.1.path
   pub depth : length e.1.lists ≡ length s.1.lists
-  pub given : s.1.next ≤ e.1.next
+  pub given : (ids : Ids) → ids_given ids s.1 ≤ ids_given ids e.1
 
 -- a relation of hooks that does so
 abbrev pub KeepPlaces : {T : Type 0} → (T × TraverseCtx → Tree → T × TraverseCtx → Tree → Type 0) → Type 0

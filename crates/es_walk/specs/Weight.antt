@@ -56,3 +56,9 @@ module _ (w : Kind → ℕ) (some : (k : Kind) → 1 ≤ w k) where
 
   pub nodes-heft : (t : Tree) → nodes t ≤ heft w t
   nodes-heft (Node kind id span semantic_id parts) = omega (arith, some kind)
+
+  pub total_some : (t : Tree) → 1 ≤ total w t
+  total_some (Node kind id span semantic_id parts) = omega (arith, some kind)
+
+  pub heft_some : (t : Tree) → 1 ≤ heft w t
+  heft_some (Node kind id span semantic_id parts) = omega (arith, some kind)

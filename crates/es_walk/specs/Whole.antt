@@ -22,7 +22,7 @@ abbrev mutual
   whole lists (of_item before after place) t = whole_part lists place (list (joined before (more (child t) after)))
 
   pub whole_part : List OpenList → PartHole → Part → Tree
-  whole_part lists (at_part parent k i sp si before after outer) p = whole (closed (has_statements k (count before)) lists) outer (Node k i sp si (joined before (more (filled (has_statements k (count before)) lists p) after)))
+  whole_part lists (at_part parent k i sp si before after outer) p = whole (closed (has_statements parent.kind (count before)) lists) outer (Node k i sp si (joined before (more (filled (has_statements parent.kind (count before)) lists p) after)))
 
 pub joined-push : (before : Parts) (p : Part) (ps : Parts) → joined (joined before (more p end)) ps ≡ joined before (more p ps)
 joined-push end p ps = refl
@@ -52,11 +52,11 @@ other_pending (literal v) rest e = refl
 
 module _ (parent : Parent) (k : Kind) (i : ℕ) (sp : Option (ℕ × ℕ)) (si : Option ℕ) (before after : Parts) (outer : Hole) where
   -- a list that was just opened adds nothing
-  whole-opened : (b : Bool) (ls ms : List OpenList) (p : Part) → has_statements k (count before) ≡ b → ms ≡ opened b p ls → whole_part ms (at_part parent k i sp si before after outer) p ≡ whole ls outer (Node k i sp si (joined before (more p after)))
+  whole-opened : (b : Bool) (ls ms : List OpenList) (p : Part) → has_statements parent.kind (count before) ≡ b → ms ≡ opened b p ls → whole_part ms (at_part parent k i sp si before after outer) p ≡ whole ls outer (Node k i sp si (joined before (more p after)))
   whole-opened b ls ms p is opens = rw (is, opens, closed-opened b p ls, filled-opened b ls p p) refl
 
   -- and one that is closed leaves what it added
-  whole-closed : (b : Bool) (ls ms : List OpenList) (p q : Part) → has_statements k (count before) ≡ b → ms ≡ closed b ls → q ≡ filled b ls p → whole_part ls (at_part parent k i sp si before after outer) p ≡ whole ms outer (Node k i sp si (joined before (more q after)))
+  whole-closed : (b : Bool) (ls ms : List OpenList) (p q : Part) → has_statements parent.kind (count before) ≡ b → ms ≡ closed b ls → q ≡ filled b ls p → whole_part ls (at_part parent k i sp si before after outer) p ≡ whole ms outer (Node k i sp si (joined before (more q after)))
   whole-closed b ls ms p q is closes fills = rw (is, closes, fills) refl
 
 -- Any relation: what the hooks keep of the whole, of the nodes between whose hooks the walk stands and of those
@@ -101,31 +101,31 @@ module _ {S : Type 0} (enters : Bool → S → Tree → S → Tree → Type 0) (
     path_item (w.item h) = path_node h
     path_item (w.other is) = refl
 
-  same : (parent : Parent) {n at : ℕ} (k : Kind) → parent.kind ≡ k → n ≡ at → has_statements k n ≡ has_statements parent.kind at
-  same parent k is c = cc (is, c)
+  same : (parent : Parent) {n at : ℕ} → n ≡ at → has_statements parent.kind n ≡ has_statements parent.kind at
+  same parent c = ap (λ (i : ℕ). has_statements parent.kind i) c
 
   mutual
     pub keeps_whole : {s e : S} {t u : Tree} → w.Traversed enters leaves opens closes s t e u → (hole : Hole) → path s ≡ places hole → (around rest : List Tree) → kept s (whole (lists s) hole t) around (pending t rest) → kept e (whole (lists e) hole u) around rest
     keeps_whole (w.through {t = t} {k = k} {i = i} {sp = sp} {si = si} {ps = ps} a h b) hole here around rest x =
-        let inside = keeps_parts h k refl i sp si end refl hole (enter_path true _ _ _ _ a ∙ here) (t ∷ around) rest (enter_law _ _ _ _ a hole here around rest x) in
+        let inside = keeps_parts h k i sp si end refl hole (enter_path true _ _ _ _ a ∙ here) (t ∷ around) rest (enter_law _ _ _ _ a hole here around rest x) in
         leave_law _ _ _ _ b hole (path_parts h ∙ enter_path true _ _ _ _ a ∙ here) t around rest inside
     keeps_whole (w.passed_by a) hole here around rest x = pass_law _ _ _ _ a hole here around rest x
 
-    keeps_parts : {parent : Parent} {at : ℕ} {s e : S} {ps qs : Parts} → w.TraversedParts enters leaves opens closes parent at s ps e qs → (k : Kind) → parent.kind ≡ k → (i : ℕ) (sp : Option (ℕ × ℕ)) (si : Option ℕ) (before : Parts) → count before ≡ at → (outer : Hole) → path s ≡ places outer → (around rest : List Tree) → kept s (whole (lists s) outer (Node k i sp si (joined before ps))) around (pending_of ps rest) → kept e (whole (lists e) outer (Node k i sp si (joined before qs))) around rest
-    keeps_parts w.none k is i sp si before c outer here around rest x = x
-    keeps_parts {parent} {at} {s} {e} (w.next {m = m} {p = p} {q = q} {ps = ps} {qs = qs} h hs) k is i sp si before c outer here around rest x =
-        let first : kept m (whole (lists m) outer (Node k i sp si (joined before (more q ps)))) around (pending_of ps rest) = keeps_member h k is i sp si before c ps outer here around (pending_of ps rest) x in
+    keeps_parts : {parent : Parent} {at : ℕ} {s e : S} {ps qs : Parts} → w.TraversedParts enters leaves opens closes parent at s ps e qs → (k : Kind) (i : ℕ) (sp : Option (ℕ × ℕ)) (si : Option ℕ) (before : Parts) → count before ≡ at → (outer : Hole) → path s ≡ places outer → (around rest : List Tree) → kept s (whole (lists s) outer (Node k i sp si (joined before ps))) around (pending_of ps rest) → kept e (whole (lists e) outer (Node k i sp si (joined before qs))) around rest
+    keeps_parts w.none k i sp si before c outer here around rest x = x
+    keeps_parts {parent} {at} {s} {e} (w.next {m = m} {p = p} {q = q} {ps = ps} {qs = qs} h hs) k i sp si before c outer here around rest x =
+        let first : kept m (whole (lists m) outer (Node k i sp si (joined before (more q ps)))) around (pending_of ps rest) = keeps_member h k i sp si before c ps outer here around (pending_of ps rest) x in
         let moved : kept m (whole (lists m) outer (Node k i sp si (joined (joined before (more q end)) ps))) around (pending_of ps rest) = rw (joined-push before q ps) first in
-        rw (joined-push before q qs) at (keeps_parts hs k is i sp si (joined before (more q end)) (count-push before q ∙ ap (λ n. n + 1) c) outer (path_member h ∙ here) around rest moved)
+        rw (joined-push before q qs) at (keeps_parts hs k i sp si (joined before (more q end)) (count-push before q ∙ ap (λ n. n + 1) c) outer (path_member h ∙ here) around rest moved)
 
-    keeps_member : {parent : Parent} {at : ℕ} {s e : S} {p q : Part} → w.TraversedMember enters leaves opens closes parent at s p e q → (k : Kind) → parent.kind ≡ k → (i : ℕ) (sp : Option (ℕ × ℕ)) (si : Option ℕ) (before : Parts) → count before ≡ at → (after : Parts) (outer : Hole) → path s ≡ places outer → (around rest : List Tree) → kept s (whole (lists s) outer (Node k i sp si (joined before (more p after)))) around (pending_part p rest) → kept e (whole (lists e) outer (Node k i sp si (joined before (more q after)))) around rest
-    keeps_member {parent} {at} {s} {e} (w.between {m = m} {n = n} {p = p} {q = q} {r = r} a h b) k is i sp si before c after outer here around rest x =
+    keeps_member : {parent : Parent} {at : ℕ} {s e : S} {p q : Part} → w.TraversedMember enters leaves opens closes parent at s p e q → (k : Kind) (i : ℕ) (sp : Option (ℕ × ℕ)) (si : Option ℕ) (before : Parts) → count before ≡ at → (after : Parts) (outer : Hole) → path s ≡ places outer → (around rest : List Tree) → kept s (whole (lists s) outer (Node k i sp si (joined before (more p after)))) around (pending_part p rest) → kept e (whole (lists e) outer (Node k i sp si (joined before (more q after)))) around rest
+    keeps_member {parent} {at} {s} {e} (w.between {m = m} {n = n} {p = p} {q = q} {r = r} a h b) k i sp si before c after outer here around rest x =
         let place = at_part parent k i sp si before after outer in
-        let opening = whole-opened parent k i sp si before after outer (has_statements parent.kind at) (lists s) (lists m) p (same parent k is c) (opens_list _ _ _ _ _ a) in
+        let opening = whole-opened parent k i sp si before after outer (has_statements parent.kind at) (lists s) (lists m) p (same parent c) (opens_list _ _ _ _ _ a) in
         let entering : kept m (whole_part (lists m) place p) around (pending_part p rest) = rw opening (open_law _ _ _ _ _ a _ around (pending_part p rest) x) in
         let around_part : path m ≡ going_into (places outer) parent (count before) = opens_path _ _ _ _ _ a ∙ ap (λ ps. going_into ps parent at) here ∙ ap (λ (n : ℕ). going_into (places outer) parent n) (sym c) in
         let inside : kept n (whole_part (lists n) place q) around rest = keeps_part h place around_part around rest entering in
-        let closing = whole-closed parent k i sp si before after outer (has_statements parent.kind at) (lists n) (lists e) q r (same parent k is c) (closes_list _ _ _ _ _ _ b) (fills_part _ _ _ _ _ _ b) in
+        let closing = whole-closed parent k i sp si before after outer (has_statements parent.kind at) (lists n) (lists e) q r (same parent c) (closes_list _ _ _ _ _ _ b) (fills_part _ _ _ _ _ _ b) in
         close_law _ _ _ _ _ _ b _ around rest (rw closing at inside)
 
     keeps_part : {s e : S} {p q : Part} → w.TraversedPart enters leaves opens closes s p e q → (place : PartHole) → path s ≡ part_places place → (around rest : List Tree) → kept s (whole_part (lists s) place p) around (pending_part p rest) → kept e (whole_part (lists e) place q) around rest

@@ -4,11 +4,10 @@ ghost use Rattle.std.specs.Prelude.{◌≡◌, ℕ, ◌+◌, ◌<◌, ◌≤◌,
 ghost use Rattle.es_base.specs.Preorder.{nodes};
 ghost use Rattle.es_base.specs.Tree.{Tree, Part};
 ghost use Rattle.es_base.specs.declared.kind.Kind as kind;
-ghost use Rattle.es_ctx.specs.Stores.{stored};
 ghost use Rattle.es_ctx.specs.declared.ancestor.Parent as parents;
 ghost use Rattle.es_ctx.specs.declared.ctx.TraverseCtx as ctxs;
 ghost use Rattle.es_node.specs.View.{kind_of};
-ghost use Rattle.es_walk.specs.Given.{Ids, load};
+ghost use Rattle.es_walk.specs.Given.{Ids, Suffice, load};
 ghost use Rattle.es_walk.specs.Hooks.{is_entering, is_leaving, is_last, enter_hook_of_role, enter_hook_of_kind, exit_hook_of_role, exit_hook_of_kind, role_here, Calls, EntersNode, LeavesNode, enters_ready, leaves_ready, enters_pay, leaves_pay, enters_place, leaves_place, inner_opens, inner_closes, inner_place, never};
 ghost use Rattle.es_walk.specs.Holes.{Hole, places, pending, pending_below};
 ghost use Rattle.es_walk.specs.Laws.{AllSettled, BelowSettled};
@@ -62,31 +61,31 @@ pub trait Hooks {
     /// Called as a node that stands as a statement is entered.
     fn enter_statement(&mut self, node: &mut Node, ctx: &mut TraverseCtx) -> Result<(), AllocError>
         requires ready { ready (self.old, ctx.old) }
-        requires bound { total weight node.old + (spare self.old + stored ctx.old.lists + ctx.old.next) < 2 ^ 32 }
+        requires bound { Suffice spare (total weight node.old) (self.old, ctx.old) }
         ensures { OnOk result (does hook.Hook.EnterStatement (self.old, ctx.old) node.old (self.new, ctx.new) node.new) };
 
     /// Called as a node that stands as an expression is entered.
     fn enter_expression(&mut self, node: &mut Node, ctx: &mut TraverseCtx) -> Result<(), AllocError>
         requires ready { ready (self.old, ctx.old) }
-        requires bound { total weight node.old + (spare self.old + stored ctx.old.lists + ctx.old.next) < 2 ^ 32 }
+        requires bound { Suffice spare (total weight node.old) (self.old, ctx.old) }
         ensures { OnOk result (does hook.Hook.EnterExpression (self.old, ctx.old) node.old (self.new, ctx.new) node.new) };
 
     /// Called as a node that stands as an expression is left.
     fn exit_expression(&mut self, node: &mut Node, ctx: &mut TraverseCtx) -> Result<(), AllocError>
         requires ready { ready (self.old, ctx.old) }
-        requires bound { heft weight node.old + (spare self.old + stored ctx.old.lists + ctx.old.next) < 2 ^ 32 }
+        requires bound { Suffice spare (heft weight node.old) (self.old, ctx.old) }
         ensures { OnOk result (does hook.Hook.ExitExpression (self.old, ctx.old) node.old (self.new, ctx.new) node.new) };
 
     /// Called as the body of a class is entered.
     fn enter_class_body(&mut self, node: &mut Node, ctx: &mut TraverseCtx) -> Result<(), AllocError>
         requires ready { ready (self.old, ctx.old) }
-        requires bound { total weight node.old + (spare self.old + stored ctx.old.lists + ctx.old.next) < 2 ^ 32 }
+        requires bound { Suffice spare (total weight node.old) (self.old, ctx.old) }
         ensures { OnOk result (does hook.Hook.EnterClassBody (self.old, ctx.old) node.old (self.new, ctx.new) node.new) };
 
     /// Called as a class is left.
     fn exit_class(&mut self, node: &mut Node, ctx: &mut TraverseCtx) -> Result<(), AllocError>
         requires ready { ready (self.old, ctx.old) }
-        requires bound { heft weight node.old + (spare self.old + stored ctx.old.lists + ctx.old.next) < 2 ^ 32 }
+        requires bound { Suffice spare (heft weight node.old) (self.old, ctx.old) }
         ensures { OnOk result (does hook.Hook.ExitClass (self.old, ctx.old) node.old (self.new, ctx.new) node.new) };
 
     /// Called as what is assigned to is entered.
@@ -96,7 +95,7 @@ pub trait Hooks {
         ctx: &mut TraverseCtx,
     ) -> Result<(), AllocError>
         requires ready { ready (self.old, ctx.old) }
-        requires bound { total weight node.old + (spare self.old + stored ctx.old.lists + ctx.old.next) < 2 ^ 32 }
+        requires bound { Suffice spare (total weight node.old) (self.old, ctx.old) }
         ensures { OnOk result (does hook.Hook.EnterAssignmentTarget (self.old, ctx.old) node.old (self.new, ctx.new) node.new) };
 
     /// Called as a field of a class is entered.
@@ -106,7 +105,7 @@ pub trait Hooks {
         ctx: &mut TraverseCtx,
     ) -> Result<(), AllocError>
         requires ready { ready (self.old, ctx.old) }
-        requires bound { total weight node.old + (spare self.old + stored ctx.old.lists + ctx.old.next) < 2 ^ 32 }
+        requires bound { Suffice spare (total weight node.old) (self.old, ctx.old) }
         ensures { OnOk result (does hook.Hook.EnterPropertyDefinition (self.old, ctx.old) node.old (self.new, ctx.new) node.new) };
 
     /// Called as a field of a class is left.
@@ -116,7 +115,7 @@ pub trait Hooks {
         ctx: &mut TraverseCtx,
     ) -> Result<(), AllocError>
         requires ready { ready (self.old, ctx.old) }
-        requires bound { heft weight node.old + (spare self.old + stored ctx.old.lists + ctx.old.next) < 2 ^ 32 }
+        requires bound { Suffice spare (heft weight node.old) (self.old, ctx.old) }
         ensures { OnOk result (does hook.Hook.ExitPropertyDefinition (self.old, ctx.old) node.old (self.new, ctx.new) node.new) };
 
     /// Called as a static block is entered.
@@ -126,7 +125,7 @@ pub trait Hooks {
         ctx: &mut TraverseCtx,
     ) -> Result<(), AllocError>
         requires ready { ready (self.old, ctx.old) }
-        requires bound { total weight node.old + (spare self.old + stored ctx.old.lists + ctx.old.next) < 2 ^ 32 }
+        requires bound { Suffice spare (total weight node.old) (self.old, ctx.old) }
         ensures { OnOk result (does hook.Hook.EnterStaticBlock (self.old, ctx.old) node.old (self.new, ctx.new) node.new) };
 
     /// Called as a static block is left.
@@ -136,7 +135,7 @@ pub trait Hooks {
         ctx: &mut TraverseCtx,
     ) -> Result<(), AllocError>
         requires ready { ready (self.old, ctx.old) }
-        requires bound { heft weight node.old + (spare self.old + stored ctx.old.lists + ctx.old.next) < 2 ^ 32 }
+        requires bound { Suffice spare (heft weight node.old) (self.old, ctx.old) }
         ensures { OnOk result (does hook.Hook.ExitStaticBlock (self.old, ctx.old) node.old (self.new, ctx.new) node.new) };
 
     /// Called as an `await` expression is entered.
@@ -146,13 +145,13 @@ pub trait Hooks {
         ctx: &mut TraverseCtx,
     ) -> Result<(), AllocError>
         requires ready { ready (self.old, ctx.old) }
-        requires bound { total weight node.old + (spare self.old + stored ctx.old.lists + ctx.old.next) < 2 ^ 32 }
+        requires bound { Suffice spare (total weight node.old) (self.old, ctx.old) }
         ensures { OnOk result (does hook.Hook.EnterAwaitExpression (self.old, ctx.old) node.old (self.new, ctx.new) node.new) };
 
     /// Called as a program is left.
     fn exit_program(&mut self, node: &mut Node, ctx: &mut TraverseCtx) -> Result<(), AllocError>
         requires ready { ready (self.old, ctx.old) }
-        requires bound { heft weight node.old + (spare self.old + stored ctx.old.lists + ctx.old.next) < 2 ^ 32 }
+        requires bound { Suffice spare (heft weight node.old) (self.old, ctx.old) }
         ensures { OnOk result (does hook.Hook.ExitProgram (self.old, ctx.old) node.old (self.new, ctx.new) node.new) };
 
     ghost does_ready: { (h : hook.Hook) → KeepsReady (does h) ready };
@@ -192,7 +191,7 @@ fn enter_by_role<T: Hooks>(
     ctx: &mut TraverseCtx,
 ) -> Result<(), AllocError>
     requires ready { T.ready (transform.old, ctx.old) }
-    requires bound { total T.weight node.old + (T.spare transform.old + stored ctx.old.lists + ctx.old.next) < 2 ^ 32 }
+    requires bound { Suffice T.spare (total T.weight node.old) (transform.old, ctx.old) }
     ensures { OnOk result (Calls is_entering T.does (enter_hook_of_role role (kind_of node.old)) (transform.old, ctx.old) node.old (transform.new, ctx.new) node.new) }
 {
     match role {
@@ -216,7 +215,7 @@ fn enter_by_kind<T: Hooks>(
     ctx: &mut TraverseCtx,
 ) -> Result<(), AllocError>
     requires ready { T.ready (transform.old, ctx.old) }
-    requires bound { total T.weight node.old + (T.spare transform.old + stored ctx.old.lists + ctx.old.next) < 2 ^ 32 }
+    requires bound { Suffice T.spare (total T.weight node.old) (transform.old, ctx.old) }
     ensures { OnOk result (Calls is_entering T.does (enter_hook_of_kind (kind_of node.old)) (transform.old, ctx.old) node.old (transform.new, ctx.new) node.new) }
 {
     match node.kind() {
@@ -235,7 +234,7 @@ fn exit_by_kind<T: Hooks>(
     ctx: &mut TraverseCtx,
 ) -> Result<(), AllocError>
     requires ready { T.ready (transform.old, ctx.old) }
-    requires bound { heft T.weight node.old + (T.spare transform.old + stored ctx.old.lists + ctx.old.next) < 2 ^ 32 }
+    requires bound { Suffice T.spare (heft T.weight node.old) (transform.old, ctx.old) }
     ensures { OnOk result (Calls is_leaving T.does (exit_hook_of_kind (kind_of node.old)) (transform.old, ctx.old) node.old (transform.new, ctx.new) node.new) }
 {
     match node.kind() {
@@ -256,7 +255,7 @@ fn exit_by_role<T: Hooks>(
     ctx: &mut TraverseCtx,
 ) -> Result<(), AllocError>
     requires ready { T.ready (transform.old, ctx.old) }
-    requires bound { heft T.weight node.old + (T.spare transform.old + stored ctx.old.lists + ctx.old.next) < 2 ^ 32 }
+    requires bound { Suffice T.spare (heft T.weight node.old) (transform.old, ctx.old) }
     ensures { OnOk result (Calls is_last T.does (exit_hook_of_role role kind) (transform.old, ctx.old) node.old (transform.new, ctx.new) node.new) }
 {
     match role {
@@ -272,7 +271,7 @@ fn enter_node<T: Hooks>(
     ctx: &mut TraverseCtx,
 ) -> Result<(), AllocError>
     requires ready { T.ready (transform.old, ctx.old) }
-    requires bound { total T.weight node.old + (T.spare transform.old + stored ctx.old.lists + ctx.old.next) < 2 ^ 32 }
+    requires bound { Suffice T.spare (total T.weight node.old) (transform.old, ctx.old) }
     ensures { OnOk result (EntersNode T.does (transform.old, ctx.old) node.old (transform.new, ctx.new) node.new) }
 {
     let role = role_here(ctx);
@@ -288,7 +287,7 @@ fn exit_node<T: Hooks>(
     ctx: &mut TraverseCtx,
 ) -> Result<(), AllocError>
     requires ready { T.ready (transform.old, ctx.old) }
-    requires bound { heft T.weight node.old + (T.spare transform.old + stored ctx.old.lists + ctx.old.next) < 2 ^ 32 }
+    requires bound { Suffice T.spare (heft T.weight node.old) (transform.old, ctx.old) }
     ensures { OnOk result (LeavesNode T.does (transform.old, ctx.old) node.old (transform.new, ctx.new) node.new) }
 {
     let role = role_here(ctx);

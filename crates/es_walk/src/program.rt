@@ -3,10 +3,9 @@
 ghost use Rattle.std.specs.Prelude.{◌≡◌, ℕ, ◌+◌, ◌<◌, ◌≤◌, ◌^◌, ◌∷◌, [], Bool, true, false, OnOk, List};
 ghost use Rattle.es_base.specs.Preorder.{nodes};
 ghost use Rattle.es_base.specs.Tree.{Tree, Part};
-ghost use Rattle.es_ctx.specs.Stores.{stored};
 ghost use Rattle.es_ctx.specs.declared.ancestor.Parent as parents;
 ghost use Rattle.es_ctx.specs.declared.ctx.TraverseCtx as ctxs;
-ghost use Rattle.es_walk.specs.Given.{Ids, ids_given};
+ghost use Rattle.es_walk.specs.Given.{Ids, Suffice, ids_given};
 ghost use Rattle.es_walk.specs.Holes.{Hole, places, pending, pending_below};
 ghost use Rattle.es_walk.specs.Laws.{AllSettled, BelowSettled};
 ghost use Rattle.es_walk.specs.SettledStores.{ListsSettled};
@@ -66,7 +65,7 @@ pub fn walk_program<T: Lawful>(
     ctx: &mut TraverseCtx,
 ) -> Result<(), AllocError>
     requires ready { T.ready (transform.old, ctx.old) }
-    requires bound { total T.weight program.old + (T.spare transform.old + stored ctx.old.lists + ctx.old.next) < 2 ^ 32 }
+    requires bound { Suffice T.spare (total T.weight program.old) (transform.old, ctx.old) }
     requires path { ctx.old.path ≡ [] }
     requires stores { ctx.old.lists ≡ [] }
     requires kept { T.kept (transform.old, ctx.old) program.old (transform.old, ctx.old) program.old [] (pending program.old []) }
@@ -76,6 +75,7 @@ pub fn walk_program<T: Lawful>(
     ensures numbers { OnOk result (nodes program.new + (T.spare transform.new + ctx.new.next) ≤ total T.weight program.old + (T.spare transform.old + ctx.old.next)) }
     ensures budget { OnOk result ((ids : Ids) → nodes program.new + (T.spare transform.new + ids_given ids ctx.new) ≤ total T.weight program.old + (T.spare transform.old + ids_given ids ctx.old)) }
     ensures given { OnOk result (ctx.old.next ≤ ctx.new.next) }
+    ensures onward { OnOk result ((ids : Ids) → ids_given ids ctx.old ≤ ids_given ids ctx.new) }
     ensures path { OnOk result (ctx.new.path ≡ []) }
     ensures stores { OnOk result (ctx.new.lists ≡ []) }
     ensures settled { OnOk result (AllSettled (T.settled transform.new) program.new) }

@@ -7,11 +7,10 @@ ghost use Rattle.es_base.specs.Tree.{Tree, Part, trees, nullable, nullable_trees
 ghost use Rattle.es_base.specs.declared.kind.Kind as kind;
 ghost use Rattle.es_base.specs.declared.table.Sort as sorts;
 ghost use Rattle.es_ctx.specs.Ancestors.{has_statements};
-ghost use Rattle.es_ctx.specs.Stores.{stored};
 ghost use Rattle.es_ctx.specs.declared.ancestor.Parent as parents;
 ghost use Rattle.es_ctx.specs.declared.ctx.TraverseCtx as ctxs;
 ghost use Rattle.es_node.specs.View.{part_of, parts_of, is_list, has_shape, have_shapes};
-ghost use Rattle.es_walk.specs.Given.{Ids, load};
+ghost use Rattle.es_walk.specs.Given.{Ids, Suffice, load};
 ghost use Rattle.es_walk.specs.Steps.{OpensPart, ClosesPart, KeepPlaces};
 ghost use Rattle.es_walk.specs.Traversed.{Traversed, TraversedMember, TraversedPart, TraversedParts, TraversedItem, TraversedItems};
 ghost use Rattle.es_walk.specs.Weight.{total, total_of, total_of_part, heft, NoMore, KeepsReady};
@@ -46,13 +45,13 @@ pub trait Traverse {
     /// goes into that; else the node is not left either.
     fn enter(&mut self, node: &mut Node, ctx: &mut TraverseCtx) -> Result<bool, AllocError>
         requires ready { ready (self.old, ctx.old) }
-        requires bound { total weight node.old + (spare self.old + stored ctx.old.lists + ctx.old.next) < 2 ^ 32 }
+        requires bound { Suffice spare (total weight node.old) (self.old, ctx.old) }
         ensures { IfOk result (λ goes. enters goes (self.old, ctx.old) node.old (self.new, ctx.new) node.new) };
 
     /// Called after the walk of what is below the node.
     fn exit(&mut self, node: &mut Node, ctx: &mut TraverseCtx) -> Result<(), AllocError>
         requires ready { ready (self.old, ctx.old) }
-        requires bound { heft weight node.old + (spare self.old + stored ctx.old.lists + ctx.old.next) < 2 ^ 32 }
+        requires bound { Suffice spare (heft weight node.old) (self.old, ctx.old) }
         ensures { OnOk result (leaves (self.old, ctx.old) node.old (self.new, ctx.new) node.new) };
 
     ghost enter_ready: { (goes : Bool) → KeepsReady (enters goes) ready };
@@ -72,7 +71,7 @@ pub trait Traverse {
 
     ghost leave_pays: { (ids : Ids) → NoMore leaves (heft weight) nodes (load spare ids) };
 
-    /// A hook leaves where the walk stands, and how many lists are open; it gives no number back.
+    /// A hook leaves where the walk stands, and how many lists are open; it gives no number of any sort back.
     ghost enter_keeps_place: { (goes : Bool) → KeepPlaces (enters goes) };
 
     ghost leave_keeps_place: { KeepPlaces leaves };
@@ -86,16 +85,16 @@ pub fn walk_node<T: Traverse>(
     ctx: &mut TraverseCtx,
 ) -> Result<(), AllocError>
     requires ready { T.ready (transform.old, ctx.old) }
-    requires bound { total T.weight node.old + (T.spare transform.old + stored ctx.old.lists + ctx.old.next) < 2 ^ 32 }
+    requires bound { Suffice T.spare (total T.weight node.old) (transform.old, ctx.old) }
     ensures { OnOk result (Traversed T.enters T.leaves OpensPart ClosesPart (transform.old, ctx.old) node.old (transform.new, ctx.new) node.new) }
 {
     let goes = transform.enter(node, ctx)?;
     if goes {
-        let parent = Parent::of(node);
+        let parent = Parent::of(ctx.alloc, node)?;
         let taken = node.take();
         let kind = taken.kind();
         let mut contents = taken.into_contents();
-        walk_parts(transform, parent, &mut contents.parts, ctx)?;
+        walk_parts(transform, &parent, &mut contents.parts, ctx)?;
         *node = Node::new(kind, contents);
         transform.exit(node, ctx)?;
         return Ok(());
@@ -107,15 +106,15 @@ pub fn walk_node<T: Traverse>(
 #[cycle(walk)]
 fn walk_parts<T: Traverse>(
     transform: &mut T,
-    parent: Parent,
+    parent: &Parent,
     parts: &mut List<Part>,
     ctx: &mut TraverseCtx,
 ) -> Result<(), AllocError>
     requires ready { T.ready (transform.old, ctx.old) }
-    requires bound { total_of T.weight (parts_of parts.old) + (T.spare transform.old + stored ctx.old.lists + ctx.old.next) < 2 ^ 32 }
-    requires shapes { have_shapes (members_of parent.kind) parts.old ≡ true }
-    ensures walked { OnOk result (TraversedParts T.enters T.leaves OpensPart ClosesPart parent 0 (transform.old, ctx.old) (parts_of parts.old) (transform.new, ctx.new) (parts_of parts.new)) }
-    ensures shapes { OnOk result (have_shapes (members_of parent.kind) parts.new ≡ true) }
+    requires bound { Suffice T.spare (total_of T.weight (parts_of parts.old)) (transform.old, ctx.old) }
+    requires shapes { have_shapes (members_of parent.now.kind) parts.old ≡ true }
+    ensures walked { OnOk result (TraversedParts T.enters T.leaves OpensPart ClosesPart parent.now 0 (transform.old, ctx.old) (parts_of parts.old) (transform.new, ctx.new) (parts_of parts.new)) }
+    ensures shapes { OnOk result (have_shapes (members_of parent.now.kind) parts.new ≡ true) }
 {
     let all = parts.as_mut_slice();
     for i in 0..all.len() {
@@ -128,15 +127,15 @@ fn walk_parts<T: Traverse>(
 #[cycle(walk)]
 fn walk_member<T: Traverse>(
     transform: &mut T,
-    parent: Parent,
+    parent: &Parent,
     at: usize,
     part: &mut Part,
     ctx: &mut TraverseCtx,
 ) -> Result<(), AllocError>
     requires ready { T.ready (transform.old, ctx.old) }
-    requires bound { total_of_part T.weight (part_of part.old) + (T.spare transform.old + stored ctx.old.lists + ctx.old.next) < 2 ^ 32 }
-    requires shape { has_statements parent.kind at ≡ true → is_list part.old ≡ true }
-    ensures walked { OnOk result (TraversedMember T.enters T.leaves OpensPart ClosesPart parent at (transform.old, ctx.old) (part_of part.old) (transform.new, ctx.new) (part_of part.new)) }
+    requires bound { Suffice T.spare (total_of_part T.weight (part_of part.old)) (transform.old, ctx.old) }
+    requires shape { has_statements parent.now.kind at ≡ true → is_list part.old ≡ true }
+    ensures walked { OnOk result (TraversedMember T.enters T.leaves OpensPart ClosesPart parent.now at (transform.old, ctx.old) (part_of part.old) (transform.new, ctx.new) (part_of part.new)) }
     ensures shape { OnOk result ((sort : sorts.Sort) → has_shape sort part.new ≡ has_shape sort part.old) }
 {
     ctx.open(parent, at, part)?;
@@ -152,7 +151,7 @@ fn walk_part<T: Traverse>(
     ctx: &mut TraverseCtx,
 ) -> Result<(), AllocError>
     requires ready { T.ready (transform.old, ctx.old) }
-    requires bound { total_of_part T.weight (part_of part.old) + (T.spare transform.old + stored ctx.old.lists + ctx.old.next) < 2 ^ 32 }
+    requires bound { Suffice T.spare (total_of_part T.weight (part_of part.old)) (transform.old, ctx.old) }
     ensures walked { OnOk result (TraversedPart T.enters T.leaves OpensPart ClosesPart (transform.old, ctx.old) (part_of part.old) (transform.new, ctx.new) (part_of part.new)) }
     ensures shape { OnOk result ((sort : sorts.Sort) → has_shape sort part.new ≡ has_shape sort part.old) }
 {
@@ -180,7 +179,7 @@ fn walk_nodes<T: Traverse>(
     ctx: &mut TraverseCtx,
 ) -> Result<(), AllocError>
     requires ready { T.ready (transform.old, ctx.old) }
-    requires bound { total_of T.weight (trees nodes.old) + (T.spare transform.old + stored ctx.old.lists + ctx.old.next) < 2 ^ 32 }
+    requires bound { Suffice T.spare (total_of T.weight (trees nodes.old)) (transform.old, ctx.old) }
     ensures { OnOk result (TraversedItems T.enters T.leaves OpensPart ClosesPart (transform.old, ctx.old) (trees nodes.old) (transform.new, ctx.new) (trees nodes.new)) }
 {
     let all = nodes.as_mut_slice();
@@ -197,7 +196,7 @@ fn walk_nodes_or_holes<T: Traverse>(
     ctx: &mut TraverseCtx,
 ) -> Result<(), AllocError>
     requires ready { T.ready (transform.old, ctx.old) }
-    requires bound { total_of T.weight (nullable_trees nodes.old) + (T.spare transform.old + stored ctx.old.lists + ctx.old.next) < 2 ^ 32 }
+    requires bound { Suffice T.spare (total_of T.weight (nullable_trees nodes.old)) (transform.old, ctx.old) }
     ensures { OnOk result (TraversedItems T.enters T.leaves OpensPart ClosesPart (transform.old, ctx.old) (nullable_trees nodes.old) (transform.new, ctx.new) (nullable_trees nodes.new)) }
 {
     let all = nodes.as_mut_slice();
@@ -214,7 +213,7 @@ fn walk_node_or_hole<T: Traverse>(
     ctx: &mut TraverseCtx,
 ) -> Result<(), AllocError>
     requires ready { T.ready (transform.old, ctx.old) }
-    requires bound { total_of_part T.weight (nullable node.old) + (T.spare transform.old + stored ctx.old.lists + ctx.old.next) < 2 ^ 32 }
+    requires bound { Suffice T.spare (total_of_part T.weight (nullable node.old)) (transform.old, ctx.old) }
     ensures { OnOk result (TraversedItem T.enters T.leaves OpensPart ClosesPart (transform.old, ctx.old) (nullable node.old) (transform.new, ctx.new) (nullable node.new)) }
 {
     match node {

@@ -190,15 +190,6 @@ fn compare_beside(
     compare_terms(alloc, &source_terms, &lowered_terms)
 }
 
-/// The names of a program. Fails on allocation failure alone.
-fn names_of<'a>(alloc: Global, listed: &Listed<'a>) -> Result<ProgramNames<'a>, AllocError>
-    ensures { IfOk result (λ n. n.program.now ≡ listed.now.program.now) }
-{
-    let references = listed.references.list.as_slice();
-    let nodes = listed.nodes.as_slice();
-    ProgramNames::from_references(alloc, listed.program, references, nodes)
-}
-
 /// What is said of the meanings of two programs that are read under this.
 fn compare_under(
     alloc: Global,
@@ -208,15 +199,13 @@ fn compare_under(
 ) -> Result<Verdict, CheckError>
     ensures { IfOk result (λ v. IsComparison (spec.means (before facts.entry) source.now.program.now) (spec.means (behind facts.entry) lowered.now.program.now) v) }
 {
-    let source_names = names_of(alloc, source)?;
-    let lowered_names = names_of(alloc, lowered)?;
     let facts = Facts {
         ledger: &*facts.ledger,
         members: &*facts.members,
         named: &*facts.named,
         ..facts
     };
-    compare_names(alloc, facts, &source_names, &lowered_names)
+    compare_names(alloc, facts, &source.names, &lowered.names)
 }
 
 /// What is said of the meanings of a source of `first_new` nodes and of what it was lowered to, with these generated names.

@@ -3,4 +3,7 @@
 #![tactic(auto)]
 
 pub mod classes;
+#[cfg(test)]
+mod programs;
 pub mod suspends;
+pub mod unnumbered;

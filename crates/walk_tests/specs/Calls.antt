@@ -1,17 +1,19 @@
 -- Hooks that change nothing but the transform's own state.
-use Rattle.std.specs.Prelude.{◌≡◌, ℕ, ◌+◌, ◌≤◌, List, Bool, Option, Some, None, refl}
+use Rattle.std.specs.Prelude.{◌≡◌, ℕ, ◌≤◌, List, Bool, Option, Some, None, refl}
 use Rattle.std.proofs.Common.{ap, ◌∙◌, arith}
 use Rattle.es_base.specs.Preorder.{nodes, nodes_of, nodes_of_part}
 use Rattle.es_base.specs.Tree.{Tree, Part, Parts, Node, end, more, child, absent, list, string, no_string, boolean, literal}
 use Rattle.es_base.specs.declared.kind.Kind.{Kind}
 use Rattle.es_ctx.specs.declared.ctx.TraverseCtx.{TraverseCtx}
 use Rattle.es_node.specs.View.{kind_of}
+use Rattle.es_walk.specs.Any.{Any, any_settled}
 use Rattle.es_walk.specs.Given.{Ids, load}
 use Rattle.es_walk.specs.Holes.{Hole}
 use Rattle.es_walk.specs.Hooks as hooks
 use Rattle.es_walk.specs.Hooks.{is_entering, is_leaving, is_last, role_here, enter_hook_of_role, enter_hook_of_kind, exit_hook_of_role, exit_hook_of_kind, Calls, EntersNode, LeavesNode}
 use Rattle.es_walk.specs.Laws.{AllSettled, BelowSettled}
 use Rattle.es_walk.specs.SettledStores.{ListsSettled}
+use Rattle.es_walk.specs.Placing.{place_same}
 use Rattle.es_walk.specs.Steps.{KeepPlaces}
 use Rattle.es_walk.specs.Weight.{total, total_of, total_of_part, heft, NoMore}
 use Rattle.es_walk.specs.Whole.{whole}
@@ -54,7 +56,7 @@ module _ {T : Type 0} where
   last_pays h ids s e t u x = rw (x.0, x.1) (omega (arith, heft-nodes t))
 
   pub keeps_place : (h : Hook) → KeepPlaces {T = T} (Stays h)
-  keeps_place h s e t u x = rw x.1 (record { path = refl; depth = refl; given = omega arith })
+  keeps_place h s e t u x = place_same s e x.1
 
 -- ---- all hooks of a node
 
@@ -74,13 +76,6 @@ leaves_stay s e t u (hooks.leaves m v x y) =
     let second = calls_stay is_last (exit_hook_of_role (role_here s.1.path) (kind_of t)) m e v u y in
     (second.0 ∙ first.0, second.1 ∙ first.1)
 
--- of a node nothing is asked
-abbrev pub Any : Tree → Type 0
-Any t = Unit {0}
-
-pub settle : (t : Tree) → BelowSettled Any t → AllSettled Any t
-settle (Node k i sp si ps) h = (tt {0}, h)
-
 -- the whole is the program
 abbrev pub Keeps : {T : Type 0} → T × TraverseCtx → Tree → T × TraverseCtx → Tree → List Tree → List Tree → Type 0
 Keeps begin program s t around rest = t ≡ program
@@ -90,7 +85,7 @@ module _ {T : Type 0} where
   enter_settles s e t u h l = rw (enters_stay s e t u h).1 l
 
   pub leave_settles : (s e : T × TraverseCtx) (t u : Tree) → LeavesNode Stays s t e u → ListsSettled Any s.1.lists → BelowSettled Any t → ListsSettled Any e.1.lists × AllSettled Any u
-  leave_settles s e t u h l below = let k = leaves_stay s e t u h in (rw k.1 l, rw k.0 (settle t below))
+  leave_settles s e t u h l below = let k = leaves_stay s e t u h in (rw k.1 l, any_settled u)
 
   pub enter_keeps : (program : Tree) (s e : T × TraverseCtx) (t u : Tree) → EntersNode Stays s t e u → (hole : Hole) → whole s.1.lists hole t ≡ program → whole e.1.lists hole u ≡ program
   enter_keeps program s e t u h hole x = let k = enters_stay s e t u h in rw (k.0, k.1) x

@@ -1,9 +1,9 @@
 -- The laws of the hooks that replace `this`.
-use Rattle.std.specs.Prelude.{◌≡◌, ℕ, zero, suc, ◌+◌, ◌*◌, ◌≤◌, List, [], ◌∷◌, ◌++◌, Bool, true, false, ◌&&◌, Option, length, map, filter, None, refl}
+use Rattle.std.specs.Prelude.{◌≡◌, ℕ, zero, suc, ◌+◌, ◌≤◌, List, [], ◌∷◌, ◌++◌, Bool, true, false, ◌&&◌, Option, length, map, filter, None, refl}
 use Rattle.std.proofs.Common.{ap, sym, arith, ◌∙◌, append-nil}
-use Rattle.es_base.specs.Preorder.{nodes, nodes_of, nodes_of_part, number_of, preorder_of}
+use Rattle.es_base.specs.Preorder.{nodes, nodes_of, number_of, preorder_of}
 use Rattle.es_base.specs.Numbered.{unnumbered, is_old}
-use Rattle.es_base.specs.Tree.{trees, Tree, Part, Parts, Node, end, more, child, absent, list, string, no_string, boolean, literal}
+use Rattle.es_base.specs.Tree.{trees, Tree, Part, Parts, Node, child}
 use Rattle.es_base.specs.declared.kind.Kind.{Kind}
 use Rattle.es_base.specs.declared.operator.VariableDeclarationKind.{VariableDeclarationKind}
 use Rattle.es_ctx.specs.Ancestors.{has_statements}
@@ -15,9 +15,10 @@ use Rattle.es_statement.specs.Statement.{variable_declaration}
 use Rattle.es_walk.specs.Given.{Ids, ids_given-same, load}
 use Rattle.es_walk.specs.Inserted.{stored-changed, stored-var}
 use Rattle.es_walk.specs.Laws.{AllSettled, BelowSettled}
+use Rattle.es_walk.specs.Placing.{place_here}
 use Rattle.es_walk.specs.SettledStores.{ListsSettled, changed-settled, var-settled}
 use Rattle.es_walk.specs.Steps.{OpensPart, ClosesPart, KeepPlaces}
-use Rattle.es_walk.specs.Weight.{total, total_of, total_of_part, heft, NoMore, KeepsReady}
+use Rattle.es_walk.specs.Weight.{total, heft, NoMore, KeepsReady}
 use Rattle.walk_tests.specs.OldNumbers.{old_of_part, old_of, old-push, IsQuiet, Quiet, opened-quiet, closed-quiet, changed-quiet}
 use Rattle.walk_tests.specs.Hoist.{is_this_kind, is_none, is_this, IsNoThis, declarator, replaced, hoisted, weight_if, weight, Enters, Leaves}
 
@@ -37,27 +38,12 @@ replaced-total false c k i sp si ps ls = omega arith
 lowered-total : (t : Tree) (ls : List OpenList) → nodes (replaced (is_this t) t) + stored (hoisted (is_this t) ls) ≤ heft weight t + stored ls
 lowered-total (Node k i sp si ps) ls = replaced-total (is_this_kind k) (is_none ps) k i sp si ps ls
 
-weighs_most : (b : Bool) → weight_if b ≤ 4
-weighs_most true = omega arith
-weighs_most false = omega arith
+most_if : (b : Bool) → weight_if b ≤ 4
+most_if true = omega arith
+most_if false = omega arith
 
--- at most four for each node
-mutual
-  pub total_most : (t : Tree) → total weight t ≤ 4 * nodes t
-  total_most (Node k i sp si ps) = omega (arith, weighs_most (is_this_kind k), total_of-most ps)
-
-  total_of_part-most : (p : Part) → total_of_part weight p ≤ 4 * nodes_of_part p
-  total_of_part-most (child t) = total_most t
-  total_of_part-most absent = omega arith
-  total_of_part-most (list all) = total_of-most all
-  total_of_part-most (string s) = omega arith
-  total_of_part-most no_string = omega arith
-  total_of_part-most (boolean b) = omega arith
-  total_of_part-most (literal v) = omega arith
-
-  total_of-most : (ps : Parts) → total_of weight ps ≤ 4 * nodes_of ps
-  total_of-most end = omega arith
-  total_of-most (more p ps) = omega (arith, total_of_part-most p, total_of-most ps)
+pub weighs_most : (k : Kind) → weight k ≤ 4
+weighs_most k = most_if (is_this_kind k)
 
 -- ---- settled
 
@@ -122,10 +108,10 @@ module _ {T : Type 0} where
   leave_pays ids s e t u h = omega (arith, ap nodes h.0, lowered-total t s.1.lists, ids_given-same ids s.1 e.1 h.1 (ap (λ x. x.scoping) h.4), ap stored h.3)
 
   pub enter_keeps_place : (goes : Bool) → KeepPlaces {T = T} (Enters goes)
-  enter_keeps_place goes s e t u h = rw h.2 (record { path = refl; depth = refl; given = omega arith })
+  enter_keeps_place goes s e t u h = rw h.2 (place_here s)
 
   pub leave_keeps_place : KeepPlaces {T = T} Leaves
-  leave_keeps_place s e t u h = record { path = h.2; depth = ap length h.3 ∙ length-hoisted (is_this t) s.1.lists; given = omega (arith, h.1) }
+  leave_keeps_place s e t u h = record { path = h.2; depth = ap length h.3 ∙ length-hoisted (is_this t) s.1.lists; given = λ ids. omega (arith, ids_given-same ids s.1 e.1 h.1 (ap (λ x. x.scoping) h.4)) }
 
   pub enter_settles : (s e : T × TraverseCtx) (t u : Tree) → Enters true s t e u → Ready s → ListsSettled IsNoThis s.1.lists → ListsSettled IsNoThis e.1.lists
   enter_settles s e t u h r l = rw h.2 l

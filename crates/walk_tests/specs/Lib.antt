@@ -6,4 +6,5 @@ pub mod OldNumbers
 pub mod Power
 pub mod PowerKept
 pub mod PowerLaws
+pub mod References
 pub mod Warnings

@@ -136,6 +136,6 @@ module _ (first : ℕ) where
 
     old-whole_part : (ls ms : List OpenList) → Quiet ls → Quiet ms → (place : PartHole) (p q : Part) → old_of_part p ≡ old_of_part q → old_numbers first (whole_part ls place p) ≡ old_numbers first (whole_part ms place q)
     old-whole_part ls ms h l (at_part parent k i sp si before after outer) p q e =
-        let b = has_statements k (count before) in
+        let b = has_statements parent.kind (count before) in
         let same : old_of_part (filled b ls p) ≡ old_of_part (filled b ms q) = filled-quiet b ls p h ∙ e ∙ sym (filled-quiet b ms q l) in
         old-whole (closed b ls) (closed b ms) (closed-quiet b ls h) (closed-quiet b ms l) outer _ _ (old-node k k i sp si si (joined before (more (filled b ls p) after)) (joined before (more (filled b ms q) after)) (old-joined before after (filled b ls p) (filled b ms q) same))

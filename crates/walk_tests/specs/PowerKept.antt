@@ -9,12 +9,11 @@ use Rattle.es_ctx.specs.declared.ancestor.Parent.{Parent}
 use Rattle.es_ctx.specs.declared.ctx.TraverseCtx.{TraverseCtx}
 use Rattle.es_ctx.specs.declared.stores.OpenList.{OpenList}
 use Rattle.es_walk.specs.Holes.{Hole}
-use Rattle.es_walk.specs.Idle.{Idle}
+use Rattle.es_walk.specs.Idle.{Idle, NothingKept}
 use Rattle.es_walk.specs.Steps.{OpensPart, ClosesPart}
 use Rattle.es_walk.specs.Whole.{whole}
 use Rattle.walk_tests.specs.OldNumbers.{old_of_part, old_of, old-more, old-node, Quiet, old-whole}
 use Rattle.walk_tests.specs.Power.{is_binary, is_power_string, has_power, callee, called, replaced, lowered, Enters, Leaves}
-use Rattle.walk_tests.specs.PowerLaws.{Ready}
 
 -- a list for which nothing is kept
 idle-quiet : (first : ℕ) (ls : List OpenList) → Idle ls → Quiet first ls
@@ -69,14 +68,14 @@ module _ {T : Type 0} where
   pub enter_keeps : (begin : T × TraverseCtx) (program : Tree) (s e : T × TraverseCtx) (t u : Tree) → Enters true s t e u → (hole : Hole) (around around' rest rest' : List Tree) → Keeps begin program s (whole s.1.lists hole t) around rest → Keeps begin program e (whole e.1.lists hole u) around' rest'
   enter_keeps begin program s e t u h hole around around' rest rest' x = record { numbers = rw (h.1, h.2) x.numbers; fresh = rw h.2 x.fresh }
 
-  pub leave_keeps : (begin : T × TraverseCtx) (program : Tree) (s e : T × TraverseCtx) (t u : Tree) → Leaves s t e u → Ready s → (hole : Hole) (around around' rest : List Tree) → Keeps begin program s (whole s.1.lists hole t) around rest → Keeps begin program e (whole e.1.lists hole u) around' rest
+  pub leave_keeps : (begin : T × TraverseCtx) (program : Tree) (s e : T × TraverseCtx) (t u : Tree) → Leaves s t e u → NothingKept s → (hole : Hole) (around around' rest : List Tree) → Keeps begin program s (whole s.1.lists hole t) around rest → Keeps begin program e (whole e.1.lists hole u) around' rest
   leave_keeps begin program s e t u h r hole around around' rest x = record {
     numbers = rw (h.0, h.3) (old-whole begin.1.next s.1.lists s.1.lists (idle-quiet begin.1.next s.1.lists r) (idle-quiet begin.1.next s.1.lists r) hole (lowered s.1.next t) t (old-lowered begin.1.next s.1.next t x.fresh) ∙ x.numbers);
     fresh = omega (arith, h.1, x.fresh);
   }
 
-  pub open_keeps : (begin : T × TraverseCtx) (program : Tree) (s e : T × TraverseCtx) (parent : Parent) (at : ℕ) (p : Part) → OpensPart s parent at p e → Ready s → (t : Tree) (around rest : List Tree) → Keeps begin program s t around rest → Keeps begin program e t around rest
+  pub open_keeps : (begin : T × TraverseCtx) (program : Tree) (s e : T × TraverseCtx) (parent : Parent) (at : ℕ) (p : Part) → OpensPart s parent at p e → NothingKept s → (t : Tree) (around rest : List Tree) → Keeps begin program s t around rest → Keeps begin program e t around rest
   open_keeps begin program s e parent at p h r t around rest x = record { numbers = x.numbers; fresh = omega (arith, h.next, x.fresh) }
 
-  pub close_keeps : (begin : T × TraverseCtx) (program : Tree) (s e : T × TraverseCtx) (parent : Parent) (at : ℕ) (p q : Part) → ClosesPart s parent at p e q → Ready s → (t : Tree) (around rest : List Tree) → Keeps begin program s t around rest → Keeps begin program e t around rest
+  pub close_keeps : (begin : T × TraverseCtx) (program : Tree) (s e : T × TraverseCtx) (parent : Parent) (at : ℕ) (p q : Part) → ClosesPart s parent at p e q → NothingKept s → (t : Tree) (around rest : List Tree) → Keeps begin program s t around rest → Keeps begin program e t around rest
   close_keeps begin program s e parent at p q h r t around rest x = record { numbers = x.numbers; fresh = omega (arith, h.next, x.fresh) }

@@ -1,19 +1,18 @@
 -- The laws of the hooks that replace powers.
-use Rattle.std.specs.Prelude.{◌≡◌, ℕ, ◌+◌, ◌*◌, ◌≤◌, ◌&&◌, Bool, true, false, Option, length, refl}
+use Rattle.std.specs.Prelude.{◌≡◌, ℕ, ◌+◌, ◌≤◌, ◌&&◌, Bool, true, false, Option, length, refl}
 use Rattle.std.proofs.Common.{ap, arith}
-use Rattle.es_base.specs.Preorder.{nodes, nodes_of, nodes_of_part}
+use Rattle.es_base.specs.Preorder.{nodes, nodes_of}
 use Rattle.es_base.specs.Tree.{Tree, Part, Parts, Node, end, more, child, absent, list, string, no_string, boolean, literal}
 use Rattle.es_base.specs.declared.kind.Kind.{Kind}
-use Rattle.es_ctx.specs.Ancestors.{has_statements}
 use Rattle.es_ctx.specs.Stores.{stored}
-use Rattle.es_ctx.specs.declared.ancestor.Parent.{Parent}
 use Rattle.es_ctx.specs.declared.ctx.TraverseCtx.{TraverseCtx}
-use Rattle.es_walk.specs.Given.{Ids, ids_given-few, load}
-use Rattle.es_walk.specs.Idle.{Idle, opened-idle, closed-idle}
+use Rattle.es_walk.specs.Given.{Ids, ids_given-few, ids_given-more, load}
+use Rattle.es_walk.specs.Idle.{NothingKept}
 use Rattle.es_walk.specs.Laws.{AllSettled, BelowSettled, PartsSettled, PartSettled, ItemsSettled, ItemSettled}
+use Rattle.es_walk.specs.Placing.{place_here}
 use Rattle.es_walk.specs.SettledStores.{ListsSettled}
-use Rattle.es_walk.specs.Steps.{OpensPart, ClosesPart, KeepPlaces}
-use Rattle.es_walk.specs.Weight.{total, total_of, total_of_part, heft, NoMore, KeepsReady}
+use Rattle.es_walk.specs.Steps.{KeepPlaces}
+use Rattle.es_walk.specs.Weight.{total, heft, NoMore, KeepsReady}
 use Rattle.walk_tests.specs.Power.{is_binary, has_power, is_power, IsNoPower, called, replaced, lowered, three_if, weight_if, weight, Enters, Leaves}
 
 weighs_if : (b : Bool) → 1 ≤ weight_if b
@@ -36,27 +35,12 @@ replaced-total n false c k i sp si ps = omega arith
 pub lowered-total : (n : ℕ) (t : Tree) → nodes (lowered n t) + three_if (is_power t) ≤ heft weight t
 lowered-total n (Node k i sp si ps) = replaced-total n (is_binary k) (has_power ps) k i sp si ps
 
-weighs_most : (b : Bool) → weight_if b ≤ 7
-weighs_most true = omega arith
-weighs_most false = omega arith
+most_if : (b : Bool) → weight_if b ≤ 7
+most_if true = omega arith
+most_if false = omega arith
 
--- at most seven for each node
-mutual
-  pub total_most : (t : Tree) → total weight t ≤ 7 * nodes t
-  total_most (Node k i sp si ps) = omega (arith, weighs_most (is_binary k), total_of-most ps)
-
-  total_of_part-most : (p : Part) → total_of_part weight p ≤ 7 * nodes_of_part p
-  total_of_part-most (child t) = total_most t
-  total_of_part-most absent = omega arith
-  total_of_part-most (list all) = total_of-most all
-  total_of_part-most (string s) = omega arith
-  total_of_part-most no_string = omega arith
-  total_of_part-most (boolean b) = omega arith
-  total_of_part-most (literal v) = omega arith
-
-  total_of-most : (ps : Parts) → total_of weight ps ≤ 7 * nodes_of ps
-  total_of-most end = omega arith
-  total_of-most (more p ps) = omega (arith, total_of_part-most p, total_of-most ps)
+pub weighs_most : (k : Kind) → weight k ≤ 7
+weighs_most k = most_if (is_binary k)
 
 -- ---- settled
 
@@ -87,21 +71,11 @@ lowered-settled n t h = replaced-settled (is_power t) n t refl h
 -- ---- the hooks, and what the walk does beside them
 
 module _ {T : Type 0} where
-  -- nothing is kept for a list
-  abbrev pub Ready : T × TraverseCtx → Type 0
-  Ready s = Idle s.1.lists
-
-  pub enter_ready : (goes : Bool) → KeepsReady {S = T × TraverseCtx} (Enters goes) Ready
+  pub enter_ready : (goes : Bool) → KeepsReady {S = T × TraverseCtx} (Enters goes) NothingKept
   enter_ready goes s e t u h r = rw h.2 r
 
-  pub leave_ready : KeepsReady {S = T × TraverseCtx} Leaves Ready
+  pub leave_ready : KeepsReady {S = T × TraverseCtx} Leaves NothingKept
   leave_ready s e t u h r = rw h.3 r
-
-  pub open_ready : (s m : T × TraverseCtx) (k : Parent) (at : ℕ) (p : Part) → OpensPart s k at p m → Ready s → Ready m
-  open_ready s m k at p h r = rw h.lists (opened-idle (has_statements k.kind at) p s.1.lists r)
-
-  pub close_ready : (s e : T × TraverseCtx) (k : Parent) (at : ℕ) (p q : Part) → ClosesPart s k at p e q → Ready s → Ready e
-  close_ready s e k at p q h r = rw h.lists (closed-idle (has_statements k.kind at) s.1.lists r)
 
   pub enter_pays : (goes : Bool) (ids : Ids) → NoMore {S = T × TraverseCtx} (Enters goes) (total weight) (total weight) (load (λ t. 0) ids)
   enter_pays goes ids s e t u h = rw (h.1, h.2) (omega arith)
@@ -110,16 +84,16 @@ module _ {T : Type 0} where
   leave_pays ids s e t u h = omega (arith, ap nodes h.0, lowered-total s.1.next t, ids_given-few ids (three_if (is_power t)) s.1 e.1 h.1 (ap (λ x. x.scoping) h.4), ap stored h.3)
 
   pub enter_keeps_place : (goes : Bool) → KeepPlaces {T = T} (Enters goes)
-  enter_keeps_place goes s e t u h = rw h.2 (record { path = refl; depth = refl; given = omega arith })
+  enter_keeps_place goes s e t u h = rw h.2 (place_here s)
 
   pub leave_keeps_place : KeepPlaces {T = T} Leaves
-  leave_keeps_place s e t u h = record { path = h.2; depth = ap length h.3; given = omega (arith, h.1) }
+  leave_keeps_place s e t u h = record { path = h.2; depth = ap length h.3; given = λ ids. ids_given-more ids s.1 e.1 (omega (arith, h.1)) (ap (λ x. x.scoping) h.4) }
 
-  pub enter_settles : (s e : T × TraverseCtx) (t u : Tree) → Enters true s t e u → Ready s → ListsSettled IsNoPower s.1.lists → ListsSettled IsNoPower e.1.lists
+  pub enter_settles : (s e : T × TraverseCtx) (t u : Tree) → Enters true s t e u → NothingKept s → ListsSettled IsNoPower s.1.lists → ListsSettled IsNoPower e.1.lists
   enter_settles s e t u h r l = rw h.2 l
 
-  pub pass_settles : (s e : T × TraverseCtx) (t u : Tree) → Enters false s t e u → Ready s → ListsSettled IsNoPower s.1.lists → ListsSettled IsNoPower e.1.lists × AllSettled IsNoPower u
+  pub pass_settles : (s e : T × TraverseCtx) (t u : Tree) → Enters false s t e u → NothingKept s → ListsSettled IsNoPower s.1.lists → ListsSettled IsNoPower e.1.lists × AllSettled IsNoPower u
   pass_settles s e t u h r l = absurd (cc h.0)
 
-  pub leave_settles : (s e : T × TraverseCtx) (t u : Tree) → Leaves s t e u → Ready s → ListsSettled IsNoPower s.1.lists → BelowSettled IsNoPower t → ListsSettled IsNoPower e.1.lists × AllSettled IsNoPower u
+  pub leave_settles : (s e : T × TraverseCtx) (t u : Tree) → Leaves s t e u → NothingKept s → ListsSettled IsNoPower s.1.lists → BelowSettled IsNoPower t → ListsSettled IsNoPower e.1.lists × AllSettled IsNoPower u
   leave_settles s e t u h r l below = (rw h.3 l, rw h.0 (lowered-settled s.1.next t below))

@@ -1,5 +1,5 @@
 -- A walk that warns of each `await` and changes nothing else.
-use Rattle.std.specs.Prelude.{◌≡◌, ℕ, ◌+◌, List, [], ◌∷◌, ◌++◌, Bool, true, false, map, length, refl}
+use Rattle.std.specs.Prelude.{◌≡◌, ℕ, List, [], ◌∷◌, ◌++◌, Bool, true, false, map, length, refl}
 use Rattle.std.proofs.Common.{ap, sym, ◌∙◌, arith, append-nil, append_assoc}
 use Rattle.es_base.specs.Preorder.{nodes}
 use Rattle.es_base.specs.Tree.{Tree, Part, Node}
@@ -9,14 +9,16 @@ use Rattle.es_ctx.specs.Stores.{stored}
 use Rattle.es_ctx.specs.declared.ancestor.Parent.{Parent}
 use Rattle.es_ctx.specs.declared.ctx.TraverseCtx.{TraverseCtx}
 use Rattle.es_scopes.specs.Table.{Table}
+use Rattle.es_walk.specs.Any.{Any, any_settled}
 use Rattle.es_walk.specs.Given.{Ids, ids_given-same, load}
 use Rattle.es_walk.specs.Holes.{Hole, pending, pending_below}
 use Rattle.es_walk.specs.Laws.{AllSettled, BelowSettled}
+use Rattle.es_walk.specs.Placing.{place_same}
 use Rattle.es_walk.specs.SettledStores.{ListsSettled}
 use Rattle.es_walk.specs.Steps.{OpensPart, ClosesPart, KeepPlaces}
 use Rattle.es_walk.specs.Weight.{total, heft, NoMore}
 use Rattle.es_walk.specs.Whole.{whole}
-use Rattle.walk_tests.specs.Calls.{weight, heft-nodes, Any, settle}
+use Rattle.walk_tests.specs.Calls.{weight, heft-nodes}
 
 -- the numbers of the nodes that are warned of
 abbrev pub warned : List Diagnostic → List ℕ
@@ -64,16 +66,16 @@ module _ {T : Type 0} where
   leave_pays ids s e t u h = rw (h.0, h.1) (omega (arith, heft-nodes t))
 
   pub enter_keeps_place : (goes : Bool) → KeepPlaces {T = T} (Enters goes)
-  enter_keeps_place goes s e t u h = record { path = h.path; depth = ap length h.lists; given = omega (arith, h.next) }
+  enter_keeps_place goes s e t u h = record { path = h.path; depth = ap length h.lists; given = λ ids. omega (arith, ids_given-same ids s.1 e.1 h.next (ap (λ x. x.scoping) h.scoping)) }
 
   pub leave_keeps_place : KeepPlaces {T = T} Leaves
-  leave_keeps_place s e t u h = rw h.1 (record { path = refl; depth = refl; given = omega arith })
+  leave_keeps_place s e t u h = place_same s e h.1
 
   pub enter_settles : (s e : T × TraverseCtx) (t u : Tree) → Enters true s t e u → ListsSettled Any s.1.lists → ListsSettled Any e.1.lists
   enter_settles s e t u h l = rw h.lists l
 
   pub leave_settles : (s e : T × TraverseCtx) (t u : Tree) → Leaves s t e u → ListsSettled Any s.1.lists → BelowSettled Any t → ListsSettled Any e.1.lists × AllSettled Any u
-  leave_settles s e t u h l below = (rw h.1 l, rw h.0 (settle t below))
+  leave_settles s e t u h l below = (rw h.1 l, any_settled u)
 
   pub enter_keeps : (begin : T × TraverseCtx) (program : Tree) (s e : T × TraverseCtx) (t u : Tree) → Enters true s t e u → (hole : Hole) (around rest : List Tree) → Keeps begin program s (whole s.1.lists hole t) around (pending t rest) → Keeps begin program e (whole e.1.lists hole u) (t ∷ around) (pending_below u rest)
   enter_keeps begin program s e t u h hole around rest x = record {

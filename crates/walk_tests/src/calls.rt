@@ -2,6 +2,7 @@
 
 ghost use Rattle.std.specs.Prelude.{◌≡◌, ◌*◌, ◌<◌, ◌^◌, OnOk};
 ghost use Rattle.es_base.specs.Preorder.{nodes};
+ghost use Rattle.es_walk.specs.Any.{Any};
 ghost use Rattle.walk_tests.specs.Calls as laws;
 
 use es_ctx::ctx::TraverseCtx;
@@ -140,7 +141,7 @@ impl Hooks for Calls {
 }
 
 impl LawfulHooks for Calls {
-    ghost settled = { λ calls. laws.Any };
+    ghost settled = { λ calls. Any };
 
     ghost kept = { laws.Keeps };
 
@@ -163,7 +164,7 @@ impl LawfulHooks for Calls {
 
 /// The hooks that a walk of the program calls, each with the number of its node, a line each. Fails on
 /// allocation failure alone.
-#[tactic(auto, using(crate::specs::Calls::total_same))]
+#[tactic(auto, using(crate::specs::Calls::total_same, es_walk::specs::Given::suffice_begun))]
 pub fn called_hooks(alloc: Global, program: &mut Node) -> Result<String, AllocError>
     requires { 2 * nodes program.old < 2 ^ 32 }
     ensures { OnOk result (program.new ≡ program.old) }

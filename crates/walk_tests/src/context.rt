@@ -1,24 +1,28 @@
 // The context of a walk: each of its calls.
 
-ghost use Rattle.std.specs.Prelude.{◌≡◌, IfOk};
+ghost use Rattle.std.specs.Prelude.{◌≡◌, true, IfOk};
+ghost use Rattle.es_node.specs.View.{is_list};
 ghost use Rattle.es_base.specs.declared.kind.Kind as kind;
 
+use bitflags::Flags;
 use es_base::diagnostic::Diagnostic;
 use es_base::ids::{NodeId, ScopeId};
 use es_base::kind::Kind;
 use es_base::list::List;
 use es_base::literal::LiteralValue;
 use es_base::name::Name;
-use es_base::operator::SourceType;
+use es_base::operator::{AssignmentOperator, SourceType};
 use es_ctx::ancestor::{Parent, has_statements};
 use es_ctx::ancestor_kind::AncestorKind;
 use es_ctx::beside::{insert_after, insert_before, insert_many_after, insert_many_before};
 use es_ctx::ctx::TraverseCtx;
 use es_ctx::stores::Side;
 use es_node::node::{Node, Part};
+use es_scopes::flags::ScopeFlags;
 use es_scopes::scoping::Scoping;
 use es_steps::options::CompilerAssumptions;
 use es_tree::class::{make_class_body, make_class_declaration};
+use es_tree::expression::make_assignment_expression;
 use es_tree::identifier::{make_binding_identifier, make_identifier_reference};
 use es_tree::literal::make_literal;
 use es_tree::program::make_program;
@@ -133,7 +137,7 @@ fn block(alloc: Global) -> Result<Parent, AllocError>
 {
     let mut block = BlockStatement::from_node(make_block_statement(alloc, List::new(alloc))?);
     block.node_id = NodeId(9);
-    Ok(Parent::of(&block.into_node()))
+    Parent::of(alloc, &block.into_node())
 }
 
 // "use strict"; break; break;
@@ -157,15 +161,28 @@ fn keep_some(ctx: &mut TraverseCtx) -> Result<(), Fail> {
 
 /// The list of the statements, after it was opened and closed.
 fn closed(alloc: Global) -> Result<String, Fail> {
-    let mut ctx = context(alloc)?;
-    let parent = block(alloc)?;
     let mut part = Part::List(statements(alloc)?);
-    ctx.open(parent, 0, &part)?;
-    keep_some(&mut ctx)?;
-    declare(&mut ctx, false, "a")?;
-    declare(&mut ctx, true, "b")?;
-    ctx.close(parent, 0, &mut part)?;
+    fill(alloc, &mut part)?;
     Ok(shown(alloc, &part)?)
+}
+
+/// Opens and closes a list, and keeps statements and declarations for it in between.
+fn fill(alloc: Global, part: &mut Part) -> Result<(), Fail>
+    requires { is_list part.old ≡ true }
+{
+    let parent = block(alloc)?;
+    let mut ctx = context(alloc)?;
+    ctx.open(&parent, 0, part)?;
+    keep_and_declare(&mut ctx)?;
+    ctx.close(&parent, 0, part)?;
+    Ok(())
+}
+
+/// Keeps statements, and has two names declared.
+fn keep_and_declare(ctx: &mut TraverseCtx) -> Result<(), Fail> {
+    keep_some(ctx)?;
+    declare(ctx, false, "a")?;
+    declare(ctx, true, "b")
 }
 
 #[test]
@@ -211,11 +228,11 @@ fn places_are_named(rt: HostRuntime) -> Result<(), Fail> {
     let mut function = block(alloc)?;
     function.kind = Kind::FunctionDeclaration;
     function.scope = Some(7);
-    ctx.open(function, 1, &part)?;
-    let mut default = function;
+    ctx.open(&function, 1, &part)?;
+    let mut default = function.try_clone(alloc)?;
     default.kind = Kind::AssignmentPattern;
     default.scope = None;
-    ctx.open(default, 1, &part)?;
+    ctx.open(&default, 1, &part)?;
     let found = kinds(alloc, &ctx)?;
     assert!(rt;
         found.as_str() == "FormalParameterInitializer FunctionParams ",
@@ -224,6 +241,7 @@ fn places_are_named(rt: HostRuntime) -> Result<(), Fail> {
     assert!(rt; ctx.current_scope_id() == ScopeId(7));
     assert!(rt; ctx.current_hoist_scope_id() == ScopeId(7));
     assert!(rt; ctx.current_block_scope_id() == ScopeId(0));
+    assert!(rt; ctx.current_var_scope_id() == ScopeId(0));
     Ok(())
 }
 
@@ -247,7 +265,7 @@ fn heads_of_classes_are_told(rt: HostRuntime) -> Result<(), Fail> {
     let heritage = make_identifier_reference(alloc, Name::new(alloc, "D")?)?;
     let body = make_class_body(alloc, List::new(alloc))?;
     let class = make_class_declaration(alloc, Some(id), Some(heritage), body)?;
-    let parent = Parent::of(&class);
+    let parent = Parent::of(alloc, &class)?;
     assert!(rt; parent.kind == Kind::ClassDeclaration && !parent.is_computed && !parent.is_static);
     match parent.class {
         Some(head) => {
@@ -256,5 +274,75 @@ fn heads_of_classes_are_told(rt: HostRuntime) -> Result<(), Fail> {
         }
         None => return Err(Fail::new("no class")),
     }
+    assert!(rt; is_named(&parent, "C") && !parent.is_plain_or_logical);
+    Ok(())
+}
+
+/// Whether this name is told of the node.
+fn is_named(parent: &Parent, name: &str) -> bool {
+    match &parent.name {
+        Some(told) => told.as_str() == name,
+        None => false,
+    }
+}
+
+// a = a, with this operator
+fn assignment(alloc: Global, operator: AssignmentOperator) -> Result<Parent, AllocError> {
+    let left = make_identifier_reference(alloc, Name::new(alloc, "a")?)?;
+    let right = make_identifier_reference(alloc, Name::new(alloc, "a")?)?;
+    Parent::of(
+        alloc,
+        &make_assignment_expression(alloc, operator, left, right)?,
+    )
+}
+
+// a = a, a ||= a, a += a (ECMA-262, 13.15.2: the last names no function)
+#[test]
+fn assignments_are_told(rt: HostRuntime) -> Result<(), Fail> {
+    let alloc = rt.alloc();
+    let plain = assignment(alloc, AssignmentOperator::Assign)?;
+    assert!(rt; is_named(&plain, "a") && plain.is_plain_or_logical);
+    let logical = assignment(alloc, AssignmentOperator::LogicalOr)?;
+    assert!(rt; is_named(&logical, "a") && logical.is_plain_or_logical);
+    let sum = assignment(alloc, AssignmentOperator::Addition)?;
+    assert!(rt; is_named(&sum, "a") && !sum.is_plain_or_logical);
+    Ok(())
+}
+
+/// The context of an empty program whose scope is strict.
+fn strict_context(alloc: Global) -> Result<TraverseCtx, Fail> {
+    let mut ctx = context(alloc)?;
+    if !ctx.scoping().has_room() {
+        return Err(Fail::new("no number is left"));
+    }
+    ctx.scoping_mut().add_scope(None, ScopeFlags::STRICT)?;
+    Ok(ctx)
+}
+
+/// Puts a scope below the current one, in which `1` is to stand.
+fn put_below(ctx: &mut TraverseCtx) -> Result<ScopeId, Fail> {
+    if !ctx.scoping().has_scope(ctx.current_scope_id()) || !ctx.scoping().has_room() {
+        return Err(Fail::new("no scope"));
+    }
+    let value = LiteralValue::Number {
+        raw: Name::new(ctx.alloc, "1")?,
+    };
+    let expression = make_literal(ctx.alloc, value)?;
+    Ok(ctx.insert_scope_below_expression(&expression, ScopeFlags::ARROW)?)
+}
+
+/// Whether this is a strict scope below the first.
+fn is_strict_below(scoping: &Scoping, scope: ScopeId) -> bool {
+    scoping.has_scope(scope)
+        && scoping.scope_parent_id(scope) == Some(ScopeId(0))
+        && scoping.scope_flags(scope).contains(ScopeFlags::STRICT)
+}
+
+#[test]
+fn scopes_are_put_below(rt: HostRuntime) -> Result<(), Fail> {
+    let mut ctx = strict_context(rt.alloc())?;
+    let below = put_below(&mut ctx)?;
+    assert!(rt; below == ScopeId(1));
+    assert!(rt; is_strict_below(ctx.scoping(), below));
     Ok(())
 }

@@ -99,7 +99,7 @@ impl Lawful for Hoist {
 
 // this
 #[tactic(auto, using(crate::proofs::Words::this_is, crate::proofs::Words::no_this))]
-fn is_this(node: &Node) -> bool
+pub(crate) fn is_this(node: &Node) -> bool
     ensures { result ≡ is_this node.now }
 {
     match node.kind() {
@@ -157,7 +157,7 @@ fn make_declarator(alloc: Global) -> Result<Node, AllocError>
 
 /// Replaces each `this` by a name that the list around it declares; the name has the number of the `this`, and
 /// the nodes of a declaration have none. Fails on allocation failure alone.
-#[tactic(auto, using(crate::specs::HoistLaws::total_most))]
+#[tactic(auto, using(crate::proofs::Weights::names_weigh, es_walk::specs::Given::suffice_begun))]
 pub fn hoist_this(alloc: Global, program: &mut Node) -> Result<(), AllocError>
     requires { 5 * nodes program.old < 2 ^ 32 }
     ensures settled { OnOk result (AllSettled IsNoThis program.new) }

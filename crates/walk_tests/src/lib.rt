@@ -8,4 +8,5 @@ pub mod hoist;
 pub mod power;
 #[cfg(test)]
 mod programs;
+pub mod references;
 pub mod warnings;

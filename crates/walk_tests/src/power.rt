@@ -4,6 +4,7 @@
 ghost use Rattle.std.specs.Prelude.{◌≡◌, ◌+◌, ◌*◌, ◌<◌, ◌≤◌, ◌^◌, true, IfOk, OnOk};
 ghost use Rattle.es_base.specs.Numbered.{old_numbers};
 ghost use Rattle.es_base.specs.Preorder.{nodes};
+ghost use Rattle.es_walk.specs.Idle.{NothingKept, open_keeps_none, close_keeps_none};
 ghost use Rattle.es_walk.specs.Laws.{AllSettled};
 ghost use Rattle.walk_tests.specs.Power.{is_power, callee, lowered, IsNoPower, Enters, Leaves, weight};
 ghost use Rattle.walk_tests.specs.PowerKept as kept;
@@ -43,15 +44,15 @@ impl Traverse for Powers {
 
     ghost spare = { λ s. 0 };
 
-    ghost ready = { laws.Ready };
+    ghost ready = { NothingKept };
 
     ghost enter_ready = { laws.enter_ready };
 
     ghost leave_ready = { laws.leave_ready };
 
-    ghost open_ready = { laws.open_ready };
+    ghost open_ready = { open_keeps_none };
 
-    ghost close_ready = { laws.close_ready };
+    ghost close_ready = { close_keeps_none };
 
     ghost weighs_something = { laws.weighs_something };
 
@@ -162,7 +163,7 @@ fn make_callee(alloc: Global, number: NodeId) -> Result<Node, AllocError>
 
 /// Replaces each power by a call, whose new nodes have the numbers behind those of the program, which are below the
 /// number of its nodes; each call has the number of its power. Fails on allocation failure alone.
-#[tactic(auto, using(crate::specs::PowerLaws::total_most))]
+#[tactic(auto, using(crate::proofs::Weights::powers_weigh, es_walk::specs::Given::suffice_begun))]
 pub fn lower_powers(alloc: Global, program: &mut Node) -> Result<(), AllocError>
     requires { 8 * nodes program.old < 2 ^ 32 }
     ensures settled { OnOk result (AllSettled IsNoPower program.new) }

@@ -6,7 +6,9 @@ ghost use Rattle.es_base.specs.Preorder.{nodes};
 use crate::calls::called_hooks;
 use crate::hoist::hoist_this;
 use crate::power::lower_powers;
+use crate::references::refer_to_this;
 use crate::warnings::warn_of_awaits;
+use es_base::ids::ReferenceId;
 use es_json::read::read_program;
 use es_json::write::write_program;
 use es_node::node::Node;
@@ -100,5 +102,17 @@ fn awaits_are_warned_of(rt: HostRuntime) -> Result<(), Fail> {
         write!(text, "{} ", warning.node.0)?;
     }
     assert!(rt; text.as_str() == "2 3 ", "{text}");
+    Ok(())
+}
+
+// f(this); { this; }
+#[test]
+fn references_are_made(rt: HostRuntime) -> Result<(), Fail> {
+    let alloc = rt.alloc();
+    let source =
+        r#"{"type":"Program","sourceType":"script","body":[{"type":"ExpressionStatement","expression":{"type":"CallExpression","callee":{"type":"Identifier","name":"f"},"arguments":[{"type":"ThisExpression"}],"optional":false}},{"type":"BlockStatement","body":[{"type":"ExpressionStatement","expression":{"type":"ThisExpression"}}]}]}"#;
+    let mut program = read(alloc, source)?;
+    let scoping = refer_to_this(alloc, &mut program, Scoping::new(alloc))?;
+    assert!(rt; scoping.has_reference(ReferenceId(1)) && !scoping.has_reference(ReferenceId(2)));
     Ok(())
 }

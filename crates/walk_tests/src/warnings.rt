@@ -1,7 +1,8 @@
 // A warning of each `await`: a transform that leaves the tree as it is, and adds to the context.
 
-ghost use Rattle.std.specs.Prelude.{◌≡◌, ◌*◌, ◌++◌, ◌<◌, ◌^◌, [], IfOk, OnOk};
+ghost use Rattle.std.specs.Prelude.{◌≡◌, ◌+◌, ◌*◌, ◌++◌, ◌<◌, ◌^◌, [], IfOk, OnOk, length};
 ghost use Rattle.es_base.specs.Preorder.{nodes};
+ghost use Rattle.es_walk.specs.Any.{Any};
 ghost use Rattle.es_walk.specs.Holes.{pending};
 ghost use Rattle.walk_tests.specs.Calls as calls;
 ghost use Rattle.walk_tests.specs.Warnings as laws;
@@ -64,7 +65,7 @@ impl Traverse for Warnings {
 }
 
 impl Lawful for Warnings {
-    ghost settled = { λ transform. calls.Any };
+    ghost settled = { λ transform. Any };
 
     ghost kept = { laws.Keeps };
 
@@ -111,13 +112,16 @@ fn warn_if_await(node: &Node, ctx: &mut TraverseCtx) -> Result<(), AllocError>
 }
 
 /// Warns of each `await` of a program, in preorder, and hands its scope table back. Fails on allocation failure alone.
-#[tactic(auto, using(crate::specs::Calls::total_same, crate::specs::Warnings::none_warned, crate::specs::Warnings::all_warned, crate::specs::Warnings::table_stays))]
+#[tactic(auto, using(crate::specs::Calls::total_same, es_walk::specs::Given::suffice_begun, crate::specs::Warnings::none_warned, crate::specs::Warnings::all_warned, crate::specs::Warnings::table_stays))]
 pub fn warn_of_awaits(
     alloc: Global,
     program: &mut Node,
     scoping: Scoping,
 ) -> Result<(Scoping, List<Diagnostic>), AllocError>
-    requires { 2 * nodes program.old < 2 ^ 32 }
+    requires numbers { 2 * nodes program.old < 2 ^ 32 }
+    requires scopes { nodes program.old + length scoping.scopes < 2 ^ 32 }
+    requires symbols { nodes program.old + length scoping.symbols < 2 ^ 32 }
+    requires references { nodes program.old + length scoping.references < 2 ^ 32 }
     ensures program { OnOk result (program.new ≡ program.old) }
     ensures table { IfOk result (λ r. r.0 ≡ scoping) }
     ensures warnings { IfOk result (λ r. warned r.1 ≡ awaits (pending program.old [])) }

@@ -21,7 +21,7 @@ use Rattle.es_code_entries.proofs.entries.entries.Goals as goal
 use Rattle.es_code_entries.specs.Found.{Reaches, seen}
 use Rattle.es_code_entries.specs.Walked.{entries}
 
-begun : {C : Type 0} (r : Result C Fault) (t : Terms) (ds : List Definition) (late : List ℕ) (s : Environment) (xs : List (Numbered Entry)) (gs : List (ℕ × FlatEntry)) (c : Code) → t.among.definitions.now ≡ ds → t.late.now ≡ late → s ≡ [] → xs ≡ [] → Reaches {B = C} r (seen xs) gs (entries t s c) → Reaches {B = C} r [] gs (spec.entries (opening (map definition_of ds)) 0 late [] c)
+begun : {C : Type 0} (r : Result C Fault) (t : Terms) (ds : List Definition) (late : List ℕ) (s : Environment) (xs : List (Numbered Entry)) (gs : List (ℕ × FlatEntry)) (c : Code) → t.among.definitions ≡ ds → t.late.now ≡ late → s ≡ [] → xs ≡ [] → Reaches {B = C} r (seen xs) gs (entries t s c) → Reaches {B = C} r [] gs (spec.entries (opening (map definition_of ds)) 0 late [] c)
 begun {C} r t ds late s xs gs c defined first here none h =
     let one : Reaches {B = C} r (seen xs) gs (spec.entries (opens_in t) 0 t.late.now [] c) = subst (λ (z : Environment). Reaches {B = C} r (seen xs) gs (spec.entries (opens_in t) 0 t.late.now z c)) here h in
     let two : Reaches {B = C} r [] gs (spec.entries (opens_in t) 0 t.late.now [] c) = subst (λ (z : List (Numbered Entry)). Reaches {B = C} r (seen z) gs (spec.entries (opens_in t) 0 t.late.now [] c)) none one in

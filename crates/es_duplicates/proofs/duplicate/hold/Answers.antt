@@ -1,7 +1,7 @@
 use Rattle.std.proofs.Common.{◌∙◌, ◌+◌, refl, ap, ℕ, None, Some, arith}
 use Rattle.es_builders.specs.Builders as builder
 use Rattle.es_duplicates.specs.Reads.{names_read}
-use Rattle.es_ctx.specs.ScopesAround.{current_block_scope_id}
+use Rattle.es_ctx.specs.ScopesAround.{current_var_scope_id}
 use Rattle.es_duplicates.proofs.Outcomes.{of_one, of_three}
 use Rattle.es_duplicates.proofs.Tables.{generated_references, name_references, reads_scopes, taken_kept}
 use Rattle.es_scopes.specs.Table.{with_created_reference}
@@ -10,7 +10,7 @@ use Rattle.es_duplicates.proofs.duplicate.hold.Goals as goal
 
 pub assign_and_read-requires-clause-room : goal.assign_and_read-requires-clause-room
 assign_and_read-requires-clause-room c =
-    let same = generated_references _ c.declare_temporary.new.ctx.scoping _ (current_block_scope_id c.args.ctx.now.path) _ _ c.in_ok-temporary.temporary c.in_ok-temporary.ensures.generated in
+    let same = generated_references _ c.declare_temporary.new.ctx.scoping _ (current_var_scope_id c.args.ctx.now.path) _ _ c.in_ok-temporary.temporary c.in_ok-temporary.ensures.generated in
     let before = name_references c.args.expr c.args.ctx.now.scoping.scoping in
     omega (arith, same, before, c.requires.references)
 
@@ -18,7 +18,7 @@ pub returns-clause-form : goal.returns-clause-form
 returns-clause-form c =
     let temporary = c.in_ok-temporary.temporary in
     let middle = c.declare_temporary.new.ctx.scoping in
-    let same = generated_references _ middle _ (current_block_scope_id c.args.ctx.now.path) _ _ temporary c.in_ok-temporary.ensures.generated in
+    let same = generated_references _ middle _ (current_var_scope_id c.args.ctx.now.path) _ _ temporary c.in_ok-temporary.ensures.generated in
     of_three c.assign_and_read.result _ _ _ _
     (λ d first again table. record {
       temporary = temporary;

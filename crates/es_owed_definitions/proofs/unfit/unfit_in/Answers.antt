@@ -11,7 +11,7 @@ pub returns : goal.returns
 returns c =
     let x = c.args.lowered.now.terms in
     let members = private_members_of c.args.lowered.now.members.now in
-    let p = c.in_ok-names.names.program.now in
+    let p = c.args.source.now.names.program.now in
     let source = c.args.source.now.program.now in
     let q = c.args.lowered.now.listed.now.program.now in
     let ts = seen c.as_slice-nodes.result.now in
@@ -19,6 +19,6 @@ returns c =
     (λ (n : Option ℕ). n ≡ first_unfit x.first x.options.now x.ledger.now members p q ts)
     (λ (n : Option ℕ). n ≡ first_unfit x.first x.options.now x.ledger.now members source q (preorder source))
     (λ (n : Option ℕ) (e : n ≡ first_unfit x.first x.options.now x.ledger.now members p q ts). e ∙ same_unfit x members p source q ts (preorder source)
-    c.in_ok-names.ensures
+    c.args.source.now.are_named
     (ap seen c.as_slice-nodes.ensures.value ∙ c.args.source.now.in_preorder))
     c.unfit_among.ensures

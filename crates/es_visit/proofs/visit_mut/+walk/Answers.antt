@@ -1,4 +1,4 @@
-use Rattle.std.proofs.Common.{rules, refl, ◌≡◌, ◌<◌, ◌≤◌, ◌∙◌, ap, arith, length}
+use Rattle.std.proofs.Common.{rules, refl, ◌<◌, ◌≤◌, ◌∙◌, ap, arith, length}
 use Rattle.es_base.specs.Carried.{span_of, scope_number}
 use Rattle.es_base.specs.Preorder.{nodes_of}
 use Rattle.es_base.specs.Tree.{child, trees, nullable, nullable_trees}
@@ -72,9 +72,9 @@ walk_nodes_mut-walk_node_mut-requires g t c κs within =
 
 pub walk_nodes_mut-loop-i-preserved : goal.walk_nodes_mut-loop-i-preserved
 walk_nodes_mut-loop-i-preserved g t c =
-    let h = w.item c.in_ok-walk_node_mut.ensures in
+    let h = w.of_child c.in_ok-walk_node_mut.ensures in
     let inside : c.loop-i.i < length c.loop-i.nodes = omega (arith, c.loop-i-test.true, c.loop-i.auto.nodes) in
-    (search rules, along.turn child trees refl (λ x xs. refl) _ _ (λ i s. w.no_item) (λ i s m e p q ps qs a b. w.next_item a b) _ _ _ _ c.index-nodes-i.result _ inside c.loop-i.invariant.1 h, r.stays_item _ _ _ _ g.V.VisitMut.ready g.met.V.VisitMut.enter_ready g.met.V.VisitMut.leave_ready g.met.V.VisitMut.scope_enter_ready g.met.V.VisitMut.scope_leave_ready h c.loop-i.invariant.2, along.left_next child trees refl (λ x xs. refl) _ c.loop-i.nodes c.loop-i.i c.index-nodes-i.result _ inside c.loop-i.invariant.3)
+    (search rules, along.turn child trees refl (λ x xs. refl) _ _ (λ i s. w.no_item) (λ i s m e p q ps qs a b. w.next_item a b) _ _ _ _ c.index-nodes-i.result _ inside c.loop-i.invariant.1 h, r.stays_part _ _ _ _ g.V.VisitMut.ready g.met.V.VisitMut.enter_ready g.met.V.VisitMut.leave_ready g.met.V.VisitMut.scope_enter_ready g.met.V.VisitMut.scope_leave_ready h c.loop-i.invariant.2, along.left_next child trees refl (λ x xs. refl) _ c.loop-i.nodes c.loop-i.i c.index-nodes-i.result _ inside c.loop-i.invariant.3)
 
 pub walk_nodes_mut-returns : goal.walk_nodes_mut-returns
 walk_nodes_mut-returns g t c =
@@ -92,7 +92,7 @@ pub walk_nodes_or_holes-loop-i-preserved : goal.walk_nodes_or_holes-loop-i-prese
 walk_nodes_or_holes-loop-i-preserved g t c =
     let h = c.in_ok-walk_node_or_hole.ensures in
     let inside : c.loop-i.i < length c.loop-i.nodes = omega (arith, c.loop-i-test.true, c.loop-i.auto.nodes) in
-    (search rules, along.turn nullable nullable_trees refl (λ x xs. refl) _ _ (λ i s. w.no_item) (λ i s m e p q ps qs a b. w.next_item a b) _ _ _ _ c.index-nodes-i.result _ inside c.loop-i.invariant.1 h, r.stays_item _ _ _ _ g.V.VisitMut.ready g.met.V.VisitMut.enter_ready g.met.V.VisitMut.leave_ready g.met.V.VisitMut.scope_enter_ready g.met.V.VisitMut.scope_leave_ready h c.loop-i.invariant.2, along.left_next nullable nullable_trees refl (λ x xs. refl) _ c.loop-i.nodes c.loop-i.i c.index-nodes-i.result _ inside c.loop-i.invariant.3)
+    (search rules, along.turn nullable nullable_trees refl (λ x xs. refl) _ _ (λ i s. w.no_item) (λ i s m e p q ps qs a b. w.next_item a b) _ _ _ _ c.index-nodes-i.result _ inside c.loop-i.invariant.1 h, r.stays_part _ _ _ _ g.V.VisitMut.ready g.met.V.VisitMut.enter_ready g.met.V.VisitMut.leave_ready g.met.V.VisitMut.scope_enter_ready g.met.V.VisitMut.scope_leave_ready h c.loop-i.invariant.2, along.left_next nullable nullable_trees refl (λ x xs. refl) _ c.loop-i.nodes c.loop-i.i c.index-nodes-i.result _ inside c.loop-i.invariant.3)
 
 pub walk_nodes_or_holes-returns : goal.walk_nodes_or_holes-returns
 walk_nodes_or_holes-returns g t c =

@@ -28,6 +28,12 @@ pub returns-clause-given : goal.returns-clause-given
 returns-clause-given g c =
     let T = g.T.Traverse in
     let met = g.met.T.Traverse in
+    (walked.node_place T.enters T.leaves T.weight T.spare met.weighs_something met.enter_pays met.leave_pays met.enter_keeps_place met.leave_keeps_place c.in_ok-walk_node.ensures).given of_nodes
+
+pub returns-clause-onward : goal.returns-clause-onward
+returns-clause-onward g c =
+    let T = g.T.Traverse in
+    let met = g.met.T.Traverse in
     (walked.node_place T.enters T.leaves T.weight T.spare met.weighs_something met.enter_pays met.leave_pays met.enter_keeps_place met.leave_keeps_place c.in_ok-walk_node.ensures).given
 
 pub returns-clause-path : goal.returns-clause-path

@@ -32,10 +32,10 @@ abbrev pub decreases-walk_node : goal.decreases-walk_node
 decreases-walk_node g l = 6 * (total g.T.Traverse.weight l.node.now + (g.T.Traverse.spare l.transform.now + stored l.ctx.now.lists)) + 0
 
 abbrev pub invariant-walk_parts-loop-i : goal.invariant-walk_parts-loop-i
-invariant-walk_parts-loop-i g l = goal.unvisited-walk_parts-loop-i g l × Along parts_of (λ at. TraversedParts g.T.Traverse.enters g.T.Traverse.leaves OpensPart ClosesPart l.fn.parent at) (l.initial.transform, l.initial.ctx) l.initial.all (l.transform, l.ctx) l.all l.i × Load parts_of g.T.Traverse.weight (g.T.Traverse.spare l.initial.transform + stored l.initial.ctx.lists) l.initial.ctx.next l.initial.all (g.T.Traverse.spare l.transform + stored l.ctx.lists) l.ctx.next l.all l.i × g.T.Traverse.ready (l.transform, l.ctx) × (have_shapes (members_of l.fn.parent.kind) l.all ≡ true)
+invariant-walk_parts-loop-i g l = goal.unvisited-walk_parts-loop-i g l × Along parts_of (λ at. TraversedParts g.T.Traverse.enters g.T.Traverse.leaves OpensPart ClosesPart l.fn.parent at) (l.initial.transform, l.initial.ctx) l.initial.all (l.transform, l.ctx) l.all l.i × Load parts_of g.T.Traverse.weight g.T.Traverse.spare (l.initial.transform, l.initial.ctx) l.initial.all (l.transform, l.ctx) l.all l.i × g.T.Traverse.ready (l.transform, l.ctx) × (have_shapes (members_of l.fn.parent.kind) l.all ≡ true)
 
 abbrev pub invariant-walk_nodes-loop-i : goal.invariant-walk_nodes-loop-i
-invariant-walk_nodes-loop-i g l = goal.unvisited-walk_nodes-loop-i g l × Along trees (λ at. TraversedItems g.T.Traverse.enters g.T.Traverse.leaves OpensPart ClosesPart) (l.initial.transform, l.initial.ctx) l.initial.all (l.transform, l.ctx) l.all l.i × Load trees g.T.Traverse.weight (g.T.Traverse.spare l.initial.transform + stored l.initial.ctx.lists) l.initial.ctx.next l.initial.all (g.T.Traverse.spare l.transform + stored l.ctx.lists) l.ctx.next l.all l.i × g.T.Traverse.ready (l.transform, l.ctx)
+invariant-walk_nodes-loop-i g l = goal.unvisited-walk_nodes-loop-i g l × Along trees (λ at. TraversedItems g.T.Traverse.enters g.T.Traverse.leaves OpensPart ClosesPart) (l.initial.transform, l.initial.ctx) l.initial.all (l.transform, l.ctx) l.all l.i × Load trees g.T.Traverse.weight g.T.Traverse.spare (l.initial.transform, l.initial.ctx) l.initial.all (l.transform, l.ctx) l.all l.i × g.T.Traverse.ready (l.transform, l.ctx)
 
 abbrev pub invariant-walk_nodes_or_holes-loop-i : goal.invariant-walk_nodes_or_holes-loop-i
-invariant-walk_nodes_or_holes-loop-i g l = goal.unvisited-walk_nodes_or_holes-loop-i g l × Along nullable_trees (λ at. TraversedItems g.T.Traverse.enters g.T.Traverse.leaves OpensPart ClosesPart) (l.initial.transform, l.initial.ctx) l.initial.all (l.transform, l.ctx) l.all l.i × Load nullable_trees g.T.Traverse.weight (g.T.Traverse.spare l.initial.transform + stored l.initial.ctx.lists) l.initial.ctx.next l.initial.all (g.T.Traverse.spare l.transform + stored l.ctx.lists) l.ctx.next l.all l.i × g.T.Traverse.ready (l.transform, l.ctx)
+invariant-walk_nodes_or_holes-loop-i g l = goal.unvisited-walk_nodes_or_holes-loop-i g l × Along nullable_trees (λ at. TraversedItems g.T.Traverse.enters g.T.Traverse.leaves OpensPart ClosesPart) (l.initial.transform, l.initial.ctx) l.initial.all (l.transform, l.ctx) l.all l.i × Load nullable_trees g.T.Traverse.weight g.T.Traverse.spare (l.initial.transform, l.initial.ctx) l.initial.all (l.transform, l.ctx) l.all l.i × g.T.Traverse.ready (l.transform, l.ctx)

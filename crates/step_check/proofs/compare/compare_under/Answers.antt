@@ -9,6 +9,6 @@ pub returns : goal.returns
 returns c =
     let f = c.args.facts in
     let r = c.compare_names.result in
-    let p = c.in_ok-source_names.source_names.program.now in
-    subst (λ (t : Tree). IfOk r (λ v. IsComparison (means (before f) t) (means (behind f) c.args.lowered.now.program.now) v)) c.in_ok-source_names.ensures
-    (subst (λ (t : Tree). IfOk r (λ v. IsComparison (means (before f) p) (means (behind f) t) v)) c.in_ok-lowered_names.ensures c.compare_names.ensures)
+    let p = c.args.source.now.names.program.now in
+    subst (λ (t : Tree). IfOk r (λ v. IsComparison (means (before f) t) (means (behind f) c.args.lowered.now.program.now) v)) c.args.source.now.are_named
+    (subst (λ (t : Tree). IfOk r (λ v. IsComparison (means (before f) p) (means (behind f) t) v)) c.args.lowered.now.are_named c.compare_names.ensures)

@@ -4,4 +4,4 @@ use Rattle.es_code_bodies.proofs.Whole.{field_among}
 use Rattle.es_code_bodies.proofs.among.Among.evaluate_field.Goals as goal
 
 pub returns : goal.returns
-returns c = field_among c.args.self.now.definitions.now c.as_slice.result.now c.args.self.now.opening c.args.class (code_of c.args.element.now) (state_of c.args.state.now) c.evaluate_field.result c.evaluate_field.new.state c.as_slice.ensures c.args.self.now.is_deep c.args.self.now.is_open c.evaluate_field.ensures
+returns c = field_among c.args.self.now.definitions c.args.self.now.opening c.args.class (code_of c.args.element.now) (state_of c.args.state.now) c.evaluate_field.result c.evaluate_field.new.state c.args.self.now.is_deep c.args.self.now.is_open c.evaluate_field.ensures

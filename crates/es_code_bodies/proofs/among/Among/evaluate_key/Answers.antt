@@ -4,4 +4,4 @@ use Rattle.es_code_bodies.proofs.Whole.{key_among}
 use Rattle.es_code_bodies.proofs.among.Among.evaluate_key.Goals as goal
 
 pub returns : goal.returns
-returns c = key_among c.args.self.now.definitions.now c.as_slice.result.now c.args.self.now.opening (code_of c.args.element.now) (state_of c.args.state.now) c.evaluate_key.result c.evaluate_key.new.state c.as_slice.ensures c.args.self.now.is_deep c.args.self.now.is_open c.evaluate_key.ensures
+returns c = key_among c.args.self.now.definitions c.args.self.now.opening (code_of c.args.element.now) (state_of c.args.state.now) c.evaluate_key.result c.evaluate_key.new.state c.args.self.now.is_deep c.args.self.now.is_open c.evaluate_key.ensures

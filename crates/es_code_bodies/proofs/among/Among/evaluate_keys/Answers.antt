@@ -4,4 +4,4 @@ use Rattle.es_code_bodies.proofs.Whole.{keys_alone_among}
 use Rattle.es_code_bodies.proofs.among.Among.evaluate_keys.Goals as goal
 
 pub returns : goal.returns
-returns c = keys_alone_among c.args.self.now.definitions.now c.as_slice.result.now c.args.self.now.opening (codes_of c.args.elements.now) (state_of c.args.state.now) c.evaluate_keys.result c.evaluate_keys.new.state c.as_slice.ensures c.args.self.now.is_deep c.args.self.now.is_open c.evaluate_keys.ensures
+returns c = keys_alone_among c.args.self.now.definitions c.args.self.now.opening (codes_of c.args.elements.now) (state_of c.args.state.now) c.evaluate_keys.result c.evaluate_keys.new.state c.args.self.now.is_deep c.args.self.now.is_open c.evaluate_keys.ensures

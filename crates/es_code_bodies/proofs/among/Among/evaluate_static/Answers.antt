@@ -4,4 +4,4 @@ use Rattle.es_code_bodies.proofs.Whole.{static_among}
 use Rattle.es_code_bodies.proofs.among.Among.evaluate_static.Goals as goal
 
 pub returns : goal.returns
-returns c = static_among c.args.self.now.definitions.now c.as_slice.result.now c.args.self.now.opening c.args.class c.args.key.now (code_of c.args.element.now) (state_of c.args.state.now) c.evaluate_static.result c.evaluate_static.new.state c.as_slice.ensures c.args.self.now.is_deep c.args.self.now.is_open c.evaluate_static.ensures
+returns c = static_among c.args.self.now.definitions c.args.self.now.opening c.args.class c.args.key.now (code_of c.args.element.now) (state_of c.args.state.now) c.evaluate_static.result c.evaluate_static.new.state c.args.self.now.is_deep c.args.self.now.is_open c.evaluate_static.ensures

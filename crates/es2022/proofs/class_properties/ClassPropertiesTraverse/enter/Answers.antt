@@ -1,0 +1,6 @@
+use Rattle.es2022.specs.Paid.{room_entered}
+use Rattle.es2022.specs.declared.class_properties.ClassProperties.{ClassProperties}
+use Rattle.es2022.proofs.class_properties.ClassPropertiesTraverse.enter.Goals as goal
+
+pub transform-requires : goal.transform-requires
+transform-requires c = room_entered (λ (x : ClassProperties). x.room) c.args.node.now (c.args.self.now, c.args.ctx.now) c.requires.bound
